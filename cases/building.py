@@ -1,6 +1,9 @@
 """What the launcher builds, when, and what it keeps: in a copy with a toolchain that only notes its calls."""
+import contextlib
 import os
+import pty
 import shutil
+import signal
 import subprocess
 import sys
 import time
@@ -150,6 +153,28 @@ def a_stopped_launcher_stops_the_build():
         time.sleep(1)
         expect((ran.returncode, copy.calls()), (143, BUILD[:1]))
         copy.expect_built(BUILD)
+
+
+@case
+def ctrl_c_at_a_build_leaves_no_half_line():
+    terminal, its_side = pty.openpty()
+    # A shell has what it runs in the background ignore this signal.
+    heard = {"preexec_fn": lambda: signal.signal(signal.SIGINT, signal.SIG_DFL)}
+    with Copy() as copy:
+        (copy.top / "wait").touch()
+        words = [sys.executable, copy.top / "iox", "--proved"]
+        with subprocess.Popen(words, stdin=subprocess.DEVNULL, stderr=its_side, **heard, **copy.how) as ran:
+            os.close(its_side)
+            copy.await_call()
+            time.sleep(0.5)
+            ran.send_signal(signal.SIGINT)
+        (copy.top / "wait").unlink()
+    said = b""
+    with contextlib.suppress(OSError):
+        while piece := os.read(terminal, 4096):
+            said += piece
+    os.close(terminal)
+    expect((ran.returncode, b"crate 1 of 6" in said, said.endswith(b"\r\x1b[K")), (130, True, True))
 
 
 @case

@@ -179,3 +179,20 @@ def api_pages_are_not_written_among_other_files():
         ran = subprocess.run([sys.executable, SCRIPT, folder], capture_output=True, text=True)
         expect((ran.returncode, ran.stdout, ran.stderr), (1, "", f"docs/api.py: {folder} has other files\n"))
         expect([it.name for it in Path(folder).iterdir()], ["mine.html"])
+
+
+def sentences(page):
+    """The sentences of a page, without its code: of paragraphs, items of lists and cells of tables."""
+    text = re.sub(r"(?s)```.*?```", "\n\n", page)
+    for block in re.split(r"\n\s*\n|\n(?=[-*|#>] ?|\d+\. )", text):
+        for cell in re.split(r"(?<!\\)\|", " ".join(block.split())):
+            yield from re.split(r"(?<=[.!?])[*`)\"]*\s+(?=[A-Z*`\"(\[0-9])", re.sub(r"^([-*] |#+ |\d+\. )", "", cell))
+
+
+@case
+def the_first_pages_have_short_sentences_and_the_first_few_words():
+    expect(len((TOP / "README.md").read_text(encoding="utf-8").split()) <= 900, True)
+    for page in ("README.md", "docs/USING.md", "docs/TOOL.md", "docs/FAQ.md", "docs/GLOSSARY.md"):
+        for sentence in sentences((TOP / page).read_text(encoding="utf-8")):
+            words = [it for it in sentence.split() if re.search(r"\w", it)]
+            expect((page, sentence * (len(words) > 25)), (page, ""))

@@ -110,13 +110,15 @@ def build(wanted):
     below = {it: crates_of_program(wanted.libraries, it) for it in crates}
     is_chain = all(low in below[high] for low, high in zip(crates, crates[1:]))
     progress, started = Progress(), time.monotonic()
-    with open(OUT / "build.log", "w", encoding="utf-8") as log:
-        status, first, at = 0, 0, "a crate of the program"
-        if not is_chain:
-            status, first = prove_side_by_side(crates, progress, log), len(crates) - 1
-        if not status:
-            status, at = prove_in_turn(crates, first, progress, log)
-    progress.end()
+    status, first, at = 0, 0, "a crate of the program"
+    try:
+        with open(OUT / "build.log", "w", encoding="utf-8") as log:
+            if not is_chain:
+                status, first = prove_side_by_side(crates, progress, log), len(crates) - 1
+            if not status:
+                status, at = prove_in_turn(crates, first, progress, log)
+    finally:
+        progress.end()
     if status:
         stop(NOT_BUILT, f"{at} is not proved or not built: {OUT / 'build.log'} says why")
     say(f"proved and built in {round(time.monotonic() - started)} s")

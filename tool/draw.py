@@ -11,7 +11,7 @@ ROW, COLUMN, LETTER, MARGIN, TOP = 24, 64, 7.9, 16, 64
 LONGEST_SHOWN = 48
 STYLE = """\
 text{font:13px monospace;fill:#222}.title{font:bold 16px sans-serif}.sub,.legend{font:12px sans-serif;fill:#555}
-.number{fill:#aaa}.ok{fill:#666}.bad{fill:#b3261e}.wait{fill:#9a5b00}.band{fill:#f6f7f9}.life{stroke:#c4c8ce;stroke-width:1.5}
+.number{fill:#737373}.ok{fill:#595959}.bad{fill:#b3261e}.wait{fill:#9a5b00}.band{fill:#f6f7f9}.life{stroke:#c4c8ce;stroke-width:1.5}
 .name{font-weight:bold}.p{fill:#1b7a3d}.s{fill:#1f5fbf}.held{stroke:#1f5fbf;stroke-opacity:.28;stroke-width:9}
 .message{stroke:#1f5fbf;stroke-width:1.8;fill:none;marker-end:url(#tip)}
 .waits{stroke:#1f5fbf;stroke-width:1.5;stroke-dasharray:2 4;fill:none;marker-end:url(#ring)}

@@ -1,11 +1,11 @@
 -- What a node hears, beside what was sent.
 use Rattle.std.specs.Prelude.{ℕ, ◌≡◌, Bool, List, Option, None, Some, option_map}
-use Rattle.iox_domain_home.specs.declared.domain_id.DomainId.{DomainId}
-use Rattle.iox_domain_ports.specs.declared.service_ports.ServicePorts.{ServicePorts}
+use Rattle.iox_domain.specs.declared.domain_id.DomainId.{DomainId}
+use Rattle.iox_domain.specs.declared.ports.service_ports.ServicePorts.{ServicePorts}
 use Rattle.iox_domain_publisher.specs.Messages.{Message}
 use Rattle.iox_delivery.specs.Holding.{message_found}
 use Rattle.iox_delivery.specs.Subscribing.{DropsSample}
-use Rattle.iox_delivery_slices.specs.declared.sample.Sample.{Sample}
+use Rattle.iox_delivery.specs.declared.slices.sample.Sample.{Sample}
 use Rattle.example_bus.specs.declared.bus.Heard.{Heard}
 
 -- the time stamp and the values that a node heard

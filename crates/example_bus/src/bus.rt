@@ -1,17 +1,17 @@
 //! What a node of the bus does: it advertises or listens in a service, publishes and hears.
+ghost use Rattle.iox_domain.specs.Homes as homes;
 ghost use Rattle.std.specs.Prelude.{◌≡◌, ℕ, Option, true, Some, Ok, IfOk, option_map};
 ghost use Rattle.iox_delivery.specs.Holding.{holds_message, message_found};
-ghost use Rattle.iox_delivery_slices.specs.declared.sample.Sample.{Sample};
-ghost use Rattle.iox_delivery_slices.specs.Slices.{ReceivesSlice};
+ghost use Rattle.iox_delivery.specs.declared.slices.sample.Sample.{Sample};
+ghost use Rattle.iox_delivery.specs.Slices.{ReceivesSlice};
 ghost use Rattle.example_bus.specs.Heard.{as_heard, as_sent, as_received, LetsGo};
 
 use anyhow::{Context, Result, bail, ensure};
+use iox_delivery::slices::{Publisher, Sample, Subscriber};
 use iox_delivery::{PortId, Sent};
-use iox_delivery_slices::{Publisher, Sample, Subscriber};
 use iox_describe::{ServiceName, ZeroCopySend};
-use iox_domain::Nobody;
-use iox_domain_home::{DomainId, Home, MakesPorts};
-use iox_domain_ports::{PublisherConfig, SubscriberConfig};
+use iox_domain::ports::{PublisherConfig, SubscriberConfig};
+use iox_domain::{DomainId, Home, Nobody, calls};
 use iox_domain_values::{
     AllocationStrategy, BackpressureStrategy, PortOwner, PreallocatedSamplesOverride,
 };
@@ -20,8 +20,8 @@ use iox_negotiate::Slice;
 use iox_queues_base::Words;
 use std::alloc::{AllocError, Global};
 
-/// All nodes and services of the robot. Messages are slices of numbers, and each has a time stamp as its user header. Nobody is asked at a full
-/// mailbox: it drops its oldest message. One bus has one type of values: a second type takes a second bus.
+/// All nodes and services of the robot. Messages are slices of numbers, and each has a time stamp as its user header. Nobody is
+/// asked at a full mailbox: it drops its oldest message. One bus has one type of values: a second type takes a second bus.
 pub type Bus<T = u64> = Hub<T, u64, Nobody, Nobody>;
 
 /// What a node heard.
@@ -31,8 +31,8 @@ pub struct Heard {
     pub values: Vec<u64>,
 }
 
-/// A node opens the service of a name, or creates it: four messages wait at most, and a late joiner gets the last two. The answer is which service
-/// it is, and who owns what the node makes there.
+/// A node opens the service of a name, or creates it: four messages wait at most, and a late joiner gets the last two. The answer
+/// is which service it is, and who owns what the node makes there.
 fn join<T: Words + ZeroCopySend>(
     alloc: Global,
     bus: &mut Bus<T>,
@@ -74,9 +74,9 @@ pub fn advertise<T: Words + ZeroCopySend>(
         allocation: AllocationStrategy::Static,
     };
     let slots = PreallocatedSamplesOverride::WorstCase;
-    let number = bus
-        .create_publisher(alloc, domain, config, 0, &slots, Nobody)
-        .context("no service")??;
+    let number = calls::create_publisher(bus, alloc, domain, config, 0, &slots, Nobody).context(
+        "no service",
+    )??;
     Ok(PortId { domain, number })
 }
 
@@ -92,9 +92,9 @@ pub fn listen<T: Words + ZeroCopySend>(
         owner,
         buffer_size: None,
     };
-    let number = bus
-        .create_subscriber(alloc, domain, config, Nobody)
-        .context("no service")??;
+    let number = calls::create_subscriber(bus, alloc, domain, config, Nobody).context(
+        "no service",
+    )??;
     Ok(PortId { domain, number })
 }
 
@@ -132,8 +132,8 @@ fn read<H: Home<u64, u64>>(
     home: &H,
     sample: &Sample<u64, u64>,
 ) -> Result<Heard, AllocError>
-    requires { holds_message sample.now.port.number sample.now.taken (H.ports_of sample.now.port.domain home.now) ≡ true }
-    ensures { IfOk result (λ heard. Some (as_heard heard) ≡ option_map as_sent (message_found sample.now.taken (H.ports_of sample.now.port.domain home.now))) }
+    requires { holds_message sample.now.port.number sample.now.taken (homes.ports_of H.domain_of sample.now.port.domain home.now) ≡ true }
+    ensures { IfOk result (λ heard. Some (as_heard heard) ≡ option_map as_sent (message_found sample.now.taken (homes.ports_of H.domain_of sample.now.port.domain home.now))) }
 {
     let mut values = Vec::new(alloc);
     values.extend_from_slice(sample.payload(home))?;
@@ -146,9 +146,9 @@ fn read<H: Home<u64, u64>>(
 /// Receives the next message, if one waits, and releases it: what is heard is the time stamp and the values of the message received.
 pub fn hear<H: Home<u64, u64>>(alloc: Global, home: &mut H, port: PortId) -> Result<Option<Heard>>
     ensures { IfOk result (λ heard. (sample : Option (Sample ℕ ℕ)) × (received : H)
-        × ReceivesSlice H.ports_of H.with_ports H.subscriber_degrades port home.old (Ok sample) received
-        × (option_map as_heard heard ≡ as_received sample (H.ports_of port.domain received))
-        × LetsGo H.ports_of H.with_ports sample received home.new) }
+        × ReceivesSlice (homes.ports_of H.domain_of) (homes.with_ports H.changed) (homes.subscriber_degrades (λ kept. H.ForSubscribers.degrades kept) H.domain_of) port home.old (Ok sample) received
+        × (option_map as_heard heard ≡ as_received sample (homes.ports_of H.domain_of port.domain received))
+        × LetsGo (homes.ports_of H.domain_of) (homes.with_ports H.changed) sample received home.new) }
 {
     let subscriber = Subscriber::of_port(port, 4);
     if !subscriber.holds(home) {

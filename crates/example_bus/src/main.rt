@@ -7,7 +7,7 @@ mod pose;
 use anyhow::{Context, Result};
 use bus::{Bus, advertise, hear, listen, publish};
 use iox_delivery::PortId;
-use iox_domain_home::Home;
+use iox_domain::calls;
 use iox_hub_base::{Hub, HubConfig};
 use pose::{Pose, hear_pose};
 use std::alloc::Global;
@@ -45,8 +45,7 @@ fn converse(out: &mut String, alloc: Global, bus: &mut Bus) -> Result<()> {
     publish(alloc, bus, commands, 20, &[2, 45])?;
     publish(alloc, bus, commands, 30, &[1, 5])?;
     let orders = listen(alloc, bus, &wheels, b"commands")?;
-    bus.update_publisher(alloc, commands.domain, commands.number)
-        .context("no publisher")??;
+    calls::update_publisher(bus, alloc, commands.domain, commands.number).context("no publisher")??;
 
     note(out, alloc, bus, "pilot, odometry", position)?;
     note(out, alloc, bus, "pilot, lidar", echoes)?;

@@ -7,7 +7,7 @@ ghost use Rattle.iox_queues_base.specs.Scalars.{float-given_back};
 use crate::bus::Bus;
 use anyhow::{Result, bail};
 use iox_delivery::PortId;
-use iox_delivery_slices::Subscriber;
+use iox_delivery::slices::Subscriber;
 use iox_describe::{TypeDetail, TypeVariant, ZeroCopySend};
 use iox_queues_base::Words;
 use std::alloc::Global;

@@ -85,7 +85,7 @@ fn two_attributes(alloc: Global) -> Result<AttributeSpecifier, Fail> {
 fn attributes_are_published(alloc: Global) -> Result<(), Fail> {
     let mut table = Table::new(alloc, 1);
     let asked = builder(b"R")?
-        .request_response::<u8, Slice<i64>>()
+        .request_response::<[u32; 3], Slice<i64>>()
         .request_user_header::<u32>()
         .response_payload_alignment(32);
     let factory = asked.create_with_attributes(alloc, &two_attributes(alloc)?, &mut table)?;

@@ -1,7 +1,7 @@
 //! Tables with any number of nodes, services, lives and foreign steps, with ample memory.
 use iox_describe::{
-    AttributeSpecifier, Description, LimitError, MessagingPattern, ServiceHash, ServiceName,
-    Settings, event, service_hash,
+    AttributeSpecifier, Description, Header, LimitError, MessageTypeDetails, MessagingPattern,
+    ServiceHash, ServiceName, Settings, TypeVariant, event, publish_subscribe, service_hash,
 };
 use iox_negotiate_base::{
     LeaveAnswer, LockAnswer, LookAnswer, MakeSegmentAnswer, OpenSegmentAnswer, PublishAnswer,
@@ -177,6 +177,52 @@ fn any_number_of_lists_and_of_steps_is_done(rt: HostRuntime) -> Result<(), Fail>
         (1, 250, 251),
     ] {
         lists_are_done(rt.alloc(), lists, lives, next)?;
+    }
+    Ok(())
+}
+
+/// Whether foreign node 1, which has the lock of event service `A`, publishes what is of these settings and this name, and states
+/// the hash of the event service of the other name.
+fn publishes_for_a(
+    alloc: Global,
+    settings: Settings,
+    name: &[u8],
+    stated: &[u8],
+) -> Result<bool, Fail> {
+    let hash = hash_of(b"A")?;
+    let description = Description::of_parts(
+        ServiceName::new(name)?,
+        hash_of(stated)?,
+        settings,
+        AttributeSpecifier::new(),
+    );
+    let mut table = Table::new(alloc, 1);
+    table.act(&hash, &ForeignStep::Lock { node: 1 })?;
+    table.act(
+        &hash,
+        &ForeignStep::Publish {
+            node: 1,
+            description,
+        },
+    )?;
+    Ok(matches!(table.look(&hash), LookAnswer::Found { .. }))
+}
+
+#[test]
+fn a_foreign_node_publishes_a_description_of_that_service_alone(
+    rt: HostRuntime,
+) -> Result<(), Fail> {
+    let types = MessageTypeDetails::from::<Header, u64, u64>(TypeVariant::Dynamic);
+    let of_event = Settings::Event(event::StaticConfig::new());
+    let of_messages = Settings::PublishSubscribe(publish_subscribe::StaticConfig::new(types));
+    for (settings, name, stated, fits) in [
+        (of_event, b"A", b"A", true),
+        (of_event, b"B", b"A", false),
+        (of_event, b"A", b"B", false),
+        (of_event, b"B", b"B", false),
+        (of_messages, b"A", b"A", false),
+    ] {
+        wanted(publishes_for_a(rt.alloc(), settings, name, stated)?, fits)?;
     }
     Ok(())
 }

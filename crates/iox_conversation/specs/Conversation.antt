@@ -60,8 +60,8 @@ pub record Converses {M : Type 0} (answers : M → List ℕ → List ℕ → M �
 -- the next line, or at the end of the input the last line.
 abbrev pub AreBegun : {M : Type 0} → (M → List ℕ → List ℕ → M → Type 0) → (M → ℕ) → Bool → SessionState M → List ℕ → List ℕ → Type 0
 AreBegun {M} answers used ended old piece part =
-    (rest : List ℕ) × (((first : List ℕ) × (more : List ℕ) × (new : SessionState M) × (piece ≡ first ++ more) × Advances answers used old first (part ++ rest) new
-    × (list_all (λ b. not (b == 10)) new.line ≡ true))
+    (rest : List ℕ) × (((first : List ℕ) × (more : List ℕ) × (new : SessionState M) × (piece ≡ first ++ more)
+    × Advances answers used old first (part ++ rest) new × (list_all (λ b. not (b == 10)) new.line ≡ true))
     ⊎ ((piece ≡ []) × (ended ≡ true) × Ends answers old [] (part ++ rest)))
 
 -- a line has to be answered next: these bytes end it, or it is the last one and isn't empty
@@ -71,7 +71,8 @@ IsDue ended session piece = (list_all (λ b. not (b == 10)) piece ≡ false) ⊎
 -- A conversation from here that broke off. All that was read before a last piece is answered. After a read fault there is no such piece, and
 -- after a write fault a beginning of what answers it is written. Where memory was wanting, nothing was read yet, or that piece ends the first
 -- line that isn't answered.
-pub record BreaksOff {M : Type 0} (answers : M → List ℕ → List ℕ → M → Type 0) (used : M → ℕ) (error : ServeError) (ended : Bool) (old : SessionState M) (left leaves held holds : Option (List ℕ)) : Type 0 where
+pub record BreaksOff {M : Type 0} (answers : M → List ℕ → List ℕ → M → Type 0) (used : M → ℕ) (error : ServeError) (ended : Bool)
+    (old : SessionState M) (left leaves held holds : Option (List ℕ)) : Type 0 where
   pub bytes : List ℕ
   pub text : List ℕ
   pub piece : List ℕ

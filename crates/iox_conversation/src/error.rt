@@ -10,7 +10,7 @@ use thiserror::Error;
 pub enum ServeError {
     /// A read call failed, or 2^20 read calls were made.
     ReadFault,
-    /// A write call failed, or took no bytes.
+    /// A write call failed, took no bytes, or was interrupted 2^20 times.
     WriteFault,
     /// No memory was found for a reply.
     OutOfMemory,

@@ -1,15 +1,15 @@
 -- A port that is let go tells whether it left.
 use Rattle.std.proofs.Common.{◌≡◌, ◌&&◌, ◌∙◌, ℕ, Bool, true, false, not, Option, None, Some, refl, sym}
-use Rattle.iox_domain_laws.specs.DomainPublisher.declared.publisher_port.PublisherPort.{PublisherPort}
-use Rattle.iox_domain_laws.specs.DomainSubscriber.Publishers.{port_of}
-use Rattle.iox_domain_laws.specs.DomainSubscriber.declared.subscriber_port.SubscriberPort.{SubscriberPort}
-use Rattle.iox_domain_laws.specs.DomainPorts.Lending.{passes_port}
-use Rattle.iox_domain_laws.specs.DomainPorts.Publishing as publishing
-use Rattle.iox_domain_laws.specs.DomainPorts.Subscribers.{subscriber_of}
-use Rattle.iox_domain_laws.specs.DomainPorts.Subscribing as subscribing
-use Rattle.iox_domain_laws.specs.DomainPorts.declared.service_ports.ServicePorts.{ServicePorts}
-use Rattle.iox_domain_home.specs.Homes.{LeavesDomain}
-use Rattle.iox_domain_home.specs.Steps.{PublisherLeaves, SubscriberLeaves}
+use Rattle.iox_domain.specs.DomainPublisher.declared.publisher_port.PublisherPort.{PublisherPort}
+use Rattle.iox_domain.specs.DomainSubscriber.Publishers.{port_of}
+use Rattle.iox_domain.specs.DomainSubscriber.declared.subscriber_port.SubscriberPort.{SubscriberPort}
+use Rattle.iox_domain.specs.Lending.{passes_port}
+use Rattle.iox_domain.specs.PortsPublishing as publishing
+use Rattle.iox_domain.specs.Subscribers.{subscriber_of}
+use Rattle.iox_domain.specs.PortsSubscribing as subscribing
+use Rattle.iox_domain.specs.declared.ports.service_ports.ServicePorts.{ServicePorts}
+use Rattle.iox_domain.specs.AtHomes.{LeavesDomain}
+use Rattle.iox_domain.specs.Steps.{PublisherLeaves, SubscriberLeaves}
 use Rattle.iox_delivery.specs.Holding.{publisher_stands, publisher_blocked, subscriber_stands, stands_there}
 
 publisher_leaves_if : {T U : Type 0} (free : Bool) (number : ℕ) (port : PublisherPort T U) (old new : ServicePorts T U) (left : Bool) → publishing.LeavesPortIf free number port old left new → left ≡ free

@@ -7,28 +7,28 @@ use Rattle.std.proofs.Math.Logic.{⊎_elim}
 use Rattle.std.proofs.Math.Dec.{eqb}
 use Rattle.std.proofs.lemmas.Bool.{cases_Bool}
 use Rattle.std.proofs.lemmas.Bool.Decides.{eqb_tells}
-use Rattle.iox_domain_laws.specs.DomainValues.declared.data_segment.AllocationStrategy.{AllocationStrategy}
-use Rattle.iox_domain_laws.specs.DomainValues.declared.port_error.LoanError.{LoanError}
-use Rattle.iox_domain_laws.specs.DomainSlots.Counting.{times}
-use Rattle.iox_domain_laws.specs.DomainSlots.Uses.{in_use, held}
-use Rattle.iox_domain_laws.proofs.DomainSlots.Counts.{times_append, times_cons}
-use Rattle.iox_domain_laws.specs.DomainPublisher.Messages.{Loan, new_loan}
-use Rattle.iox_domain_laws.specs.DomainPublisher.MessagesSending.{SenderState, slots_of, is_written_loan}
-use Rattle.iox_domain_laws.proofs.DomainPublisher.Finding.{no_loan}
-use Rattle.iox_domain_laws.proofs.DomainPublisher.Lent.{loan_tells}
-use Rattle.iox_domain_laws.specs.DomainPublisher.Loaning as loaning
-use Rattle.iox_domain_laws.specs.DomainPublisher.Lengths.{extent}
-use Rattle.iox_domain_laws.specs.DomainPublisher.Loaning.{with_sender, first_refusal, LendsHere, LendsBeyond, LendsWhere, LendsUnless, Lends}
-use Rattle.iox_domain_laws.specs.DomainPublisher.Writing.{loan_of, changed_there, changed_if}
-use Rattle.iox_domain_laws.specs.DomainPublisher.declared.publisher_port.PublisherPort.{PublisherPort}
-use Rattle.iox_domain_laws.specs.DomainSubscriber.Publishers.{port_of, with_port, changed_at_port, changed, is_over_port, is_over_in, settled}
-use Rattle.iox_domain_laws.proofs.Numbered.{same_set}
-use Rattle.iox_domain_laws.specs.DomainPorts.Lending.{LoansIf, LoansOne, passes_port, passes, written_in, loan_at_port, loan_in, loan_header_at_port, header_of_loan}
-use Rattle.iox_domain_laws.specs.DomainPorts.Ports.{AtPublisher, with_publisher}
-use Rattle.iox_domain_laws.specs.DomainPorts.Publishing.{is_blocked}
-use Rattle.iox_domain_laws.specs.DomainPorts.declared.service_ports.ServicePorts.{ServicePorts}
-use Rattle.iox_domain_home.specs.Homes.{AtDomain}
-use Rattle.iox_domain_home.specs.Steps.{LoansBy}
+use Rattle.iox_domain.specs.DomainValues.declared.data_segment.AllocationStrategy.{AllocationStrategy}
+use Rattle.iox_domain.specs.DomainValues.declared.port_error.LoanError.{LoanError}
+use Rattle.iox_domain.specs.DomainSlots.Counting.{times}
+use Rattle.iox_domain.specs.DomainSlots.Uses.{in_use, held}
+use Rattle.iox_domain.proofs.DomainSlots.Counts.{times_append, times_cons}
+use Rattle.iox_domain.specs.DomainPublisher.Messages.{Loan, new_loan}
+use Rattle.iox_domain.specs.DomainPublisher.MessagesSending.{SenderState, slots_of, is_written_loan}
+use Rattle.iox_domain.proofs.DomainPublisher.Finding.{no_loan}
+use Rattle.iox_domain.proofs.DomainPublisher.Lent.{loan_tells}
+use Rattle.iox_domain.specs.DomainPublisher.Loaning as loaning
+use Rattle.iox_domain.specs.DomainPublisher.Lengths.{extent}
+use Rattle.iox_domain.specs.DomainPublisher.Loaning.{with_sender, first_refusal, LendsHere, LendsBeyond, LendsWhere, LendsUnless, Lends}
+use Rattle.iox_domain.specs.DomainPublisher.Writing.{loan_of, changed_there, changed_if}
+use Rattle.iox_domain.specs.DomainPublisher.declared.publisher_port.PublisherPort.{PublisherPort}
+use Rattle.iox_domain.specs.DomainSubscriber.Publishers.{port_of, with_port, changed_at_port, changed, is_over_port, is_over_in, settled}
+use Rattle.iox_domain.proofs.Numbered.{same_set}
+use Rattle.iox_domain.specs.Lending.{LoansIf, LoansOne, passes_port, passes, written_in, loan_at_port, loan_in, loan_header_at_port, header_of_loan}
+use Rattle.iox_domain.specs.Ports.{AtPublisher, with_publisher}
+use Rattle.iox_domain.specs.PortsPublishing.{is_blocked}
+use Rattle.iox_domain.specs.declared.ports.service_ports.ServicePorts.{ServicePorts}
+use Rattle.iox_domain.specs.AtHomes.{AtDomain}
+use Rattle.iox_domain.specs.Steps.{LoansBy}
 use Rattle.iox_delivery.specs.Holding.{publisher_blocked, loan_found, is_sample}
 use Rattle.iox_delivery.specs.Lent.{IsFresh, LoanIsFresh, IsReady}
 use Rattle.iox_delivery.specs.Publishing.{changed_at}

@@ -1,5 +1,7 @@
 pub mod Ready
 pub mod Lent
 pub mod Ending
-pub use Rattle.iox_domain_laws.proofs.Container as Container
-pub use Rattle.iox_domain_laws.proofs as DomainLaws
+pub mod Written
+pub mod Filled
+pub use Rattle.iox_domain.proofs.Container as Container
+pub use Rattle.iox_domain.proofs as Domain

@@ -1,32 +1,32 @@
 -- What is held may be sent, and released.
 use Rattle.std.proofs.Common.{◌≡◌, ◌&&◌, ◌||◌, ◌==◌, ◌∙◌, ℕ, Bool, true, false, not, cond, List, [], is_some, option_map, slice_get, unwrap_or, Option, None, Some, Result, Ok, Err, refl, sym, ap, position}
-use Rattle.iox_domain_laws.specs.IndexBase.declared.container.Member.{Member}
-use Rattle.iox_domain_laws.specs.DomainValues.declared.backpressure.BackpressureDecision.{BackpressureDecision}
-use Rattle.iox_domain_laws.specs.DomainValues.declared.backpressure.BackpressureInfo.{BackpressureInfo}
-use Rattle.iox_domain_laws.specs.DomainValues.declared.connection_failure.ConnectionFailure.{ConnectionFailure}
-use Rattle.iox_domain_laws.specs.DomainValues.declared.degradation.DegradationAction.{DegradationAction}
-use Rattle.iox_domain_laws.specs.DomainValues.declared.degradation.DegradationInfo.{DegradationInfo}
-use Rattle.iox_domain_laws.specs.DomainPublisher.Messages.{Loan, Message}
-use Rattle.iox_domain_laws.specs.DomainPublisher.MessagesSending.{is_written_loan}
-use Rattle.iox_domain_laws.proofs.DomainPublisher.Finding.{at_place, at_none}
-use Rattle.iox_domain_laws.specs.DomainPublisher.Ports.{connection_of}
-use Rattle.iox_domain_laws.specs.DomainPublisher.Sending.{ready_at, Sends, SendsIf, SendsAfter}
-use Rattle.iox_domain_laws.specs.DomainPublisher.Writing.{loan_of}
-use Rattle.iox_domain_laws.specs.DomainPublisher.declared.publisher_port.PublisherPort.{PublisherPort}
-use Rattle.iox_domain_laws.specs.DomainPublisher.declared.subscriber_entry.SubscriberEntry.{SubscriberEntry}
-use Rattle.iox_domain_laws.specs.DomainSubscriber.Publishers.{port_of, connection_in, connection_at_port}
-use Rattle.iox_domain_laws.specs.DomainSubscriber.Reading.{place_of}
-use Rattle.iox_domain_laws.specs.DomainSubscriber.declared.attached.Taken.{Taken}
-use Rattle.iox_domain_laws.specs.DomainSubscriber.declared.subscriber_port.SubscriberPort.{SubscriberPort}
-use Rattle.iox_domain_laws.specs.DomainPorts.Lending.{passes_port, loan_at_port}
-use Rattle.iox_domain_laws.specs.DomainPorts.Ports.{AtPublisher}
-use Rattle.iox_domain_laws.specs.DomainPorts.Publishing.{is_blocked, SendsOne}
-use Rattle.iox_domain_laws.specs.DomainPorts.Reading.{sample_at_port, sample_in}
-use Rattle.iox_domain_laws.specs.DomainPorts.Subscribers.{subscriber_of}
-use Rattle.iox_domain_laws.specs.DomainPorts.Subscribing.{Releases, ReleasesAt, ReleasesOf}
-use Rattle.iox_domain_laws.specs.DomainPorts.declared.service_ports.ServicePorts.{ServicePorts}
-use Rattle.iox_domain_home.specs.Homes.{AtDomain}
-use Rattle.iox_domain_home.specs.Steps.{SendsBy}
+use Rattle.iox_domain.specs.IndexBase.declared.container.Member.{Member}
+use Rattle.iox_domain.specs.DomainValues.declared.backpressure.BackpressureDecision.{BackpressureDecision}
+use Rattle.iox_domain.specs.DomainValues.declared.backpressure.BackpressureInfo.{BackpressureInfo}
+use Rattle.iox_domain.specs.DomainValues.declared.connection_failure.ConnectionFailure.{ConnectionFailure}
+use Rattle.iox_domain.specs.DomainValues.declared.degradation.DegradationAction.{DegradationAction}
+use Rattle.iox_domain.specs.DomainValues.declared.degradation.DegradationInfo.{DegradationInfo}
+use Rattle.iox_domain.specs.DomainPublisher.Messages.{Loan, Message}
+use Rattle.iox_domain.specs.DomainPublisher.MessagesSending.{is_written_loan}
+use Rattle.iox_domain.proofs.DomainPublisher.Finding.{at_place, at_none}
+use Rattle.iox_domain.specs.DomainPublisher.Ports.{connection_of}
+use Rattle.iox_domain.specs.DomainPublisher.Sending.{ready_at, Sends, SendsIf, SendsAfter}
+use Rattle.iox_domain.specs.DomainPublisher.Writing.{loan_of}
+use Rattle.iox_domain.specs.DomainPublisher.declared.publisher_port.PublisherPort.{PublisherPort}
+use Rattle.iox_domain.specs.DomainPublisher.declared.subscriber_entry.SubscriberEntry.{SubscriberEntry}
+use Rattle.iox_domain.specs.DomainSubscriber.Publishers.{port_of, connection_in, connection_at_port}
+use Rattle.iox_domain.specs.DomainSubscriber.Reading.{place_of}
+use Rattle.iox_domain.specs.DomainSubscriber.declared.attached.Taken.{Taken}
+use Rattle.iox_domain.specs.DomainSubscriber.declared.subscriber_port.SubscriberPort.{SubscriberPort}
+use Rattle.iox_domain.specs.Lending.{passes_port, loan_at_port}
+use Rattle.iox_domain.specs.Ports.{AtPublisher}
+use Rattle.iox_domain.specs.PortsPublishing.{is_blocked, SendsOne}
+use Rattle.iox_domain.specs.Reading.{sample_at_port, sample_in}
+use Rattle.iox_domain.specs.Subscribers.{subscriber_of}
+use Rattle.iox_domain.specs.PortsSubscribing.{Releases, ReleasesAt, ReleasesOf}
+use Rattle.iox_domain.specs.declared.ports.service_ports.ServicePorts.{ServicePorts}
+use Rattle.iox_domain.specs.AtHomes.{AtDomain}
+use Rattle.iox_domain.specs.Steps.{SendsBy}
 use Rattle.iox_delivery.specs.Holding.{publisher_blocked, loan_found, is_sample, value_found, message_found, subscriber_found, holds_sample, holds_message}
 
 no : false ≡ true → ⊥
@@ -97,17 +97,24 @@ releases_of (Some subscriber) number taken old new holds releases =
 
 -- a sample that is held is released
 pub sample_releases : {T U : Type 0} (number : ℕ) (taken : Taken) (ports new : ServicePorts T U) → holds_message number taken (Some ports) ≡ true → Releases number taken ports false new → ⊥
-sample_releases number taken ports new holds releases = releases_of (subscriber_of number ports.subscribers) number taken ports new holds releases
+sample_releases {T} {U} number taken ports new holds releases = found (taken.subscriber == number) holds releases
+  where
+    found : (own : Bool) → ((is_some (subscriber_of number ports.subscribers) && is_some (sample_in taken ports)) && own) ≡ true
+        → ReleasesOf (cond own (subscriber_of number ports.subscribers) None) number taken ports false new → ⊥
+    found true holds releases = releases_of (subscriber_of number ports.subscribers) number taken ports new (left_of _ _ holds) releases
+    found false holds releases = no (right_of _ _ holds)
 
-value_of_message : {T U : Type 0} (found : Option (Message T U)) (there : Bool) → (there && is_some (value_found 0 found)) ≡ true → (there && is_some found) ≡ true
-value_of_message None true holds = holds
-value_of_message None false holds = holds
-value_of_message (Some message) true holds = refl
-value_of_message (Some message) false holds = holds
+value_of_message : {T U : Type 0} (found : Option (Message T U)) (there own : Bool) → ((there && is_some (value_found 0 found)) && own) ≡ true
+    → ((there && is_some found) && own) ≡ true
+value_of_message None true own holds = holds
+value_of_message None false own holds = holds
+value_of_message (Some message) true own holds = right_of _ _ holds
+value_of_message (Some message) false own holds = holds
 
 -- a sample with a value is a message that is held
 pub sample_is_message : {T U : Type 0} (number : ℕ) (taken : Taken) (ports : Option (ServicePorts T U)) → holds_sample number taken ports ≡ true → holds_message number taken ports ≡ true
-sample_is_message number taken ports holds = value_of_message (message_found taken ports) (is_some (subscriber_found number ports)) holds
+sample_is_message number taken ports holds =
+    value_of_message (message_found taken ports) (is_some (subscriber_found number ports)) (taken.subscriber == number) holds
 
 -- what may be sent is written
 pub sample_is_written : {T U : Type 0} (loan : Option (Loan T U)) → is_sample loan ≡ true → is_written_loan loan ≡ true

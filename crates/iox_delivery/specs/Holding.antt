@@ -1,17 +1,17 @@
 -- What a home has of a port, a loan or a sample: the conditions of its calls. `ports` are the ports of its domain, if the home has them.
-use Rattle.std.specs.Prelude.{ℕ, ◌&&◌, Bool, false, is_some, slice_get, Option, None, Some}
-use Rattle.iox_domain_laws.specs.DomainPublisher.Messages.{Loan, Message}
-use Rattle.iox_domain_laws.specs.DomainPublisher.MessagesSending.{is_written_loan}
-use Rattle.iox_domain_laws.specs.DomainPublisher.Writing.{value_at}
-use Rattle.iox_domain_laws.specs.DomainPublisher.declared.publisher_port.PublisherPort.{PublisherPort}
-use Rattle.iox_domain_laws.specs.DomainSubscriber.Publishers.{port_of}
-use Rattle.iox_domain_laws.specs.DomainSubscriber.declared.attached.Taken.{Taken}
-use Rattle.iox_domain_laws.specs.DomainSubscriber.declared.subscriber_port.SubscriberPort.{SubscriberPort}
-use Rattle.iox_domain_laws.specs.DomainPorts.Lending.{passes_port, loan_at_port}
-use Rattle.iox_domain_laws.specs.DomainPorts.Publishing.{is_blocked}
-use Rattle.iox_domain_laws.specs.DomainPorts.Reading.{sample_in}
-use Rattle.iox_domain_laws.specs.DomainPorts.Subscribers.{subscriber_of}
-use Rattle.iox_domain_laws.specs.DomainPorts.declared.service_ports.ServicePorts.{ServicePorts}
+use Rattle.std.specs.Prelude.{ℕ, ◌==◌, ◌&&◌, Bool, false, is_some, slice_get, Option, None, Some}
+use Rattle.iox_domain.specs.DomainPublisher.Messages.{Loan, Message}
+use Rattle.iox_domain.specs.DomainPublisher.MessagesSending.{is_written_loan}
+use Rattle.iox_domain.specs.DomainPublisher.Writing.{value_at}
+use Rattle.iox_domain.specs.DomainPublisher.declared.publisher_port.PublisherPort.{PublisherPort}
+use Rattle.iox_domain.specs.DomainSubscriber.Publishers.{port_of}
+use Rattle.iox_domain.specs.DomainSubscriber.declared.attached.Taken.{Taken}
+use Rattle.iox_domain.specs.DomainSubscriber.declared.subscriber_port.SubscriberPort.{SubscriberPort}
+use Rattle.iox_domain.specs.Lending.{passes_port, loan_at_port}
+use Rattle.iox_domain.specs.PortsPublishing.{is_blocked}
+use Rattle.iox_domain.specs.Reading.{sample_in}
+use Rattle.iox_domain.specs.Subscribers.{subscriber_of}
+use Rattle.iox_domain.specs.declared.ports.service_ports.ServicePorts.{ServicePorts}
 
 -- the publisher of a number
 abbrev pub publisher_found : {T U : Type 0} → ℕ → Option (ServicePorts T U) → Option (PublisherPort T U)
@@ -58,10 +58,12 @@ abbrev pub value_found : {T U : Type 0} → ℕ → Option (Message T U) → Opt
 value_found place None = None
 value_found place (Some message) = slice_get message.values place
 
--- whether a sample of the subscriber of a number is held, and has a value
+-- whether a sample that the subscriber of a number received is held, and has a value
 abbrev pub holds_sample : {T U : Type 0} → ℕ → Taken → Option (ServicePorts T U) → Bool
-holds_sample number taken ports = is_some (subscriber_found number ports) && is_some (value_found 0 (message_found taken ports))
+holds_sample number taken ports =
+    (is_some (subscriber_found number ports) && is_some (value_found 0 (message_found taken ports))) && (taken.subscriber == number)
 
--- whether a message of the subscriber of a number is held
+-- whether a message that the subscriber of a number received is held
 abbrev pub holds_message : {T U : Type 0} → ℕ → Taken → Option (ServicePorts T U) → Bool
-holds_message number taken ports = is_some (subscriber_found number ports) && is_some (message_found taken ports)
+holds_message number taken ports =
+    (is_some (subscriber_found number ports) && is_some (message_found taken ports)) && (taken.subscriber == number)

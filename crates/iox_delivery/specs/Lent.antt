@@ -1,12 +1,12 @@
 -- What a loan comes to that was just made.
 use Rattle.std.specs.Prelude.{ℕ, ◌≡◌, true, false, List, map, Option, Some, Ok}
-use Rattle.iox_domain_laws.specs.DomainPublisher.Messages.{new_loan}
-use Rattle.iox_domain_laws.specs.DomainPublisher.declared.publisher_port.PublisherPort.{PublisherPort}
-use Rattle.iox_domain_laws.specs.DomainPorts.Lending.{loan_in, loan_header_in, passes}
-use Rattle.iox_domain_laws.specs.DomainPorts.Publishing.{is_blocked}
-use Rattle.iox_domain_laws.specs.DomainPorts.declared.service_ports.ServicePorts.{ServicePorts}
-use Rattle.iox_domain_laws.specs.DomainSubscriber.Publishers.{port_of}
-use Rattle.iox_domain_home.specs.Steps.{LoansBy}
+use Rattle.iox_domain.specs.DomainPublisher.Messages.{new_loan}
+use Rattle.iox_domain.specs.DomainPublisher.declared.publisher_port.PublisherPort.{PublisherPort}
+use Rattle.iox_domain.specs.Lending.{loan_in, loan_header_in, passes}
+use Rattle.iox_domain.specs.PortsPublishing.{is_blocked}
+use Rattle.iox_domain.specs.declared.ports.service_ports.ServicePorts.{ServicePorts}
+use Rattle.iox_domain.specs.DomainSubscriber.Publishers.{port_of}
+use Rattle.iox_domain.specs.Steps.{LoansBy}
 use Rattle.iox_delivery.specs.Holding.{loan_found, publisher_blocked}
 
 -- A loan is found in its slot that was just made: none of its values is written, and it has the user header that its publisher gives new

@@ -2,10 +2,13 @@ pub mod Holding
 pub mod Publishing
 pub mod Subscribing
 pub mod Lent
-pub use Rattle.iox_domain_laws.specs.Container as Container
-pub use Rattle.iox_domain_home.specs as DomainHome
-pub use Rattle.iox_domain_laws.specs as DomainLaws
-pub use Rattle.iox_domain_laws.specs.DomainPorts as DomainPorts
-pub use Rattle.iox_domain_laws.specs.DomainPublisher as DomainPublisher
-pub use Rattle.iox_domain_laws.specs.DomainSubscriber as DomainSubscriber
-pub use Rattle.iox_domain_laws.specs.IndexBase as IndexBase
+pub mod Slices
+pub mod Custom
+pub use Rattle.iox_domain.specs.Container as Container
+pub use Rattle.iox_domain.specs as Domain
+pub use Rattle.iox_domain.specs.DomainPublisher as DomainPublisher
+pub use Rattle.iox_domain.specs.DomainSubscriber as DomainSubscriber
+pub use Rattle.iox_domain.specs.IndexBase as IndexBase
+pub use Rattle.iox_domain.specs.DescribeBase as DescribeBase
+pub use Rattle.iox_domain.specs.DescribeSettings as DescribeSettings
+pub use Rattle.iox_domain.specs.DomainValues as DomainValues

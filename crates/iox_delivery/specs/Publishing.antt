@@ -1,24 +1,24 @@
 -- What the calls of a publisher and of its loans do to their home. `ports_of` finds the ports of a domain in a home, `with_ports` puts
 -- others there.
 use Rattle.std.specs.Prelude.{ℕ, ◌≡◌, Bool, true, Option, None, Some, Result, Ok, Err}
-use Rattle.iox_domain_laws.specs.DescribeBase.declared.header.Header.{Header}
-use Rattle.iox_domain_laws.specs.DomainValues.declared.backpressure.BackpressureDecision.{BackpressureDecision}
-use Rattle.iox_domain_laws.specs.DomainValues.declared.backpressure.BackpressureInfo.{BackpressureInfo}
-use Rattle.iox_domain_laws.specs.DomainValues.declared.connection_failure.ConnectionFailure.{ConnectionFailure}
-use Rattle.iox_domain_laws.specs.DomainValues.declared.degradation.DegradationAction.{DegradationAction}
-use Rattle.iox_domain_laws.specs.DomainValues.declared.degradation.DegradationInfo.{DegradationInfo}
-use Rattle.iox_domain_laws.specs.DomainValues.declared.port_error.LoanError.{LoanError}
-use Rattle.iox_domain_laws.specs.DomainValues.declared.port_error.SendError.{SendError}
-use Rattle.iox_domain_laws.specs.DomainValues.declared.port_error.SendError.TheVariants as refusal
-use Rattle.iox_domain_laws.specs.DomainPublisher.Messages.{Loan, write_value, write_user_header}
-use Rattle.iox_domain_laws.specs.DomainPublisher.MessagesSending.{has_loan, has_length}
-use Rattle.iox_domain_laws.specs.DomainPublisher.declared.meeting.Sent.{Sent as Sending}
-use Rattle.iox_domain_laws.specs.DomainPublisher.declared.meeting.Sent.TheVariants as sending
-use Rattle.iox_domain_laws.specs.DomainPorts.Lending.{written_in, loan_changed_in, loan_header_in, gave_up_in}
-use Rattle.iox_domain_laws.specs.DomainPorts.declared.service_ports.ServicePorts.{ServicePorts}
-use Rattle.iox_domain_home.specs.Homes.{AtDomain, LeavesDomain}
-use Rattle.iox_domain_home.specs.Steps.{LoansBy, UpdatesBy, SendsBy, RetriesBy, GivesUpBy, PublisherLeaves}
-use Rattle.iox_domain_home.specs.declared.domain_id.DomainId.{DomainId}
+use Rattle.iox_domain.specs.DescribeBase.declared.header.Header.{Header}
+use Rattle.iox_domain.specs.DomainValues.declared.backpressure.BackpressureDecision.{BackpressureDecision}
+use Rattle.iox_domain.specs.DomainValues.declared.backpressure.BackpressureInfo.{BackpressureInfo}
+use Rattle.iox_domain.specs.DomainValues.declared.connection_failure.ConnectionFailure.{ConnectionFailure}
+use Rattle.iox_domain.specs.DomainValues.declared.degradation.DegradationAction.{DegradationAction}
+use Rattle.iox_domain.specs.DomainValues.declared.degradation.DegradationInfo.{DegradationInfo}
+use Rattle.iox_domain.specs.DomainValues.declared.port_error.LoanError.{LoanError}
+use Rattle.iox_domain.specs.DomainValues.declared.port_error.SendError.{SendError}
+use Rattle.iox_domain.specs.DomainValues.declared.port_error.SendError.TheVariants as refusal
+use Rattle.iox_domain.specs.DomainPublisher.Messages.{Loan, write_value, write_user_header}
+use Rattle.iox_domain.specs.DomainPublisher.MessagesSending.{has_loan, has_length}
+use Rattle.iox_domain.specs.DomainPublisher.declared.meeting.Sent.{Sent as Sending}
+use Rattle.iox_domain.specs.DomainPublisher.declared.meeting.Sent.TheVariants as sending
+use Rattle.iox_domain.specs.Lending.{written_in, loan_changed_in, loan_header_in, gave_up_in}
+use Rattle.iox_domain.specs.declared.ports.service_ports.ServicePorts.{ServicePorts}
+use Rattle.iox_domain.specs.AtHomes.{AtDomain, LeavesDomain}
+use Rattle.iox_domain.specs.Steps.{LoansBy, UpdatesBy, SendsBy, RetriesBy, GivesUpBy, PublisherLeaves}
+use Rattle.iox_domain.specs.declared.domain_id.DomainId.{DomainId}
 use Rattle.iox_delivery.specs.declared.port_id.PortId.{PortId}
 use Rattle.iox_delivery.specs.declared.sample_mut.SampleMut.{SampleMut}
 use Rattle.iox_delivery.specs.declared.sample_mut_uninit.SampleMutUninit.{SampleMutUninit}

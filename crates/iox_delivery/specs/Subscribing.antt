@@ -1,18 +1,18 @@
 -- What the calls of a subscriber and of its samples do to their home. `ports_of` finds the ports of a domain in a home, `with_ports` puts
 -- others there.
 use Rattle.std.specs.Prelude.{ℕ, ◌≡◌, Bool, true, false, Option, None, Some, Result, Ok, Err}
-use Rattle.iox_domain_laws.specs.DescribeBase.declared.header.Header.{Header}
-use Rattle.iox_domain_laws.specs.DomainValues.declared.connection_failure.ConnectionFailure.{ConnectionFailure}
-use Rattle.iox_domain_laws.specs.DomainValues.declared.degradation.DegradationAction.{DegradationAction}
-use Rattle.iox_domain_laws.specs.DomainValues.declared.degradation.DegradationInfo.{DegradationInfo}
-use Rattle.iox_domain_laws.specs.DomainValues.declared.port_error.ReceiveError.{ReceiveError}
-use Rattle.iox_domain_laws.specs.DomainSubscriber.declared.attached.Taken.{Taken}
-use Rattle.iox_domain_laws.specs.DomainPorts.Reading.{header_in}
-use Rattle.iox_domain_laws.specs.DomainPorts.Subscribing.{Releases}
-use Rattle.iox_domain_laws.specs.DomainPorts.declared.service_ports.ServicePorts.{ServicePorts}
-use Rattle.iox_domain_home.specs.Homes.{AtDomain, LeavesDomain}
-use Rattle.iox_domain_home.specs.Steps.{FollowsBy, TellsBy, ReceivesBy, SubscriberLeaves}
-use Rattle.iox_domain_home.specs.declared.domain_id.DomainId.{DomainId}
+use Rattle.iox_domain.specs.DescribeBase.declared.header.Header.{Header}
+use Rattle.iox_domain.specs.DomainValues.declared.connection_failure.ConnectionFailure.{ConnectionFailure}
+use Rattle.iox_domain.specs.DomainValues.declared.degradation.DegradationAction.{DegradationAction}
+use Rattle.iox_domain.specs.DomainValues.declared.degradation.DegradationInfo.{DegradationInfo}
+use Rattle.iox_domain.specs.DomainValues.declared.port_error.ReceiveError.{ReceiveError}
+use Rattle.iox_domain.specs.DomainSubscriber.declared.attached.Taken.{Taken}
+use Rattle.iox_domain.specs.Reading.{header_in}
+use Rattle.iox_domain.specs.PortsSubscribing.{Releases}
+use Rattle.iox_domain.specs.declared.ports.service_ports.ServicePorts.{ServicePorts}
+use Rattle.iox_domain.specs.AtHomes.{AtDomain, LeavesDomain}
+use Rattle.iox_domain.specs.Steps.{FollowsBy, TellsBy, ReceivesBy, SubscriberLeaves}
+use Rattle.iox_domain.specs.declared.domain_id.DomainId.{DomainId}
 use Rattle.iox_delivery.specs.declared.port_id.PortId.{PortId}
 use Rattle.iox_delivery.specs.declared.sample.Sample.{Sample}
 

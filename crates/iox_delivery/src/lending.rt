@@ -1,17 +1,18 @@
 //! What loans of values and of slices have in common: their calls, by port and slot.
+ghost use Rattle.iox_domain.specs.Homes as homes;
 ghost use Rattle.std.specs.Prelude.{◌≡◌, true, false, Some, is_some, option_map};
 ghost use Rattle.std.specs.Borrow.{sem, LendsIf};
 ghost use Rattle.std.specs.Option.{option_copied_mut};
-ghost use Rattle.iox_domain_laws.specs.DomainPublisher.Messages.{write_value, write_user_header};
-ghost use Rattle.iox_domain_laws.specs.DomainPublisher.MessagesSending.{is_written_loan};
-ghost use Rattle.iox_domain_laws.specs.DomainPublisher.Writing.{value_at};
+ghost use Rattle.iox_domain.specs.DomainPublisher.Messages.{write_value, write_user_header};
+ghost use Rattle.iox_domain.specs.DomainPublisher.MessagesSending.{is_written_loan};
+ghost use Rattle.iox_domain.specs.DomainPublisher.Writing.{value_at};
 ghost use Rattle.iox_delivery.specs.Holding.{loan_found, publisher_blocked};
 ghost use Rattle.iox_delivery.specs.Publishing.{loan_changed, loan_header_found, SendsSample, WritesUserHeader, GivesUpLoan};
 
 use crate::port_id::PortId;
 use crate::sent::{Sent, sent_of};
 use iox_describe_base::Header;
-use iox_domain_home::Home;
+use iox_domain::{Home, calls};
 use iox_domain_values::SendError;
 use std::alloc::Global;
 
@@ -20,9 +21,9 @@ use std::alloc::Global;
 /// This port's own.
 /// Example: `let is_there = lending::is_out(port, slot, home);`
 pub fn is_out<T: Copy, U: Copy, H: Home<T, U>>(port: PortId, slot: usize, home: &H) -> bool
-    ensures { result ≡ is_some (loan_found port.number slot (H.ports_of port.domain home.now)) }
+    ensures { result ≡ is_some (loan_found port.number slot (homes.ports_of H.domain_of port.domain home.now)) }
 {
-    let Some(ports) = home.ports(port.domain) else {
+    let Some(ports) = calls::ports(home, port.domain) else {
         return false;
     };
     match ports.publishers.get(port.number) {
@@ -36,9 +37,9 @@ pub fn is_out<T: Copy, U: Copy, H: Home<T, U>>(port: PortId, slot: usize, home: 
 /// This port's own.
 /// Example: `let may_be_sent = lending::is_written(port, slot, home);`
 pub fn is_written<T: Copy, U: Copy, H: Home<T, U>>(port: PortId, slot: usize, home: &H) -> bool
-    ensures { result ≡ is_written_loan (loan_found port.number slot (H.ports_of port.domain home.now)) }
+    ensures { result ≡ is_written_loan (loan_found port.number slot (homes.ports_of H.domain_of port.domain home.now)) }
 {
-    match home.ports(port.domain) {
+    match calls::ports(home, port.domain) {
         Some(ports) => ports.is_written(port.number, slot),
         None => false,
     }
@@ -56,10 +57,10 @@ pub fn user_header<'a, T: Copy, U: Copy, H: Home<T, U>>(
 where
     T: 'a,
     U: 'a,
-    requires { is_some (loan_found port.number slot (H.ports_of port.domain home.now)) ≡ true }
-    ensures { Some result.now ≡ option_map (λ loan. loan.user_header) (loan_found port.number slot (H.ports_of port.domain home.now)) }
+    requires { is_some (loan_found port.number slot (homes.ports_of H.domain_of port.domain home.now)) ≡ true }
+    ensures { Some result.now ≡ option_map (λ loan. loan.user_header) (loan_found port.number slot (homes.ports_of H.domain_of port.domain home.now)) }
 {
-    let Some(ports) = home.ports(port.domain) else {
+    let Some(ports) = calls::ports(home, port.domain) else {
         unreachable!();
     };
     match ports.loan_user_header(port.number, slot) {
@@ -73,10 +74,10 @@ where
 /// Ported from `iceoryx2::sample_mut_uninit::SampleMutUninit::header`.
 /// Example: `let header = lending::header(port, slot, home);`
 pub fn header<T: Copy, U: Copy, H: Home<T, U>>(port: PortId, slot: usize, home: &H) -> Header
-    requires { is_some (loan_found port.number slot (H.ports_of port.domain home.now)) ≡ true }
-    ensures { Some result ≡ loan_header_found port.number slot (H.ports_of port.domain home.now) }
+    requires { is_some (loan_found port.number slot (homes.ports_of H.domain_of port.domain home.now)) ≡ true }
+    ensures { Some result ≡ loan_header_found port.number slot (homes.ports_of H.domain_of port.domain home.now) }
 {
-    let Some(ports) = home.ports(port.domain) else {
+    let Some(ports) = calls::ports(home, port.domain) else {
         unreachable!();
     };
     match ports.loan_header(port.number, slot) {
@@ -95,9 +96,9 @@ pub fn write_user_header<T: Copy, U: Copy, H: Home<T, U>>(
     home: &mut H,
     user_header: U,
 )
-    ensures { WritesUserHeader H.ports_of H.with_ports port slot user_header home.old home.new }
+    ensures { WritesUserHeader (homes.ports_of H.domain_of) (homes.with_ports H.changed) port slot user_header home.old home.new }
 {
-    if let Some(ports) = home.ports_mut(port.domain) {
+    if let Some(ports) = calls::ports_mut(home, port.domain) {
         let _ = ports.write_user_header(port.number, slot, user_header);
     }
 }
@@ -115,10 +116,10 @@ pub fn value_mut<'a, T: Copy, U: Copy, H: Home<T, U>>(
 where
     T: 'a,
     U: 'a,
-    ensures* writes_back { sem 𝓛 (LendsIf H.row T.row home.entry result (λ last. loan_changed H.ports_of H.with_ports port slot (write_value place last) home.old) home.old) }
-    ensures value { option_copied_mut result ≡ value_at place (loan_found port.number slot (H.ports_of port.domain home.old)) }
+    ensures* writes_back { sem 𝓛 (LendsIf H.row T.row home.entry result (λ last. loan_changed (homes.ports_of H.domain_of) (homes.with_ports H.changed) port slot (write_value place last) home.old) home.old) }
+    ensures value { option_copied_mut result ≡ value_at place (loan_found port.number slot (homes.ports_of H.domain_of port.domain home.old)) }
 {
-    match home.ports_mut(port.domain) {
+    match calls::ports_mut(home, port.domain) {
         Some(ports) => ports.value_mut(port.number, slot, place),
         None => None,
     }
@@ -136,15 +137,14 @@ pub fn user_header_mut<'a, T: Copy, U: Copy, H: Home<T, U>>(
 where
     T: 'a,
     U: 'a,
-    ensures* writes_back { sem 𝓛 (LendsIf H.row U.row home.entry result (λ last. loan_changed H.ports_of H.with_ports port slot (write_user_header last) home.old) home.old) }
-    ensures value { option_copied_mut result ≡ option_map (λ loan. loan.user_header) (loan_found port.number slot (H.ports_of port.domain home.old)) }
+    ensures* writes_back { sem 𝓛 (LendsIf H.row U.row home.entry result (λ last. loan_changed (homes.ports_of H.domain_of) (homes.with_ports H.changed) port slot (write_user_header last) home.old) home.old) }
+    ensures value { option_copied_mut result ≡ option_map (λ loan. loan.user_header) (loan_found port.number slot (homes.ports_of H.domain_of port.domain home.old)) }
 {
-    home.ports_mut(port.domain)?
-        .user_header_mut(port.number, slot)
+    calls::ports_mut(home, port.domain)?.user_header_mut(port.number, slot)
 }
 
-/// Sends the loan in a slot, each of whose values is written: `ServicePorts::send` says which connections take it, and when it is refused. The
-/// loan is spent in every case.
+/// Sends the loan in a slot, each of whose values is written: `ServicePorts::send` says which connections take it, and when it is
+/// refused. The loan is spent in every case.
 ///
 /// Ported from `iceoryx2::sample_mut::SampleMut::send`.
 /// Example: `let sent = lending::send(port, slot, alloc, home)?;`
@@ -154,11 +154,11 @@ pub fn send<T: Copy, U: Copy, H: Home<T, U>>(
     alloc: Global,
     home: &mut H,
 ) -> Result<Sent<T, U>, SendError>
-    requires holds { is_written_loan (loan_found port.number slot (H.ports_of port.domain home.old)) ≡ true }
-    requires free { publisher_blocked port.number (H.ports_of port.domain home.old) ≡ false }
-    ensures { SendsSample H.ports_of H.with_ports H.publisher_degrades H.publisher_decides port slot home.old result home.new }
+    requires holds { is_written_loan (loan_found port.number slot (homes.ports_of H.domain_of port.domain home.old)) ≡ true }
+    requires free { publisher_blocked port.number (homes.ports_of H.domain_of port.domain home.old) ≡ false }
+    ensures { SendsSample (homes.ports_of H.domain_of) (homes.with_ports H.changed) (homes.publisher_degrades (λ kept. H.ForPublishers.degrades kept) H.domain_of) (homes.publisher_decides (λ kept. H.ForPublishers.decides kept) H.domain_of) port slot home.old result home.new }
 {
-    match home.send(alloc, port.domain, port.number, slot) {
+    match calls::send(home, alloc, port.domain, port.number, slot) {
         Some(sent) => sent_of(port, sent),
         None => unreachable!(),
     }
@@ -169,9 +169,9 @@ pub fn send<T: Copy, U: Copy, H: Home<T, U>>(
 /// Ported from dropping an `iceoryx2::sample_mut::SampleMut`.
 /// Example: `lending::drop_loan(port, slot, home);`
 pub fn drop_loan<T: Copy, U: Copy, H: Home<T, U>>(port: PortId, slot: usize, home: &mut H)
-    ensures { GivesUpLoan H.ports_of H.with_ports port slot home.old home.new }
+    ensures { GivesUpLoan (homes.ports_of H.domain_of) (homes.with_ports H.changed) port slot home.old home.new }
 {
-    if let Some(ports) = home.ports_mut(port.domain) {
+    if let Some(ports) = calls::ports_mut(home, port.domain) {
         let _ = ports.drop_loan(port.number, slot);
     }
 }

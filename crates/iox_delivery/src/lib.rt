@@ -9,6 +9,7 @@
 //! - [`subscriber`]: a subscriber of single values.
 //! - [`sample`]: a message that was received.
 //! - [`publishing`], [`lending`], [`subscribing`]: what ports of slices have in common with these, by port, slot and message.
+//! - [`slices`]: publishers, subscribers, loans and samples of slices.
 //! - [`laws`]: what a loan comes to that was just made.
 //!
 //! No port, loan, sample or waiting send may be let go: it is spent by the call that ends it.
@@ -51,6 +52,7 @@ pub mod sample;
 pub mod sample_mut;
 pub mod sample_mut_uninit;
 pub mod sent;
+pub mod slices;
 pub mod subscriber;
 pub mod subscribing;
 

@@ -1,5 +1,5 @@
 //! Which port of which domain.
-use iox_domain_home::DomainId;
+use iox_domain::DomainId;
 
 /// Which port of which domain.
 #[derive(Clone, Copy, Debug, PartialEq, Eq)]

@@ -1,4 +1,5 @@
 //! A publisher of single values.
+ghost use Rattle.iox_domain.specs.Homes as homes;
 ghost use Rattle.std.specs.Prelude.{◌≡◌, ◌&&◌, ◌∷◌, [], true, false, not, IfOk};
 ghost use Rattle.iox_delivery.specs.Lent.{IsReady};
 ghost use Rattle.iox_delivery.specs.Holding.{publisher_stands, publisher_blocked};
@@ -9,7 +10,7 @@ use crate::sample_mut::SampleMut;
 use crate::sample_mut_uninit::SampleMutUninit;
 use crate::sent::Sent;
 use crate::{lending, publishing};
-use iox_domain_home::{DomainId, Home};
+use iox_domain::{DomainId, Home};
 use iox_domain_values::{BackpressureStrategy, ConnectionFailure, LoanError, SendError};
 use std::alloc::Global;
 use std::marker::PhantomData;
@@ -70,7 +71,7 @@ impl<T: Copy, U: Copy> Publisher<T, U> {
     /// Whether it stands in this home: the condition of its calls.
     /// Example: `let is_there = publisher.holds(home);`
     pub fn holds<H: Home<T, U>>(&self, home: &H) -> bool
-        ensures { result ≡ publisher_stands self.now.port.number (H.ports_of self.now.port.domain home.now) }
+        ensures { result ≡ publisher_stands self.now.port.number (homes.ports_of H.domain_of self.now.port.domain home.now) }
     {
         publishing::holds(self.port, home)
     }
@@ -78,13 +79,13 @@ impl<T: Copy, U: Copy> Publisher<T, U> {
     /// Whether a send of it waits: that it doesn't is the condition of its calls.
     /// Example: `let waits = publisher.is_blocked(home);`
     pub fn is_blocked<H: Home<T, U>>(&self, home: &H) -> bool
-        ensures { result ≡ publisher_blocked self.now.port.number (H.ports_of self.now.port.domain home.now) }
+        ensures { result ≡ publisher_blocked self.now.port.number (homes.ports_of H.domain_of self.now.port.domain home.now) }
     {
         publishing::is_blocked(self.port, home)
     }
 
-    /// Lends a value to be written. It is refused as `ServicePorts::loan` says: with `ExceedsMaxLoans` where as many loans are out as it may
-    /// have, else with `OutOfMemory` where each of its slots is in use.
+    /// Lends a value to be written. It is refused as `ServicePorts::loan` says: with `ExceedsMaxLoans` where as many loans are
+    /// out as it may have, else with `OutOfMemory` where each of its slots is in use.
     ///
     /// Ported from `iceoryx2::port::publisher::Publisher::loan_uninit`.
     /// Example: `let loan = publisher.loan_uninit(alloc, home)?;`
@@ -93,16 +94,16 @@ impl<T: Copy, U: Copy> Publisher<T, U> {
         alloc: Global,
         home: &mut H,
     ) -> Result<SampleMutUninit<T, U>, LoanError>
-        requires holds { publisher_stands self.now.port.number (H.ports_of self.now.port.domain home.old) ≡ true }
-        requires free { publisher_blocked self.now.port.number (H.ports_of self.now.port.domain home.old) ≡ false }
-        ensures { LendsUninit H.ports_of H.with_ports self.now.port home.old result home.new }
+        requires holds { publisher_stands self.now.port.number (homes.ports_of H.domain_of self.now.port.domain home.old) ≡ true }
+        requires free { publisher_blocked self.now.port.number (homes.ports_of H.domain_of self.now.port.domain home.old) ≡ false }
+        ensures { LendsUninit (homes.ports_of H.domain_of) (homes.with_ports H.changed) self.now.port home.old result home.new }
     {
         let slot = publishing::loan(self.port, alloc, home, 1, 1)?;
         Ok(SampleMutUninit::of_loan(self.port, slot))
     }
 
-    /// Lends a value that is written: a default. It is refused as `loan_uninit` is. It may be sent at once: it is a loan that is written, and no
-    /// send waits.
+    /// Lends a value that is written: a default. It is refused as `loan_uninit` is. It may be sent at once: it is a loan that is
+    /// written, and no send waits.
     ///
     /// Ported from `iceoryx2::port::publisher::Publisher::loan`.
     /// Example: `let sample = publisher.loan(alloc, home)?;`
@@ -113,17 +114,17 @@ impl<T: Copy, U: Copy> Publisher<T, U> {
     ) -> Result<SampleMut<T, U>, LoanError>
     where
         T: Default,
-        requires holds { publisher_stands self.now.port.number (H.ports_of self.now.port.domain home.old) ≡ true }
-        requires free { publisher_blocked self.now.port.number (H.ports_of self.now.port.domain home.old) ≡ false }
-        ensures lends { LendsDefault H.ports_of H.with_ports T.is_default self.now.port home.old result home.new }
-        ensures ready { IfOk result (λ sample. (value : T) × T.is_default value × IsReady self.now.port.number (value ∷ []) 1 sample.slot (H.ports_of self.now.port.domain home.new)) }
+        requires holds { publisher_stands self.now.port.number (homes.ports_of H.domain_of self.now.port.domain home.old) ≡ true }
+        requires free { publisher_blocked self.now.port.number (homes.ports_of H.domain_of self.now.port.domain home.old) ≡ false }
+        ensures lends { LendsDefault (homes.ports_of H.domain_of) (homes.with_ports H.changed) T.is_default self.now.port home.old result home.new }
+        ensures ready { IfOk result (λ sample. (value : T) × T.is_default value × IsReady self.now.port.number (value ∷ []) 1 sample.slot (homes.ports_of H.domain_of self.now.port.domain home.new)) }
     {
         let slot = publishing::loan_value(self.port, alloc, home, T::default())?;
         Ok(SampleMut::of_loan(self.port, slot))
     }
 
-    /// Lends a value, writes it and sends it. A loan that is refused as `loan_uninit` is, is `SendError::LoanError`, and nothing is sent; else it
-    /// answers as `SampleMut::send` does.
+    /// Lends a value, writes it and sends it. A loan that is refused as `loan_uninit` is, is `SendError::LoanError`, and nothing
+    /// is sent; else it answers as `SampleMut::send` does.
     ///
     /// Ported from `iceoryx2::port::publisher::Publisher::send_copy`.
     /// Example: `let sent = publisher.send_copy(alloc, home, 7)?;`
@@ -133,9 +134,9 @@ impl<T: Copy, U: Copy> Publisher<T, U> {
         home: &mut H,
         value: T,
     ) -> Result<Sent<T, U>, SendError>
-        requires holds { publisher_stands self.now.port.number (H.ports_of self.now.port.domain home.old) ≡ true }
-        requires free { publisher_blocked self.now.port.number (H.ports_of self.now.port.domain home.old) ≡ false }
-        ensures { SendsCopy H.ports_of H.with_ports H.publisher_degrades H.publisher_decides self.now.port value home.old result home.new }
+        requires holds { publisher_stands self.now.port.number (homes.ports_of H.domain_of self.now.port.domain home.old) ≡ true }
+        requires free { publisher_blocked self.now.port.number (homes.ports_of H.domain_of self.now.port.domain home.old) ≡ false }
+        ensures { SendsCopy (homes.ports_of H.domain_of) (homes.with_ports H.changed) (homes.publisher_degrades (λ kept. H.ForPublishers.degrades kept) H.domain_of) (homes.publisher_decides (λ kept. H.ForPublishers.decides kept) H.domain_of) self.now.port value home.old result home.new }
     {
         let slot = publishing::loan_value(self.port, alloc, home, value)?;
         lending::send(self.port, slot, alloc, home)
@@ -151,9 +152,9 @@ impl<T: Copy, U: Copy> Publisher<T, U> {
         alloc: Global,
         home: &mut H,
     ) -> Result<(), ConnectionFailure>
-        requires holds { publisher_stands self.now.port.number (H.ports_of self.now.port.domain home.old) ≡ true }
-        requires free { publisher_blocked self.now.port.number (H.ports_of self.now.port.domain home.old) ≡ false }
-        ensures { FollowsSubscribers H.ports_of H.with_ports H.publisher_degrades self.now.port home.old result home.new }
+        requires holds { publisher_stands self.now.port.number (homes.ports_of H.domain_of self.now.port.domain home.old) ≡ true }
+        requires free { publisher_blocked self.now.port.number (homes.ports_of H.domain_of self.now.port.domain home.old) ≡ false }
+        ensures { FollowsSubscribers (homes.ports_of H.domain_of) (homes.with_ports H.changed) (homes.publisher_degrades (λ kept. H.ForPublishers.degrades kept) H.domain_of) self.now.port home.old result home.new }
     {
         publishing::update(self.port, alloc, home)
     }
@@ -178,8 +179,8 @@ impl<T: Copy, U: Copy> Publisher<T, U> {
     /// Ported from dropping an `iceoryx2::port::publisher::Publisher`.
     /// Example: `let has_left = publisher.drop_with(home);`
     pub fn drop_with<H: Home<T, U>>(self, home: &mut H) -> bool
-        ensures ends { EndsPublisher H.ports_of H.with_ports H.without_publisher self.port home.old result home.new }
-        ensures left { result ≡ (publisher_stands self.port.number (H.ports_of self.port.domain home.old) && not (publisher_blocked self.port.number (H.ports_of self.port.domain home.old))) }
+        ensures ends { EndsPublisher (homes.ports_of H.domain_of) (homes.with_ports H.changed) (homes.without_publisher H.changed) self.port home.old result home.new }
+        ensures left { result ≡ (publisher_stands self.port.number (homes.ports_of H.domain_of self.port.domain home.old) && not (publisher_blocked self.port.number (homes.ports_of H.domain_of self.port.domain home.old))) }
     {
         publishing::drop_port(self.into_port(), home)
     }
@@ -189,9 +190,9 @@ impl<T: Copy, U: Copy> Publisher<T, U> {
     /// Ported from dropping an `iceoryx2::port::publisher::Publisher`.
     /// Example: `publisher.leave(home);`
     pub fn leave<H: Home<T, U>>(self, home: &mut H)
-        requires holds { publisher_stands self.port.number (H.ports_of self.port.domain home.old) ≡ true }
-        requires free { publisher_blocked self.port.number (H.ports_of self.port.domain home.old) ≡ false }
-        ensures { PublisherGoes H.ports_of H.with_ports H.without_publisher self.port home.old home.new }
+        requires holds { publisher_stands self.port.number (homes.ports_of H.domain_of self.port.domain home.old) ≡ true }
+        requires free { publisher_blocked self.port.number (homes.ports_of H.domain_of self.port.domain home.old) ≡ false }
+        ensures { PublisherGoes (homes.ports_of H.domain_of) (homes.with_ports H.changed) (homes.without_publisher H.changed) self.port home.old home.new }
     {
         publishing::leave(self.into_port(), home);
     }

@@ -1,4 +1,5 @@
 //! What a publisher of values and one of slices have in common: their calls, by port.
+ghost use Rattle.iox_domain.specs.Homes as homes;
 ghost use Rattle.std.specs.Prelude.{◌≡◌, ◌&&◌, ◌∷◌, [], true, false, not, IfOk};
 ghost use Rattle.iox_delivery.specs.Lent.{IsReady};
 ghost use Rattle.iox_delivery.specs.Holding.{publisher_stands, publisher_blocked};
@@ -6,7 +7,7 @@ ghost use Rattle.iox_delivery.specs.Publishing.{LendsSlot, LendsValue, FollowsSu
 
 use crate::port_id::PortId;
 use crate::sample_mut_uninit::write;
-use iox_domain_home::Home;
+use iox_domain::{Home, calls};
 use iox_domain_values::{ConnectionFailure, LoanError};
 use std::alloc::Global;
 
@@ -15,9 +16,9 @@ use std::alloc::Global;
 /// This port's own.
 /// Example: `let is_there = publishing::holds(port, home);`
 pub fn holds<T: Copy, U: Copy, H: Home<T, U>>(port: PortId, home: &H) -> bool
-    ensures { result ≡ publisher_stands port.number (H.ports_of port.domain home.now) }
+    ensures { result ≡ publisher_stands port.number (homes.ports_of H.domain_of port.domain home.now) }
 {
-    let Some(ports) = home.ports(port.domain) else {
+    let Some(ports) = calls::ports(home, port.domain) else {
         return false;
     };
     match ports.publishers.get(port.number) {
@@ -31,9 +32,9 @@ pub fn holds<T: Copy, U: Copy, H: Home<T, U>>(port: PortId, home: &H) -> bool
 /// This port's own.
 /// Example: `let waits = publishing::is_blocked(port, home);`
 pub fn is_blocked<T: Copy, U: Copy, H: Home<T, U>>(port: PortId, home: &H) -> bool
-    ensures { result ≡ publisher_blocked port.number (H.ports_of port.domain home.now) }
+    ensures { result ≡ publisher_blocked port.number (homes.ports_of H.domain_of port.domain home.now) }
 {
-    let Some(ports) = home.ports(port.domain) else {
+    let Some(ports) = calls::ports(home, port.domain) else {
         return false;
     };
     match ports.publishers.get(port.number) {
@@ -42,9 +43,10 @@ pub fn is_blocked<T: Copy, U: Copy, H: Home<T, U>>(port: PortId, home: &H) -> bo
     }
 }
 
-/// A publisher lends a slot for so many values; the header of the message says so many elements. It is refused as `ServicePorts::loan` says:
-/// with `ExceedsMaxLoanSize` where that is more than its room allows and the room doesn't grow, else with `ExceedsMaxLoans` where as many
-/// loans are out as it may have, else with `OutOfMemory` where each slot is in use or a new segment isn't made.
+/// A publisher lends a slot for so many values; the header of the message says so many elements. It is refused as
+/// `ServicePorts::loan` says: with `ExceedsMaxLoanSize` where that is more than its room allows and the room doesn't grow, else
+/// with `ExceedsMaxLoans` where as many loans are out as it may have, else with `OutOfMemory` where each slot is in use or a new
+/// segment isn't made.
 ///
 /// Ported from `iceoryx2::port::publisher::Publisher::loan_slice_uninit`.
 /// Example: `let slot = publishing::loan(port, alloc, home, 4, 4)?;`
@@ -55,11 +57,11 @@ pub fn loan<T: Copy, U: Copy, H: Home<T, U>>(
     values: usize,
     elements: u64,
 ) -> Result<usize, LoanError>
-    requires holds { publisher_stands port.number (H.ports_of port.domain home.old) ≡ true }
-    requires free { publisher_blocked port.number (H.ports_of port.domain home.old) ≡ false }
-    ensures { LendsSlot H.ports_of H.with_ports port values elements home.old result home.new }
+    requires holds { publisher_stands port.number (homes.ports_of H.domain_of port.domain home.old) ≡ true }
+    requires free { publisher_blocked port.number (homes.ports_of H.domain_of port.domain home.old) ≡ false }
+    ensures { LendsSlot (homes.ports_of H.domain_of) (homes.with_ports H.changed) port values elements home.old result home.new }
 {
-    match home.loan(alloc, port.domain, port.number, values, elements) {
+    match calls::loan(home, alloc, port.domain, port.number, values, elements) {
         Some(lent) => lent,
         None => unreachable!(),
     }
@@ -72,10 +74,10 @@ pub(crate) fn loan_value<T: Copy, U: Copy, H: Home<T, U>>(
     home: &mut H,
     value: T,
 ) -> Result<usize, LoanError>
-    requires holds { publisher_stands port.number (H.ports_of port.domain home.old) ≡ true }
-    requires free { publisher_blocked port.number (H.ports_of port.domain home.old) ≡ false }
-    ensures lends { LendsValue H.ports_of H.with_ports port value home.old result home.new }
-    ensures ready { IfOk result (λ slot. IsReady port.number (value ∷ []) 1 slot (H.ports_of port.domain home.new)) }
+    requires holds { publisher_stands port.number (homes.ports_of H.domain_of port.domain home.old) ≡ true }
+    requires free { publisher_blocked port.number (homes.ports_of H.domain_of port.domain home.old) ≡ false }
+    ensures lends { LendsValue (homes.ports_of H.domain_of) (homes.with_ports H.changed) port value home.old result home.new }
+    ensures ready { IfOk result (λ slot. IsReady port.number (value ∷ []) 1 slot (homes.ports_of H.domain_of port.domain home.new)) }
 {
     let slot = loan(port, alloc, home, 1, 1)?;
     write(port, slot, home, value);
@@ -91,27 +93,27 @@ pub fn update<T: Copy, U: Copy, H: Home<T, U>>(
     alloc: Global,
     home: &mut H,
 ) -> Result<(), ConnectionFailure>
-    requires holds { publisher_stands port.number (H.ports_of port.domain home.old) ≡ true }
-    requires free { publisher_blocked port.number (H.ports_of port.domain home.old) ≡ false }
-    ensures { FollowsSubscribers H.ports_of H.with_ports H.publisher_degrades port home.old result home.new }
+    requires holds { publisher_stands port.number (homes.ports_of H.domain_of port.domain home.old) ≡ true }
+    requires free { publisher_blocked port.number (homes.ports_of H.domain_of port.domain home.old) ≡ false }
+    ensures { FollowsSubscribers (homes.ports_of H.domain_of) (homes.with_ports H.changed) (homes.publisher_degrades (λ kept. H.ForPublishers.degrades kept) H.domain_of) port home.old result home.new }
 {
-    match home.update_publisher(alloc, port.domain, port.number) {
+    match calls::update_publisher(home, alloc, port.domain, port.number) {
         Some(outcome) => outcome,
         None => unreachable!(),
     }
 }
 
-/// A publisher that is let go leaves, and its handlers are dropped, if it exists and no send of it waits; else nothing happens. Whether it left is the
-/// answer.
+/// A publisher that is let go leaves, and its handlers are dropped, if it exists and no send of it waits; else nothing happens.
+/// Whether it left is the answer.
 ///
 /// Ported from dropping an `iceoryx2::port::publisher::Publisher`.
 /// Example: `let has_left = publishing::drop_port(port, home);`
 #[tactic(auto, using(crate::proofs::Ending::publisher_end_tells))]
 pub fn drop_port<T: Copy, U: Copy, H: Home<T, U>>(port: PortId, home: &mut H) -> bool
-    ensures ends { EndsPublisher H.ports_of H.with_ports H.without_publisher port home.old result home.new }
-    ensures left { result ≡ (publisher_stands port.number (H.ports_of port.domain home.old) && not (publisher_blocked port.number (H.ports_of port.domain home.old))) }
+    ensures ends { EndsPublisher (homes.ports_of H.domain_of) (homes.with_ports H.changed) (homes.without_publisher H.changed) port home.old result home.new }
+    ensures left { result ≡ (publisher_stands port.number (homes.ports_of H.domain_of port.domain home.old) && not (publisher_blocked port.number (homes.ports_of H.domain_of port.domain home.old))) }
 {
-    home.leave_publisher(port.domain, port.number)
+    calls::leave_publisher(home, port.domain, port.number)
 }
 
 /// A publisher leaves, and its handlers are dropped.
@@ -119,11 +121,11 @@ pub fn drop_port<T: Copy, U: Copy, H: Home<T, U>>(port: PortId, home: &mut H) ->
 /// Ported from dropping an `iceoryx2::port::publisher::Publisher`.
 /// Example: `publishing::leave(port, home);`
 pub fn leave<T: Copy, U: Copy, H: Home<T, U>>(port: PortId, home: &mut H)
-    requires holds { publisher_stands port.number (H.ports_of port.domain home.old) ≡ true }
-    requires free { publisher_blocked port.number (H.ports_of port.domain home.old) ≡ false }
-    ensures { PublisherGoes H.ports_of H.with_ports H.without_publisher port home.old home.new }
+    requires holds { publisher_stands port.number (homes.ports_of H.domain_of port.domain home.old) ≡ true }
+    requires free { publisher_blocked port.number (homes.ports_of H.domain_of port.domain home.old) ≡ false }
+    ensures { PublisherGoes (homes.ports_of H.domain_of) (homes.with_ports H.changed) (homes.without_publisher H.changed) port home.old home.new }
 {
-    if !home.leave_publisher(port.domain, port.number) {
+    if !calls::leave_publisher(home, port.domain, port.number) {
         unreachable!();
     }
 }

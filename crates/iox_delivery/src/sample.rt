@@ -1,4 +1,5 @@
 //! A message that was received.
+ghost use Rattle.iox_domain.specs.Homes as homes;
 ghost use Rattle.std.specs.Prelude.{◌≡◌, true, Some, option_map};
 ghost use Rattle.iox_delivery.specs.Holding.{message_found, value_found, holds_sample};
 ghost use Rattle.iox_delivery.specs.Subscribing.{sample_of, header_found, ReleasesSample, DropsSample};
@@ -6,7 +7,7 @@ ghost use Rattle.iox_delivery.specs.Subscribing.{sample_of, header_found, Releas
 use crate::port_id::PortId;
 use crate::subscribing;
 use iox_describe_base::Header;
-use iox_domain_home::Home;
+use iox_domain::{Home, calls};
 use iox_domain_subscriber::Taken;
 use std::marker::PhantomData;
 
@@ -34,16 +35,16 @@ impl<T: Copy, U: Copy> Sample<T, U> {
     /// Whether the message is held in this home: the condition of its calls.
     /// Example: `let is_held = sample.holds(home);`
     pub fn holds<H: Home<T, U>>(&self, home: &H) -> bool
-        ensures { result ≡ holds_sample self.now.port.number self.now.taken (H.ports_of self.now.port.domain home.now) }
+        ensures { result ≡ holds_sample self.now.port.number self.now.taken (homes.ports_of H.domain_of self.now.port.domain home.now) }
     {
-        let Some(ports) = home.ports(self.port.domain) else {
+        let Some(ports) = calls::ports(home, self.port.domain) else {
             return false;
         };
         if ports.subscribers.get(self.port.number).is_none() {
             return false;
         }
         match ports.payload(self.taken) {
-            Some(values) => !values.is_empty(),
+            Some(values) => !values.is_empty() && self.taken.subscriber == self.port.number,
             None => false,
         }
     }
@@ -57,8 +58,8 @@ impl<T: Copy, U: Copy> Sample<T, U> {
     where
         T: 'a,
         U: 'a,
-        requires { holds_sample self.now.port.number self.now.taken (H.ports_of self.now.port.domain home.now) ≡ true }
-        ensures { Some result.now ≡ value_found 0 (message_found self.now.taken (H.ports_of self.now.port.domain home.now)) }
+        requires { holds_sample self.now.port.number self.now.taken (homes.ports_of H.domain_of self.now.port.domain home.now) ≡ true }
+        ensures { Some result.now ≡ value_found 0 (message_found self.now.taken (homes.ports_of H.domain_of self.now.port.domain home.now)) }
     {
         match subscribing::values(self.port, self.taken, home).first() {
             Some(value) => value,
@@ -75,8 +76,8 @@ impl<T: Copy, U: Copy> Sample<T, U> {
     where
         T: 'a,
         U: 'a,
-        requires { holds_sample self.now.port.number self.now.taken (H.ports_of self.now.port.domain home.now) ≡ true }
-        ensures { Some result.now ≡ option_map (λ message. message.user_header) (message_found self.now.taken (H.ports_of self.now.port.domain home.now)) }
+        requires { holds_sample self.now.port.number self.now.taken (homes.ports_of H.domain_of self.now.port.domain home.now) ≡ true }
+        ensures { Some result.now ≡ option_map (λ message. message.user_header) (message_found self.now.taken (homes.ports_of H.domain_of self.now.port.domain home.now)) }
     {
         subscribing::user_header(self.port, self.taken, home)
     }
@@ -87,8 +88,8 @@ impl<T: Copy, U: Copy> Sample<T, U> {
     /// Example: `let header = sample.header(home);`
     #[tactic(auto, using(crate::proofs::Ready::sample_is_message))]
     pub fn header<H: Home<T, U>>(&self, home: &H) -> Header
-        requires { holds_sample self.now.port.number self.now.taken (H.ports_of self.now.port.domain home.now) ≡ true }
-        ensures { Some result ≡ header_found self.now.taken (H.ports_of self.now.port.domain home.now) }
+        requires { holds_sample self.now.port.number self.now.taken (homes.ports_of H.domain_of self.now.port.domain home.now) ≡ true }
+        ensures { Some result ≡ header_found self.now.taken (homes.ports_of H.domain_of self.now.port.domain home.now) }
     {
         subscribing::header(self.port, self.taken, home)
     }
@@ -98,8 +99,8 @@ impl<T: Copy, U: Copy> Sample<T, U> {
     /// Ported from `iceoryx2::sample::Sample::origin`, with a number of 64 bits.
     /// Example: `let publisher = sample.origin(home);`
     pub fn origin<H: Home<T, U>>(&self, home: &H) -> u64
-        requires { holds_sample self.now.port.number self.now.taken (H.ports_of self.now.port.domain home.now) ≡ true }
-        ensures { Some result ≡ option_map (λ header. header.publisher_id) (header_found self.now.taken (H.ports_of self.now.port.domain home.now)) }
+        requires { holds_sample self.now.port.number self.now.taken (homes.ports_of H.domain_of self.now.port.domain home.now) ≡ true }
+        ensures { Some result ≡ option_map (λ header. header.publisher_id) (header_found self.now.taken (homes.ports_of H.domain_of self.now.port.domain home.now)) }
     {
         self.header(home).publisher_id
     }
@@ -109,7 +110,7 @@ impl<T: Copy, U: Copy> Sample<T, U> {
     /// Ported from dropping an `iceoryx2::sample::Sample`.
     /// Example: `let was_held = sample.drop_with(home);`
     pub fn drop_with<H: Home<T, U>>(self, home: &mut H) -> bool
-        ensures { DropsSample H.ports_of H.with_ports self.port self.taken home.old result home.new }
+        ensures { DropsSample (homes.ports_of H.domain_of) (homes.with_ports H.changed) self.port self.taken home.old result home.new }
     {
         let Sample { port, taken, of: _ } = self;
         subscribing::drop_sample(port, taken, home)
@@ -121,8 +122,8 @@ impl<T: Copy, U: Copy> Sample<T, U> {
     /// Example: `sample.release(home);`
     #[tactic(auto, using(crate::proofs::Ready::sample_is_message))]
     pub fn release<H: Home<T, U>>(self, home: &mut H)
-        requires { holds_sample self.port.number self.taken (H.ports_of self.port.domain home.old) ≡ true }
-        ensures { ReleasesSample H.ports_of H.with_ports self.port self.taken home.old home.new }
+        requires { holds_sample self.port.number self.taken (homes.ports_of H.domain_of self.port.domain home.old) ≡ true }
+        ensures { ReleasesSample (homes.ports_of H.domain_of) (homes.with_ports H.changed) self.port self.taken home.old home.new }
     {
         let Sample { port, taken, of: _ } = self;
         subscribing::release(port, taken, home);

@@ -1,9 +1,10 @@
 //! A loan that is written.
+ghost use Rattle.iox_domain.specs.Homes as homes;
 ghost use Rattle.std.specs.Prelude.{◌≡◌, true, false, Some, option_map};
 ghost use Rattle.std.specs.Borrow.{sem, LendsIf};
 ghost use Rattle.std.specs.Option.{option_copied_mut};
-ghost use Rattle.iox_domain_laws.specs.DomainPublisher.Messages.{write_value, write_user_header};
-ghost use Rattle.iox_domain_laws.specs.DomainPublisher.Writing.{value_at};
+ghost use Rattle.iox_domain.specs.DomainPublisher.Messages.{write_value, write_user_header};
+ghost use Rattle.iox_domain.specs.DomainPublisher.Writing.{value_at};
 ghost use Rattle.iox_delivery.specs.Holding.{loan_found, is_sample, publisher_blocked};
 ghost use Rattle.iox_delivery.specs.Publishing.{sample_mut_of, loan_changed, loan_header_found, SendsSample, WritesUserHeader, GivesUpLoan};
 
@@ -12,7 +13,7 @@ use crate::sample_mut_uninit::is_written;
 use crate::sent::Sent;
 use crate::{lending, publishing};
 use iox_describe_base::Header;
-use iox_domain_home::Home;
+use iox_domain::{Home, calls};
 use iox_domain_values::SendError;
 use std::alloc::Global;
 use std::marker::PhantomData;
@@ -41,7 +42,7 @@ impl<T: Copy, U: Copy> SampleMut<T, U> {
     /// Whether the loan is out in this home, and written: the condition of its calls.
     /// Example: `let is_there = sample.holds(home);`
     pub fn holds<H: Home<T, U>>(&self, home: &H) -> bool
-        ensures { result ≡ is_sample (loan_found self.now.port.number self.now.slot (H.ports_of self.now.port.domain home.now)) }
+        ensures { result ≡ is_sample (loan_found self.now.port.number self.now.slot (homes.ports_of H.domain_of self.now.port.domain home.now)) }
     {
         is_written(self.port, self.slot, home)
     }
@@ -54,10 +55,10 @@ impl<T: Copy, U: Copy> SampleMut<T, U> {
     where
         T: 'a,
         U: 'a,
-        requires { is_sample (loan_found self.now.port.number self.now.slot (H.ports_of self.now.port.domain home.now)) ≡ true }
-        ensures { Some result.now ≡ value_at 0 (loan_found self.now.port.number self.now.slot (H.ports_of self.now.port.domain home.now)) }
+        requires { is_sample (loan_found self.now.port.number self.now.slot (homes.ports_of H.domain_of self.now.port.domain home.now)) ≡ true }
+        ensures { Some result.now ≡ value_at 0 (loan_found self.now.port.number self.now.slot (homes.ports_of H.domain_of self.now.port.domain home.now)) }
     {
-        let Some(ports) = home.ports(self.port.domain) else {
+        let Some(ports) = calls::ports(home, self.port.domain) else {
             unreachable!();
         };
         match ports.value(self.port.number, self.slot, 0) {
@@ -74,8 +75,8 @@ impl<T: Copy, U: Copy> SampleMut<T, U> {
     where
         T: 'a,
         U: 'a,
-        ensures* writes_back { sem 𝓛 (LendsIf H.row T.row home.entry result (λ last. loan_changed H.ports_of H.with_ports sample.now.port sample.now.slot (write_value 0 last) home.old) home.old) }
-        ensures value { option_copied_mut result ≡ value_at 0 (loan_found sample.now.port.number sample.now.slot (H.ports_of sample.now.port.domain home.old)) }
+        ensures* writes_back { sem 𝓛 (LendsIf H.row T.row home.entry result (λ last. loan_changed (homes.ports_of H.domain_of) (homes.with_ports H.changed) sample.now.port sample.now.slot (write_value 0 last) home.old) home.old) }
+        ensures value { option_copied_mut result ≡ value_at 0 (loan_found sample.now.port.number sample.now.slot (homes.ports_of H.domain_of sample.now.port.domain home.old)) }
     {
         lending::value_mut(home, sample.port, sample.slot, 0)
     }
@@ -86,8 +87,8 @@ impl<T: Copy, U: Copy> SampleMut<T, U> {
     /// Example: `let header = sample.header(home);`
     #[tactic(auto, using(crate::proofs::Ready::sample_is_loan))]
     pub fn header<H: Home<T, U>>(&self, home: &H) -> Header
-        requires { is_sample (loan_found self.now.port.number self.now.slot (H.ports_of self.now.port.domain home.now)) ≡ true }
-        ensures { Some result ≡ loan_header_found self.now.port.number self.now.slot (H.ports_of self.now.port.domain home.now) }
+        requires { is_sample (loan_found self.now.port.number self.now.slot (homes.ports_of H.domain_of self.now.port.domain home.now)) ≡ true }
+        ensures { Some result ≡ loan_header_found self.now.port.number self.now.slot (homes.ports_of H.domain_of self.now.port.domain home.now) }
     {
         lending::header(self.port, self.slot, home)
     }
@@ -101,8 +102,8 @@ impl<T: Copy, U: Copy> SampleMut<T, U> {
     where
         T: 'a,
         U: 'a,
-        requires { is_sample (loan_found self.now.port.number self.now.slot (H.ports_of self.now.port.domain home.now)) ≡ true }
-        ensures { Some result.now ≡ option_map (λ loan. loan.user_header) (loan_found self.now.port.number self.now.slot (H.ports_of self.now.port.domain home.now)) }
+        requires { is_sample (loan_found self.now.port.number self.now.slot (homes.ports_of H.domain_of self.now.port.domain home.now)) ≡ true }
+        ensures { Some result.now ≡ option_map (λ loan. loan.user_header) (loan_found self.now.port.number self.now.slot (homes.ports_of H.domain_of self.now.port.domain home.now)) }
     {
         lending::user_header(self.port, self.slot, home)
     }
@@ -115,8 +116,8 @@ impl<T: Copy, U: Copy> SampleMut<T, U> {
     where
         T: 'a,
         U: 'a,
-        ensures* writes_back { sem 𝓛 (LendsIf H.row U.row home.entry result (λ last. loan_changed H.ports_of H.with_ports sample.now.port sample.now.slot (write_user_header last) home.old) home.old) }
-        ensures value { option_copied_mut result ≡ option_map (λ loan. loan.user_header) (loan_found sample.now.port.number sample.now.slot (H.ports_of sample.now.port.domain home.old)) }
+        ensures* writes_back { sem 𝓛 (LendsIf H.row U.row home.entry result (λ last. loan_changed (homes.ports_of H.domain_of) (homes.with_ports H.changed) sample.now.port sample.now.slot (write_user_header last) home.old) home.old) }
+        ensures value { option_copied_mut result ≡ option_map (λ loan. loan.user_header) (loan_found sample.now.port.number sample.now.slot (homes.ports_of H.domain_of sample.now.port.domain home.old)) }
     {
         lending::user_header_mut(home, sample.port, sample.slot)
     }
@@ -126,7 +127,7 @@ impl<T: Copy, U: Copy> SampleMut<T, U> {
     /// Ported from writing through `iceoryx2::sample_mut::SampleMut::user_header_mut`.
     /// Example: `sample.user_header_write(home, 150);`
     pub fn user_header_write<H: Home<T, U>>(&mut self, home: &mut H, user_header: U)
-        ensures writes { WritesUserHeader H.ports_of H.with_ports self.old.port self.old.slot user_header home.old home.new }
+        ensures writes { WritesUserHeader (homes.ports_of H.domain_of) (homes.with_ports H.changed) self.old.port self.old.slot user_header home.old home.new }
         ensures same { self.new ≡ self.old }
     {
         lending::write_user_header(self.port, self.slot, home, user_header);
@@ -135,7 +136,7 @@ impl<T: Copy, U: Copy> SampleMut<T, U> {
     /// Whether a send of its publisher waits: that none does is the condition of `send`.
     /// Example: `let waits = sample.is_blocked(home);`
     pub fn is_blocked<H: Home<T, U>>(&self, home: &H) -> bool
-        ensures { result ≡ publisher_blocked self.now.port.number (H.ports_of self.now.port.domain home.now) }
+        ensures { result ≡ publisher_blocked self.now.port.number (homes.ports_of H.domain_of self.now.port.domain home.now) }
     {
         publishing::is_blocked(self.port, home)
     }
@@ -146,9 +147,9 @@ impl<T: Copy, U: Copy> SampleMut<T, U> {
     /// Example: `let sent = sample.send(alloc, home)?;`
     #[tactic(auto, using(crate::proofs::Ready::sample_is_written))]
     pub fn send<H: Home<T, U>>(self, alloc: Global, home: &mut H) -> Result<Sent<T, U>, SendError>
-        requires holds { is_sample (loan_found self.port.number self.slot (H.ports_of self.port.domain home.old)) ≡ true }
-        requires free { publisher_blocked self.port.number (H.ports_of self.port.domain home.old) ≡ false }
-        ensures { SendsSample H.ports_of H.with_ports H.publisher_degrades H.publisher_decides self.port self.slot home.old result home.new }
+        requires holds { is_sample (loan_found self.port.number self.slot (homes.ports_of H.domain_of self.port.domain home.old)) ≡ true }
+        requires free { publisher_blocked self.port.number (homes.ports_of H.domain_of self.port.domain home.old) ≡ false }
+        ensures { SendsSample (homes.ports_of H.domain_of) (homes.with_ports H.changed) (homes.publisher_degrades (λ kept. H.ForPublishers.degrades kept) H.domain_of) (homes.publisher_decides (λ kept. H.ForPublishers.decides kept) H.domain_of) self.port self.slot home.old result home.new }
     {
         let SampleMut { port, slot, of: _ } = self;
         lending::send(port, slot, alloc, home)
@@ -159,7 +160,7 @@ impl<T: Copy, U: Copy> SampleMut<T, U> {
     /// Ported from dropping an `iceoryx2::sample_mut::SampleMut`.
     /// Example: `sample.drop_with(home);`
     pub fn drop_with<H: Home<T, U>>(self, home: &mut H)
-        ensures { GivesUpLoan H.ports_of H.with_ports self.port self.slot home.old home.new }
+        ensures { GivesUpLoan (homes.ports_of H.domain_of) (homes.with_ports H.changed) self.port self.slot home.old home.new }
     {
         let SampleMut { port, slot, of: _ } = self;
         lending::drop_loan(port, slot, home);

@@ -1,9 +1,10 @@
 //! A loan that is to be written.
+ghost use Rattle.iox_domain.specs.Homes as homes;
 ghost use Rattle.std.specs.Prelude.{◌≡◌, true, Some, is_some, option_copied, option_map};
 ghost use Rattle.std.specs.Borrow.{sem, LendsIf};
 ghost use Rattle.std.specs.Option.{option_copied_mut};
-ghost use Rattle.iox_domain_laws.specs.DomainPublisher.Messages.{write_user_header};
-ghost use Rattle.iox_domain_laws.specs.DomainPublisher.Writing.{value_at};
+ghost use Rattle.iox_domain.specs.DomainPublisher.Messages.{write_user_header};
+ghost use Rattle.iox_domain.specs.DomainPublisher.Writing.{value_at};
 ghost use Rattle.iox_delivery.specs.Holding.{loan_found, is_sample};
 ghost use Rattle.iox_delivery.specs.Publishing.{loan_of, loan_changed, loan_header_found, sample_mut_of, WritesPayload, WritesUserHeader, GivesUpLoan};
 
@@ -11,7 +12,7 @@ use crate::lending;
 use crate::port_id::PortId;
 use crate::sample_mut::SampleMut;
 use iox_describe_base::Header;
-use iox_domain_home::Home;
+use iox_domain::{Home, calls};
 use std::marker::PhantomData;
 
 /// A loan of a value that is to be written.
@@ -38,7 +39,7 @@ impl<T: Copy, U: Copy> SampleMutUninit<T, U> {
     /// Whether the loan is out in this home: the condition of its calls.
     /// Example: `let is_there = loan.holds(home);`
     pub fn holds<H: Home<T, U>>(&self, home: &H) -> bool
-        ensures { result ≡ is_some (loan_found self.now.port.number self.now.slot (H.ports_of self.now.port.domain home.now)) }
+        ensures { result ≡ is_some (loan_found self.now.port.number self.now.slot (homes.ports_of H.domain_of self.now.port.domain home.now)) }
     {
         lending::is_out(self.port, self.slot, home)
     }
@@ -46,7 +47,7 @@ impl<T: Copy, U: Copy> SampleMutUninit<T, U> {
     /// Whether the value is written: the condition of `assume_init`.
     /// Example: `let may_be_sent = loan.is_written(home);`
     pub fn is_written<H: Home<T, U>>(&self, home: &H) -> bool
-        ensures { result ≡ is_sample (loan_found self.now.port.number self.now.slot (H.ports_of self.now.port.domain home.now)) }
+        ensures { result ≡ is_sample (loan_found self.now.port.number self.now.slot (homes.ports_of H.domain_of self.now.port.domain home.now)) }
     {
         is_written(self.port, self.slot, home)
     }
@@ -59,9 +60,9 @@ impl<T: Copy, U: Copy> SampleMutUninit<T, U> {
     where
         T: 'a,
         U: 'a,
-        ensures { option_copied result ≡ value_at 0 (loan_found self.now.port.number self.now.slot (H.ports_of self.now.port.domain home.now)) }
+        ensures { option_copied result ≡ value_at 0 (loan_found self.now.port.number self.now.slot (homes.ports_of H.domain_of self.now.port.domain home.now)) }
     {
-        match home.ports(self.port.domain) {
+        match calls::ports(home, self.port.domain) {
             Some(ports) => ports.value(self.port.number, self.slot, 0),
             None => None,
         }
@@ -72,7 +73,7 @@ impl<T: Copy, U: Copy> SampleMutUninit<T, U> {
     /// Ported from writing through `iceoryx2::sample_mut_uninit::SampleMutUninit::payload_mut`.
     /// Example: `loan.payload_write(home, 7);`
     pub fn payload_write<H: Home<T, U>>(&mut self, home: &mut H, value: T)
-        ensures writes { WritesPayload H.ports_of H.with_ports self.old.port self.old.slot value home.old home.new }
+        ensures writes { WritesPayload (homes.ports_of H.domain_of) (homes.with_ports H.changed) self.old.port self.old.slot value home.old home.new }
         ensures same { self.new ≡ self.old }
     {
         write(self.port, self.slot, home, value);
@@ -83,7 +84,7 @@ impl<T: Copy, U: Copy> SampleMutUninit<T, U> {
     /// Ported from `iceoryx2::sample_mut_uninit::SampleMutUninit::write_payload`.
     /// Example: `let sample = loan.write_payload(home, 7);`
     pub fn write_payload<H: Home<T, U>>(self, home: &mut H, value: T) -> SampleMut<T, U>
-        ensures writes { WritesPayload H.ports_of H.with_ports self.port self.slot value home.old home.new }
+        ensures writes { WritesPayload (homes.ports_of H.domain_of) (homes.with_ports H.changed) self.port self.slot value home.old home.new }
         ensures same { result ≡ sample_mut_of self.port self.slot }
     {
         let SampleMutUninit { port, slot, of: _ } = self;
@@ -96,11 +97,11 @@ impl<T: Copy, U: Copy> SampleMutUninit<T, U> {
     /// Ported from `iceoryx2::sample_mut_uninit::SampleMutUninit::assume_init`.
     /// Example: `let sample = loan.assume_init(home);`
     pub fn assume_init<H: Home<T, U>>(self, home: &H) -> SampleMut<T, U>
-        requires { is_sample (loan_found self.port.number self.slot (H.ports_of self.port.domain home.now)) ≡ true }
+        requires { is_sample (loan_found self.port.number self.slot (homes.ports_of H.domain_of self.port.domain home.now)) ≡ true }
         ensures { result ≡ sample_mut_of self.port self.slot }
     {
         let SampleMutUninit { port, slot, of: _ } = self;
-        let _ = home.ports(port.domain);
+        let _ = calls::ports(home, port.domain);
         SampleMut::of_loan(port, slot)
     }
 
@@ -109,8 +110,8 @@ impl<T: Copy, U: Copy> SampleMutUninit<T, U> {
     /// Ported from `iceoryx2::sample_mut_uninit::SampleMutUninit::header`.
     /// Example: `let header = loan.header(home);`
     pub fn header<H: Home<T, U>>(&self, home: &H) -> Header
-        requires { is_some (loan_found self.now.port.number self.now.slot (H.ports_of self.now.port.domain home.now)) ≡ true }
-        ensures { Some result ≡ loan_header_found self.now.port.number self.now.slot (H.ports_of self.now.port.domain home.now) }
+        requires { is_some (loan_found self.now.port.number self.now.slot (homes.ports_of H.domain_of self.now.port.domain home.now)) ≡ true }
+        ensures { Some result ≡ loan_header_found self.now.port.number self.now.slot (homes.ports_of H.domain_of self.now.port.domain home.now) }
     {
         lending::header(self.port, self.slot, home)
     }
@@ -123,8 +124,8 @@ impl<T: Copy, U: Copy> SampleMutUninit<T, U> {
     where
         T: 'a,
         U: 'a,
-        requires { is_some (loan_found self.now.port.number self.now.slot (H.ports_of self.now.port.domain home.now)) ≡ true }
-        ensures { Some result.now ≡ option_map (λ loan. loan.user_header) (loan_found self.now.port.number self.now.slot (H.ports_of self.now.port.domain home.now)) }
+        requires { is_some (loan_found self.now.port.number self.now.slot (homes.ports_of H.domain_of self.now.port.domain home.now)) ≡ true }
+        ensures { Some result.now ≡ option_map (λ loan. loan.user_header) (loan_found self.now.port.number self.now.slot (homes.ports_of H.domain_of self.now.port.domain home.now)) }
     {
         lending::user_header(self.port, self.slot, home)
     }
@@ -137,8 +138,8 @@ impl<T: Copy, U: Copy> SampleMutUninit<T, U> {
     where
         T: 'a,
         U: 'a,
-        ensures* writes_back { sem 𝓛 (LendsIf H.row U.row home.entry result (λ last. loan_changed H.ports_of H.with_ports sample.now.port sample.now.slot (write_user_header last) home.old) home.old) }
-        ensures value { option_copied_mut result ≡ option_map (λ loan. loan.user_header) (loan_found sample.now.port.number sample.now.slot (H.ports_of sample.now.port.domain home.old)) }
+        ensures* writes_back { sem 𝓛 (LendsIf H.row U.row home.entry result (λ last. loan_changed (homes.ports_of H.domain_of) (homes.with_ports H.changed) sample.now.port sample.now.slot (write_user_header last) home.old) home.old) }
+        ensures value { option_copied_mut result ≡ option_map (λ loan. loan.user_header) (loan_found sample.now.port.number sample.now.slot (homes.ports_of H.domain_of sample.now.port.domain home.old)) }
     {
         lending::user_header_mut(home, sample.port, sample.slot)
     }
@@ -148,7 +149,7 @@ impl<T: Copy, U: Copy> SampleMutUninit<T, U> {
     /// Ported from writing through `iceoryx2::sample_mut_uninit::SampleMutUninit::user_header_mut`.
     /// Example: `loan.user_header_write(home, 150);`
     pub fn user_header_write<H: Home<T, U>>(&mut self, home: &mut H, user_header: U)
-        ensures writes { WritesUserHeader H.ports_of H.with_ports self.old.port self.old.slot user_header home.old home.new }
+        ensures writes { WritesUserHeader (homes.ports_of H.domain_of) (homes.with_ports H.changed) self.old.port self.old.slot user_header home.old home.new }
         ensures same { self.new ≡ self.old }
     {
         lending::write_user_header(self.port, self.slot, home, user_header);
@@ -159,7 +160,7 @@ impl<T: Copy, U: Copy> SampleMutUninit<T, U> {
     /// Ported from dropping an `iceoryx2::sample_mut_uninit::SampleMutUninit`.
     /// Example: `loan.drop_with(home);`
     pub fn drop_with<H: Home<T, U>>(self, home: &mut H)
-        ensures { GivesUpLoan H.ports_of H.with_ports self.port self.slot home.old home.new }
+        ensures { GivesUpLoan (homes.ports_of H.domain_of) (homes.with_ports H.changed) self.port self.slot home.old home.new }
     {
         let SampleMutUninit { port, slot, of: _ } = self;
         lending::drop_loan(port, slot, home);
@@ -172,9 +173,9 @@ pub(crate) fn is_written<T: Copy, U: Copy, H: Home<T, U>>(
     slot: usize,
     home: &H,
 ) -> bool
-    ensures { result ≡ is_sample (loan_found port.number slot (H.ports_of port.domain home.now)) }
+    ensures { result ≡ is_sample (loan_found port.number slot (homes.ports_of H.domain_of port.domain home.now)) }
 {
-    match home.ports(port.domain) {
+    match calls::ports(home, port.domain) {
         Some(ports) => ports.is_written(port.number, slot)
             && ports.value(port.number, slot, 0).is_some(),
         None => false,
@@ -188,9 +189,9 @@ pub(crate) fn write<T: Copy, U: Copy, H: Home<T, U>>(
     home: &mut H,
     value: T,
 )
-    ensures { WritesPayload H.ports_of H.with_ports port slot value home.old home.new }
+    ensures { WritesPayload (homes.ports_of H.domain_of) (homes.with_ports H.changed) port slot value home.old home.new }
 {
-    if let Some(ports) = home.ports_mut(port.domain) {
+    if let Some(ports) = calls::ports_mut(home, port.domain) {
         let _ = ports.write_payload(port.number, slot, value);
     }
 }

@@ -1,11 +1,12 @@
 //! What a send came to, and a send that waits.
+ghost use Rattle.iox_domain.specs.Homes as homes;
 ghost use Rattle.std.specs.Prelude.{◌≡◌, true};
 ghost use Rattle.iox_delivery.specs.Holding.{publisher_blocked};
 ghost use Rattle.iox_delivery.specs.Publishing.{sent_of, RetriesSend, GivesUpSend, EndsSend};
 
 use crate::port_id::PortId;
 use crate::publishing;
-use iox_domain_home::Home;
+use iox_domain::{Home, calls};
 use iox_domain_publisher::Sent as Sending;
 use iox_domain_values::SendError;
 use std::marker::PhantomData;
@@ -32,7 +33,7 @@ impl<T: Copy, U: Copy> BlockedSend<T, U> {
     /// Whether the send waits in this home: the condition of its calls.
     /// Example: `let waits = blocked.holds(home);`
     pub fn holds<H: Home<T, U>>(&self, home: &H) -> bool
-        ensures { result ≡ publisher_blocked self.now.port.number (H.ports_of self.now.port.domain home.now) }
+        ensures { result ≡ publisher_blocked self.now.port.number (homes.ports_of H.domain_of self.now.port.domain home.now) }
     {
         publishing::is_blocked(self.port, home)
     }
@@ -47,26 +48,26 @@ impl<T: Copy, U: Copy> BlockedSend<T, U> {
         home: &mut H,
         elapsed_ns: u64,
     ) -> Result<Sent<T, U>, SendError>
-        requires { publisher_blocked self.port.number (H.ports_of self.port.domain home.old) ≡ true }
-        ensures { RetriesSend H.ports_of H.with_ports H.publisher_decides self.port elapsed_ns home.old result home.new }
+        requires { publisher_blocked self.port.number (homes.ports_of H.domain_of self.port.domain home.old) ≡ true }
+        ensures { RetriesSend (homes.ports_of H.domain_of) (homes.with_ports H.changed) (homes.publisher_decides (λ kept. H.ForPublishers.decides kept) H.domain_of) self.port elapsed_ns home.old result home.new }
     {
         let BlockedSend { port, of: _ } = self;
-        match home.retry(port.domain, port.number, elapsed_ns) {
+        match calls::retry(home, port.domain, port.number, elapsed_ns) {
             Some(sent) => sent_of(port, sent),
             None => unreachable!(),
         }
     }
 
-    /// Lets it go: the send ends as by `give_up`, if it waits, and how many connections took the message is the answer. None, and nothing happens, where
-    /// it doesn't wait.
+    /// Lets it go: the send ends as by `give_up`, if it waits, and how many connections took the message is the answer. None, and
+    /// nothing happens, where it doesn't wait.
     ///
     /// This port's own.
     /// Example: `let delivered = blocked.drop_with(home);`
     pub fn drop_with<H: Home<T, U>>(self, home: &mut H) -> Option<usize>
-        ensures { EndsSend H.ports_of H.with_ports self.port home.old result home.new }
+        ensures { EndsSend (homes.ports_of H.domain_of) (homes.with_ports H.changed) self.port home.old result home.new }
     {
         let BlockedSend { port, of: _ } = self;
-        home.ports_mut(port.domain)?.give_up(port.number)
+        calls::ports_mut(home, port.domain)?.give_up(port.number)
     }
 
     /// Ends the send, and answers how many connections took the message.
@@ -74,11 +75,11 @@ impl<T: Copy, U: Copy> BlockedSend<T, U> {
     /// This port's own.
     /// Example: `let delivered = blocked.give_up(home);`
     pub fn give_up<H: Home<T, U>>(self, home: &mut H) -> usize
-        requires { publisher_blocked self.port.number (H.ports_of self.port.domain home.old) ≡ true }
-        ensures { GivesUpSend H.ports_of H.with_ports self.port home.old result home.new }
+        requires { publisher_blocked self.port.number (homes.ports_of H.domain_of self.port.domain home.old) ≡ true }
+        ensures { GivesUpSend (homes.ports_of H.domain_of) (homes.with_ports H.changed) self.port home.old result home.new }
     {
         let BlockedSend { port, of: _ } = self;
-        let Some(ports) = home.ports_mut(port.domain) else {
+        let Some(ports) = calls::ports_mut(home, port.domain) else {
             unreachable!();
         };
         match ports.give_up(port.number) {

@@ -1,4 +1,5 @@
 //! A subscriber of single values.
+ghost use Rattle.iox_domain.specs.Homes as homes;
 ghost use Rattle.std.specs.Prelude.{◌≡◌, true};
 ghost use Rattle.iox_delivery.specs.Holding.{subscriber_stands};
 ghost use Rattle.iox_delivery.specs.Subscribing.{FollowsPublishers, TellsSamples, ReceivesSample, SubscriberGoes, EndsSubscriber};
@@ -6,7 +7,7 @@ ghost use Rattle.iox_delivery.specs.Subscribing.{FollowsPublishers, TellsSamples
 use crate::port_id::PortId;
 use crate::sample::Sample;
 use crate::subscribing;
-use iox_domain_home::{DomainId, Home};
+use iox_domain::{DomainId, Home};
 use iox_domain_values::{ConnectionFailure, ReceiveError};
 use std::alloc::Global;
 use std::marker::PhantomData;
@@ -67,7 +68,7 @@ impl<T: Copy, U: Copy> Subscriber<T, U> {
     /// Whether it stands in this home: the condition of its calls.
     /// Example: `let is_there = subscriber.holds(home);`
     pub fn holds<H: Home<T, U>>(&self, home: &H) -> bool
-        ensures { result ≡ subscriber_stands self.now.port.number (H.ports_of self.now.port.domain home.now) }
+        ensures { result ≡ subscriber_stands self.now.port.number (homes.ports_of H.domain_of self.now.port.domain home.now) }
     {
         subscribing::holds(self.port, home)
     }
@@ -81,13 +82,14 @@ impl<T: Copy, U: Copy> Subscriber<T, U> {
         alloc: Global,
         home: &mut H,
     ) -> Result<bool, ConnectionFailure>
-        requires { subscriber_stands self.now.port.number (H.ports_of self.now.port.domain home.old) ≡ true }
-        ensures { TellsSamples H.ports_of H.with_ports H.subscriber_degrades self.now.port home.old result home.new }
+        requires { subscriber_stands self.now.port.number (homes.ports_of H.domain_of self.now.port.domain home.old) ≡ true }
+        ensures { TellsSamples (homes.ports_of H.domain_of) (homes.with_ports H.changed) (homes.subscriber_degrades (λ kept. H.ForSubscribers.degrades kept) H.domain_of) self.now.port home.old result home.new }
     {
         subscribing::has_samples(self.port, alloc, home)
     }
 
-    /// Receives the next message, if one waits: `ServicePorts::receive` says which, and when it is refused. It is held until it is released.
+    /// Receives the next message, if one waits: `ServicePorts::receive` says which, and when it is refused. It is held until it
+    /// is released.
     ///
     /// Ported from `iceoryx2::port::subscriber::Subscriber::receive`.
     /// Example: `let sample = subscriber.receive(alloc, home)?;`
@@ -96,8 +98,8 @@ impl<T: Copy, U: Copy> Subscriber<T, U> {
         alloc: Global,
         home: &mut H,
     ) -> Result<Option<Sample<T, U>>, ReceiveError>
-        requires { subscriber_stands self.now.port.number (H.ports_of self.now.port.domain home.old) ≡ true }
-        ensures { ReceivesSample H.ports_of H.with_ports H.subscriber_degrades self.now.port home.old result home.new }
+        requires { subscriber_stands self.now.port.number (homes.ports_of H.domain_of self.now.port.domain home.old) ≡ true }
+        ensures { ReceivesSample (homes.ports_of H.domain_of) (homes.with_ports H.changed) (homes.subscriber_degrades (λ kept. H.ForSubscribers.degrades kept) H.domain_of) self.now.port home.old result home.new }
     {
         match subscribing::take(self.port, alloc, home)? {
             Some(taken) => Ok(Some(Sample::of_taken(self.port, taken))),
@@ -115,8 +117,8 @@ impl<T: Copy, U: Copy> Subscriber<T, U> {
         alloc: Global,
         home: &mut H,
     ) -> Result<(), ConnectionFailure>
-        requires { subscriber_stands self.now.port.number (H.ports_of self.now.port.domain home.old) ≡ true }
-        ensures { FollowsPublishers H.ports_of H.with_ports H.subscriber_degrades self.now.port home.old result home.new }
+        requires { subscriber_stands self.now.port.number (homes.ports_of H.domain_of self.now.port.domain home.old) ≡ true }
+        ensures { FollowsPublishers (homes.ports_of H.domain_of) (homes.with_ports H.changed) (homes.subscriber_degrades (λ kept. H.ForSubscribers.degrades kept) H.domain_of) self.now.port home.old result home.new }
     {
         subscribing::update(self.port, alloc, home)
     }
@@ -141,8 +143,8 @@ impl<T: Copy, U: Copy> Subscriber<T, U> {
     /// Ported from dropping an `iceoryx2::port::subscriber::Subscriber`.
     /// Example: `let has_left = subscriber.drop_with(home);`
     pub fn drop_with<H: Home<T, U>>(self, home: &mut H) -> bool
-        ensures ends { EndsSubscriber H.ports_of H.with_ports H.without_subscriber self.port home.old result home.new }
-        ensures left { result ≡ subscriber_stands self.port.number (H.ports_of self.port.domain home.old) }
+        ensures ends { EndsSubscriber (homes.ports_of H.domain_of) (homes.with_ports H.changed) (homes.without_subscriber H.changed) self.port home.old result home.new }
+        ensures left { result ≡ subscriber_stands self.port.number (homes.ports_of H.domain_of self.port.domain home.old) }
     {
         subscribing::drop_port(self.into_port(), home)
     }
@@ -152,8 +154,8 @@ impl<T: Copy, U: Copy> Subscriber<T, U> {
     /// Ported from dropping an `iceoryx2::port::subscriber::Subscriber`.
     /// Example: `subscriber.leave(home);`
     pub fn leave<H: Home<T, U>>(self, home: &mut H)
-        requires { subscriber_stands self.port.number (H.ports_of self.port.domain home.old) ≡ true }
-        ensures { SubscriberGoes H.ports_of H.with_ports H.without_subscriber self.port home.old home.new }
+        requires { subscriber_stands self.port.number (homes.ports_of H.domain_of self.port.domain home.old) ≡ true }
+        ensures { SubscriberGoes (homes.ports_of H.domain_of) (homes.with_ports H.changed) (homes.without_subscriber H.changed) self.port home.old home.new }
     {
         subscribing::leave(self.into_port(), home);
     }

@@ -1,11 +1,12 @@
 //! What a subscriber of values and one of slices have in common, and what their samples have: their calls, by port and message.
+ghost use Rattle.iox_domain.specs.Homes as homes;
 ghost use Rattle.std.specs.Prelude.{◌≡◌, true, Some, option_map};
 ghost use Rattle.iox_delivery.specs.Holding.{subscriber_stands, message_found, holds_message};
 ghost use Rattle.iox_delivery.specs.Subscribing.{header_found, FollowsPublishers, TellsSamples, TakesMessage, SubscriberGoes, EndsSubscriber, ReleasesSample, DropsSample};
 
 use crate::port_id::PortId;
 use iox_describe_base::Header;
-use iox_domain_home::Home;
+use iox_domain::{Home, calls};
 use iox_domain_subscriber::Taken;
 use iox_domain_values::{ConnectionFailure, ReceiveError};
 use std::alloc::Global;
@@ -15,9 +16,9 @@ use std::alloc::Global;
 /// This port's own.
 /// Example: `let is_there = subscribing::holds(port, home);`
 pub fn holds<T: Copy, U: Copy, H: Home<T, U>>(port: PortId, home: &H) -> bool
-    ensures { result ≡ subscriber_stands port.number (H.ports_of port.domain home.now) }
+    ensures { result ≡ subscriber_stands port.number (homes.ports_of H.domain_of port.domain home.now) }
 {
-    let Some(ports) = home.ports(port.domain) else {
+    let Some(ports) = calls::ports(home, port.domain) else {
         return false;
     };
     match ports.subscribers.get(port.number) {
@@ -35,10 +36,10 @@ pub fn has_samples<T: Copy, U: Copy, H: Home<T, U>>(
     alloc: Global,
     home: &mut H,
 ) -> Result<bool, ConnectionFailure>
-    requires { subscriber_stands port.number (H.ports_of port.domain home.old) ≡ true }
-    ensures { TellsSamples H.ports_of H.with_ports H.subscriber_degrades port home.old result home.new }
+    requires { subscriber_stands port.number (homes.ports_of H.domain_of port.domain home.old) ≡ true }
+    ensures { TellsSamples (homes.ports_of H.domain_of) (homes.with_ports H.changed) (homes.subscriber_degrades (λ kept. H.ForSubscribers.degrades kept) H.domain_of) port home.old result home.new }
 {
-    match home.has_samples(alloc, port.domain, port.number) {
+    match calls::has_samples(home, alloc, port.domain, port.number) {
         Some(outcome) => outcome,
         None => unreachable!(),
     }
@@ -53,10 +54,10 @@ pub fn take<T: Copy, U: Copy, H: Home<T, U>>(
     alloc: Global,
     home: &mut H,
 ) -> Result<Option<Taken>, ReceiveError>
-    requires { subscriber_stands port.number (H.ports_of port.domain home.old) ≡ true }
-    ensures { TakesMessage H.ports_of H.with_ports H.subscriber_degrades port home.old result home.new }
+    requires { subscriber_stands port.number (homes.ports_of H.domain_of port.domain home.old) ≡ true }
+    ensures { TakesMessage (homes.ports_of H.domain_of) (homes.with_ports H.changed) (homes.subscriber_degrades (λ kept. H.ForSubscribers.degrades kept) H.domain_of) port home.old result home.new }
 {
-    match home.receive(alloc, port.domain, port.number) {
+    match calls::receive(home, alloc, port.domain, port.number) {
         Some(outcome) => outcome,
         None => unreachable!(),
     }
@@ -71,10 +72,10 @@ pub fn update<T: Copy, U: Copy, H: Home<T, U>>(
     alloc: Global,
     home: &mut H,
 ) -> Result<(), ConnectionFailure>
-    requires { subscriber_stands port.number (H.ports_of port.domain home.old) ≡ true }
-    ensures { FollowsPublishers H.ports_of H.with_ports H.subscriber_degrades port home.old result home.new }
+    requires { subscriber_stands port.number (homes.ports_of H.domain_of port.domain home.old) ≡ true }
+    ensures { FollowsPublishers (homes.ports_of H.domain_of) (homes.with_ports H.changed) (homes.subscriber_degrades (λ kept. H.ForSubscribers.degrades kept) H.domain_of) port home.old result home.new }
 {
-    match home.update_subscriber(alloc, port.domain, port.number) {
+    match calls::update_subscriber(home, alloc, port.domain, port.number) {
         Some(outcome) => outcome,
         None => unreachable!(),
     }
@@ -86,10 +87,10 @@ pub fn update<T: Copy, U: Copy, H: Home<T, U>>(
 /// Example: `let has_left = subscribing::drop_port(port, home);`
 #[tactic(auto, using(crate::proofs::Ending::subscriber_end_tells))]
 pub fn drop_port<T: Copy, U: Copy, H: Home<T, U>>(port: PortId, home: &mut H) -> bool
-    ensures ends { EndsSubscriber H.ports_of H.with_ports H.without_subscriber port home.old result home.new }
-    ensures left { result ≡ subscriber_stands port.number (H.ports_of port.domain home.old) }
+    ensures ends { EndsSubscriber (homes.ports_of H.domain_of) (homes.with_ports H.changed) (homes.without_subscriber H.changed) port home.old result home.new }
+    ensures left { result ≡ subscriber_stands port.number (homes.ports_of H.domain_of port.domain home.old) }
 {
-    home.leave_subscriber(port.domain, port.number)
+    calls::leave_subscriber(home, port.domain, port.number)
 }
 
 /// A subscriber leaves, and its handler is dropped.
@@ -97,10 +98,10 @@ pub fn drop_port<T: Copy, U: Copy, H: Home<T, U>>(port: PortId, home: &mut H) ->
 /// Ported from dropping an `iceoryx2::port::subscriber::Subscriber`.
 /// Example: `subscribing::leave(port, home);`
 pub fn leave<T: Copy, U: Copy, H: Home<T, U>>(port: PortId, home: &mut H)
-    requires { subscriber_stands port.number (H.ports_of port.domain home.old) ≡ true }
-    ensures { SubscriberGoes H.ports_of H.with_ports H.without_subscriber port home.old home.new }
+    requires { subscriber_stands port.number (homes.ports_of H.domain_of port.domain home.old) ≡ true }
+    ensures { SubscriberGoes (homes.ports_of H.domain_of) (homes.with_ports H.changed) (homes.without_subscriber H.changed) port home.old home.new }
 {
-    if !home.leave_subscriber(port.domain, port.number) {
+    if !calls::leave_subscriber(home, port.domain, port.number) {
         unreachable!();
     }
 }
@@ -117,10 +118,10 @@ pub fn values<'a, T: Copy, U: Copy, H: Home<T, U>>(
 where
     T: 'a,
     U: 'a,
-    requires { holds_message port.number taken (H.ports_of port.domain home.now) ≡ true }
-    ensures { Some result.now ≡ option_map (λ message. message.values) (message_found taken (H.ports_of port.domain home.now)) }
+    requires { holds_message port.number taken (homes.ports_of H.domain_of port.domain home.now) ≡ true }
+    ensures { Some result.now ≡ option_map (λ message. message.values) (message_found taken (homes.ports_of H.domain_of port.domain home.now)) }
 {
-    let Some(ports) = home.ports(port.domain) else {
+    let Some(ports) = calls::ports(home, port.domain) else {
         unreachable!();
     };
     match ports.payload(taken) {
@@ -141,10 +142,10 @@ pub fn user_header<'a, T: Copy, U: Copy, H: Home<T, U>>(
 where
     T: 'a,
     U: 'a,
-    requires { holds_message port.number taken (H.ports_of port.domain home.now) ≡ true }
-    ensures { Some result.now ≡ option_map (λ message. message.user_header) (message_found taken (H.ports_of port.domain home.now)) }
+    requires { holds_message port.number taken (homes.ports_of H.domain_of port.domain home.now) ≡ true }
+    ensures { Some result.now ≡ option_map (λ message. message.user_header) (message_found taken (homes.ports_of H.domain_of port.domain home.now)) }
 {
-    let Some(ports) = home.ports(port.domain) else {
+    let Some(ports) = calls::ports(home, port.domain) else {
         unreachable!();
     };
     match ports.user_header(taken) {
@@ -158,10 +159,10 @@ where
 /// Ported from `iceoryx2::sample::Sample::header`.
 /// Example: `let header = subscribing::header(port, taken, home);`
 pub fn header<T: Copy, U: Copy, H: Home<T, U>>(port: PortId, taken: Taken, home: &H) -> Header
-    requires { holds_message port.number taken (H.ports_of port.domain home.now) ≡ true }
-    ensures { Some result ≡ header_found taken (H.ports_of port.domain home.now) }
+    requires { holds_message port.number taken (homes.ports_of H.domain_of port.domain home.now) ≡ true }
+    ensures { Some result ≡ header_found taken (homes.ports_of H.domain_of port.domain home.now) }
 {
-    let Some(ports) = home.ports(port.domain) else {
+    let Some(ports) = calls::ports(home, port.domain) else {
         unreachable!();
     };
     match ports.header(taken) {
@@ -175,10 +176,10 @@ pub fn header<T: Copy, U: Copy, H: Home<T, U>>(port: PortId, taken: Taken, home:
 /// Ported from dropping an `iceoryx2::sample::Sample`.
 /// Example: `subscribing::release(port, taken, home);`
 pub fn release<T: Copy, U: Copy, H: Home<T, U>>(port: PortId, taken: Taken, home: &mut H)
-    requires { holds_message port.number taken (H.ports_of port.domain home.old) ≡ true }
-    ensures { ReleasesSample H.ports_of H.with_ports port taken home.old home.new }
+    requires { holds_message port.number taken (homes.ports_of H.domain_of port.domain home.old) ≡ true }
+    ensures { ReleasesSample (homes.ports_of H.domain_of) (homes.with_ports H.changed) port taken home.old home.new }
 {
-    let Some(ports) = home.ports_mut(port.domain) else {
+    let Some(ports) = calls::ports_mut(home, port.domain) else {
         unreachable!();
     };
     if !ports.release(port.number, taken) {
@@ -195,24 +196,27 @@ pub fn drop_sample<T: Copy, U: Copy, H: Home<T, U>>(
     taken: Taken,
     home: &mut H,
 ) -> bool
-    ensures { DropsSample H.ports_of H.with_ports port taken home.old result home.new }
+    ensures { DropsSample (homes.ports_of H.domain_of) (homes.with_ports H.changed) port taken home.old result home.new }
 {
-    match home.ports_mut(port.domain) {
+    match calls::ports_mut(home, port.domain) {
         Some(ports) => ports.release(port.number, taken),
         None => false,
     }
 }
 
-/// Whether a message is held.
+/// Whether a message that this subscriber received is held.
 ///
 /// This port's own.
 /// Example: `let is_held = subscribing::holds_message(port, taken, home);`
 pub fn holds_message<T: Copy, U: Copy, H: Home<T, U>>(port: PortId, taken: Taken, home: &H) -> bool
-    ensures { result ≡ holds_message port.number taken (H.ports_of port.domain home.now) }
+    ensures { result ≡ holds_message port.number taken (homes.ports_of H.domain_of port.domain home.now) }
 {
-    match home.ports(port.domain) {
-        Some(ports) => ports.subscribers.get(port.number).is_some()
-            && ports.payload(taken).is_some(),
+    match calls::ports(home, port.domain) {
+        Some(ports) => {
+            ports.subscribers.get(port.number).is_some()
+                && ports.payload(taken).is_some()
+                && taken.subscriber == port.number
+        }
         None => false,
     }
 }

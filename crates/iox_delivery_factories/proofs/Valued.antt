@@ -3,7 +3,7 @@ use Rattle.std.proofs.Common.{arith, ◌≡◌, ◌∙◌, ℕ, zero, suc, refl,
 use Rattle.std.proofs.Math.Logic.{⊎_elim}
 use Rattle.std.proofs.Math.Nat.{div-one, div_self}
 use Rattle.std.proofs.lemmas.Bool.Decides.{eqb_tells}
-use Rattle.iox_domain.proofs.DomainSettings.Meaning.{fit_means}
+use Rattle.iox_domain.proofs.Meaning.{fit_means}
 use Rattle.iox_delivery_factories.specs.Elements.{values_each, ElementsHaveValues}
 
 -- a value of the same size

@@ -2,7 +2,7 @@
 use Rattle.std.specs.Prelude.{ℕ, ◌/◌, ◌-◌, ◌^◌, ◌≡◌, ◌≢◌, ◌==◌, min, if◌then◌else◌}
 use Rattle.iox_domain.specs.DescribeBase.Detail.{Detail}
 use Rattle.iox_domain.specs.DescribeBase.declared.message_type.MessageTypeDetails.{MessageTypeDetails}
-use Rattle.iox_domain.specs.DomainSettings.Fitting.{any_payload, FitTypes}
+use Rattle.iox_domain.specs.Fitting.{any_payload, FitTypes}
 use Rattle.iox_domain.specs.DomainPublisher.Lengths.{span}
 
 -- how many values of this size an element of a size has; values without a size are an element each

@@ -14,17 +14,17 @@ use Rattle.iox_domain.specs.DomainValues.declared.handlers.Handlers.{Handlers}
 use Rattle.iox_domain.specs.DomainValues.declared.port_owner.PortOwner.{PortOwner}
 use Rattle.iox_domain.specs.DomainValues.declared.samples_override.PreallocatedSamplesOverride.{PreallocatedSamplesOverride}
 use Rattle.iox_domain.specs.DomainValues.declared.samples_override.PreallocatedSamplesOverride.TheVariants.{WorstCase}
-use Rattle.iox_domain.specs.DomainSettings.PortSettings.{publisher_defaults, subscriber_defaults}
-use Rattle.iox_domain.specs.DomainSettings.declared.publisher_settings.PublisherSettings.{PublisherSettings}
-use Rattle.iox_domain.specs.DomainSettings.declared.subscriber_settings.SubscriberSettings.{SubscriberSettings}
-use Rattle.iox_domain.specs.DomainPorts.declared.making.PublisherConfig.{PublisherConfig}
-use Rattle.iox_domain.specs.DomainPorts.declared.making.SubscriberConfig.{SubscriberConfig}
-use Rattle.iox_domain.specs.DomainPorts.declared.service_ports.ServicePorts.{ServicePorts}
-use Rattle.iox_domain.specs.DomainHome.declared.domain_id.DomainId.{DomainId}
-use Rattle.iox_delivery_slices.specs.Delivery.declared.publisher.Publisher.{Publisher}
-use Rattle.iox_delivery_slices.specs.Delivery.declared.subscriber.Subscriber.{Subscriber}
-use Rattle.iox_delivery_slices.specs.declared.publisher.Publisher.{Publisher as SlicePublisher}
-use Rattle.iox_delivery_slices.specs.declared.subscriber.Subscriber.{Subscriber as SliceSubscriber}
+use Rattle.iox_domain.specs.PortSettings.{publisher_defaults, subscriber_defaults}
+use Rattle.iox_domain.specs.declared.settings.publisher_settings.PublisherSettings.{PublisherSettings}
+use Rattle.iox_domain.specs.declared.settings.subscriber_settings.SubscriberSettings.{SubscriberSettings}
+use Rattle.iox_domain.specs.declared.ports.making.PublisherConfig.{PublisherConfig}
+use Rattle.iox_domain.specs.declared.ports.making.SubscriberConfig.{SubscriberConfig}
+use Rattle.iox_domain.specs.declared.ports.service_ports.ServicePorts.{ServicePorts}
+use Rattle.iox_domain.specs.declared.domain_id.DomainId.{DomainId}
+use Rattle.iox_delivery.specs.declared.publisher.Publisher.{Publisher}
+use Rattle.iox_delivery.specs.declared.subscriber.Subscriber.{Subscriber}
+use Rattle.iox_delivery.specs.declared.slices.publisher.Publisher.{Publisher as SlicePublisher}
+use Rattle.iox_delivery.specs.declared.slices.subscriber.Subscriber.{Subscriber as SliceSubscriber}
 use Rattle.iox_delivery_factories.specs.Elements.{room_of}
 use Rattle.iox_delivery_factories.specs.declared.publisher.PortFactoryPublisher.{PortFactoryPublisher}
 use Rattle.iox_delivery_factories.specs.declared.subscriber.PortFactorySubscriber.{PortFactorySubscriber}

@@ -2,6 +2,4 @@ pub mod Elements
 pub mod Factories
 pub use Rattle.iox_domain.specs.DescribeBase as DescribeBase
 pub use Rattle.iox_domain.specs.DescribeSettings as DescribeSettings
-pub use Rattle.iox_domain.specs.DomainHome as DomainHome
-pub use Rattle.iox_domain.specs.DomainPorts as DomainPorts
 pub use Rattle.iox_domain.specs as Domain

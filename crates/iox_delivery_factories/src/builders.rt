@@ -7,16 +7,17 @@ use crate::publisher::PortFactoryPublisher;
 use crate::subscriber::PortFactorySubscriber;
 use iox_describe_base::{TypeVariant, ZeroCopySend};
 use iox_domain::Domain;
-use iox_domain_settings::{PublisherSettings, SubscriberSettings};
+use iox_domain::settings::{PublisherSettings, SubscriberSettings};
 use iox_domain_values::{
     BackpressureStrategy, DegradationAction, DegradationHandler, Handlers, PortOwner,
     PreallocatedSamplesOverride,
 };
 use std::marker::PhantomData;
 
-/// What makes publishers of a domain, for a node and an owner: two loans, sends that wait for room, slices of one value, a room that doesn't
-/// grow, as many slots as are needed in the worst case, nobody asked at a full mailbox, and a warning where a connection fails. An element has
-/// as many values as its agreed size has of theirs: more than one only where they are the bytes of a payload that the description tells.
+/// What makes publishers of a domain, for a node and an owner: two loans, sends that wait for room, slices of one value, a room
+/// that doesn't grow, as many slots as are needed in the worst case, nobody asked at a full mailbox, and a warning where a
+/// connection fails. An element has as many values as its agreed size has of theirs: more than one only where they are the bytes
+/// of a payload that the description tells.
 ///
 /// Ported from `iceoryx2::service::port_factory::publish_subscribe::PortFactory::publisher_builder`.
 /// Example: `let builder = publisher_builder(&domain, 5, 9);`

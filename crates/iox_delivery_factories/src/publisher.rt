@@ -1,20 +1,20 @@
 //! What makes a publisher.
+ghost use Rattle.iox_domain.specs.Homes as homes;
 ghost use Rattle.std.specs.Prelude.{◌≡◌, ℕ, IsSome, Some, Result};
 ghost use Rattle.iox_domain.specs.DomainValues.declared.degradation.DegradationCause.TheVariants.{FailedToEstablishConnection};
-ghost use Rattle.iox_domain.specs.DomainHome.Homes.{MakesAt};
-ghost use Rattle.iox_domain.specs.DomainHome.Steps.{PublisherComes, why_no_publisher};
+ghost use Rattle.iox_domain.specs.AtHomes.{MakesAt};
+ghost use Rattle.iox_domain.specs.Steps.{PublisherComes, why_no_publisher};
 ghost use Rattle.iox_domain.specs.DomainValues.declared.create_error.PublisherCreateError.{PublisherCreateError};
 ghost use Rattle.iox_delivery_factories.specs.Elements.{room_of};
 ghost use Rattle.iox_delivery_factories.specs.Factories.{single_config, slice_config, publisher_of, slice_publisher_of, with_strategy, with_degradation, with_backpressure, cloned};
 
-use iox_delivery::{PortId, Publisher};
-use iox_delivery_slices as slice;
-use iox_domain_home::{DomainId, MakesPorts};
-use iox_domain_ports::PublisherConfig;
+use iox_delivery::{PortId, Publisher, slices as slice};
+use iox_domain::ports::PublisherConfig;
+use iox_domain::settings::PublisherSettings;
+use iox_domain::{DomainId, Home, calls};
 use iox_domain_publisher::lengths::span;
-use iox_domain_settings::PublisherSettings;
 use iox_domain_values::{
-    AllocationStrategy, BackpressureHandler, BackpressureStrategy, DegradationAction,
+    AllocationStrategy, BackpressureHandler, BackpressureStrategy, Decides, DegradationAction,
     DegradationHandler, Degrades, Handlers, Overrides, PortOwner, PreallocatedSamplesOverride,
     PublisherCreateError,
 };
@@ -145,7 +145,12 @@ impl<T, U> PortFactoryPublisher<T, U, Handlers, PreallocatedSamplesOverride> {
     }
 }
 
-impl<T: Copy, U: Copy + Default, B: Degrades, O: Overrides> PortFactoryPublisher<T, U, B, O> {
+impl<T: Copy, U: Copy + Default, B: Decides + Degrades, O: Overrides> PortFactoryPublisher<
+    T,
+    U,
+    B,
+    O,
+> {
     /// Makes the publisher, of single values, in the home of its domain. It gets as many slots as it needs in the worst case, or fewer as
     /// the override answers, and is connected to the subscribers that are there; where a connection isn't made its handler is asked, and it
     /// comes nevertheless.
@@ -156,16 +161,16 @@ impl<T: Copy, U: Copy + Default, B: Degrades, O: Overrides> PortFactoryPublisher
     ///
     /// Ported from `PortFactoryPublisher::create`.
     /// Example: `let publisher = builder.create(alloc, home)?;`
-    pub fn create<D: Degrades, H: MakesPorts<T, U, B, D>>(
+    pub fn create<H: Home<T, U, ForPublishers = B>>(
         self,
         alloc: Global,
         home: &mut H,
     ) -> Result<Publisher<T, U>, PublisherCreateError>
-        requires { IsSome (H.ports_of self.domain home.old) }
+        requires { IsSome (homes.ports_of H.domain_of self.domain home.old) }
         ensures { (user_header : U) × U.is_default user_header × (answer : Result ℕ PublisherCreateError)
-            × MakesAt (λ after. H.with_ports self.domain after home.old) (λ number. H.with_publisher self.domain number self.handlers)
+            × MakesAt (λ after. homes.with_ports H.changed self.domain after home.old) (λ number. homes.with_publisher H.changed self.domain number self.handlers)
             (PublisherComes (O.overrides self.overriding) (B.degrades self.handlers FailedToEstablishConnection) (single_config self.owner self.settings) user_header) (why_no_publisher (single_config self.owner self.settings))
-            (H.ports_of self.domain home.old) home.old (Some answer) home.new × (result ≡ publisher_of self.domain self.settings answer) }
+            (homes.ports_of H.domain_of self.domain home.old) home.old (Some answer) home.new × (result ≡ publisher_of self.domain self.settings answer) }
     {
         let domain = self.domain;
         let settings = self.settings;
@@ -187,16 +192,16 @@ impl<T: Copy, U: Copy + Default, B: Degrades, O: Overrides> PortFactoryPublisher
     ///
     /// Ported from `PortFactoryPublisher::create`.
     /// Example: `let publisher = builder.create_slice(alloc, home)?;`
-    pub fn create_slice<D: Degrades, H: MakesPorts<T, U, B, D>>(
+    pub fn create_slice<H: Home<T, U, ForPublishers = B>>(
         self,
         alloc: Global,
         home: &mut H,
     ) -> Result<slice::Publisher<T, U>, PublisherCreateError>
-        requires { IsSome (H.ports_of self.domain home.old) }
+        requires { IsSome (homes.ports_of H.domain_of self.domain home.old) }
         ensures { (user_header : U) × U.is_default user_header × (answer : Result ℕ PublisherCreateError)
-            × MakesAt (λ after. H.with_ports self.domain after home.old) (λ number. H.with_publisher self.domain number self.handlers)
+            × MakesAt (λ after. homes.with_ports H.changed self.domain after home.old) (λ number. homes.with_publisher H.changed self.domain number self.handlers)
             (PublisherComes (O.overrides self.overriding) (B.degrades self.handlers FailedToEstablishConnection) (slice_config self.owner self.unit self.settings) user_header) (why_no_publisher (slice_config self.owner self.unit self.settings))
-            (H.ports_of self.domain home.old) home.old (Some answer) home.new × (result ≡ slice_publisher_of self.domain self.settings answer) }
+            (homes.ports_of H.domain_of self.domain home.old) home.old (Some answer) home.new × (result ≡ slice_publisher_of self.domain self.settings answer) }
     {
         let domain = self.domain;
         let settings = self.settings;
@@ -216,17 +221,17 @@ impl<T: Copy, U: Copy + Default, B: Degrades, O: Overrides> PortFactoryPublisher
     }
 
     // Makes the publisher by what its slots are to be, and answers its number.
-    fn make<D: Degrades, H: MakesPorts<T, U, B, D>>(
+    fn make<H: Home<T, U, ForPublishers = B>>(
         self,
         alloc: Global,
         home: &mut H,
         config: PublisherConfig,
     ) -> Result<u64, PublisherCreateError>
-        requires { IsSome (H.ports_of self.domain home.old) }
+        requires { IsSome (homes.ports_of H.domain_of self.domain home.old) }
         ensures { (user_header : U) × U.is_default user_header
-            × MakesAt (λ after. H.with_ports self.domain after home.old) (λ number. H.with_publisher self.domain number self.handlers)
+            × MakesAt (λ after. homes.with_ports H.changed self.domain after home.old) (λ number. homes.with_publisher H.changed self.domain number self.handlers)
             (PublisherComes (O.overrides self.overriding) (B.degrades self.handlers FailedToEstablishConnection) config user_header) (why_no_publisher config)
-            (H.ports_of self.domain home.old) home.old (Some result) home.new }
+            (homes.ports_of H.domain_of self.domain home.old) home.old (Some result) home.new }
     {
         let PortFactoryPublisher {
             domain,
@@ -237,7 +242,15 @@ impl<T: Copy, U: Copy + Default, B: Degrades, O: Overrides> PortFactoryPublisher
             overriding,
             of: _,
         } = self;
-        match home.create_publisher(alloc, domain, config, U::default(), &overriding, handlers) {
+        match calls::create_publisher(
+            home,
+            alloc,
+            domain,
+            config,
+            U::default(),
+            &overriding,
+            handlers,
+        ) {
             Some(answer) => answer,
             None => unreachable!(),
         }

@@ -1,16 +1,16 @@
 //! What makes a subscriber.
+ghost use Rattle.iox_domain.specs.Homes as homes;
 ghost use Rattle.std.specs.Prelude.{◌≡◌, ℕ, IsSome, Some, Result};
 ghost use Rattle.iox_domain.specs.DomainValues.declared.create_error.SubscriberCreateError.{SubscriberCreateError};
 ghost use Rattle.iox_domain.specs.DomainValues.declared.degradation.DegradationCause.TheVariants.{FailedToEstablishConnection};
-ghost use Rattle.iox_domain.specs.DomainHome.Homes.{MakesAt};
-ghost use Rattle.iox_domain.specs.DomainHome.Steps.{SubscriberComes, why_no_subscriber};
+ghost use Rattle.iox_domain.specs.AtHomes.{MakesAt};
+ghost use Rattle.iox_domain.specs.Steps.{SubscriberComes, why_no_subscriber};
 ghost use Rattle.iox_delivery_factories.specs.Factories.{subscriber_config, buffer_at, subscriber_of, slice_subscriber_of, subscriber_cloned};
 
-use iox_delivery::{PortId, Subscriber};
-use iox_delivery_slices as slice;
-use iox_domain_home::{DomainId, MakesPorts};
-use iox_domain_ports::SubscriberConfig;
-use iox_domain_settings::SubscriberSettings;
+use iox_delivery::{PortId, Subscriber, slices as slice};
+use iox_domain::ports::SubscriberConfig;
+use iox_domain::settings::SubscriberSettings;
+use iox_domain::{DomainId, Home, calls};
 use iox_domain_values::{
     DegradationAction, DegradationHandler, Degrades, PortOwner, SubscriberCreateError,
 };
@@ -83,17 +83,17 @@ impl<T: Copy, U: Copy, D: Degrades> PortFactorySubscriber<T, U, D> {
     ///
     /// Ported from `PortFactorySubscriber::create`.
     /// Example: `let subscriber = builder.create(alloc, home)?;`
-    pub fn create<B: Degrades, H: MakesPorts<T, U, B, D>>(
+    pub fn create<H: Home<T, U, ForSubscribers = D>>(
         self,
         alloc: Global,
         home: &mut H,
     ) -> Result<Subscriber<T, U>, SubscriberCreateError>
-        requires { IsSome (H.ports_of self.domain home.old) }
+        requires { IsSome (homes.ports_of H.domain_of self.domain home.old) }
         ensures { (answer : Result ℕ SubscriberCreateError)
-            × MakesAt (λ after. H.with_ports self.domain after home.old) (λ number. H.with_subscriber self.domain number self.handler)
+            × MakesAt (λ after. homes.with_ports H.changed self.domain after home.old) (λ number. homes.with_subscriber H.changed self.domain number self.handler)
             (SubscriberComes (D.degrades self.handler FailedToEstablishConnection) (subscriber_config self.owner self.settings)) (why_no_subscriber (subscriber_config self.owner self.settings))
-            (H.ports_of self.domain home.old) home.old (Some answer) home.new
-            × (result ≡ subscriber_of self.domain (buffer_at self.settings (H.ports_of self.domain home.old)) answer) }
+            (homes.ports_of H.domain_of self.domain home.old) home.old (Some answer) home.new
+            × (result ≡ subscriber_of self.domain (buffer_at self.settings (homes.ports_of H.domain_of self.domain home.old)) answer) }
     {
         let domain = self.domain;
         let buffer_size = self.buffer_size_in(home);
@@ -105,17 +105,17 @@ impl<T: Copy, U: Copy, D: Degrades> PortFactorySubscriber<T, U, D> {
     ///
     /// Ported from `PortFactorySubscriber::create`.
     /// Example: `let subscriber = builder.create_slice(alloc, home)?;`
-    pub fn create_slice<B: Degrades, H: MakesPorts<T, U, B, D>>(
+    pub fn create_slice<H: Home<T, U, ForSubscribers = D>>(
         self,
         alloc: Global,
         home: &mut H,
     ) -> Result<slice::Subscriber<T, U>, SubscriberCreateError>
-        requires { IsSome (H.ports_of self.domain home.old) }
+        requires { IsSome (homes.ports_of H.domain_of self.domain home.old) }
         ensures { (answer : Result ℕ SubscriberCreateError)
-            × MakesAt (λ after. H.with_ports self.domain after home.old) (λ number. H.with_subscriber self.domain number self.handler)
+            × MakesAt (λ after. homes.with_ports H.changed self.domain after home.old) (λ number. homes.with_subscriber H.changed self.domain number self.handler)
             (SubscriberComes (D.degrades self.handler FailedToEstablishConnection) (subscriber_config self.owner self.settings)) (why_no_subscriber (subscriber_config self.owner self.settings))
-            (H.ports_of self.domain home.old) home.old (Some answer) home.new
-            × (result ≡ slice_subscriber_of self.domain (buffer_at self.settings (H.ports_of self.domain home.old)) answer) }
+            (homes.ports_of H.domain_of self.domain home.old) home.old (Some answer) home.new
+            × (result ≡ slice_subscriber_of self.domain (buffer_at self.settings (homes.ports_of H.domain_of self.domain home.old)) answer) }
     {
         let domain = self.domain;
         let buffer_size = self.buffer_size_in(home);
@@ -124,15 +124,15 @@ impl<T: Copy, U: Copy, D: Degrades> PortFactorySubscriber<T, U, D> {
     }
 
     // Makes the subscriber, and answers its number.
-    fn make<B: Degrades, H: MakesPorts<T, U, B, D>>(
+    fn make<H: Home<T, U, ForSubscribers = D>>(
         self,
         alloc: Global,
         home: &mut H,
     ) -> Result<u64, SubscriberCreateError>
-        requires { IsSome (H.ports_of self.domain home.old) }
-        ensures { MakesAt (λ after. H.with_ports self.domain after home.old) (λ number. H.with_subscriber self.domain number self.handler)
+        requires { IsSome (homes.ports_of H.domain_of self.domain home.old) }
+        ensures { MakesAt (λ after. homes.with_ports H.changed self.domain after home.old) (λ number. homes.with_subscriber H.changed self.domain number self.handler)
             (SubscriberComes (D.degrades self.handler FailedToEstablishConnection) (subscriber_config self.owner self.settings)) (why_no_subscriber (subscriber_config self.owner self.settings))
-            (H.ports_of self.domain home.old) home.old (Some result) home.new }
+            (homes.ports_of H.domain_of self.domain home.old) home.old (Some result) home.new }
     {
         let PortFactorySubscriber {
             domain,
@@ -145,17 +145,17 @@ impl<T: Copy, U: Copy, D: Degrades> PortFactorySubscriber<T, U, D> {
             owner,
             buffer_size: settings.buffer_size,
         };
-        match home.create_subscriber(alloc, domain, config, handler) {
+        match calls::create_subscriber(home, alloc, domain, config, handler) {
             Some(answer) => answer,
             None => unreachable!(),
         }
     }
 
     // How many messages of one publisher may wait for it, in the service of its domain: 0 where the service refuses it.
-    fn buffer_size_in<B: Degrades, H: MakesPorts<T, U, B, D>>(&self, home: &H) -> usize
-        ensures { result ≡ buffer_at self.now.settings (H.ports_of self.now.domain home.now) }
+    fn buffer_size_in<H: Home<T, U, ForSubscribers = D>>(&self, home: &H) -> usize
+        ensures { result ≡ buffer_at self.now.settings (homes.ports_of H.domain_of self.now.domain home.now) }
     {
-        match home.ports(self.domain) {
+        match calls::ports(home, self.domain) {
             Some(ports) => self.settings.buffer_size_within(&ports.sizes).unwrap_or(0),
             None => 0,
         }

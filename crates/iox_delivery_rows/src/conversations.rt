@@ -2,7 +2,7 @@
 use crate::services::{CONFIG, Messages, Service, create, open, wanted};
 use iox_delivery::{Publisher, Sent, Subscriber};
 use iox_delivery_factories::{PortFactoryPublisher, PortFactorySubscriber};
-use iox_domain_home::Home;
+use iox_domain::calls;
 use iox_domain_values::{PublisherCreateError, SendError, SubscriberCreateError};
 use iox_hub_base::Hub;
 use std::alloc::Global;
@@ -15,7 +15,7 @@ fn publish(
     alloc: Global,
     hub: &mut Messages,
 ) -> Result<Publisher<u64, u8>, PublisherCreateError> {
-    match hub.ports(builder.domain) {
+    match calls::ports(&*hub, builder.domain) {
         Some(_) => builder.create(alloc, hub),
         None => Err(PublisherCreateError::UnableToCreateDataSegment),
     }
@@ -27,7 +27,7 @@ fn subscribe(
     alloc: Global,
     hub: &mut Messages,
 ) -> Result<Subscriber<u64, u8>, SubscriberCreateError> {
-    match hub.ports(builder.domain) {
+    match calls::ports(&*hub, builder.domain) {
         Some(_) => builder.create(alloc, hub),
         None => Err(SubscriberCreateError::OutOfMemory),
     }

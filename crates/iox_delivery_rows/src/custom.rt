@@ -1,15 +1,14 @@
 //! Ports of a payload that only the description says.
 use iox_delivery::Sent;
+use iox_delivery::slices::{Publisher, SampleMut, SampleMutUninit, Subscriber};
 use iox_delivery_factories::{publisher_builder, subscriber_builder};
-use iox_delivery_slices::{Publisher, SampleMut, SampleMutUninit, Subscriber};
 use iox_describe_base::{
     AttributeSpecifier, Header, MessageTypeDetails, ServiceName, TypeDetail, TypeVariant,
 };
 use iox_describe_settings::publish_subscribe::StaticConfig;
 use iox_describe_settings::{Description, Settings};
-use iox_domain::{Domain, DomainId};
-use iox_domain_home::Home;
-use iox_domain_settings::{CustomHeaderMarker, CustomPayloadMarker};
+use iox_domain::settings::{CustomHeaderMarker, CustomPayloadMarker};
+use iox_domain::{Domain, DomainId, Home, calls};
 use iox_domain_values::{
     AllocationStrategy, LoanError, PublisherCreateError, SubscriberCreateError,
 };
@@ -63,7 +62,7 @@ fn publish(alloc: Global, domain: &mut Domain<Byte, Any>, case: &Case) -> Made {
     if let Some(first) = case.first {
         builder = builder.initial_max_slice_len(first);
     }
-    match domain.ports(builder.domain) {
+    match calls::ports(&*domain, builder.domain) {
         Some(_) => builder.create_slice(alloc, domain),
         None => Err(PublisherCreateError::ExceedsMaxSupportedPublishers),
     }
@@ -75,7 +74,7 @@ fn subscribe(
     domain: &mut Domain<Byte, Any>,
 ) -> Result<Subscriber<Byte, Any>, SubscriberCreateError> {
     let builder = subscriber_builder(domain, 4, 3);
-    match domain.ports(builder.domain) {
+    match calls::ports(&*domain, builder.domain) {
         Some(_) => builder.create_slice(alloc, domain),
         None => Err(SubscriberCreateError::OutOfMemory),
     }
@@ -124,7 +123,7 @@ fn is_lent(
 
 // How many bytes fit in a slot of the publisher.
 fn room(domain: &Domain<Byte, Any>, publisher: &Publisher<Byte, Any>) -> Option<usize> {
-    let ports = domain.ports(publisher.domain())?;
+    let ports = calls::ports(domain, publisher.domain())?;
     let publisher = ports.publishers.get(publisher.id())?;
     Some(publisher.sender.room())
 }

@@ -7,6 +7,8 @@
 //! - `conversations`: messages of single values go from node to node.
 //! - `slices`: messages of slices do.
 //! - `custom`: ports of a payload that only the description says.
+//! - `texts`: how errors display.
+//! - `values`: the text form, and the objects that a caller hands in.
 #![tactic(auto)]
 
 #[cfg(test)]
@@ -17,3 +19,7 @@ mod custom;
 mod services;
 #[cfg(test)]
 mod slices;
+#[cfg(test)]
+mod texts;
+#[cfg(test)]
+mod values;

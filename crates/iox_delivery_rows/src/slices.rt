@@ -1,10 +1,10 @@
 //! Messages of slices go from node to node.
 use crate::services::{CONFIG, Messages, Service, create, wanted};
 use iox_delivery::Sent;
+use iox_delivery::slices::{Publisher, SampleMut, Subscriber};
 use iox_delivery_factories::{PortFactoryPublisher, PortFactorySubscriber};
-use iox_delivery_slices::{Publisher, SampleMut, Subscriber};
 use iox_describe::Header;
-use iox_domain_home::Home;
+use iox_domain::calls;
 use iox_domain_values::{LoanError, PublisherCreateError, SendError, SubscriberCreateError};
 use iox_hub_base::Hub;
 use iox_negotiate::Slice;
@@ -25,7 +25,7 @@ fn publish(
     hub: &mut Messages,
     len: usize,
 ) -> Result<Publisher<u64, u8>, PublisherCreateError> {
-    match hub.ports(builder.domain) {
+    match calls::ports(&*hub, builder.domain) {
         Some(_) => builder.initial_max_slice_len(len).create_slice(alloc, hub),
         None => Err(PublisherCreateError::ExceedsMaxSupportedPublishers),
     }
@@ -37,7 +37,7 @@ fn subscribe(
     alloc: Global,
     hub: &mut Messages,
 ) -> Result<Subscriber<u64, u8>, SubscriberCreateError> {
-    match hub.ports(builder.domain) {
+    match calls::ports(&*hub, builder.domain) {
         Some(_) => builder.create_slice(alloc, hub),
         None => Err(SubscriberCreateError::OutOfMemory),
     }

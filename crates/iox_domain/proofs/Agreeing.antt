@@ -5,17 +5,17 @@ use Rattle.std.proofs.lemmas.Bool.Decides.{eqb_tells}
 use Rattle.std.proofs.Math.Logic.{⊎_elim}
 use Rattle.std.specs.Bool.{beq}
 use Rattle.std.specs.Prelude.{◌==◌, ◌&&◌}
-use Rattle.iox_domain_settings.specs.DescribeSettings.declared.static_config.Settings.{Settings}
-use Rattle.iox_domain_settings.specs.DescribeSettings.declared.static_config.publish_subscribe.StaticConfig.{StaticConfig}
-use Rattle.iox_domain_settings.specs.DomainValues.declared.backpressure.BackpressureDecision.{BackpressureDecision}
-use Rattle.iox_domain_settings.specs.DomainValues.declared.backpressure.BackpressureInfo.{BackpressureInfo}
-use Rattle.iox_domain_settings.specs.DomainValues.declared.degradation.DegradationAction.{DegradationAction}
-use Rattle.iox_domain_settings.specs.DomainValues.declared.degradation.DegradationInfo.{DegradationInfo}
-use Rattle.iox_domain_settings.specs.DomainValues.declared.service_sizes.ServiceSizes.{ServiceSizes}
-use Rattle.iox_domain_settings.specs.Sizes.{sizes}
-use Rattle.iox_domain_laws.proofs.Serviced.{service_stays}
-use Rattle.iox_domain_laws.specs.ServiceLaws.{SameService}
-use Rattle.iox_domain_home.specs.declared.domain_id.DomainId.{DomainId}
+use Rattle.iox_domain.specs.DescribeSettings.declared.static_config.Settings.{Settings}
+use Rattle.iox_domain.specs.DescribeSettings.declared.static_config.publish_subscribe.StaticConfig.{StaticConfig}
+use Rattle.iox_domain.specs.DomainValues.declared.backpressure.BackpressureDecision.{BackpressureDecision}
+use Rattle.iox_domain.specs.DomainValues.declared.backpressure.BackpressureInfo.{BackpressureInfo}
+use Rattle.iox_domain.specs.DomainValues.declared.degradation.DegradationAction.{DegradationAction}
+use Rattle.iox_domain.specs.DomainValues.declared.degradation.DegradationInfo.{DegradationInfo}
+use Rattle.iox_domain.specs.DomainValues.declared.service_sizes.ServiceSizes.{ServiceSizes}
+use Rattle.iox_domain.specs.Sizes.{sizes}
+use Rattle.iox_domain.proofs.Serviced.{service_stays}
+use Rattle.iox_domain.specs.ServiceLaws.{SameService}
+use Rattle.iox_domain.specs.declared.domain_id.DomainId.{DomainId}
 use Rattle.iox_domain.specs.Domains.{IsNewDomain}
 use Rattle.iox_domain.specs.Parts.{parts_of, agrees}
 use Rattle.iox_domain.specs.PartsLaws.{PartsAgree}
@@ -45,20 +45,20 @@ agree_new expired id agreed = rw (same_number id.service) (rw (same_number agree
 
 new : {T U B D : Type 0} (which : DomainId) (expired : ℕ) (settings : Settings) (domain : Domain T U B D) → IsNewDomain which expired settings domain → agrees (parts_of domain) ≡ true
 new which expired settings domain made =
-    ap (λ service. agree service domain.ports.sizes domain.id domain.agreed) (ap (λ ports. ports.service) made.ports)
+    ap (λ service. agree service domain.state.ports.sizes domain.id domain.agreed) (ap (λ ports. ports.service) made.ports)
     ∙ ap (λ counts. agree which.service counts domain.id domain.agreed) (ap (λ ports. ports.sizes) made.ports)
     ∙ ap (λ id. agree which.service (sizes expired domain.agreed) id domain.agreed) made.id ∙ agree_new expired which domain.agreed
 
-same_parts : {T U B D : Type 0} (old new : Domain T U B D) → SameService old.ports new.ports → new.id ≡ old.id → new.agreed ≡ old.agreed → agrees (parts_of new) ≡ agrees (parts_of old)
+same_parts : {T U B D : Type 0} (old new : Domain T U B D) → SameService old.state.ports new.state.ports → new.id ≡ old.id → new.agreed ≡ old.agreed → agrees (parts_of new) ≡ agrees (parts_of old)
 same_parts old new same id agreed =
-    ap (λ service. agree service new.ports.sizes new.id new.agreed) same.service
-    ∙ ap (λ counts. agree old.ports.service counts new.id new.agreed) same.sizes
-    ∙ ap (λ which. agree old.ports.service old.ports.sizes which new.agreed) id
-    ∙ ap (λ config. agree old.ports.service old.ports.sizes old.id config) agreed
+    ap (λ service. agree service new.state.ports.sizes new.id new.agreed) same.service
+    ∙ ap (λ counts. agree old.state.ports.service counts new.id new.agreed) same.sizes
+    ∙ ap (λ which. agree old.state.ports.service old.state.ports.sizes which new.agreed) id
+    ∙ ap (λ config. agree old.state.ports.service old.state.ports.sizes old.id config) agreed
 
 -- both
 pub parts_agree : {T U B D : Type 0} (overrides : ℕ → ℕ → Type 0) (may : DegradationInfo → DegradationAction → Type 0) (decide : BackpressureInfo → BackpressureDecision → Type 0) → PartsAgree T U B D overrides may decide
 parts_agree overrides may decide = record {
   new = new;
-  stays = λ call old after happens id agreed before. same_parts old after ((service_stays overrides may decide).stays call old.ports after.ports happens) id agreed ∙ before;
+  stays = λ call old after happens id agreed before. same_parts old after ((service_stays overrides may decide).stays call old.state.ports after.state.ports happens) id agreed ∙ before;
 }

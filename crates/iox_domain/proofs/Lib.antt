@@ -1,5 +1,74 @@
 pub mod Keeping
 pub mod Homely
+mod Apart
 pub mod Agreeing
-pub use Rattle.iox_domain_laws.proofs.DescribeBase as DescribeBase
-pub use Rattle.iox_domain_settings.proofs as DomainSettings
+pub mod Rolling
+pub mod Lifting
+pub mod Coming
+pub mod Names
+pub mod Meaning
+pub mod Counting
+pub mod Lives
+pub mod Outliving
+pub mod Calling
+pub mod KeepsLife
+pub mod Received
+pub mod GivenOut
+pub mod PortLawsKeeping
+pub mod Carrying
+pub mod PublisherKeeps
+pub mod Numbered
+pub mod Walks
+pub mod ListKeeps
+pub mod Releasing
+pub mod Held
+pub mod TiedWell
+pub mod WellKept
+pub mod PortLawsApart
+pub mod Roomy
+pub mod Once
+pub mod AtMostOnce
+pub mod PortLawsParts
+pub mod Books
+pub mod Followed
+pub mod Sole
+pub mod Booked
+pub mod BookedLists
+pub mod BookedSends
+pub mod BookedTakes
+pub mod TakenHeld
+pub mod InOrder
+pub mod Tried
+pub mod Keys
+pub mod Fitting
+pub mod Attaching
+pub mod Waiting
+pub mod Keyed
+pub mod Serviced
+pub mod Sized
+pub mod Sums
+pub mod Allowing
+pub mod Lending
+pub mod Walking
+pub mod AllowancesCalling
+mod Bools
+mod Borrowing
+mod SamplesLending
+mod SamplesSums
+mod Sparing
+mod Taking
+mod GivingBack
+mod Naming
+pub mod LessLeft
+mod Reading
+mod Listening
+mod Attached
+mod Entries
+mod Listed
+pub mod StayRoomy
+pub mod Bounds
+pub use Rattle.iox_domain_subscriber.proofs.Container as Container
+pub use Rattle.iox_describe_base.proofs as DescribeBase
+pub use Rattle.iox_domain_subscriber.proofs.DomainPublisher as DomainPublisher
+pub use Rattle.iox_domain_subscriber.proofs.DomainSlots as DomainSlots
+pub use Rattle.iox_domain_subscriber.proofs as DomainSubscriber

@@ -1,13 +1,13 @@
 -- Who decides for a port.
 use Rattle.std.specs.Prelude.{◌≡◌, Option, None, Some}
-use Rattle.iox_domain_settings.specs.DomainValues.declared.backpressure.BackpressureDecision.{BackpressureDecision}
-use Rattle.iox_domain_settings.specs.DomainValues.declared.backpressure.BackpressureDecision.TheVariants.{Retry}
-use Rattle.iox_domain_settings.specs.DomainValues.declared.backpressure.BackpressureInfo.{BackpressureInfo}
-use Rattle.iox_domain_settings.specs.DomainValues.declared.degradation.DegradationAction.{DegradationAction}
-use Rattle.iox_domain_settings.specs.DomainValues.declared.degradation.DegradationAction.TheVariants.{Warn}
-use Rattle.iox_domain_settings.specs.DomainValues.declared.degradation.DegradationCause.{DegradationCause}
-use Rattle.iox_domain_settings.specs.DomainValues.declared.degradation.DegradationCause.TheVariants.{FailedToEstablishConnection}
-use Rattle.iox_domain_settings.specs.DomainValues.declared.degradation.DegradationInfo.{DegradationInfo}
+use Rattle.iox_domain.specs.DomainValues.declared.backpressure.BackpressureDecision.{BackpressureDecision}
+use Rattle.iox_domain.specs.DomainValues.declared.backpressure.BackpressureDecision.TheVariants.{Retry}
+use Rattle.iox_domain.specs.DomainValues.declared.backpressure.BackpressureInfo.{BackpressureInfo}
+use Rattle.iox_domain.specs.DomainValues.declared.degradation.DegradationAction.{DegradationAction}
+use Rattle.iox_domain.specs.DomainValues.declared.degradation.DegradationAction.TheVariants.{Warn}
+use Rattle.iox_domain.specs.DomainValues.declared.degradation.DegradationCause.{DegradationCause}
+use Rattle.iox_domain.specs.DomainValues.declared.degradation.DegradationCause.TheVariants.{FailedToEstablishConnection}
+use Rattle.iox_domain.specs.DomainValues.declared.degradation.DegradationInfo.{DegradationInfo}
 
 -- a connection that fails is passed over with a warning
 abbrev pub passes_over : DegradationCause → DegradationInfo → DegradationAction → Type 0

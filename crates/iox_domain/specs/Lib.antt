@@ -1,16 +1,53 @@
+-- The definitions that the contracts about loans that may still be made cite.
 pub mod Kept
 pub mod Handling
+pub mod States
 pub mod Domains
 pub mod Publishing
 pub mod Subscribing
 pub mod AsHome
+pub mod Homes
+pub mod HomesLaws
 pub mod HomeLaws
 pub mod Parts
 pub mod PartsLaws
-pub use Rattle.iox_domain_laws.specs.DescribeBase as DescribeBase
-pub use Rattle.iox_domain_settings.specs.DescribeSettings as DescribeSettings
-pub use Rattle.iox_domain_home.specs as DomainHome
-pub use Rattle.iox_domain_laws.specs.DomainPorts as DomainPorts
-pub use Rattle.iox_domain_laws.specs.DomainPublisher as DomainPublisher
-pub use Rattle.iox_domain_settings.specs as DomainSettings
-pub use Rattle.iox_domain_settings.specs.DomainValues as DomainValues
+pub mod Rolls
+pub mod Subscribers
+pub mod SubscribersLends
+pub mod Ports
+pub mod PortsPublishing
+pub mod PortsSubscribing
+pub mod Making
+pub mod Lending
+pub mod LendingLends
+pub mod Reading
+pub mod Living
+pub mod Steps
+pub mod AtHomes
+pub mod Sizes
+pub mod Fitting
+pub mod PortSettings
+pub mod Laws
+pub mod Calls
+pub mod PortLawsLaws
+pub mod LivingLaws
+pub mod LivingSteps
+pub mod NumberLaws
+pub mod Order
+pub mod ServiceLaws
+pub mod SizeLaws
+pub mod Tries
+pub mod Attaching
+pub mod Loans
+pub mod Roomy
+pub mod SampleLaws
+pub mod Samples
+pub use Rattle.iox_domain_subscriber.specs.Container as Container
+pub use Rattle.iox_describe_base.specs as DescribeBase
+pub use Rattle.iox_domain_subscriber.specs.DomainPublisher as DomainPublisher
+pub use Rattle.iox_domain_subscriber.specs.DomainSlots as DomainSlots
+pub use Rattle.iox_domain_subscriber.specs as DomainSubscriber
+pub use Rattle.iox_domain_subscriber.specs.DomainValues as DomainValues
+pub use Rattle.iox_domain_subscriber.specs.IndexBase as IndexBase
+pub use Rattle.iox_domain_subscriber.specs.Maps as Maps
+pub use Rattle.iox_describe_settings.specs as DescribeSettings

@@ -9,16 +9,16 @@ abbrev pub parts_of : {T U B D : Type 0} → Domain T U B D → DomainParts T U 
 parts_of domain = record {
   id = domain.id;
   agreed = domain.agreed;
-  service = domain.ports.service;
-  sizes = domain.ports.sizes;
-  next_port = domain.ports.next_port;
-  publisher_places = domain.ports.publisher_list;
-  subscriber_places = domain.ports.subscriber_list;
-  publishers = domain.ports.publishers;
-  subscribers = domain.ports.subscribers;
-  publisher_handlers = domain.publisher_handlers;
-  subscriber_handlers = domain.subscriber_handlers;
-  blank = domain.blank;
+  service = domain.state.ports.service;
+  sizes = domain.state.ports.sizes;
+  next_port = domain.state.ports.next_port;
+  publisher_places = domain.state.ports.publisher_list;
+  subscriber_places = domain.state.ports.subscriber_list;
+  publishers = domain.state.ports.publishers;
+  subscribers = domain.state.ports.subscribers;
+  publisher_handlers = domain.state.publisher_handlers;
+  subscriber_handlers = domain.state.subscriber_handlers;
+  blank = domain.state.blank;
 }
 
 -- the domain of these parts
@@ -26,18 +26,20 @@ abbrev pub domain_of : {T U B D : Type 0} → DomainParts T U B D → Domain T U
 domain_of parts = record {
   id = parts.id;
   agreed = parts.agreed;
-  ports = record {
-    service = parts.service;
-    sizes = parts.sizes;
-    next_port = parts.next_port;
-    publisher_list = parts.publisher_places;
-    subscriber_list = parts.subscriber_places;
-    publishers = parts.publishers;
-    subscribers = parts.subscribers;
+  state = record {
+    ports = record {
+      service = parts.service;
+      sizes = parts.sizes;
+      next_port = parts.next_port;
+      publisher_list = parts.publisher_places;
+      subscriber_list = parts.subscriber_places;
+      publishers = parts.publishers;
+      subscribers = parts.subscribers;
+    };
+    publisher_handlers = parts.publisher_handlers;
+    subscriber_handlers = parts.subscriber_handlers;
+    blank = parts.blank;
   };
-  publisher_handlers = parts.publisher_handlers;
-  subscriber_handlers = parts.subscriber_handlers;
-  blank = parts.blank;
 }
 
 -- whether parts are of one service, and allow as much as its nodes agreed on

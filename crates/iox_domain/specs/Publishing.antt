@@ -1,16 +1,16 @@
 -- A publisher comes, and leaves.
 use Rattle.std.specs.Prelude.{ℕ, ◌≡◌, Bool, true, false, List, Result, Ok, Err}
-use Rattle.iox_domain_settings.specs.DomainValues.declared.create_error.PublisherCreateError.{PublisherCreateError}
-use Rattle.iox_domain_settings.specs.DomainValues.declared.degradation.DegradationAction.{DegradationAction}
-use Rattle.iox_domain_settings.specs.DomainValues.declared.degradation.DegradationInfo.{DegradationInfo}
-use Rattle.iox_domain_laws.specs.DomainPorts.Making.{slots_needed, publisher_place, publisher_refusal, CreatesPublisher}
-use Rattle.iox_domain_laws.specs.DomainPorts.declared.making.PublisherConfig.{PublisherConfig}
-use Rattle.iox_domain.specs.Domains.{with_ports}
+use Rattle.iox_domain.specs.DomainValues.declared.create_error.PublisherCreateError.{PublisherCreateError}
+use Rattle.iox_domain.specs.DomainValues.declared.degradation.DegradationAction.{DegradationAction}
+use Rattle.iox_domain.specs.DomainValues.declared.degradation.DegradationInfo.{DegradationInfo}
+use Rattle.iox_domain.specs.Making.{slots_needed, publisher_place, publisher_refusal, CreatesPublisher}
+use Rattle.iox_domain.specs.declared.ports.making.PublisherConfig.{PublisherConfig}
+use Rattle.iox_domain.specs.States.{with_ports}
 use Rattle.iox_domain.specs.Kept.{kept, forgotten}
-use Rattle.iox_domain.specs.declared.domain.Domain.{Domain}
+use Rattle.iox_domain.specs.declared.state.DomainState.{DomainState}
 
 -- A publisher comes, and who decides for it is kept under its number, which comes next; a refusal is told for what the ports are, and nothing has changed.
-abbrev pub MakesPublisher : {T U B D : Type 0} → (ℕ → ℕ → Type 0) → (DegradationInfo → DegradationAction → Type 0) → PublisherConfig → U → B → Domain T U B D → Result ℕ PublisherCreateError → Domain T U B D → Type 0
+abbrev pub MakesPublisher : {T U B D : Type 0} → (ℕ → ℕ → Type 0) → (DegradationInfo → DegradationAction → Type 0) → PublisherConfig → U → B → DomainState T U B D → Result ℕ PublisherCreateError → DomainState T U B D → Type 0
 MakesPublisher overrides may config user_header handlers old (Err error) new =
     (error ≡ publisher_refusal (slots_needed config old.ports) (publisher_place old.ports)) × (new ≡ old)
 MakesPublisher overrides may config user_header handlers old (Ok number) new =

@@ -1,17 +1,17 @@
 -- A subscriber comes.
 use Rattle.std.specs.Prelude.{ℕ, ◌≡◌, Result, Ok, Err}
-use Rattle.iox_domain_settings.specs.DomainValues.declared.create_error.SubscriberCreateError.{SubscriberCreateError}
-use Rattle.iox_domain_settings.specs.DomainValues.declared.degradation.DegradationAction.{DegradationAction}
-use Rattle.iox_domain_settings.specs.DomainValues.declared.degradation.DegradationInfo.{DegradationInfo}
-use Rattle.iox_domain_settings.specs.DomainValues.Sizes.{buffer_of}
-use Rattle.iox_domain_laws.specs.DomainPorts.Making.{subscriber_place, subscriber_refusal, CreatesSubscriber}
-use Rattle.iox_domain_laws.specs.DomainPorts.declared.making.SubscriberConfig.{SubscriberConfig}
-use Rattle.iox_domain.specs.Domains.{with_ports}
+use Rattle.iox_domain.specs.DomainValues.declared.create_error.SubscriberCreateError.{SubscriberCreateError}
+use Rattle.iox_domain.specs.DomainValues.declared.degradation.DegradationAction.{DegradationAction}
+use Rattle.iox_domain.specs.DomainValues.declared.degradation.DegradationInfo.{DegradationInfo}
+use Rattle.iox_domain.specs.DomainValues.Sizes.{buffer_of}
+use Rattle.iox_domain.specs.Making.{subscriber_place, subscriber_refusal, CreatesSubscriber}
+use Rattle.iox_domain.specs.declared.ports.making.SubscriberConfig.{SubscriberConfig}
+use Rattle.iox_domain.specs.States.{with_ports}
 use Rattle.iox_domain.specs.Kept.{kept}
-use Rattle.iox_domain.specs.declared.domain.Domain.{Domain}
+use Rattle.iox_domain.specs.declared.state.DomainState.{DomainState}
 
 -- A subscriber comes, and who decides for it is kept under its number, which comes next; a refusal is told for what the ports are, and nothing has changed.
-abbrev pub MakesSubscriber : {T U B D : Type 0} → (DegradationInfo → DegradationAction → Type 0) → SubscriberConfig → D → Domain T U B D → Result ℕ SubscriberCreateError → Domain T U B D → Type 0
+abbrev pub MakesSubscriber : {T U B D : Type 0} → (DegradationInfo → DegradationAction → Type 0) → SubscriberConfig → D → DomainState T U B D → Result ℕ SubscriberCreateError → DomainState T U B D → Type 0
 MakesSubscriber may config handler old (Err error) new =
     (error ≡ subscriber_refusal (buffer_of config.buffer_size old.ports.sizes) (subscriber_place old.ports)) × (new ≡ old)
 MakesSubscriber may config handler old (Ok number) new =

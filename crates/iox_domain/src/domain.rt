@@ -1,23 +1,24 @@
 //! One publish-subscribe service with its ports.
 ghost use Rattle.std.specs.Prelude.{◌≡◌, ◌↔◌, IsTrue, IfOk};
-ghost use Rattle.iox_domain_laws.specs.DescribeBase.Detail.{detail};
-ghost use Rattle.iox_domain_laws.specs.DescribeBase.declared.type_detail.TypeVariant.TheVariants.{FixedSize};
-ghost use Rattle.iox_domain_settings.specs.Fitting.{Fits};
+ghost use Rattle.iox_domain.specs.DescribeBase.Detail.{detail};
+ghost use Rattle.iox_domain.specs.DescribeBase.declared.type_detail.TypeVariant.TheVariants.{FixedSize};
+ghost use Rattle.iox_domain.specs.Fitting.{Fits};
 
+use crate::domain_id::DomainId;
 use crate::kept::Kept;
+use crate::ports::ServicePorts;
+use crate::settings::{fits, sizes_of};
+use crate::state::DomainState;
 use iox_describe_base::{TypeVariant, ZeroCopySend};
 use iox_describe_settings::publish_subscribe::StaticConfig;
 use iox_describe_settings::{Description, Settings};
-use iox_domain_home::DomainId;
-use iox_domain_ports::ServicePorts;
-use iox_domain_settings::{fits, sizes_of};
 use iox_domain_values::{DegradationHandler, DomainError, Handlers};
 use iox_queues_base::Words;
 use std::alloc::{AllocError, Global};
 
 /// One publish-subscribe service: its ports, and who decides for them.
 ///
-/// It is one owned value, which each call of a port is handed. Who decides is a type of its own for publishers and for subscribers, so that a
+/// It is one owned value, and a home: each call of a port is handed it. Who decides is a type of its own for publishers and for subscribers, so that a
 /// domain has no `dyn` in it unless these have. Ported from what the ports of an `iceoryx2` service share.
 #[derive(Drop)]
 pub struct Domain<T, U, B = Handlers, D = DegradationHandler> {
@@ -25,14 +26,8 @@ pub struct Domain<T, U, B = Handlers, D = DegradationHandler> {
     pub id: DomainId,
     /// What its nodes agreed on.
     pub agreed: StaticConfig,
-    /// The ports.
-    pub ports: ServicePorts<T, U>,
-    /// Who decides for each publisher that exists.
-    pub publisher_handlers: Kept<B>,
-    /// Who decides for each subscriber that exists.
-    pub subscriber_handlers: Kept<D>,
-    /// What fills a slot that was never written. It is never read.
-    pub blank: T,
+    /// Its ports, and who decides for them: all that the calls of ports change.
+    pub state: DomainState<T, U, B, D>,
 }
 
 impl<T: Words + ZeroCopySend, U: Copy + ZeroCopySend, B: Drop, D: Drop> Domain<T, U, B, D> {
@@ -86,10 +81,12 @@ impl<T: Words + ZeroCopySend, U: Copy + ZeroCopySend, B: Drop, D: Drop> Domain<T
         Ok(Domain {
             id,
             agreed: *agreed,
-            ports: ServicePorts::new(alloc, id.service, sizes)?,
-            publisher_handlers: Kept::new(alloc),
-            subscriber_handlers: Kept::new(alloc),
-            blank: T::of_words(&zeros),
+            state: DomainState {
+                ports: ServicePorts::new(alloc, id.service, sizes)?,
+                publisher_handlers: Kept::new(alloc),
+                subscriber_handlers: Kept::new(alloc),
+                blank: T::of_words(&zeros),
+            },
         })
     }
 }

@@ -1,212 +1,104 @@
-//! A domain as the home of its own ports.
-ghost use Rattle.std.specs.Prelude.{◌≡◌};
-ghost use Rattle.iox_domain.specs.AsHome.{same_id, own_ports, with_own_ports, with_own_publisher, with_own_subscriber, without_own_publisher, without_own_subscriber};
-ghost use Rattle.iox_domain.specs.Handling.{kept_degrades, kept_decides};
-ghost use Rattle.iox_domain.specs.Kept.{kept_under};
+//! What holds domains, and a domain as the home of its own ports.
+ghost use Rattle.std.specs.Prelude.{◌≡◌, Option, option_copied, option_map};
+ghost use Rattle.std.specs.Borrow.{sem, LendsIf};
+ghost use Rattle.std.specs.Option.{option_copied_mut};
+ghost use Rattle.iox_domain.specs.AsHome.{same_id, own_state, own_changed};
 ghost use Rattle.iox_domain.specs.HomeLaws as homely;
+ghost use Rattle.iox_domain.specs.contracts.state.DomainState as lent;
+ghost use Rattle.iox_domain.specs.declared.state.DomainState.{DomainState};
+ghost use Rattle.iox_domain.specs.declared.domain_id.DomainId.{DomainId};
 
 use crate::domain::Domain;
-use iox_domain_home::{DomainId, Home, MakesPorts};
-use iox_domain_ports::{PublisherConfig, ServicePorts, SubscriberConfig};
-use iox_domain_publisher::Sent;
-use iox_domain_subscriber::Taken;
-use iox_domain_values::{
-    ConnectionFailure, Decides, Degrades, LoanError, Overrides, PublisherCreateError, ReceiveError,
-    SendError, SubscriberCreateError,
-};
-use std::alloc::Global;
+use crate::domain_id::DomainId;
+use crate::state::DomainState;
+use iox_domain_values::{Decides, Degrades};
+
+/// What holds domains, and with them the ports of their services: one domain, or those of a hub. Each call of a port is handed it.
+///
+/// It lends a domain by its id, and repeats none of its calls: a call of a port is one look-up, and then one of what was lent. Who decides
+/// is part of that, and a type of the home's own.
+pub trait Home<T, U> {
+    /// Who decides for publishers.
+    type ForPublishers: Decides + Degrades;
+    /// Who decides for subscribers.
+    type ForSubscribers: Degrades;
+
+    // what the domain of an id lends, if it is here
+    ghost domain_of: { DomainId → Self → Option (DomainState T U Self.ForPublishers Self.ForSubscribers) };
+
+    // a home after one step of what the domain of an id lends, if it is here
+    ghost changed: { DomainId → (DomainState T U Self.ForPublishers Self.ForSubscribers → DomainState T U Self.ForPublishers Self.ForSubscribers) → Self → Self };
+
+    /// The domain of this id, if it is here.
+    fn domain(
+        &self,
+        id: DomainId,
+    ) -> Option<&DomainState<T, U, Self::ForPublishers, Self::ForSubscribers>>
+        ensures { option_copied result ≡ domain_of id self.now };
+
+    /// The domain of this id, if it is here, to be changed in its place.
+    fn domain_mut(
+        &mut self,
+        id: DomainId,
+    ) -> Option<&mut DomainState<T, U, Self::ForPublishers, Self::ForSubscribers>>
+        ensures* writes_back { sem 𝓛 (LendsIf Self.row (lent.the_row T.row U.row Self.ForPublishers.row Self.ForSubscribers.row) self.entry result (λ last. changed id (λ before. last) self.old) self.old) }
+        ensures value { option_copied_mut result ≡ domain_of id self.old };
+
+    // what was changed is found so
+    ghost changed_found: { (id : DomainId) (step : DomainState T U Self.ForPublishers Self.ForSubscribers → DomainState T U Self.ForPublishers Self.ForSubscribers) (home : Self) → domain_of id (changed id step home) ≡ option_map step (domain_of id home) };
+
+    // the other domains stay as they were
+    ghost others_stay: { (id other : DomainId) (step : DomainState T U Self.ForPublishers Self.ForSubscribers → DomainState T U Self.ForPublishers Self.ForSubscribers) (home : Self) → (id ≡ other → ⊥) → domain_of other (changed id step home) ≡ domain_of other home };
+
+    // steps that make the same of what is there are one
+    ghost alike: { (id : DomainId) (one other : DomainState T U Self.ForPublishers Self.ForSubscribers → DomainState T U Self.ForPublishers Self.ForSubscribers) (home : Self) → option_map one (domain_of id home) ≡ option_map other (domain_of id home) → changed id one home ≡ changed id other home };
+
+    // a step that changes nothing
+    ghost unchanged: { (id : DomainId) (home : Self) → changed id (λ state. state) home ≡ home };
+
+    // two steps are one
+    ghost again: { (id : DomainId) (first second : DomainState T U Self.ForPublishers Self.ForSubscribers → DomainState T U Self.ForPublishers Self.ForSubscribers) (home : Self) → changed id second (changed id first home) ≡ changed id (λ state. second (first state)) home };
+}
+
+impl<T: Copy, U: Copy, B: Decides + Degrades, D: Degrades> Home<T, U> for Domain<T, U, B, D> {
+    type ForPublishers = B;
+
+    type ForSubscribers = D;
+
+    ghost domain_of = { own_state };
+
+    ghost changed = { own_changed };
+
+    fn domain(&self, id: DomainId) -> Option<&DomainState<T, U, B, D>> {
+        if is(self.id, id) {
+            Some(&self.state)
+        } else {
+            None
+        }
+    }
+
+    fn domain_mut(&mut self, id: DomainId) -> Option<&mut DomainState<T, U, B, D>> {
+        if is(self.id, id) {
+            Some(&mut self.state)
+        } else {
+            None
+        }
+    }
+
+    ghost changed_found = { homely.changed_found };
+
+    ghost others_stay = { homely.others_stay };
+
+    ghost alike = { homely.alike };
+
+    ghost unchanged = { homely.unchanged };
+
+    ghost again = { homely.again };
+}
 
 // Whether two ids are one.
 fn is(a: DomainId, b: DomainId) -> bool
     ensures { result ≡ same_id a b }
 {
     a.hub == b.hub && a.service == b.service
-}
-
-impl<T: Copy, U: Copy, B: Decides + Degrades, D: Degrades> Home<T, U> for Domain<T, U, B, D> {
-    ghost ports_of = { own_ports };
-
-    ghost with_ports = { with_own_ports };
-
-    ghost without_publisher = { without_own_publisher };
-
-    ghost without_subscriber = { without_own_subscriber };
-
-    ghost publisher_degrades = { λ id number domain. kept_degrades (λ kept. B.degrades kept) (kept_under number domain.publisher_handlers) };
-
-    ghost publisher_decides = { λ id number domain. kept_decides (λ kept. B.decides kept) (kept_under number domain.publisher_handlers) };
-
-    ghost subscriber_degrades = { λ id number domain. kept_degrades (λ kept. D.degrades kept) (kept_under number domain.subscriber_handlers) };
-
-    fn ports(&self, id: DomainId) -> Option<&ServicePorts<T, U>> {
-        if is(self.id, id) {
-            Some(&self.ports)
-        } else {
-            None
-        }
-    }
-
-    fn ports_mut(&mut self, id: DomainId) -> Option<&mut ServicePorts<T, U>> {
-        if is(self.id, id) {
-            Some(&mut self.ports)
-        } else {
-            None
-        }
-    }
-
-    fn loan(
-        &mut self,
-        alloc: Global,
-        id: DomainId,
-        number: u64,
-        values: usize,
-        elements: u64,
-    ) -> Option<Result<usize, LoanError>> {
-        if !is(self.id, id) {
-            return None;
-        }
-        self.loan(alloc, number, values, elements)
-    }
-
-    fn update_publisher(
-        &mut self,
-        alloc: Global,
-        id: DomainId,
-        number: u64,
-    ) -> Option<Result<(), ConnectionFailure>> {
-        if !is(self.id, id) {
-            return None;
-        }
-        self.update_publisher(alloc, number)
-    }
-
-    fn send(
-        &mut self,
-        alloc: Global,
-        id: DomainId,
-        number: u64,
-        slot: usize,
-    ) -> Option<Result<Sent, SendError>> {
-        if !is(self.id, id) {
-            return None;
-        }
-        self.send(alloc, number, slot)
-    }
-
-    fn retry(
-        &mut self,
-        id: DomainId,
-        number: u64,
-        elapsed: u64,
-    ) -> Option<Result<Sent, SendError>> {
-        if !is(self.id, id) {
-            return None;
-        }
-        self.retry(number, elapsed)
-    }
-
-    fn leave_publisher(&mut self, id: DomainId, number: u64) -> bool {
-        if !is(self.id, id) {
-            return false;
-        }
-        self.leave_publisher(number)
-    }
-
-    fn update_subscriber(
-        &mut self,
-        alloc: Global,
-        id: DomainId,
-        number: u64,
-    ) -> Option<Result<(), ConnectionFailure>> {
-        if !is(self.id, id) {
-            return None;
-        }
-        self.update_subscriber(alloc, number)
-    }
-
-    fn has_samples(
-        &mut self,
-        alloc: Global,
-        id: DomainId,
-        number: u64,
-    ) -> Option<Result<bool, ConnectionFailure>> {
-        if !is(self.id, id) {
-            return None;
-        }
-        self.has_samples(alloc, number)
-    }
-
-    fn receive(
-        &mut self,
-        alloc: Global,
-        id: DomainId,
-        number: u64,
-    ) -> Option<Result<Option<Taken>, ReceiveError>> {
-        if !is(self.id, id) {
-            return None;
-        }
-        self.receive(alloc, number)
-    }
-
-    fn leave_subscriber(&mut self, id: DomainId, number: u64) -> bool {
-        if !is(self.id, id) {
-            return false;
-        }
-        self.leave_subscriber(number)
-    }
-
-    ghost put_is_there = { homely.put_is_there };
-
-    ghost others_stay = { homely.others_stay };
-
-    ghost same_stays = { homely.same_stays };
-
-    ghost ports_without_publisher = { homely.ports_without_publisher };
-
-    ghost ports_without_subscriber = { homely.ports_without_subscriber };
-
-    ghost same_degradation = { λ id other number ports home info action may. homely.same_degrading (λ kept. B.degrades kept) number info action (homely.same_publishers id ports home) may };
-
-    ghost same_decision = { λ id other number ports home info decision may. homely.same_deciding (λ kept. B.decides kept) number info decision (homely.same_publishers id ports home) may };
-
-    ghost same_subscriber_degradation = { λ id other number ports home info action may. homely.same_degrading (λ kept. D.degrades kept) number info action (homely.same_subscribers id ports home) may };
-}
-
-impl<T: Copy, U: Copy, B: Decides + Degrades, D: Degrades> MakesPorts<T, U, B, D>
-    for Domain<T, U, B, D> {
-    ghost with_publisher = { with_own_publisher };
-
-    ghost with_subscriber = { with_own_subscriber };
-
-    fn create_publisher<O: Overrides>(
-        &mut self,
-        alloc: Global,
-        id: DomainId,
-        config: PublisherConfig,
-        user_header: U,
-        overriding: &O,
-        handlers: B,
-    ) -> Option<Result<u64, PublisherCreateError>> {
-        if !is(self.id, id) {
-            return None;
-        }
-        Some(self.create_publisher(alloc, config, user_header, overriding, handlers))
-    }
-
-    fn create_subscriber(
-        &mut self,
-        alloc: Global,
-        id: DomainId,
-        config: SubscriberConfig,
-        handler: D,
-    ) -> Option<Result<u64, SubscriberCreateError>> {
-        if !is(self.id, id) {
-            return None;
-        }
-        Some(self.create_subscriber(alloc, config, handler))
-    }
-
-    ghost ports_with_publisher = { homely.ports_with_publisher };
-
-    ghost ports_with_subscriber = { homely.ports_with_subscriber };
 }

@@ -1,6 +1,6 @@
 //! How many ports, loans and samples live.
 ghost use Rattle.std.specs.Prelude.{◌≡◌, ◌-◌, ◌^◌, min, None, Some};
-ghost use Rattle.iox_domain_laws.specs.DomainPorts.Living.{living};
+ghost use Rattle.iox_domain.specs.Living.{living};
 
 use crate::domain::Domain;
 
@@ -10,17 +10,17 @@ impl<T: Copy, U: Copy, B, D> Domain<T, U, B, D> {
     ///
     /// This port's own: `iceoryx2` counts the references of a service.
     pub fn living(&self, owner: u64) -> u64
-        ensures { result ≡ min (living (Some owner) self.now.ports) (2 ^ 64 - 1) }
+        ensures { result ≡ min (living (Some owner) self.now.state.ports) (2 ^ 64 - 1) }
     {
-        self.ports.living(owner)
+        self.state.ports.living(owner)
     }
 
     /// How much of all owners lives, as `living` counts it of one.
     ///
     /// This port's own: `iceoryx2` counts the references of a service.
     pub fn living_in_all(&self) -> u64
-        ensures { result ≡ min (living None self.now.ports) (2 ^ 64 - 1) }
+        ensures { result ≡ min (living None self.now.state.ports) (2 ^ 64 - 1) }
     {
-        self.ports.living_in_all()
+        self.state.ports.living_in_all()
     }
 }

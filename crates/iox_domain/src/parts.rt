@@ -3,10 +3,11 @@ ghost use Rattle.std.specs.Prelude.{◌≡◌, true};
 ghost use Rattle.iox_domain.specs.Parts.{parts_of, domain_of, agrees};
 
 use crate::domain::Domain;
+use crate::domain_id::DomainId;
 use crate::kept::Kept;
+use crate::ports::{Roll, ServicePorts, Subscribers};
+use crate::state::DomainState;
 use iox_describe_settings::publish_subscribe::StaticConfig;
-use iox_domain_home::DomainId;
-use iox_domain_ports::{Roll, ServicePorts, Subscribers};
 use iox_domain_publisher::SubscriberEntry;
 use iox_domain_subscriber::{PublisherEntry, Publishers};
 use iox_domain_values::{DegradationHandler, Handlers, ServiceSizes};
@@ -67,14 +68,13 @@ impl<T, U, B, D> Domain<T, U, B, D> {
     pub fn into_parts(self) -> DomainParts<T, U, B, D>
         ensures { result ≡ parts_of self }
     {
-        let Domain {
-            id,
-            agreed,
+        let Domain { id, agreed, state } = self;
+        let DomainState {
             ports,
             publisher_handlers,
             subscriber_handlers,
             blank,
-        } = self;
+        } = state;
         let ServicePorts {
             service,
             sizes,
@@ -123,18 +123,20 @@ impl<T, U, B, D> Domain<T, U, B, D> {
         Domain {
             id,
             agreed,
-            ports: ServicePorts {
-                service,
-                sizes,
-                next_port,
-                publisher_list: publisher_places,
-                subscriber_list: subscriber_places,
-                publishers,
-                subscribers,
+            state: DomainState {
+                ports: ServicePorts {
+                    service,
+                    sizes,
+                    next_port,
+                    publisher_list: publisher_places,
+                    subscriber_list: subscriber_places,
+                    publishers,
+                    subscribers,
+                },
+                publisher_handlers,
+                subscriber_handlers,
+                blank,
             },
-            publisher_handlers,
-            subscriber_handlers,
-            blank,
         }
     }
 }

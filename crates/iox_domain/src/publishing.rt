@@ -1,25 +1,25 @@
 //! A publisher comes, follows the subscribers, sends and leaves.
 ghost use Rattle.std.specs.Prelude.{◌≡◌};
-ghost use Rattle.iox_domain_settings.specs.DomainValues.declared.degradation.DegradationCause.TheVariants as cause;
-ghost use Rattle.iox_domain_laws.specs.DomainSubscriber.Publishers.{port_of};
-ghost use Rattle.iox_domain_laws.specs.DomainPorts.Lending.{LoansOne};
-ghost use Rattle.iox_domain_laws.specs.DomainPorts.Ports.{AtPublisher};
-ghost use Rattle.iox_domain_laws.specs.DomainPorts.Publishing.{UpdatesOne, SendsOne, RetriesOne, LeavesAt};
-ghost use Rattle.iox_domain.specs.Domains.{with_ports};
+ghost use Rattle.iox_domain.specs.DomainValues.declared.degradation.DegradationCause.TheVariants as cause;
+ghost use Rattle.iox_domain.specs.DomainSubscriber.Publishers.{port_of};
+ghost use Rattle.iox_domain.specs.Lending.{LoansOne};
+ghost use Rattle.iox_domain.specs.Ports.{AtPublisher};
+ghost use Rattle.iox_domain.specs.PortsPublishing.{UpdatesOne, SendsOne, RetriesOne, LeavesAt};
+ghost use Rattle.iox_domain.specs.States.{with_ports};
 ghost use Rattle.iox_domain.specs.Handling.{kept_degrades, kept_decides};
 ghost use Rattle.iox_domain.specs.Kept.{kept_under};
 ghost use Rattle.iox_domain.specs.Publishing.{MakesPublisher, kept_unless};
 
-use crate::domain::Domain;
 use crate::nobody::Nobody;
-use iox_domain_ports::PublisherConfig;
+use crate::ports::PublisherConfig;
+use crate::state::DomainState;
 use iox_domain_publisher::Sent;
 use iox_domain_values::{
     ConnectionFailure, Decides, Degrades, LoanError, Overrides, PublisherCreateError, SendError,
 };
 use std::alloc::Global;
 
-impl<T: Copy, U: Copy, B: Decides + Degrades, D: Degrades> Domain<T, U, B, D> {
+impl<T: Copy, U: Copy, B: Decides + Degrades, D: Degrades> DomainState<T, U, B, D> {
     /// A publisher comes, and its number is the answer: `ServicePorts::create_publisher` says what it gets, and when it is refused. Who
     /// decides for it is kept until it leaves; a loan has this user header at first.
     ///

@@ -1,25 +1,25 @@
 //! A subscriber comes, follows the publishers, receives and leaves.
 ghost use Rattle.std.specs.Prelude.{◌≡◌};
-ghost use Rattle.iox_domain_settings.specs.DomainValues.declared.degradation.DegradationCause.TheVariants as cause;
-ghost use Rattle.iox_domain_laws.specs.DomainPorts.Ports.{AtSubscriber};
-ghost use Rattle.iox_domain_laws.specs.DomainPorts.Subscribers.{subscriber_of};
-ghost use Rattle.iox_domain_laws.specs.DomainPorts.Subscribing.{UpdatesOne, HasSamplesOne, ReceivesOne, LeavesAt};
-ghost use Rattle.iox_domain.specs.Domains.{with_ports};
+ghost use Rattle.iox_domain.specs.DomainValues.declared.degradation.DegradationCause.TheVariants as cause;
+ghost use Rattle.iox_domain.specs.Ports.{AtSubscriber};
+ghost use Rattle.iox_domain.specs.Subscribers.{subscriber_of};
+ghost use Rattle.iox_domain.specs.PortsSubscribing.{UpdatesOne, HasSamplesOne, ReceivesOne, LeavesAt};
+ghost use Rattle.iox_domain.specs.States.{with_ports};
 ghost use Rattle.iox_domain.specs.Handling.{kept_degrades};
 ghost use Rattle.iox_domain.specs.Kept.{kept_under};
 ghost use Rattle.iox_domain.specs.Publishing.{kept_unless};
 ghost use Rattle.iox_domain.specs.Subscribing.{MakesSubscriber};
 
-use crate::domain::Domain;
 use crate::nobody::Nobody;
-use iox_domain_ports::SubscriberConfig;
+use crate::ports::SubscriberConfig;
+use crate::state::DomainState;
 use iox_domain_subscriber::Taken;
 use iox_domain_values::{
     ConnectionFailure, Decides, Degrades, ReceiveError, SubscriberCreateError,
 };
 use std::alloc::Global;
 
-impl<T: Copy, U: Copy, B: Decides + Degrades, D: Degrades> Domain<T, U, B, D> {
+impl<T: Copy, U: Copy, B: Decides + Degrades, D: Degrades> DomainState<T, U, B, D> {
     /// A subscriber comes, and its number is the answer: `ServicePorts::create_subscriber` says what it gets, and when it is refused. Who
     /// decides for it is kept until it leaves.
     ///

@@ -10,7 +10,7 @@
 //! - [`links`]: the connections of a publisher.
 //! - [`uses`]: all of one publisher together.
 //!
-//! First calls. `Sender` of `iox_domain_sender` makes them.
+//! First calls. `Sender` of `iox_domain_publisher` makes them.
 //!
 //! ```
 //! if uses.may_loan() {

@@ -34,7 +34,7 @@ some_giver test (Some first) key none passes = search (rules, none)
 
 -- what is given where a connection gives is a message
 given_there : {T U : Type 0} (port : SubscriberPort) (ports : List (ℕ × PublisherPort T U)) (key : ℕ) (attached : Option Attached) → attached_at key port ≡ attached → gives port ports key ≡ true
-    → (taken : Taken) × (taken_of attached ports ≡ Some taken)
+    → (taken : Taken) × (taken_of port.number attached ports ≡ Some taken)
 given_there port ports key None is passes =
     let wrong = ap (λ one. nat_lt (length (connection_by one ports).borrowed) (most_by one ports) && nat_lt 0 (length (connection_by one ports).waiting)) (sym is) ∙ passes in
     search (rules, wrong)

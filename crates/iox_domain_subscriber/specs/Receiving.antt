@@ -64,7 +64,7 @@ IsGiverThere (Some key) port ports = is_there (connection_by (attached_at key po
 -- what a giver gives
 abbrev pub given : {T U : Type 0} → Option ℕ → SubscriberPort → List (ℕ × PublisherPort T U) → Option Taken
 given None port ports = None
-given (Some key) port ports = taken_of (attached_at key port) ports
+given (Some key) port ports = taken_of port.number (attached_at key port) ports
 
 -- the publishers after a giver gave
 abbrev pub given_ports : {T U : Type 0} → Option ℕ → SubscriberPort → List (ℕ × PublisherPort T U) → List (ℕ × PublisherPort T U)

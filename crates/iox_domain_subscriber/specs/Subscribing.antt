@@ -64,10 +64,11 @@ abbrev pub ended_ports : {T U : Type 0} → Option Attached → List (ℕ × Pub
 ended_ports None ports = ports
 ended_ports (Some attached) ports = settled attached.publisher (changed attached.publisher (ended_if_left attached.index) ports)
 
--- the oldest message that waits at a connection is received
-abbrev pub taken_of : {T U : Type 0} → Option Attached → List (ℕ × PublisherPort T U) → Option Taken
-taken_of None ports = None
-taken_of (Some attached) ports = Some (record {
+-- the oldest message that waits at a connection is received by the subscriber of this number
+abbrev pub taken_of : {T U : Type 0} → ℕ → Option Attached → List (ℕ × PublisherPort T U) → Option Taken
+taken_of number None ports = None
+taken_of number (Some attached) ports = Some (record {
+  subscriber = number;
   publisher = attached.publisher;
   index = attached.index;
   slot = get_or (map (λ message. message.slot) (connection_in attached.publisher attached.index ports).waiting) 0 0;

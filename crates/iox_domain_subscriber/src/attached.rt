@@ -12,6 +12,8 @@ pub struct Attached {
 /// A message that was received.
 #[derive(Clone, Copy, Debug, PartialEq, Eq)]
 pub struct Taken {
+    /// The number of the subscriber that received it.
+    pub subscriber: u64,
     /// The number of its publisher.
     pub publisher: u64,
     /// The index of the connection that it came through.

@@ -129,11 +129,12 @@ impl SubscriberPort {
     fn take<T: Copy, U: Copy>(&self, key: usize, publishers: &mut Publishers<T, U>) -> Option<Taken>
         requires { gives self.now publishers.old key ≡ true }
         ensures there { is_there (connection_by (attached_at key self.now) publishers.old) ≡ true }
-        ensures taken { result ≡ taken_of (attached_at key self.now) publishers.old }
+        ensures taken { result ≡ taken_of self.now.number (attached_at key self.now) publishers.old }
         ensures publishers { publishers.new ≡ taken_ports (attached_at key self.now) publishers.old }
     {
         let attached = self.attached(key)?;
         Some(Taken {
+            subscriber: self.number,
             publisher: attached.publisher,
             index: attached.index,
             slot: publishers.take(attached.publisher, attached.index),

@@ -6,7 +6,7 @@ use Rattle.iox_hub_run.specs.Command.declared.port.PublisherOptions.{PublisherOp
 use Rattle.iox_hub_run.specs.Command.declared.port.SubscriberOptions.{SubscriberOptions}
 use Rattle.iox_hub_run.specs.Command.declared.reply.Reply.{Reply}
 use Rattle.iox_hub_run.specs.Command.declared.reply.Reply.TheVariants as reply
-use Rattle.iox_hub_run.specs.HubCommands.DomainPorts.declared.service_ports.ServicePorts.{ServicePorts}
+use Rattle.iox_hub_run.specs.HubCommands.Domain.declared.ports.service_ports.ServicePorts.{ServicePorts}
 use Rattle.iox_hub_run.specs.HubCommands.DomainValues.declared.backpressure.BackpressureAction.{BackpressureAction}
 use Rattle.iox_hub_run.specs.HubCommands.DomainValues.declared.backpressure_strategy.BackpressureStrategy.{BackpressureStrategy}
 use Rattle.iox_hub_run.specs.HubCommands.DomainValues.declared.degradation.DegradationAction.{DegradationAction}

@@ -11,7 +11,7 @@ use Rattle.iox_hub_run.specs.Command.declared.port.SubscriberOptions.{Subscriber
 use Rattle.iox_hub_run.specs.Command.declared.reply.Reply.{Reply}
 use Rattle.iox_hub_run.specs.HubCommands.DescribeBase.Detail.{Detail}
 use Rattle.iox_hub_run.specs.HubCommands.DescribeBase.declared.message_type.MessageTypeDetails.{MessageTypeDetails}
-use Rattle.iox_hub_run.specs.HubCommands.DomainPorts.declared.service_ports.ServicePorts.{ServicePorts}
+use Rattle.iox_hub_run.specs.HubCommands.Domain.declared.ports.service_ports.ServicePorts.{ServicePorts}
 use Rattle.iox_hub_run.specs.HubCommands.DomainValues.declared.backpressure.BackpressureAction.{BackpressureAction}
 use Rattle.iox_hub_run.specs.HubCommands.DomainValues.declared.backpressure.BackpressureDecision.{BackpressureDecision}
 use Rattle.iox_hub_run.specs.HubCommands.DomainValues.declared.backpressure.BackpressureInfo.{BackpressureInfo}

@@ -10,9 +10,9 @@ use Rattle.iox_hub_run.specs.HubBase.AsHome.{with_hub_ports, with_hub_publisher,
 use Rattle.iox_hub_run.specs.HubBase.Opening.{Made as Opened}
 use Rattle.iox_hub_run.specs.HubCommands.DescribeBase.Detail.{Detail}
 use Rattle.iox_hub_run.specs.HubCommands.DescribeBase.declared.message_type.MessageTypeDetails.{MessageTypeDetails}
-use Rattle.iox_hub_run.specs.HubCommands.DomainHome.Homes.{MakesAt}
-use Rattle.iox_hub_run.specs.HubCommands.DomainHome.Steps.{why_no_publisher, why_no_subscriber}
-use Rattle.iox_hub_run.specs.HubCommands.DomainPorts.declared.service_ports.ServicePorts.{ServicePorts}
+use Rattle.iox_hub_run.specs.HubCommands.Domain.AtHomes.{MakesAt}
+use Rattle.iox_hub_run.specs.HubCommands.Domain.Steps.{why_no_publisher, why_no_subscriber}
+use Rattle.iox_hub_run.specs.HubCommands.Domain.declared.ports.service_ports.ServicePorts.{ServicePorts}
 use Rattle.iox_hub_run.specs.HubCommands.DomainValues.declared.backpressure.BackpressureAction.{BackpressureAction}
 use Rattle.iox_hub_run.specs.HubCommands.DomainValues.declared.backpressure.BackpressureDecision.{BackpressureDecision}
 use Rattle.iox_hub_run.specs.HubCommands.DomainValues.declared.backpressure.BackpressureInfo.{BackpressureInfo}
@@ -26,8 +26,8 @@ use Rattle.iox_hub_run.specs.HubCommands.Making.{NumbersPort}
 use Rattle.iox_hub_run.specs.HubCommands.declared.ports.made.Made.{Made}
 use Rattle.iox_hub_run.specs.HubCommands.Naming.{publisher_config, publisher_handlers, subscriber_config, subscriber_handler}
 use Rattle.iox_hub_run.specs.HubCommands.Replies.{publisher_reply, subscriber_reply}
-use Rattle.iox_hub_factories.specs.Maps.NumberTable.{value_at}
-use Rattle.iox_hub_factories.specs.Tables.{publish_subscribe_in}
+use Rattle.iox_hub_commands.specs.Maps.NumberTable.{value_at}
+use Rattle.iox_hub_commands.specs.ServicesTables.{publish_subscribe_in}
 use Rattle.iox_hub_run.specs.Runs.{Runs, IsRun}
 use Rattle.iox_hub_run.specs.Services.{PublisherComes, SubscriberComes, domain_of_factory, owner_of_factory}
 use Rattle.iox_hub_run.specs.declared.numbered_hub.NumberedHub.{NumberedHub}

@@ -47,8 +47,8 @@ module _ {T U B D X : Type 0} where
   abbrev pub OnlyRoomierHub : NumberedHub T U B D × X → NumberedHub T U B D × X → Type 0
   OnlyRoomierHub old new = OnlyRoomier old.0 new.0 × (new.1 ≡ old.1)
 
-  -- Commands are a run, once there is room for the numbers of all loans and samples that they may make; or no memory was found for the list of
-  -- their replies or for that room, and none is carried out.
+  -- Commands are a run, once there is room for the numbers of all loans and samples that they may make; or no memory was found
+  -- for the list of their replies or for that room, and none is carried out.
   abbrev pub RunsInRoom : (HandledCommand T → NumberedHub T U B D × X → Result (Reply T) AllocError → NumberedHub T U B D × X → Type 0) → List (HandledCommand T) → NumberedHub T U B D × X → List (Reply T) → Bool → NumberedHub T U B D × X → Type 0
   RunsInRoom step commands old replies stopped new =
       (roomier : NumberedHub T U B D × X) × OnlyRoomierHub old roomier × IsRun step commands roomier replies stopped new
@@ -58,8 +58,8 @@ module _ {T U B D X : Type 0} where
   abbrev pub StopsInTime : List (HandledCommand T) → NumberedHub T U B D × X → ℕ → NumberedHub T U B D × X → Type 0
   StopsInTime commands old replied new = ((replied ≡ 0) × OnlyRoomierHub old new) ⊎ LacksValues commands replied
 
--- What a command that isn't replied to lacked memory for, where the ports that are there have room: what the command without handlers lacks. One
--- that names handlers is replied to.
+-- What a command that isn't replied to lacked memory for, where the ports that are there have room: what the command without
+-- handlers lacks. One that names handlers is replied to.
 abbrev pub HandledLacks : {T U B D : Type 0} → HandledCommand T → NumberedHub T U B D → NumberedHub T U B D → Type 0
 HandledLacks (asked.Plain command) old new = LacksInRoom command old new
 HandledLacks (asked.Publisher factory options at_full at_failure) old new = ⊥

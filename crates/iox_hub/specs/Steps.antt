@@ -14,12 +14,12 @@ use Rattle.iox_hub_run.specs.HubCommands.DomainValues.declared.backpressure_stra
 use Rattle.iox_hub_run.specs.HubCommands.DomainValues.declared.degradation.DegradationAction.{DegradationAction}
 use Rattle.iox_hub_run.specs.HubCommands.DomainValues.declared.degradation.DegradationCause.{DegradationCause}
 use Rattle.iox_hub_run.specs.HubCommands.DomainValues.declared.degradation.DegradationInfo.{DegradationInfo}
-use Rattle.iox_hub_run.specs.HubCommands.DomainPorts.declared.service_ports.ServicePorts.{ServicePorts}
+use Rattle.iox_hub_run.specs.HubCommands.Domain.declared.ports.service_ports.ServicePorts.{ServicePorts}
 use Rattle.iox_hub_run.specs.HubBase.AsHome.{hub_ports}
 use Rattle.iox_hub_run.specs.HubBase.Opening.{Made as Opened}
 use Rattle.iox_hub_run.specs.HubBase.declared.hub.Hub.{Hub}
-use Rattle.iox_hub_factories.specs.Maps.NumberTable.{value_at}
-use Rattle.iox_hub_factories.specs.Tables.{publish_subscribe_in}
+use Rattle.iox_hub_commands.specs.Maps.NumberTable.{value_at}
+use Rattle.iox_hub_commands.specs.ServicesTables.{publish_subscribe_in}
 use Rattle.iox_hub_run.specs.Services.{MakesPublisher, MakesSubscriber, domain_of_factory}
 use Rattle.iox_hub_run.specs.Steps.{IsReplied, Step}
 use Rattle.iox_hub_run.specs.declared.numbered_hub.NumberedHub.{NumberedHub}
@@ -45,8 +45,8 @@ module _ {T U B D P : Type 0} where
   PublisherTakes is_default handled degrades (Some at_full) (Some at_failure) (Some ports) factory options fewer old answer new =
       MakesPublisher is_default (λ strategy action degrading. handled strategy action degrading at_full at_failure) degrades factory options old.0 answer new.0 × (new.1 ≡ fewer)
 
-  -- A subscriber of the service of a factory comes, with the handler that is named, and it is taken, be the subscriber refused or not. Where
-  -- no such handler is there, or the ports of the service aren't, it is skipped, and nothing changes.
+  -- A subscriber of the service of a factory comes, with the handler that is named, and it is taken, be the subscriber refused or
+  -- not. Where no such handler is there, or the ports of the service aren't, it is skipped, and nothing changes.
   abbrev pub SubscriberTakes : (D → DegradationCause → DegradationInfo → DegradationAction → Type 0) → Option D → Option (ServicePorts T U) → ℕ → SubscriberOptions → List (Option (GivenHandler P D))
       → NumberedHub T U B D × List (Option (GivenHandler P D)) → Reply T → NumberedHub T U B D × List (Option (GivenHandler P D)) → Type 0
   SubscriberTakes degrades None ports factory options fewer old answer new = (answer ≡ reply.Skipped) × (new ≡ old)

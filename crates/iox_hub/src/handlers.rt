@@ -13,8 +13,8 @@ use iox_domain_values::{
 };
 use iox_hub_commands::PublisherHandlers;
 
-/// Who may decide for a publisher that a command made, and can be had of handlers that are handed in: of one that decides at a full mailbox,
-/// and of one that decides where a connection failed. In the place of each that there isn't an action stands.
+/// Who may decide for a publisher that a command made, and can be had of handlers that are handed in: of one that decides at a
+/// full mailbox, and of one that decides where a connection failed. In the place of each that there isn't an action stands.
 ///
 /// This port's own.
 pub trait TakesHandlers<P, D>: PublisherHandlers {

@@ -4,18 +4,18 @@ ghost use Rattle.std.specs.Option.{option_map};
 ghost use Rattle.iox_hub_run.specs.HubCommands.Naming.{publisher_handlers};
 ghost use Rattle.iox_hub_run.specs.PortRoom.{KeepsRoom};
 ghost use Rattle.iox_hub_run.specs.Services.{domain_of_factory, owner_of_factory};
-ghost use Rattle.iox_hub_factories.specs.Maps.NumberTable.{value_at};
-ghost use Rattle.iox_hub_factories.specs.Tables.{publish_subscribe_in};
+ghost use Rattle.iox_hub_commands.specs.Maps.NumberTable.{value_at};
+ghost use Rattle.iox_hub_commands.specs.ServicesTables.{publish_subscribe_in};
 ghost use Rattle.iox_hub.specs.Places.{lies_at, named as handler_named, backpressure_of, degradation_of, emptied, emptied_if};
 ghost use Rattle.iox_hub.specs.Steps.{PublisherTakes, SubscriberTakes, ports_of_factory};
 
 use crate::given::GivenHandlers;
 use crate::handlers::TakesHandlers;
 use iox_command::{PublisherOptions, Reply, SubscriberOptions};
-use iox_domain_home::{DomainId, Home};
-use iox_domain_settings::PublisherSettings;
+use iox_domain::settings::PublisherSettings;
+use iox_domain::{DomainId, calls};
 use iox_domain_values::{Decides, DegradationAction, Degrades, PortOwner};
-use iox_hub_factories::Factories;
+use iox_hub_commands::services::Factories;
 use iox_hub_run::NumberedHub;
 use std::alloc::Global;
 
@@ -44,7 +44,7 @@ fn place_here<T: Copy, U: Copy, B: Decides + Degrades, D: Degrades>(
     ensures here { is_some result ≡ is_some (ports_of_factory (publish_subscribe_in (value_at hub.now.factories.made factory)) hub.now.hub) }
 {
     let (domain, owner) = place(&hub.factories, factory)?;
-    match hub.hub.ports(domain) {
+    match calls::ports(&hub.hub, domain) {
         Some(_) => Some((domain, owner)),
         None => None,
     }
@@ -70,9 +70,9 @@ fn publisher_handlers<P, D, B: TakesHandlers<P, D>>(
     )
 }
 
-/// A publisher of the factory's service comes, and takes the handlers that are named by their places: of one that is asked at a full mailbox
-/// the first, of one that is asked where a connection failed the second. Skipped, and nothing happens, where a handler that is named isn't
-/// there, no factory of publish-subscribe goes by the number, or its domain isn't here.
+/// A publisher of the factory's service comes, and takes the handlers that are named by their places: of one that is asked at a
+/// full mailbox the first, of one that is asked where a connection failed the second. Skipped, and nothing happens, where a
+/// handler that is named isn't there, no factory of publish-subscribe goes by the number, or its domain isn't here.
 pub(crate) fn publisher<T: Copy, U: Copy + Default, B: TakesHandlers<P, D>, D: Degrades, P: Drop>(
     hub: &mut NumberedHub<T, U, B, D>,
     alloc: Global,

@@ -1,5 +1,5 @@
-//! Ports of publish-subscribe: publishers and subscribers as values, one publisher with its messages and connections, and what ports take and
-//! answer.
+//! Ports of publish-subscribe: publishers and subscribers as values, one publisher with its messages and connections, and what
+//! ports take and answer.
 pub mod publisher;
 pub mod subscriber;
 

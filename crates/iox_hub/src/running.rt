@@ -4,7 +4,7 @@ ghost use Rattle.iox_hub_run.specs.Agreements.{AreOfOneAgreement};
 ghost use Rattle.iox_hub_run.specs.Grown.{GrowsOn, HaveGrown, AreAsAgreed};
 ghost use Rattle.iox_hub_run.specs.HubCommands.DescribeBase.Detail.{detail};
 ghost use Rattle.iox_hub_run.specs.HubCommands.DescribeBase.declared.type_detail.TypeVariant.TheVariants.{FixedSize};
-ghost use Rattle.iox_hub_run.specs.HubFactories.Asked.{types_of};
+ghost use Rattle.iox_hub_run.specs.HubCommands.Asked.{types_of};
 ghost use Rattle.iox_hub_run.specs.Lives.{NumbersGoOn};
 ghost use Rattle.iox_hub_run.specs.Numbers.{numbers_used};
 ghost use Rattle.iox_hub_run.specs.PortRoom.{KeepsRoom};
@@ -29,7 +29,7 @@ use std::alloc::Global;
 /// commands may make. Those that make ports take the handlers that they name by their places; those that no port took are left in their
 /// places.
 ///
-/// It stops before the first command, where an allocation fails for that room, and then nothing has changed; or at a command that receives
+/// It stops before the first command, where an allocation fails for that room, and then only room may have grown; or at a command that receives
 /// or reads, where an allocation fails for the values of its reply, and those before it are replied to.
 /// Example: `let report = run(&mut hub, alloc, commands, &mut given);`
 pub fn run<

@@ -6,8 +6,7 @@ pub use iox_describe::{
     Description, DescriptionError, Header, LimitError, MessageTypeDetails, MessagingPattern,
     ServiceHash, ServiceName, TypeDetail, TypeVariant, ZeroCopySend, decode, encode, service_hash,
 };
-pub use iox_domain::{Domain, DomainId, DomainParts};
-pub use iox_domain_home::{Home, MakesPorts};
+pub use iox_domain::{Domain, DomainId, DomainParts, Home};
 pub use iox_negotiate::{Builder, Payload, PortFactory, ServiceBuilder, Slice};
 pub use iox_negotiate_base::Storage;
 pub use iox_negotiate_base::errors::{

@@ -4,7 +4,7 @@ ghost use Rattle.iox_hub_run.specs.Agreements.{AreOfOneAgreement};
 ghost use Rattle.iox_hub_run.specs.Grown.{GrowsOn, HaveGrown, AreAsAgreed, OneDomainMoves};
 ghost use Rattle.iox_hub_run.specs.HubCommands.DescribeBase.Detail.{detail};
 ghost use Rattle.iox_hub_run.specs.HubCommands.DescribeBase.declared.type_detail.TypeVariant.TheVariants.{FixedSize};
-ghost use Rattle.iox_hub_run.specs.HubFactories.Asked.{types_of};
+ghost use Rattle.iox_hub_run.specs.HubCommands.Asked.{types_of};
 ghost use Rattle.iox_hub_run.specs.Lives.{ChangesOneThing};
 ghost use Rattle.iox_hub_run.specs.Numbers.{numbers_used};
 ghost use Rattle.iox_hub_run.specs.PortRoom.{HasRoom, KeepsRoom};
@@ -25,8 +25,8 @@ use std::alloc::{AllocError, Global};
 /// Carries out one command, and answers the reply to it: as `NumberedHub::step` does where it names no handler. A port takes the handlers
 /// that its command names by their places, also where it is then refused, and they are dropped.
 ///
-/// A command is skipped, and nothing happens, also where a place doesn't exist, or is empty, or has a handler of the other kind. The handlers
-/// that a skipped command names stay where they are.
+/// A command is skipped, and nothing happens, also where a place doesn't exist, or is empty, or has a handler of the other kind.
+/// The handlers that a skipped command names stay where they are.
 ///
 /// Fails as `NumberedHub::step` does, and never where a handler is named.
 /// Example: `let reply = step(&mut hub, alloc, HandledCommand::Plain(Command::Node), &mut given)?;`

@@ -1,7 +1,7 @@
 -- A factory of a hub is closed.
 use Rattle.std.specs.Prelude.{ℕ, ◌≡◌, ◌-◌, Bool, true, false, List, Option, None, Some, Result, Ok, Err, nat_lt, nat_le, if◌then◌else◌}
 use Rattle.iox_delivery_factories.specs.Domain.Kept.{kept, forgotten}
-use Rattle.iox_delivery_factories.specs.DomainPorts.Living.{living}
+use Rattle.iox_delivery_factories.specs.Domain.Living.{living}
 use Rattle.iox_hub_services.specs.Open.{presence_of}
 use Rattle.iox_hub_services.specs.Opening.{without_service}
 use Rattle.iox_hub_services.specs.declared.presence.Presence.{Presence}
@@ -27,7 +27,7 @@ who_counts false owner = Some owner
 -- a domain that is out keeps a factory from being closed, and one that is here while something lives in it
 abbrev pub lives_in : {T U B D : Type 0} → Option ℕ → Option (Presence T U B D) → Bool
 lives_in owner None = false
-lives_in owner (Some (Here domain)) = nat_lt 0 (living owner domain.ports)
+lives_in owner (Some (Here domain)) = nat_lt 0 (living owner domain.state.ports)
 lives_in owner (Some (Out agreed)) = true
 
 -- something keeps a factory from being closed

@@ -37,7 +37,8 @@ Enters payload user_header member old (Ok made) new =
     × (new ≡ record old { factories = one_more old.factories; factory_counts = with_factory member.service.number old.factory_counts; services = new.services })
 Enters payload user_header member old (Err was_new) new = (was_new ≡ member.service.is_new) × IsClosedAgain member old new
 
--- What the negotiation came to is what the hub answers, if a factory is made; the error of wanted memory depends on whether the service had been created.
+-- What the negotiation came to is what the hub answers, if a factory is made; the error of wanted memory depends on whether the
+-- service had been created.
 abbrev pub Settles : {T U B D E : Type 0} → Detail → Detail → (Bool → E) → Result Membership E → Hub T U B D → Result Made E → Hub T U B D → Type 0
 Settles payload user_header lacking (Err error) old result new = (result ≡ Err error) × (new ≡ old)
 Settles payload user_header lacking (Ok member) old result new =

@@ -24,9 +24,10 @@ use std::alloc::Global;
 
 /// What creates and opens services in a hub: a builder that `Hub::service_builder` gave.
 ///
-/// Each call is handed lists of steps of foreign nodes: the first is done before the call's first access to the table, the second before its
-/// second, and so on. Where it opens a publish-subscribe service whose description fits the hub, the domain of the service's ports is
-/// made, unless it is there. Where no memory is found for that, the factory is closed again, and the call is refused with `OutOfMemory`.
+/// Each call is handed lists of steps of foreign nodes: the first is done before the call's first access to the table, the second
+/// before its second, and so on. Where it opens a publish-subscribe service whose description fits the hub, the domain of the
+/// service's ports is made, unless it is there. Where no memory is found for that, the factory is closed again, and the call is
+/// refused with `OutOfMemory`.
 ///
 /// This port's own: the builders of `iceoryx2` find the services of their machine by themselves.
 pub trait HubBuilder<P: Negotiated>: Sized {

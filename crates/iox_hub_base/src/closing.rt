@@ -63,9 +63,9 @@ impl<T: Copy, U: Copy, B: Drop, D: Drop> Hub<T, U, B, D> {
             return true;
         };
         if self.is_last(number) {
-            domain.ports.living_in_all() > 0
+            domain.state.ports.living_in_all() > 0
         } else {
-            domain.ports.living(owner) > 0
+            domain.state.ports.living(owner) > 0
         }
     }
 

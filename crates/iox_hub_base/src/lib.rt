@@ -10,7 +10,7 @@
 //! | `closing` | factories are closed |
 //! | `foreign` | nodes of others act |
 //! | `ports` | builders of ports; domains that are taken and put back |
-//! | `home` | the hub as a home of its ports |
+//! | `home` | the hub as a home of its domains |
 //!
 //! First calls, of a builder of a service:
 //!

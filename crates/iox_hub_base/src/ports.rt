@@ -10,7 +10,7 @@ use crate::hub::Hub;
 use iox_delivery_factories::{PortFactoryPublisher, PortFactorySubscriber};
 use iox_describe::pattern::PublishSubscribe;
 use iox_describe::{TypeVariant, ZeroCopySend};
-use iox_domain_settings::{PublisherSettings, SubscriberSettings};
+use iox_domain::settings::{PublisherSettings, SubscriberSettings};
 use iox_domain_values::{
     BackpressureStrategy, DegradationAction, DegradationHandler, Handlers, PortOwner,
     PreallocatedSamplesOverride,
@@ -60,8 +60,8 @@ impl<T: Copy, U: Copy, B: Drop, D: Drop> Hub<T, U, B, D> {
     }
 }
 
-// A function that makes a builder may call none that makes one, and so these say again what those of `iox_delivery_factories` say: a builder
-// holds an object, and a hub may hold some.
+// A function that makes a builder may call none that makes one, and so these say again what those of `iox_delivery_factories`
+// say: a builder holds an object, and a hub may hold some.
 impl<T: Copy + ZeroCopySend, U: Copy, B: Drop, D: Drop> Hub<T, U, B, D> {
     /// What makes publishers of a factory's service, sized by what is agreed of it: nothing is named yet. None where the domain is out,
     /// or none was made.

@@ -1,18 +1,18 @@
 -- A loan is answered, or refused, just where its publisher may lend.
 use Rattle.std.proofs.Common.{◌≡◌, ◌∙◌, ◌&&◌, ℕ, Bool, true, false, not, is_some, if◌then◌else◌, Option, None, Some, Result, refl, ap}
-use Rattle.iox_delivery_slices.specs.DomainValues.declared.data_segment.AllocationStrategy.{AllocationStrategy}
-use Rattle.iox_delivery_slices.specs.DomainValues.declared.port_error.LoanError.{LoanError}
-use Rattle.iox_delivery_slices.specs.DomainPublisher.Loaning as loaning
-use Rattle.iox_delivery_slices.specs.DomainPublisher.declared.publisher_port.PublisherPort.{PublisherPort}
-use Rattle.iox_delivery_slices.specs.DomainSubscriber.Publishers.{port_of}
-use Rattle.iox_delivery_slices.specs.DomainPorts.Lending.{LoansIf, LoansOne, passes_port}
-use Rattle.iox_delivery_slices.specs.DomainPorts.Ports.{AtPublisher}
-use Rattle.iox_delivery_slices.specs.DomainPorts.Publishing.{is_blocked}
-use Rattle.iox_delivery_slices.specs.DomainPorts.declared.service_ports.ServicePorts.{ServicePorts}
-use Rattle.iox_delivery_slices.specs.DomainHome.Homes.{AtDomain}
-use Rattle.iox_delivery_slices.specs.DomainHome.Steps.{LoansBy}
-use Rattle.iox_delivery_slices.specs.DomainHome.declared.domain_id.DomainId.{DomainId}
-use Rattle.iox_delivery_slices.specs.Delivery.Holding.{publisher_stands, publisher_blocked}
+use Rattle.iox_delivery.specs.DomainValues.declared.data_segment.AllocationStrategy.{AllocationStrategy}
+use Rattle.iox_delivery.specs.DomainValues.declared.port_error.LoanError.{LoanError}
+use Rattle.iox_delivery.specs.DomainPublisher.Loaning as loaning
+use Rattle.iox_delivery.specs.DomainPublisher.declared.publisher_port.PublisherPort.{PublisherPort}
+use Rattle.iox_delivery.specs.DomainSubscriber.Publishers.{port_of}
+use Rattle.iox_delivery.specs.Domain.Lending.{LoansIf, LoansOne, passes_port}
+use Rattle.iox_delivery.specs.Domain.Ports.{AtPublisher}
+use Rattle.iox_delivery.specs.Domain.PortsPublishing.{is_blocked}
+use Rattle.iox_delivery.specs.Domain.declared.ports.service_ports.ServicePorts.{ServicePorts}
+use Rattle.iox_delivery.specs.Domain.AtHomes.{AtDomain}
+use Rattle.iox_delivery.specs.Domain.Steps.{LoansBy}
+use Rattle.iox_delivery.specs.Domain.declared.domain_id.DomainId.{DomainId}
+use Rattle.iox_delivery.specs.Holding.{publisher_stands, publisher_blocked}
 use Rattle.iox_hub_commands.specs.Calls.{may_lend}
 use Rattle.iox_hub_commands.specs.Laws.{AnswersWhereReady}
 

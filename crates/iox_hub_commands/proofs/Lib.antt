@@ -4,5 +4,8 @@ pub mod Misfit
 pub mod Answering
 pub mod PortsRefused
 pub mod Written
-pub use Rattle.iox_delivery_slices.proofs.DomainLaws as DomainLaws
+pub mod Unused
+pub mod Found
+pub mod Accesses
+pub use Rattle.iox_delivery.proofs.Domain as Domain
 pub use Rattle.iox_maps.proofs as Maps

@@ -1,6 +1,6 @@
 -- A port for which no memory was found is refused, and nothing changes.
 use Rattle.std.proofs.Common.{◌≡◌, ◌∙◌, ℕ, unwrap_or, Option, None, Some, Err, refl, ap}
-use Rattle.iox_delivery_slices.specs.DomainHome.Homes.{MakesAt}
+use Rattle.iox_delivery.specs.Domain.AtHomes.{MakesAt}
 
 -- a port that is refused as its domain tells
 pub refused : {P H E : Type 0} (with_ports : P → H) (keeping : ℕ → H → H) (step : P → ℕ → P → Type 0) (refusal : P → E) (found : Option P) (ports : P) (home : H) (error : E)

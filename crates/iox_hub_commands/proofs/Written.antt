@@ -1,11 +1,11 @@
 -- A loan whose elements are written gets a number.
 use Rattle.std.proofs.Common.{◌≡◌, ℕ, replicate, IfOk, Option, Some, Result, refl, subst}
-use Rattle.iox_delivery_slices.specs.DomainValues.declared.port_error.LoanError.{LoanError}
-use Rattle.iox_delivery_slices.specs.DomainPorts.declared.service_ports.ServicePorts.{ServicePorts}
-use Rattle.iox_delivery_slices.specs.DomainHome.declared.domain_id.DomainId.{DomainId}
-use Rattle.iox_delivery_slices.specs.Delivery.Lent.{IsReady}
-use Rattle.iox_delivery_slices.specs.Delivery.declared.port_id.PortId.{PortId}
-use Rattle.iox_delivery_slices.specs.Slices.{LendsFilled}
+use Rattle.iox_delivery.specs.DomainValues.declared.port_error.LoanError.{LoanError}
+use Rattle.iox_delivery.specs.Domain.declared.ports.service_ports.ServicePorts.{ServicePorts}
+use Rattle.iox_delivery.specs.Domain.declared.domain_id.DomainId.{DomainId}
+use Rattle.iox_delivery.specs.Lent.{IsReady}
+use Rattle.iox_delivery.specs.declared.port_id.PortId.{PortId}
+use Rattle.iox_delivery.specs.Slices.{LendsFilled}
 use Rattle.iox_hub_commands.specs.Numbering.{NumbersLoan, LendsWrittenNumbered}
 use Rattle.iox_hub_commands.specs.declared.ports.made.Made.{Made}
 

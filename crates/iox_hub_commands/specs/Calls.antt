@@ -1,24 +1,24 @@
 -- What the calls of a port under a number do to their home. `ports_of` finds the ports of a domain in a home, `with_ports` puts others
 -- there.
 use Rattle.std.specs.Prelude.{ℕ, ◌≡◌, ◌&&◌, Bool, false, not, List, replicate, Option, None, Some, Result, IfOk, if◌then◌else◌}
-use Rattle.iox_delivery_slices.specs.DomainValues.declared.backpressure.BackpressureDecision.{BackpressureDecision}
-use Rattle.iox_delivery_slices.specs.DomainValues.declared.backpressure.BackpressureInfo.{BackpressureInfo}
-use Rattle.iox_delivery_slices.specs.DomainValues.declared.connection_failure.ConnectionFailure.{ConnectionFailure}
-use Rattle.iox_delivery_slices.specs.DomainValues.declared.degradation.DegradationAction.{DegradationAction}
-use Rattle.iox_delivery_slices.specs.DomainValues.declared.degradation.DegradationInfo.{DegradationInfo}
-use Rattle.iox_delivery_slices.specs.DomainValues.declared.port_error.LoanError.{LoanError}
-use Rattle.iox_delivery_slices.specs.DomainValues.declared.port_error.ReceiveError.{ReceiveError}
-use Rattle.iox_delivery_slices.specs.DomainValues.declared.port_error.SendError.{SendError}
-use Rattle.iox_delivery_slices.specs.DomainPublisher.declared.meeting.Sent.{Sent}
-use Rattle.iox_delivery_slices.specs.DomainSubscriber.declared.attached.Taken.{Taken}
-use Rattle.iox_delivery_slices.specs.DomainPorts.declared.service_ports.ServicePorts.{ServicePorts}
-use Rattle.iox_delivery_slices.specs.DomainHome.Homes.{AtDomain, LeavesDomain}
-use Rattle.iox_delivery_slices.specs.DomainHome.Steps as steps
-use Rattle.iox_delivery_slices.specs.DomainHome.declared.domain_id.DomainId.{DomainId}
-use Rattle.iox_delivery_slices.specs.Delivery.Holding.{publisher_stands, publisher_blocked}
-use Rattle.iox_delivery_slices.specs.Delivery.Lent.{IsReady}
-use Rattle.iox_delivery_slices.specs.Delivery.declared.port_id.PortId.{PortId}
-use Rattle.iox_delivery_slices.specs.Slices.{LendsFilled, SendsValues}
+use Rattle.iox_delivery.specs.DomainValues.declared.backpressure.BackpressureDecision.{BackpressureDecision}
+use Rattle.iox_delivery.specs.DomainValues.declared.backpressure.BackpressureInfo.{BackpressureInfo}
+use Rattle.iox_delivery.specs.DomainValues.declared.connection_failure.ConnectionFailure.{ConnectionFailure}
+use Rattle.iox_delivery.specs.DomainValues.declared.degradation.DegradationAction.{DegradationAction}
+use Rattle.iox_delivery.specs.DomainValues.declared.degradation.DegradationInfo.{DegradationInfo}
+use Rattle.iox_delivery.specs.DomainValues.declared.port_error.LoanError.{LoanError}
+use Rattle.iox_delivery.specs.DomainValues.declared.port_error.ReceiveError.{ReceiveError}
+use Rattle.iox_delivery.specs.DomainValues.declared.port_error.SendError.{SendError}
+use Rattle.iox_delivery.specs.DomainPublisher.declared.meeting.Sent.{Sent}
+use Rattle.iox_delivery.specs.DomainSubscriber.declared.attached.Taken.{Taken}
+use Rattle.iox_delivery.specs.Domain.declared.ports.service_ports.ServicePorts.{ServicePorts}
+use Rattle.iox_delivery.specs.Domain.AtHomes.{AtDomain, LeavesDomain}
+use Rattle.iox_delivery.specs.Domain.Steps as steps
+use Rattle.iox_delivery.specs.Domain.declared.domain_id.DomainId.{DomainId}
+use Rattle.iox_delivery.specs.Holding.{publisher_stands, publisher_blocked}
+use Rattle.iox_delivery.specs.Lent.{IsReady}
+use Rattle.iox_delivery.specs.declared.port_id.PortId.{PortId}
+use Rattle.iox_delivery.specs.Slices.{LendsFilled, SendsValues}
 
 -- A call at the port that goes by a number: nothing happens where none does.
 abbrev pub AtPort : {H A : Type 0} → (PortId → H → Option A → H → Type 0) → Option PortId → H → Option A → H → Type 0

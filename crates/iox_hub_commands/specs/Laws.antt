@@ -1,9 +1,9 @@
 -- Laws of the calls by number, in other words than their steps.
 use Rattle.std.specs.Prelude.{ℕ, ◌≡◌, false, List, is_some, Option, Result}
-use Rattle.iox_delivery_slices.specs.DomainValues.declared.port_error.LoanError.{LoanError}
-use Rattle.iox_delivery_slices.specs.DomainPorts.declared.service_ports.ServicePorts.{ServicePorts}
-use Rattle.iox_delivery_slices.specs.DomainHome.declared.domain_id.DomainId.{DomainId}
-use Rattle.iox_delivery_slices.specs.Delivery.declared.port_id.PortId.{PortId}
+use Rattle.iox_delivery.specs.DomainValues.declared.port_error.LoanError.{LoanError}
+use Rattle.iox_delivery.specs.Domain.declared.ports.service_ports.ServicePorts.{ServicePorts}
+use Rattle.iox_delivery.specs.Domain.declared.domain_id.DomainId.{DomainId}
+use Rattle.iox_delivery.specs.declared.port_id.PortId.{PortId}
 use Rattle.iox_hub_commands.specs.Calls.{AtPort, Lends, ready}
 use Rattle.iox_hub_commands.specs.Loans.{changed_under, is_filled, filled_in}
 use Rattle.iox_hub_commands.specs.declared.ports.made.MadeLoan.{MadeLoan}

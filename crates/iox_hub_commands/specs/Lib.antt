@@ -14,17 +14,31 @@ pub mod Reading
 pub mod Making
 pub mod Growing
 pub mod Laws
+pub mod ServicesTables
+pub mod ServicesNumbering
+pub mod Asking
+pub mod Creating
+pub mod Opening
+pub mod Either
+pub mod Closing
+pub mod Foreign
+pub mod FactoryLaws
+pub mod Asked
+pub mod Described
+pub mod Steps
 pub use Rattle.iox_command.specs as Command
 pub use Rattle.iox_command.specs.DomainValues as DomainValues
-pub use Rattle.iox_delivery_slices.specs.DescribeBase as DescribeBase
-pub use Rattle.iox_delivery_slices.specs.DescribeSettings as DescribeSettings
-pub use Rattle.iox_delivery_slices.specs.DomainHome as DomainHome
-pub use Rattle.iox_delivery_slices.specs.DomainLaws as DomainLaws
-pub use Rattle.iox_delivery_slices.specs.DomainPorts as DomainPorts
-pub use Rattle.iox_delivery_slices.specs.DomainPublisher as DomainPublisher
-pub use Rattle.iox_delivery_slices.specs.DomainSettings as DomainSettings
-pub use Rattle.iox_delivery_slices.specs.DomainSubscriber as DomainSubscriber
-pub use Rattle.iox_delivery_slices.specs.IndexBase as IndexBase
+pub use Rattle.iox_delivery.specs.DescribeBase as DescribeBase
+pub use Rattle.iox_delivery.specs.DescribeSettings as DescribeSettings
+pub use Rattle.iox_delivery.specs.Domain as Domain
+pub use Rattle.iox_delivery.specs.DomainPublisher as DomainPublisher
+pub use Rattle.iox_delivery.specs.DomainSubscriber as DomainSubscriber
+pub use Rattle.iox_delivery.specs.IndexBase as IndexBase
 pub use Rattle.iox_maps.specs as Maps
-pub use Rattle.iox_delivery_slices.specs.Delivery as Delivery
-pub use Rattle.iox_delivery_slices.specs as DeliverySlices
+pub use Rattle.iox_delivery.specs as Delivery
+pub use Rattle.iox_hub_base.specs as HubBase
+pub use Rattle.iox_hub_base.specs.HubServices as HubServices
+pub use Rattle.iox_negotiate_table.specs.Describe as Describe
+pub use Rattle.iox_negotiate_table.specs.DescribeVerdict as DescribeVerdict
+pub use Rattle.iox_command.specs.NegotiateBase as NegotiateBase
+pub use Rattle.iox_negotiate_table.specs as NegotiateTable

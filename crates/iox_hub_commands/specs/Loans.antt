@@ -1,19 +1,19 @@
 -- Loans under numbers are written, given up and sent.
 use Rattle.std.specs.Prelude.{ℕ, ◌≡◌, ◌&&◌, Bool, false, List, length, is_some, Option, None, Some, Result}
-use Rattle.iox_delivery_slices.specs.DomainValues.declared.backpressure.BackpressureDecision.{BackpressureDecision}
-use Rattle.iox_delivery_slices.specs.DomainValues.declared.backpressure.BackpressureInfo.{BackpressureInfo}
-use Rattle.iox_delivery_slices.specs.DomainValues.declared.degradation.DegradationAction.{DegradationAction}
-use Rattle.iox_delivery_slices.specs.DomainValues.declared.degradation.DegradationInfo.{DegradationInfo}
-use Rattle.iox_delivery_slices.specs.DomainValues.declared.port_error.SendError.{SendError}
-use Rattle.iox_delivery_slices.specs.DomainPublisher.Messages.{Loan, write_value, write_all}
-use Rattle.iox_delivery_slices.specs.DomainPublisher.MessagesSending.{has_place, has_length, is_written_loan}
-use Rattle.iox_delivery_slices.specs.DomainPublisher.Writing.{value_at}
-use Rattle.iox_delivery_slices.specs.DomainPublisher.declared.meeting.Sent.{Sent}
-use Rattle.iox_delivery_slices.specs.DomainPorts.Lending.{passes, written_in}
-use Rattle.iox_delivery_slices.specs.DomainPorts.declared.service_ports.ServicePorts.{ServicePorts}
-use Rattle.iox_delivery_slices.specs.DomainHome.declared.domain_id.DomainId.{DomainId}
-use Rattle.iox_delivery_slices.specs.Delivery.Holding.{loan_found}
-use Rattle.iox_delivery_slices.specs.Delivery.Publishing.{changed_at}
+use Rattle.iox_delivery.specs.DomainValues.declared.backpressure.BackpressureDecision.{BackpressureDecision}
+use Rattle.iox_delivery.specs.DomainValues.declared.backpressure.BackpressureInfo.{BackpressureInfo}
+use Rattle.iox_delivery.specs.DomainValues.declared.degradation.DegradationAction.{DegradationAction}
+use Rattle.iox_delivery.specs.DomainValues.declared.degradation.DegradationInfo.{DegradationInfo}
+use Rattle.iox_delivery.specs.DomainValues.declared.port_error.SendError.{SendError}
+use Rattle.iox_delivery.specs.DomainPublisher.Messages.{Loan, write_value, write_all}
+use Rattle.iox_delivery.specs.DomainPublisher.MessagesSending.{has_place, has_length, is_written_loan}
+use Rattle.iox_delivery.specs.DomainPublisher.Writing.{value_at}
+use Rattle.iox_delivery.specs.DomainPublisher.declared.meeting.Sent.{Sent}
+use Rattle.iox_delivery.specs.Domain.Lending.{passes, written_in}
+use Rattle.iox_delivery.specs.Domain.declared.ports.service_ports.ServicePorts.{ServicePorts}
+use Rattle.iox_delivery.specs.Domain.declared.domain_id.DomainId.{DomainId}
+use Rattle.iox_delivery.specs.Holding.{loan_found}
+use Rattle.iox_delivery.specs.Publishing.{changed_at}
 use Rattle.iox_hub_commands.specs.Calls.{Sends}
 use Rattle.iox_hub_commands.specs.declared.ports.made.MadeLoan.{MadeLoan}
 
@@ -22,7 +22,8 @@ abbrev pub loan_under : {T U H : Type 0} → (DomainId → H → Option (Service
 loan_under ports_of None home = None
 loan_under ports_of (Some made) home = loan_found made.port.number made.slot (ports_of made.port.domain home)
 
--- what a home ends as once the ports of the loan that goes by a number changed; nothing changes where none goes by it, or its domain isn't here
+-- what a home ends as once the ports of the loan that goes by a number changed; nothing changes where none goes by it, or its
+-- domain isn't here
 abbrev pub changed_under : {T U H : Type 0} → (DomainId → H → Option (ServicePorts T U)) → (DomainId → ServicePorts T U → H → H) → (ℕ → ℕ → ServicePorts T U → ServicePorts T U) → Option MadeLoan → H → H
 changed_under ports_of with_ports change None home = home
 changed_under ports_of with_ports change (Some made) home =

@@ -1,7 +1,7 @@
 -- Ports come to a domain, and get numbers.
 use Rattle.std.specs.Prelude.{ℕ, ◌≡◌, Bool, Option, None, Some, Result, Ok, Err}
 use Rattle.iox_maps.specs.NumberTable.{inserted}
-use Rattle.iox_delivery_slices.specs.DomainHome.declared.domain_id.DomainId.{DomainId}
+use Rattle.iox_delivery.specs.Domain.declared.domain_id.DomainId.{DomainId}
 use Rattle.iox_hub_commands.specs.Tables.{IsRoomier}
 use Rattle.iox_hub_commands.specs.declared.ports.made.Made.{Made}
 
@@ -25,8 +25,8 @@ abbrev pub MakesNumbered : {H E : Type 0} → (H → Option (Result ℕ E) → H
 MakesNumbered {H} {E} comes numbered next made old answer made_after new =
     (came : Option (Result ℕ E)) × comes old came new × NumbersPort numbered next came made answer made_after
 
--- A port comes in a home, and gets a number, once there is room for it, which changes nothing else. Where no memory is found for that the port
--- is refused as for any want of memory.
+-- A port comes in a home, and gets a number, once there is room for it, which changes nothing else. Where no memory is found for
+-- that the port is refused as for any want of memory.
 abbrev pub MakesRoomFirst : {H E : Type 0} → (H → Option (Result ℕ E) → H → Type 0) → (ℕ → Made → Made) → ℕ → Made → H → Option (Result ℕ E) → Made → H → Type 0
 MakesRoomFirst comes numbered next made old answer made_after new =
     (roomier : Made) × IsRoomier made roomier × MakesNumbered comes numbered next roomier old answer made_after new

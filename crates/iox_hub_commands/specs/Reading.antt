@@ -1,9 +1,9 @@
 -- Samples under numbers are read and released.
 use Rattle.std.specs.Prelude.{◌≡◌, Bool, true, false, List, Option, None, Some, option_map}
-use Rattle.iox_delivery_slices.specs.DomainPorts.declared.service_ports.ServicePorts.{ServicePorts}
-use Rattle.iox_delivery_slices.specs.DomainHome.declared.domain_id.DomainId.{DomainId}
-use Rattle.iox_delivery_slices.specs.Delivery.Holding.{message_found, holds_message}
-use Rattle.iox_delivery_slices.specs.Delivery.Subscribing.{ReleasesSample}
+use Rattle.iox_delivery.specs.Domain.declared.ports.service_ports.ServicePorts.{ServicePorts}
+use Rattle.iox_delivery.specs.Domain.declared.domain_id.DomainId.{DomainId}
+use Rattle.iox_delivery.specs.Holding.{message_found, holds_message}
+use Rattle.iox_delivery.specs.Subscribing.{ReleasesSample}
 use Rattle.iox_hub_commands.specs.declared.ports.made.MadeSample.{MadeSample}
 
 -- the values of the sample that goes by a number, if it is held

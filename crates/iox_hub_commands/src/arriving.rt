@@ -1,6 +1,7 @@
-//! The commands by which ports come, over the tables of what goes by numbers and any home of ports.
+//! The commands by which ports come, over the tables of what goes by numbers and any home.
+ghost use Rattle.iox_domain.specs.Homes as homes;
 ghost use Rattle.std.specs.Prelude.{◌≡◌, ◌+◌, ◌<◌, ◌^◌, Err, option_map};
-ghost use Rattle.iox_hub_commands.specs.DomainHome.Steps.{why_no_publisher, why_no_subscriber};
+ghost use Rattle.iox_hub_commands.specs.Domain.Steps.{why_no_publisher, why_no_subscriber};
 ghost use Rattle.iox_hub_commands.specs.declared.ports.made.Made.{Made};
 ghost use Rattle.iox_hub_commands.specs.Arriving.{PublisherStep, SubscriberStep};
 ghost use Rattle.iox_hub_commands.specs.Naming.{publisher_config, subscriber_config};
@@ -9,24 +10,24 @@ use crate::naming;
 use crate::ports::{Made, PublisherParts};
 use crate::replies::{publisher_reply, subscriber_reply};
 use iox_command::{PublisherOptions, Reply, SubscriberOptions};
-use iox_domain_home::{DomainId, Home, MakesPorts};
-use iox_domain_ports::{PublisherConfig, SubscriberConfig};
-use iox_domain_values::{Degrades, PortOwner, PublisherCreateError, SubscriberCreateError};
+use iox_domain::ports::{PublisherConfig, SubscriberConfig};
+use iox_domain::{DomainId, Home, calls};
+use iox_domain_values::{PortOwner, PublisherCreateError, SubscriberCreateError};
 use std::alloc::Global;
 
-/// A publisher of slices comes to a domain, with what is named, and gets the next number; `handlers` decide for it. Skipped where the domain
-/// isn't here; refused as `Made::make_publisher` refuses it.
-pub fn publisher<T: Copy, U: Copy + Default, B: Degrades, D: Degrades, H: MakesPorts<T, U, B, D>>(
+/// A publisher of slices comes to a domain, with what is named, and gets the next number; `handlers` decide for it. Skipped where
+/// the domain isn't here; refused as `Made::make_publisher` refuses it.
+pub fn publisher<T: Copy, U: Copy + Default, H: Home<T, U>>(
     alloc: Global,
     made: &mut Made,
     home: &mut H,
     domain: DomainId,
     owner: PortOwner,
     options: &PublisherOptions,
-    handlers: B,
+    handlers: H::ForPublishers,
 ) -> Reply<T>
     requires { made.old.publishers.next + 1 < 2 ^ 64 }
-    ensures { PublisherStep H.ports_of H.with_ports H.with_publisher (λ handlers. B.degrades handlers) U.is_default domain (publisher_config owner options.now) options.now.preallocated_samples handlers made.old home.old result made.new home.new }
+    ensures { PublisherStep (homes.ports_of H.domain_of) (homes.with_ports H.changed) (homes.with_publisher H.changed) (λ handlers. H.ForPublishers.degrades handlers) U.is_default domain (publisher_config owner options.now) options.now.preallocated_samples handlers made.old home.old result made.new home.new }
 {
     let slots = naming::named_slots(options);
     let parts = PublisherParts {
@@ -39,16 +40,15 @@ pub fn publisher<T: Copy, U: Copy + Default, B: Degrades, D: Degrades, H: MakesP
     publisher_reply(made.make_publisher(alloc, home, domain, parts))
 }
 
-/// What is replied of a publisher that doesn't come for want of memory: it is refused as `Made::make_publisher` refuses it, and skipped where
-/// the domain isn't here. Nothing changes.
-pub fn publisher_refused<
-    T: Copy,
-    U: Copy + Default,
-    B: Degrades,
-    D: Degrades,
-    H: MakesPorts<T, U, B, D>,
->(home: &H, domain: DomainId, owner: PortOwner, options: &PublisherOptions) -> Reply<T>
-    ensures { (made : Made) (handlers : B) → PublisherStep H.ports_of H.with_ports H.with_publisher (λ handlers. B.degrades handlers) U.is_default domain (publisher_config owner options.now) options.now.preallocated_samples handlers made home.now result made home.now }
+/// What is replied of a publisher that doesn't come for want of memory: it is refused as `Made::make_publisher` refuses it, and
+/// skipped where the domain isn't here. Nothing changes.
+pub fn publisher_refused<T: Copy, U: Copy + Default, H: Home<T, U>>(
+    home: &H,
+    domain: DomainId,
+    owner: PortOwner,
+    options: &PublisherOptions,
+) -> Reply<T>
+    ensures { (made : Made) (handlers : H.ForPublishers) → PublisherStep (homes.ports_of H.domain_of) (homes.with_ports H.changed) (homes.with_publisher H.changed) (λ handlers. H.ForPublishers.degrades handlers) U.is_default domain (publisher_config owner options.now) options.now.preallocated_samples handlers made home.now result made home.now }
 {
     let _user_header = U::default();
     let config = naming::publisher_config(owner, options);
@@ -61,39 +61,39 @@ fn why_no_publisher<T: Copy, U: Copy, H: Home<T, U>>(
     domain: DomainId,
     config: &PublisherConfig,
 ) -> Option<Result<u64, PublisherCreateError>>
-    ensures { result ≡ option_map (λ ports. Err (why_no_publisher config.now ports)) (H.ports_of domain home.now) }
+    ensures { result ≡ option_map (λ ports. Err (why_no_publisher config.now ports)) (homes.ports_of H.domain_of domain home.now) }
 {
-    let ports = home.ports(domain)?;
+    let ports = calls::ports(home, domain)?;
     Some(Err(ports.publisher_refusal(config)))
 }
 
-/// A subscriber comes to a domain, with what is named, and gets the next number; `handler` decides for it. Skipped where the domain isn't here;
-/// refused as `Made::make_subscriber` refuses it.
-pub fn subscriber<T: Copy, U: Copy, B: Degrades, D: Degrades, H: MakesPorts<T, U, B, D>>(
+/// A subscriber comes to a domain, with what is named, and gets the next number; `handler` decides for it. Skipped where the
+/// domain isn't here; refused as `Made::make_subscriber` refuses it.
+pub fn subscriber<T: Copy, U: Copy, H: Home<T, U>>(
     alloc: Global,
     made: &mut Made,
     home: &mut H,
     domain: DomainId,
     owner: PortOwner,
     options: &SubscriberOptions,
-    handler: D,
+    handler: H::ForSubscribers,
 ) -> Reply<T>
     requires { made.old.subscribers.next + 1 < 2 ^ 64 }
-    ensures { SubscriberStep H.ports_of H.with_ports H.with_subscriber (λ handler. D.degrades handler) domain (subscriber_config owner options.now) handler made.old home.old result made.new home.new }
+    ensures { SubscriberStep (homes.ports_of H.domain_of) (homes.with_ports H.changed) (homes.with_subscriber H.changed) (λ handler. H.ForSubscribers.degrades handler) domain (subscriber_config owner options.now) handler made.old home.old result made.new home.new }
 {
     let config = naming::subscriber_config(owner, options);
     subscriber_reply(made.make_subscriber(alloc, home, domain, config, handler))
 }
 
-/// What is replied of a subscriber that doesn't come for want of memory: it is refused as `Made::make_subscriber` refuses it, and skipped where
-/// the domain isn't here. Nothing changes.
-pub fn subscriber_refused<T: Copy, U: Copy, B: Degrades, D: Degrades, H: MakesPorts<T, U, B, D>>(
+/// What is replied of a subscriber that doesn't come for want of memory: it is refused as `Made::make_subscriber` refuses it, and
+/// skipped where the domain isn't here. Nothing changes.
+pub fn subscriber_refused<T: Copy, U: Copy, H: Home<T, U>>(
     home: &H,
     domain: DomainId,
     owner: PortOwner,
     options: &SubscriberOptions,
 ) -> Reply<T>
-    ensures { (made : Made) (handler : D) → SubscriberStep H.ports_of H.with_ports H.with_subscriber (λ handler. D.degrades handler) domain (subscriber_config owner options.now) handler made home.now result made home.now }
+    ensures { (made : Made) (handler : H.ForSubscribers) → SubscriberStep (homes.ports_of H.domain_of) (homes.with_ports H.changed) (homes.with_subscriber H.changed) (λ handler. H.ForSubscribers.degrades handler) domain (subscriber_config owner options.now) handler made home.now result made home.now }
 {
     let config = naming::subscriber_config(owner, options);
     subscriber_reply(why_no_subscriber(home, domain, &config))
@@ -105,8 +105,8 @@ fn why_no_subscriber<T: Copy, U: Copy, H: Home<T, U>>(
     domain: DomainId,
     config: &SubscriberConfig,
 ) -> Option<Result<u64, SubscriberCreateError>>
-    ensures { result ≡ option_map (λ ports. Err (why_no_subscriber config.now ports)) (H.ports_of domain home.now) }
+    ensures { result ≡ option_map (λ ports. Err (why_no_subscriber config.now ports)) (homes.ports_of H.domain_of domain home.now) }
 {
-    let ports = home.ports(domain)?;
+    let ports = calls::ports(home, domain)?;
     Some(Err(ports.subscriber_refusal(config.buffer_size)))
 }

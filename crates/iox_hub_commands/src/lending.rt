@@ -1,11 +1,12 @@
-//! The commands that lend, and the one that sends values at once, over the tables of what goes by numbers and any home of ports.
+//! The commands that lend, and the one that sends values at once, over the tables of what goes by numbers and any home.
+ghost use Rattle.iox_domain.specs.Homes as homes;
 ghost use Rattle.std.specs.Prelude.{◌+◌, ◌<◌, ◌^◌};
 ghost use Rattle.iox_hub_commands.specs.Lending.{LoanStep, LoanUninitStep, PutStep};
 
 use crate::ports::Made;
 use crate::replies::{loan_reply, sent_reply};
 use iox_command::Reply;
-use iox_domain_home::Home;
+use iox_domain::Home;
 use std::alloc::{AllocError, Global};
 
 /// A publisher lends so many elements, none of which is written. Skipped as `Made::loan_uninit` answers None, and refused as that is.
@@ -19,7 +20,7 @@ pub fn loan_uninit<T: Copy, U: Copy, H: Home<T, U>>(
     elements: u64,
 ) -> Result<Reply<T>, AllocError>
     requires { made.old.loans.next + 1 < 2 ^ 64 }
-    ensures { LoanUninitStep H.ports_of H.with_ports publisher elements made.old home.old result made.new home.new }
+    ensures { LoanUninitStep (homes.ports_of H.domain_of) (homes.with_ports H.changed) publisher elements made.old home.old result made.new home.new }
 {
     match made.loan_uninit_growing(alloc, home, publisher, elements) {
         Ok(lent) => Ok(loan_reply(lent)),
@@ -38,7 +39,7 @@ pub fn loan<T: Copy + Default, U: Copy, H: Home<T, U>>(
     elements: u64,
 ) -> Result<Reply<T>, AllocError>
     requires { made.old.loans.next + 1 < 2 ^ 64 }
-    ensures { LoanStep H.ports_of H.with_ports T.is_default publisher elements made.old home.old result made.new home.new }
+    ensures { LoanStep (homes.ports_of H.domain_of) (homes.with_ports H.changed) T.is_default publisher elements made.old home.old result made.new home.new }
 {
     match made.loan_growing(alloc, home, publisher, elements, T::default()) {
         Ok(lent) => Ok(loan_reply(lent)),
@@ -54,7 +55,7 @@ pub fn put<T: Copy, U: Copy, H: Home<T, U>>(
     publisher: u64,
     values: &[T],
 ) -> Reply<T>
-    ensures { PutStep H.ports_of H.with_ports H.publisher_degrades H.publisher_decides publisher values.now made.now home.old result home.new }
+    ensures { PutStep (homes.ports_of H.domain_of) (homes.with_ports H.changed) (homes.publisher_degrades (λ kept. H.ForPublishers.degrades kept) H.domain_of) (homes.publisher_decides (λ kept. H.ForPublishers.decides kept) H.domain_of) publisher values.now made.now home.old result home.new }
 {
     sent_reply(made.put(alloc, home, publisher, values))
 }

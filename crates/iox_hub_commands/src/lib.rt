@@ -1,9 +1,10 @@
-//! The commands of ports: what each does to the tables of what goes by numbers and to the home of the ports, and what it is replied.
+//! Commands: what each does to the tables of what goes by numbers and to the hub, and what it is replied.
 //!
-//! A home is anything that holds domains: one domain, or a hub. Services are opened elsewhere.
+//! Commands of ports are handed a home, which is anything that holds domains: one domain, or a hub.
 //!
 //! | Module | What it has |
 //! |---|---|
+//! | `services` | services that a run of commands opened, under numbers, and what later commands do with them |
 //! | `ports` | ports, loans and samples under numbers |
 //! | `handlers` | who decides for a port that a command made |
 //! | `naming` | what a command names of a port |
@@ -31,6 +32,7 @@ mod naming;
 pub mod ports;
 pub mod receiving;
 pub mod replies;
+pub mod services;
 
 pub use handlers::{
     FixedDegradation, FixedHandlers, NamedSlots, PublisherHandlers, SubscriberHandler,

@@ -1,13 +1,16 @@
-//! The commands on loans, sends and samples, over the tables of what goes by numbers and any home of ports.
+//! The commands on loans, sends and samples, over the tables of what goes by numbers and any home.
+ghost use Rattle.iox_domain.specs.Homes as homes;
 ghost use Rattle.std.specs.Prelude.{◌≡◌, ◌<◌, length, IfOk, OnErr};
 ghost use Rattle.iox_hub_commands.specs.Messages.{SetStep, FillStep, DropStep, SendStep, RetryStep, GiveUpStep, ReadStep, ReleaseStep};
 
 use crate::ports::Made;
 use crate::replies::{done_reply, given_up_reply, sent_reply};
 use iox_command::Reply;
-use iox_domain_home::Home;
+use iox_domain::Home;
 use std::alloc::{AllocError, Global};
 
+/// One value of a loan is written. Skipped where `Made::set` answers false.
+/// Example: `let reply = set(&made, &mut home, loan, 0, 7);`
 pub fn set<T: Copy, U: Copy, H: Home<T, U>>(
     made: &Made,
     home: &mut H,
@@ -15,82 +18,96 @@ pub fn set<T: Copy, U: Copy, H: Home<T, U>>(
     place: u64,
     value: T,
 ) -> Reply<T>
-    ensures { SetStep H.ports_of H.with_ports loan place value made.now home.old result home.new }
+    ensures { SetStep (homes.ports_of H.domain_of) (homes.with_ports H.changed) loan place value made.now home.old result home.new }
 {
     done_reply(made.set(home, loan, place as usize, value))
 }
 
+/// All values of a loan are written. Skipped where `Made::fill` answers false.
+/// Example: `let reply = fill(&made, &mut home, loan, &[7, 8]);`
 pub fn fill<T: Copy, U: Copy, H: Home<T, U>>(
     made: &Made,
     home: &mut H,
     loan: u64,
     values: &[T],
 ) -> Reply<T>
-    ensures { FillStep H.ports_of H.with_ports loan values.now made.now home.old result home.new }
+    ensures { FillStep (homes.ports_of H.domain_of) (homes.with_ports H.changed) loan values.now made.now home.old result home.new }
 {
     done_reply(made.fill(home, loan, values))
 }
 
+/// A loan is given up. Skipped where `Made::drop_loan` answers false.
+/// Example: `let reply = drop_loan(&mut made, &mut home, loan);`
 pub fn drop_loan<T: Copy, U: Copy, H: Home<T, U>>(
     made: &mut Made,
     home: &mut H,
     loan: u64,
 ) -> Reply<T>
-    ensures { DropStep H.ports_of H.with_ports loan made.old home.old result made.new home.new }
+    ensures { DropStep (homes.ports_of H.domain_of) (homes.with_ports H.changed) loan made.old home.old result made.new home.new }
 {
     done_reply(made.drop_loan(home, loan))
 }
 
+/// A loan is sent. Skipped as `Made::send` answers None, and refused as that is.
+/// Example: `let reply = send(alloc, &mut made, &mut home, loan);`
 pub fn send<T: Copy, U: Copy, H: Home<T, U>>(
     alloc: Global,
     made: &mut Made,
     home: &mut H,
     loan: u64,
 ) -> Reply<T>
-    ensures { SendStep H.ports_of H.with_ports H.publisher_degrades H.publisher_decides loan made.old home.old result made.new home.new }
+    ensures { SendStep (homes.ports_of H.domain_of) (homes.with_ports H.changed) (homes.publisher_degrades (λ kept. H.ForPublishers.degrades kept) H.domain_of) (homes.publisher_decides (λ kept. H.ForPublishers.decides kept) H.domain_of) loan made.old home.old result made.new home.new }
 {
     sent_reply(made.send(alloc, home, loan))
 }
 
+/// A send that waits is tried again, after so many nanoseconds. Skipped as `Made::retry` answers None, and refused as that is.
+/// Example: `let reply = retry(&made, &mut home, publisher, 1_000);`
 pub fn retry<T: Copy, U: Copy, H: Home<T, U>>(
     made: &Made,
     home: &mut H,
     publisher: u64,
     nanoseconds: u64,
 ) -> Reply<T>
-    ensures { RetryStep H.ports_of H.with_ports H.publisher_decides publisher nanoseconds made.now home.old result home.new }
+    ensures { RetryStep (homes.ports_of H.domain_of) (homes.with_ports H.changed) (homes.publisher_decides (λ kept. H.ForPublishers.decides kept) H.domain_of) publisher nanoseconds made.now home.old result home.new }
 {
     sent_reply(made.retry(home, publisher, nanoseconds))
 }
 
+/// A send that waits ends. Skipped as `Made::give_up` answers None.
+/// Example: `let reply = give_up(&made, &mut home, publisher);`
 pub fn give_up<T: Copy, U: Copy, H: Home<T, U>>(
     made: &Made,
     home: &mut H,
     publisher: u64,
 ) -> Reply<T>
-    ensures { GiveUpStep H.ports_of H.with_ports publisher made.now home.old result home.new }
+    ensures { GiveUpStep (homes.ports_of H.domain_of) (homes.with_ports H.changed) publisher made.now home.old result home.new }
 {
     given_up_reply(made.give_up(home, publisher))
 }
 
+/// A sample is released. Skipped where `Made::release` answers false.
+/// Example: `let reply = release(&mut made, &mut home, sample);`
 pub fn release<T: Copy, U: Copy, H: Home<T, U>>(
     made: &mut Made,
     home: &mut H,
     sample: u64,
 ) -> Reply<T>
-    ensures { ReleaseStep H.ports_of H.with_ports sample made.old home.old result made.new home.new }
+    ensures { ReleaseStep (homes.ports_of H.domain_of) (homes.with_ports H.changed) sample made.old home.old result made.new home.new }
 {
     done_reply(made.release(home, sample))
 }
 
-// Fails only where the sample has values and no memory is found for them; then nothing has changed.
+/// The values of a sample. Skipped where `Made::read` answers None. Fails only where the sample has values and no memory is
+/// found for them; then nothing has changed.
+/// Example: `let reply = read(alloc, &made, &home, sample)?;`
 pub fn read<T: Copy, U: Copy, H: Home<T, U>>(
     alloc: Global,
     made: &Made,
     home: &H,
     sample: u64,
 ) -> Result<Reply<T>, AllocError>
-    ensures { ReadStep H.ports_of sample made.now home.now result }
+    ensures { ReadStep (homes.ports_of H.domain_of) sample made.now home.now result }
 {
     match made.read(home, sample) {
         Some(values) => Ok(Reply::Values(copied(alloc, values)?)),

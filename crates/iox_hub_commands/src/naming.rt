@@ -5,8 +5,8 @@ ghost use Rattle.iox_hub_commands.specs.Naming.{most_loans, publisher_config, pu
 
 use crate::handlers::{NamedSlots, PublisherHandlers, SubscriberHandler};
 use iox_command::{PublisherOptions, SubscriberOptions};
-use iox_domain_ports::{PublisherConfig, SubscriberConfig};
-use iox_domain_settings::PublisherSettings;
+use iox_domain::ports::{PublisherConfig, SubscriberConfig};
+use iox_domain::settings::PublisherSettings;
 use iox_domain_values::{DegradationAction, PortOwner};
 
 /// How many loans may be out at once of a publisher that is named so.
@@ -34,7 +34,8 @@ pub(crate) fn publisher_config(owner: PortOwner, options: &PublisherOptions) -> 
     }
 }
 
-/// Who decides for a publisher that is named so: what its type makes of the strategy and of the actions that are named, and of the defaults.
+/// Who decides for a publisher that is named so: what its type makes of the strategy and of the actions that are named, and of
+/// the defaults.
 pub fn publisher_handlers<B: PublisherHandlers>(options: &PublisherOptions) -> B
     ensures { result ≡ publisher_handlers B.fixed options.now }
 {

@@ -11,7 +11,7 @@
 //! | `growing` | loans and samples that come where there may be no room for one more |
 //! | `laws` | what the calls come to, in other words |
 //!
-//! First calls, where nothing was made. `iox_hub_commands` makes the others.
+//! First calls, where nothing was made. `arriving`, `lending`, `messages`, `receiving` and `following` make the others.
 //!
 //! ```
 //! let made = Made::new(alloc);

@@ -1,4 +1,5 @@
-//! The command that receives, over the tables of what goes by numbers and any home of ports.
+//! The command that receives, over the tables of what goes by numbers and any home.
+ghost use Rattle.iox_domain.specs.Homes as homes;
 ghost use Rattle.std.specs.Prelude.{◌+◌, ◌<◌, ◌^◌, IsSome};
 ghost use Rattle.iox_hub_commands.specs.Receiving.{IsShown, ReceiveStep};
 ghost use Rattle.iox_hub_commands.specs.Reading.{values_under};
@@ -7,7 +8,7 @@ ghost use Rattle.iox_hub_commands.specs.Maps.NumberTable.{value_at};
 use crate::messages::copied;
 use crate::ports::Made;
 use iox_command::{Refusal, Reply};
-use iox_domain_home::Home;
+use iox_domain::Home;
 use std::alloc::{AllocError, Global};
 
 /// A subscriber receives, after an update; a sample that came gets the next number, and is replied with its values. Skipped as
@@ -22,7 +23,7 @@ pub fn receive<T: Copy, U: Copy, H: Home<T, U>>(
     subscriber: u64,
 ) -> Result<Reply<T>, AllocError>
     requires { made.old.samples.next + 1 < 2 ^ 64 }
-    ensures { ReceiveStep H.ports_of H.with_ports H.subscriber_degrades subscriber made.old home.old result made.new home.new }
+    ensures { ReceiveStep (homes.ports_of H.domain_of) (homes.with_ports H.changed) (homes.subscriber_degrades (λ kept. H.ForSubscribers.degrades kept) H.domain_of) subscriber made.old home.old result made.new home.new }
 {
     let sample = made.samples.next_number();
     match made.receive_growing(alloc, home, subscriber) {
@@ -41,8 +42,8 @@ fn arrival<T: Copy, U: Copy, H: Home<T, U>>(
     home: &H,
     sample: u64,
 ) -> Result<Reply<T>, AllocError>
-    requires { IsSome (values_under H.ports_of (value_at made.now.samples sample) home.now) }
-    ensures { IsShown sample (values_under H.ports_of (value_at made.now.samples sample) home.now) result }
+    requires { IsSome (values_under (homes.ports_of H.domain_of) (value_at made.now.samples sample) home.now) }
+    ensures { IsShown sample (values_under (homes.ports_of H.domain_of) (value_at made.now.samples sample) home.now) result }
 {
     let Some(values) = made.read(home, sample) else {
         unreachable!();

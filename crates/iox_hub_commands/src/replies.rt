@@ -9,6 +9,8 @@ use iox_domain_values::{
 };
 use iox_negotiate_base::errors::CloseError;
 
+/// The reply to a command that opens or creates a service: None is skipped.
+/// Example: `factory_reply(Some(Ok(1)))`
 pub fn factory_reply<T>(answer: Option<Result<u64, Refusal>>) -> Reply<T>
     ensures { result ≡ replied.factory_reply answer }
 {
@@ -19,6 +21,8 @@ pub fn factory_reply<T>(answer: Option<Result<u64, Refusal>>) -> Reply<T>
     }
 }
 
+/// The reply to steps of foreign nodes.
+/// Example: `foreign_reply(Ok(()))`
 pub fn foreign_reply<T>(answer: Result<(), HubError>) -> Reply<T>
     ensures { result ≡ replied.foreign_reply answer }
 {
@@ -28,6 +32,8 @@ pub fn foreign_reply<T>(answer: Result<(), HubError>) -> Reply<T>
     }
 }
 
+/// The reply to a close: None is skipped.
+/// Example: `closed_reply(Some(Ok(())))`
 pub fn closed_reply<T>(answer: Option<Result<(), CloseError>>) -> Reply<T>
     ensures { result ≡ replied.closed_reply answer }
 {
@@ -38,6 +44,8 @@ pub fn closed_reply<T>(answer: Option<Result<(), CloseError>>) -> Reply<T>
     }
 }
 
+/// The reply to a publisher that comes: None is skipped.
+/// Example: `publisher_reply(Some(Ok(1)))`
 pub fn publisher_reply<T>(answer: Option<Result<u64, PublisherCreateError>>) -> Reply<T>
     ensures { result ≡ replied.publisher_reply answer }
 {
@@ -48,6 +56,8 @@ pub fn publisher_reply<T>(answer: Option<Result<u64, PublisherCreateError>>) -> 
     }
 }
 
+/// The reply to a subscriber that comes: None is skipped.
+/// Example: `subscriber_reply(Some(Ok(1)))`
 pub fn subscriber_reply<T>(answer: Option<Result<u64, SubscriberCreateError>>) -> Reply<T>
     ensures { result ≡ replied.subscriber_reply answer }
 {
@@ -58,6 +68,8 @@ pub fn subscriber_reply<T>(answer: Option<Result<u64, SubscriberCreateError>>) -
     }
 }
 
+/// The reply to a loan: None is skipped.
+/// Example: `loan_reply(Some(Ok(1)))`
 pub fn loan_reply<T>(answer: Option<Result<u64, LoanError>>) -> Reply<T>
     ensures { result ≡ replied.loan_reply answer }
 {
@@ -68,6 +80,8 @@ pub fn loan_reply<T>(answer: Option<Result<u64, LoanError>>) -> Reply<T>
     }
 }
 
+/// The reply to a send: None is skipped.
+/// Example: `sent_reply(Some(Ok(Sent::Delivered(1))))`
 pub fn sent_reply<T>(answer: Option<Result<Sent, SendError>>) -> Reply<T>
     ensures { result ≡ replied.sent_reply answer }
 {
@@ -79,6 +93,8 @@ pub fn sent_reply<T>(answer: Option<Result<Sent, SendError>>) -> Reply<T>
     }
 }
 
+/// The reply to a send that ends: None is skipped.
+/// Example: `given_up_reply(Some(1))`
 pub fn given_up_reply<T>(answer: Option<usize>) -> Reply<T>
     ensures { result ≡ replied.given_up_reply answer }
 {
@@ -88,6 +104,8 @@ pub fn given_up_reply<T>(answer: Option<usize>) -> Reply<T>
     }
 }
 
+/// The reply to an update: None is skipped.
+/// Example: `updated_reply(Some(Ok(())))`
 pub fn updated_reply<T>(answer: Option<Result<(), ConnectionFailure>>) -> Reply<T>
     ensures { result ≡ replied.updated_reply answer }
 {
@@ -98,6 +116,8 @@ pub fn updated_reply<T>(answer: Option<Result<(), ConnectionFailure>>) -> Reply<
     }
 }
 
+/// The reply to a look for what waits: None is skipped.
+/// Example: `has_reply(Some(Ok(true)))`
 pub fn has_reply<T>(answer: Option<Result<bool, ConnectionFailure>>) -> Reply<T>
     ensures { result ≡ replied.has_reply answer }
 {
@@ -108,6 +128,8 @@ pub fn has_reply<T>(answer: Option<Result<bool, ConnectionFailure>>) -> Reply<T>
     }
 }
 
+/// The reply to a command that is done or skipped.
+/// Example: `done_reply(true)`
 pub fn done_reply<T>(done: bool) -> Reply<T>
     ensures { result ≡ replied.done_reply done }
 {

@@ -20,19 +20,19 @@ use Rattle.iox_hub_laws.specs.HubCommands.DomainValues.declared.backpressure_str
 use Rattle.iox_hub_laws.specs.HubCommands.DomainValues.declared.degradation.DegradationAction.{DegradationAction}
 use Rattle.iox_hub_laws.specs.HubCommands.DomainValues.declared.degradation.DegradationCause.{DegradationCause}
 use Rattle.iox_hub_laws.specs.HubCommands.DomainValues.declared.degradation.DegradationInfo.{DegradationInfo}
-use Rattle.iox_hub_laws.specs.HubFactories.Asking.{hash_of}
-use Rattle.iox_hub_laws.specs.HubFactories.HubBase.Hubs.{factories_of}
-use Rattle.iox_hub_laws.specs.HubFactories.HubBase.Opening.{Made, Settles, OpensInHub}
-use Rattle.iox_hub_laws.specs.HubFactories.HubBase.declared.hub.Hub.{Hub}
-use Rattle.iox_hub_laws.specs.HubFactories.HubServices.Numbered.{others_beside}
-use Rattle.iox_hub_laws.specs.HubFactories.HubServices.Open.{OpenServices, presence_of}
-use Rattle.iox_hub_laws.specs.HubFactories.HubServices.Opening.{Opens as ServiceOpens}
-use Rattle.iox_hub_laws.specs.HubFactories.HubServices.declared.presence.Presence.TheVariants.{Here}
-use Rattle.iox_hub_laws.specs.HubFactories.Maps.NumberTable.{Rises, value_at, inserted}
-use Rattle.iox_hub_laws.specs.HubFactories.Numbering.{Numbers, GetsNumber}
-use Rattle.iox_hub_laws.specs.HubFactories.Tables.{FactoryTable, SameNumbers}
-use Rattle.iox_hub_laws.specs.HubFactories.declared.made.MadeFactory.{MadeFactory}
-use Rattle.iox_hub_laws.proofs.HubFactories.Maps.Telling.{found_and_gone}
+use Rattle.iox_hub_laws.specs.HubCommands.Asking.{hash_of}
+use Rattle.iox_hub_laws.specs.HubCommands.HubBase.Hubs.{factories_of}
+use Rattle.iox_hub_laws.specs.HubCommands.HubBase.Opening.{Made, Settles, OpensInHub}
+use Rattle.iox_hub_laws.specs.HubCommands.HubBase.declared.hub.Hub.{Hub}
+use Rattle.iox_hub_laws.specs.HubCommands.HubServices.Numbered.{others_beside}
+use Rattle.iox_hub_laws.specs.HubCommands.HubServices.Open.{OpenServices, presence_of}
+use Rattle.iox_hub_laws.specs.HubCommands.HubServices.Opening.{Opens as ServiceOpens}
+use Rattle.iox_hub_laws.specs.HubCommands.HubServices.declared.presence.Presence.TheVariants.{Here}
+use Rattle.iox_hub_laws.specs.HubCommands.Maps.NumberTable.{Rises, value_at, inserted}
+use Rattle.iox_hub_laws.specs.HubCommands.ServicesNumbering.{Numbers, GetsNumber}
+use Rattle.iox_hub_laws.specs.HubCommands.ServicesTables.{FactoryTable, SameNumbers}
+use Rattle.iox_hub_laws.specs.HubCommands.declared.services.made.MadeFactory.{MadeFactory}
+use Rattle.iox_hub_laws.proofs.HubCommands.Maps.Telling.{found_and_gone}
 use Rattle.iox_hub_laws.specs.HubRun.AgreementLaws.{service_of, carried_by}
 use Rattle.iox_hub_laws.specs.HubRun.Lives.{NumbersRise}
 use Rattle.iox_hub_laws.specs.HubRun.Steps.{Step}

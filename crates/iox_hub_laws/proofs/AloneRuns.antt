@@ -14,10 +14,10 @@ use Rattle.iox_hub_laws.specs.HubCommands.DomainValues.declared.backpressure_str
 use Rattle.iox_hub_laws.specs.HubCommands.DomainValues.declared.degradation.DegradationAction.{DegradationAction}
 use Rattle.iox_hub_laws.specs.HubCommands.DomainValues.declared.degradation.DegradationCause.{DegradationCause}
 use Rattle.iox_hub_laws.specs.HubCommands.DomainValues.declared.degradation.DegradationInfo.{DegradationInfo}
-use Rattle.iox_hub_laws.specs.HubFactories.HubBase.Hubs.{factories_of, one_more}
-use Rattle.iox_hub_laws.specs.HubFactories.HubServices.Open.{presence_of}
-use Rattle.iox_hub_laws.specs.HubFactories.Maps.NumberTable.{value_at}
-use Rattle.iox_hub_laws.specs.HubFactories.HubBase.declared.hub.HubConfig.{HubConfig}
+use Rattle.iox_hub_laws.specs.HubCommands.HubBase.Hubs.{factories_of, one_more}
+use Rattle.iox_hub_laws.specs.HubCommands.HubServices.Open.{presence_of}
+use Rattle.iox_hub_laws.specs.HubCommands.Maps.NumberTable.{value_at}
+use Rattle.iox_hub_laws.specs.HubCommands.HubBase.declared.hub.HubConfig.{HubConfig}
 use Rattle.std.specs.Map.{lookup}
 use Rattle.std.specs.Prelude.{nat_eq}
 use Rattle.iox_hub_laws.specs.HubRun.AgreementLaws.{service_of}

@@ -3,15 +3,15 @@ use Rattle.std.proofs.Common.{◌≡◌, ◌∙◌, ℕ, cond, List, map, Option
 use Rattle.std.specs.BTreeMap.{is_at}
 use Rattle.std.specs.Ordering.{nat_cmp}
 use Rattle.std.specs.declared.alloc.AllocError.{AllocError}
-use Rattle.iox_domain_laws.specs.DomainPublisher.Ports.{detached_at}
-use Rattle.iox_domain_laws.specs.DomainPublisher.declared.publisher_port.PublisherPort.{PublisherPort}
-use Rattle.iox_domain_laws.specs.DomainPublisher.Messages.{Message}
-use Rattle.iox_domain_laws.specs.DomainSlots.Uses.{Connection}
-use Rattle.iox_domain_laws.specs.DomainSubscriber.Following.{lacks_connection}
-use Rattle.iox_domain_laws.specs.DomainSubscriber.Publishers as ports
-use Rattle.iox_domain_laws.specs.DomainSubscriber.Reading.{taken_at, given_back_at}
-use Rattle.iox_domain_laws.specs.DomainSubscriber.Subscribing.{connection_by, most_by, ended_ports, taken_of, taken_ports}
-use Rattle.iox_domain_laws.specs.DomainSubscriber.declared.attached.Attached.{Attached}
+use Rattle.iox_domain.specs.DomainPublisher.Ports.{detached_at}
+use Rattle.iox_domain.specs.DomainPublisher.declared.publisher_port.PublisherPort.{PublisherPort}
+use Rattle.iox_domain.specs.DomainPublisher.Messages.{Message}
+use Rattle.iox_domain.specs.DomainSlots.Uses.{Connection}
+use Rattle.iox_domain.specs.DomainSubscriber.Following.{lacks_connection}
+use Rattle.iox_domain.specs.DomainSubscriber.Publishers as ports
+use Rattle.iox_domain.specs.DomainSubscriber.Reading.{taken_at, given_back_at}
+use Rattle.iox_domain.specs.DomainSubscriber.Subscribing.{connection_by, most_by, ended_ports, taken_of, taken_ports}
+use Rattle.iox_domain.specs.DomainSubscriber.declared.attached.Attached.{Attached}
 use Rattle.iox_hub_laws.specs.Renaming.{Renaming, renamed_publisher, renamed_publishers}
 use Rattle.iox_hub_laws.proofs.Lists.{pick, each_found, each_set, each_gone, each_come}
 use Rattle.iox_hub_laws.proofs.Publishers.{attaches, left_as, given_back_as}
@@ -71,10 +71,10 @@ module _ {T U : Type 0} (by : Renaming) where
   most_by_as None among = refl
   most_by_as (Some attached) among = most_as attached.publisher among
 
-  pub taken_of_as : (attached : Option Attached) (among : List (ℕ × PublisherPort T U)) → taken_of attached (all among) ≡ taken_of attached among
-  taken_of_as None among = refl
-  taken_of_as (Some attached) among =
-      ap (λ (connection : Connection (Message T U)). Some (record { publisher = attached.publisher; index = attached.index; slot = get_or (map (λ message. message.slot) connection.waiting) 0 0 }))
+  pub taken_of_as : (number : ℕ) (attached : Option Attached) (among : List (ℕ × PublisherPort T U)) → taken_of number attached (all among) ≡ taken_of number attached among
+  taken_of_as number None among = refl
+  taken_of_as number (Some attached) among =
+      ap (λ (connection : Connection (Message T U)). Some (record { subscriber = number; publisher = attached.publisher; index = attached.index; slot = get_or (map (λ message. message.slot) connection.waiting) 0 0 }))
       (connection_as attached.publisher attached.index among)
 
   -- ---- what changes

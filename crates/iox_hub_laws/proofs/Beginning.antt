@@ -20,10 +20,10 @@ use Rattle.iox_hub_laws.specs.HubCommands.DescribeBase.declared.hash.ServiceHash
 use Rattle.iox_hub_laws.specs.HubCommands.DescribeBase.declared.message_type.MessageTypeDetails.{MessageTypeDetails}
 use Rattle.iox_hub_laws.specs.HubCommands.DescribeBase.declared.pattern.MessagingPattern.{MessagingPattern}
 use Rattle.iox_hub_laws.specs.HubCommands.DescribeSettings.declared.static_config.Settings.{Settings}
-use Rattle.iox_hub_laws.specs.HubCommands.DomainHome.declared.domain_id.DomainId.{DomainId}
-use Rattle.iox_hub_laws.specs.HubCommands.DomainPorts.Living.{living}
-use Rattle.iox_hub_laws.specs.HubCommands.DomainSettings.Sizes.{sizes}
-use Rattle.iox_hub_laws.specs.HubCommands.DomainPorts.declared.service_ports.ServicePorts.{ServicePorts}
+use Rattle.iox_hub_laws.specs.HubCommands.Domain.declared.domain_id.DomainId.{DomainId}
+use Rattle.iox_hub_laws.specs.HubCommands.Domain.Living.{living}
+use Rattle.iox_hub_laws.specs.HubCommands.Domain.Sizes.{sizes}
+use Rattle.iox_hub_laws.specs.HubCommands.Domain.declared.ports.service_ports.ServicePorts.{ServicePorts}
 use Rattle.iox_hub_laws.specs.HubCommands.DomainValues.declared.backpressure.BackpressureAction.{BackpressureAction}
 use Rattle.iox_hub_laws.specs.HubCommands.DomainValues.declared.backpressure.BackpressureDecision.{BackpressureDecision}
 use Rattle.iox_hub_laws.specs.HubCommands.DomainValues.declared.backpressure.BackpressureInfo.{BackpressureInfo}
@@ -31,24 +31,24 @@ use Rattle.iox_hub_laws.specs.HubCommands.DomainValues.declared.backpressure_str
 use Rattle.iox_hub_laws.specs.HubCommands.DomainValues.declared.degradation.DegradationAction.{DegradationAction}
 use Rattle.iox_hub_laws.specs.HubCommands.DomainValues.declared.degradation.DegradationCause.{DegradationCause}
 use Rattle.iox_hub_laws.specs.HubCommands.DomainValues.declared.degradation.DegradationInfo.{DegradationInfo}
-use Rattle.iox_hub_laws.specs.HubFactories.Closing.{ClosesUnless, ClosesIfOf, ClosesNumbered}
-use Rattle.iox_hub_laws.specs.HubFactories.Domain.Domains.{IsNewDomain}
-use Rattle.iox_hub_laws.specs.HubFactories.Domain.declared.domain.Domain.{Domain}
-use Rattle.iox_hub_laws.specs.HubFactories.Foreign.{ActsNamed}
-use Rattle.iox_hub_laws.specs.HubFactories.HubBase.Closing.{is_last, less_one}
-use Rattle.iox_hub_laws.specs.HubFactories.HubBase.Opening.{Made as Opened, Enters, Settles, OpensInHub}
-use Rattle.iox_hub_laws.specs.HubFactories.HubBase.declared.hub.Hub.{Hub}
-use Rattle.iox_hub_laws.specs.HubFactories.HubBase.declared.hub.HubConfig.{HubConfig}
-use Rattle.iox_hub_laws.specs.HubFactories.HubServices.AsHome.{domain_at, stepped_if}
-use Rattle.iox_hub_laws.specs.HubFactories.HubServices.Numbered.{one_value, others_beside}
-use Rattle.iox_hub_laws.specs.HubFactories.HubServices.Open.{OpenServices, presence_of}
-use Rattle.iox_hub_laws.specs.HubFactories.HubServices.Opening.{Opens as ServiceOpens}
-use Rattle.iox_hub_laws.specs.HubFactories.HubServices.declared.presence.Presence.{Presence}
-use Rattle.iox_hub_laws.specs.HubFactories.HubServices.declared.presence.Presence.TheVariants.{Here}
-use Rattle.iox_hub_laws.specs.HubFactories.Maps.NumberTable.{NumberTable}
-use Rattle.iox_hub_laws.specs.HubFactories.Numbering.{GetsNumber}
-use Rattle.iox_hub_laws.specs.HubFactories.Tables.{FactoryTable, parts_of}
-use Rattle.iox_hub_laws.specs.HubFactories.declared.made.MadeFactory.{MadeFactory}
+use Rattle.iox_hub_laws.specs.HubCommands.Closing.{ClosesUnless, ClosesIfOf, ClosesNumbered}
+use Rattle.iox_hub_laws.specs.HubCommands.Domain.Domains.{IsNewDomain}
+use Rattle.iox_hub_laws.specs.HubCommands.Domain.declared.domain.Domain.{Domain}
+use Rattle.iox_hub_laws.specs.HubCommands.Foreign.{ActsNamed}
+use Rattle.iox_hub_laws.specs.HubCommands.HubBase.Closing.{is_last, less_one}
+use Rattle.iox_hub_laws.specs.HubCommands.HubBase.Opening.{Made as Opened, Enters, Settles, OpensInHub}
+use Rattle.iox_hub_laws.specs.HubCommands.HubBase.declared.hub.Hub.{Hub}
+use Rattle.iox_hub_laws.specs.HubCommands.HubBase.declared.hub.HubConfig.{HubConfig}
+use Rattle.iox_hub_laws.specs.HubCommands.HubServices.AsHome.{domain_at, stepped_if}
+use Rattle.iox_hub_laws.specs.HubCommands.HubServices.Numbered.{one_value, others_beside}
+use Rattle.iox_hub_laws.specs.HubCommands.HubServices.Open.{OpenServices, presence_of}
+use Rattle.iox_hub_laws.specs.HubCommands.HubServices.Opening.{Opens as ServiceOpens}
+use Rattle.iox_hub_laws.specs.HubCommands.HubServices.declared.presence.Presence.{Presence}
+use Rattle.iox_hub_laws.specs.HubCommands.HubServices.declared.presence.Presence.TheVariants.{Here}
+use Rattle.iox_hub_laws.specs.HubCommands.Maps.NumberTable.{NumberTable}
+use Rattle.iox_hub_laws.specs.HubCommands.ServicesNumbering.{GetsNumber}
+use Rattle.iox_hub_laws.specs.HubCommands.ServicesTables.{FactoryTable, parts_of}
+use Rattle.iox_hub_laws.specs.HubCommands.declared.services.made.MadeFactory.{MadeFactory}
 use Rattle.iox_hub_laws.specs.HubRun.AgreementLaws.{service_of}
 use Rattle.iox_hub_laws.specs.HubRun.Numbers.{IsNew}
 use Rattle.iox_hub_laws.specs.HubRun.Runs.{IsRun}

@@ -13,7 +13,7 @@ use Rattle.iox_hub_commands.specs.DomainValues.declared.degradation.DegradationI
 use Rattle.iox_hub_commands.specs.Command.declared.command.Command.{Command}
 use Rattle.iox_hub_commands.specs.Command.declared.reply.Reply.{Reply}
 use Rattle.iox_hub_commands.specs.DescribeBase.declared.hash.ServiceHash.{ServiceHash}
-use Rattle.iox_hub_factories.specs.HubBase.declared.hub.HubConfig.{HubConfig}
+use Rattle.iox_hub_commands.specs.HubBase.declared.hub.HubConfig.{HubConfig}
 use Rattle.iox_negotiate.proofs.Agreements.{was-agreed-on}
 use Rattle.iox_hub_run.specs.Agreements.{AreOfOneAgreement}
 use Rattle.iox_hub_run.specs.Lives.{NumbersRise}

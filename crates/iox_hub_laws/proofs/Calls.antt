@@ -7,37 +7,37 @@ use Rattle.std.specs.Map.{values_of}
 use Rattle.std.specs.Ordering.{nat_cmp}
 use Rattle.std.specs.Prelude.{sum_by}
 use Rattle.std.specs.declared.alloc.AllocError.{AllocError}
-use Rattle.iox_domain_laws.specs.Calls.{PortCall, PublisherComes, SubscriberComes, Lends, Writes, GivesLoanUp, PublisherUpdates, Sends, Retries, GivesSendUp, PublisherLeaves, SubscriberUpdates, AsksForSamples, Receives, Releases, SubscriberLeaves, Happens}
-use Rattle.iox_domain_laws.specs.Order.{Happen}
-use Rattle.iox_domain_laws.specs.DomainPorts.Lending as lending
-use Rattle.iox_domain_laws.specs.DomainPorts.Living.{living, living_subscribers}
-use Rattle.iox_domain_laws.specs.DomainPorts.Making as making
-use Rattle.iox_domain_laws.specs.DomainPorts.Ports.{with_publisher, with_both, AtPublisher, AtSubscriber}
-use Rattle.iox_domain_laws.specs.DomainPorts.Publishing as publishing
-use Rattle.iox_domain_laws.specs.DomainPorts.Reading as reading
-use Rattle.iox_domain_laws.specs.DomainPorts.Rolls.{left, entered}
-use Rattle.iox_domain_laws.specs.DomainPorts.Subscribers as members
-use Rattle.iox_domain_laws.specs.DomainPorts.Subscribing as subscribing
-use Rattle.iox_domain_laws.specs.DomainPorts.declared.making.PublisherConfig.{PublisherConfig}
-use Rattle.iox_domain_laws.specs.DomainPorts.declared.service_ports.ServicePorts.{ServicePorts}
-use Rattle.iox_domain_laws.specs.DomainPublisher.Leaving.{departed}
-use Rattle.iox_domain_laws.specs.DomainPublisher.Writing.{changed_if, given_up}
-use Rattle.iox_domain_laws.specs.DomainPublisher.declared.publisher_port.PublisherPort.{PublisherPort}
-use Rattle.iox_domain_laws.specs.DomainSubscriber.Arriving.{new_subscriber}
-use Rattle.iox_domain_laws.specs.DomainSubscriber.Living.{living_publishers, living_of_publisher, living_of_subscriber, counted}
-use Rattle.iox_domain_laws.specs.DomainSubscriber.Publishers as among
-use Rattle.iox_domain_laws.specs.DomainSubscriber.Reading.{place_of}
-use Rattle.iox_domain_laws.specs.DomainSubscriber.Receiving.{left_all}
-use Rattle.iox_domain_laws.specs.DomainSubscriber.declared.attached.Taken.{Taken}
-use Rattle.iox_domain_laws.specs.DomainSubscriber.declared.subscriber_port.SubscriberPort.{SubscriberPort}
-use Rattle.iox_domain_laws.specs.DomainValues.Sizes.{buffer_of}
-use Rattle.iox_domain_laws.specs.DomainValues.declared.backpressure.BackpressureDecision.{BackpressureDecision}
-use Rattle.iox_domain_laws.specs.DomainValues.declared.backpressure.BackpressureInfo.{BackpressureInfo}
-use Rattle.iox_domain_laws.specs.DomainValues.declared.create_error.PublisherCreateError.{PublisherCreateError}
-use Rattle.iox_domain_laws.specs.DomainValues.declared.create_error.SubscriberCreateError.{SubscriberCreateError}
-use Rattle.iox_domain_laws.specs.DomainValues.declared.degradation.DegradationAction.{DegradationAction}
-use Rattle.iox_domain_laws.specs.DomainValues.declared.degradation.DegradationInfo.{DegradationInfo}
-use Rattle.iox_domain_laws.specs.DomainValues.declared.port_owner.PortOwner.{PortOwner}
+use Rattle.iox_domain.specs.Calls.{PortCall, PublisherComes, SubscriberComes, Lends, Writes, GivesLoanUp, PublisherUpdates, Sends, Retries, GivesSendUp, PublisherLeaves, SubscriberUpdates, AsksForSamples, Receives, Releases, SubscriberLeaves, Happens}
+use Rattle.iox_domain.specs.Order.{Happen}
+use Rattle.iox_domain.specs.Lending as lending
+use Rattle.iox_domain.specs.Living.{living, living_subscribers}
+use Rattle.iox_domain.specs.Making as making
+use Rattle.iox_domain.specs.Ports.{with_publisher, with_both, AtPublisher, AtSubscriber}
+use Rattle.iox_domain.specs.PortsPublishing as publishing
+use Rattle.iox_domain.specs.Reading as reading
+use Rattle.iox_domain.specs.Rolls.{left, entered}
+use Rattle.iox_domain.specs.Subscribers as members
+use Rattle.iox_domain.specs.PortsSubscribing as subscribing
+use Rattle.iox_domain.specs.declared.ports.making.PublisherConfig.{PublisherConfig}
+use Rattle.iox_domain.specs.declared.ports.service_ports.ServicePorts.{ServicePorts}
+use Rattle.iox_domain.specs.DomainPublisher.Leaving.{departed}
+use Rattle.iox_domain.specs.DomainPublisher.Writing.{changed_if, given_up}
+use Rattle.iox_domain.specs.DomainPublisher.declared.publisher_port.PublisherPort.{PublisherPort}
+use Rattle.iox_domain.specs.DomainSubscriber.Arriving.{new_subscriber}
+use Rattle.iox_domain.specs.DomainSubscriber.Living.{living_publishers, living_of_publisher, living_of_subscriber, counted}
+use Rattle.iox_domain.specs.DomainSubscriber.Publishers as among
+use Rattle.iox_domain.specs.DomainSubscriber.Reading.{place_of}
+use Rattle.iox_domain.specs.DomainSubscriber.Receiving.{left_all}
+use Rattle.iox_domain.specs.DomainSubscriber.declared.attached.Taken.{Taken}
+use Rattle.iox_domain.specs.DomainSubscriber.declared.subscriber_port.SubscriberPort.{SubscriberPort}
+use Rattle.iox_domain.specs.DomainValues.Sizes.{buffer_of}
+use Rattle.iox_domain.specs.DomainValues.declared.backpressure.BackpressureDecision.{BackpressureDecision}
+use Rattle.iox_domain.specs.DomainValues.declared.backpressure.BackpressureInfo.{BackpressureInfo}
+use Rattle.iox_domain.specs.DomainValues.declared.create_error.PublisherCreateError.{PublisherCreateError}
+use Rattle.iox_domain.specs.DomainValues.declared.create_error.SubscriberCreateError.{SubscriberCreateError}
+use Rattle.iox_domain.specs.DomainValues.declared.degradation.DegradationAction.{DegradationAction}
+use Rattle.iox_domain.specs.DomainValues.declared.degradation.DegradationInfo.{DegradationInfo}
+use Rattle.iox_domain.specs.DomainValues.declared.port_owner.PortOwner.{PortOwner}
 use Rattle.iox_hub_laws.specs.Renaming.{Renaming, renamed_owner, renamed_publisher, renamed_subscriber, renamed_publishers, renamed_subscribers, renamed_ports, renamed_call, renamed_config, renamed_failure, renamed_mailbox}
 use Rattle.iox_hub_laws.specs.RenamingLaws.{TestsAlike, AllTestAlike, renamed_calls, CallsGoByAnyName, ReadsAlike}
 use Rattle.iox_hub_laws.proofs.AmongPublishers.{found_as, connection_as, set_as, added_as, settled_as, changed_as, released_as}
@@ -168,6 +168,14 @@ module _ {T U : Type 0} (by : Renaming) where
       subst (λ connection. subscribing.ReleasesAt number sample (place_of sample.slot connection) (whole old) answer (whole new)) (sym (connection_as by sample.publisher sample.index old.publishers))
       (releases_at number sample (place_of sample.slot (among.connection_in sample.publisher sample.index old.publishers)) old new answer does)
 
+  releases_own : (own : Bool) (number : ℕ) (sample : Taken) (old new : ServicePorts T U) (answer : Bool)
+      → subscribing.ReleasesOf (cond own (members.subscriber_of number old.subscribers) None) number sample old answer new
+      → subscribing.ReleasesOf (cond own (members.subscriber_of number (renamed_subscribers by old.subscribers)) None) number sample (whole old) answer (whole new)
+  releases_own true number sample old new answer does =
+      subst (λ found. subscribing.ReleasesOf found number sample (whole old) answer (whole new)) (sym (reader_as by number old.subscribers))
+      (releases_of (members.subscriber_of number old.subscribers) number sample old new answer does)
+  releases_own false number sample old new answer does = releases_of None number sample old new answer does
+
   module _ (may other_may : DegradationInfo → DegradationAction → Type 0) (degrading : (info : DegradationInfo) (action : DegradationAction) → may info action → other_may (renamed_failure by info) action) where
     -- ---- ports come
 
@@ -259,7 +267,7 @@ module _ {T U : Type 0} (by : Renaming) where
         at_reader number (subscribing.ReceivesOne may old.publisher_list) (subscribing.ReceivesOne other_may old.publisher_list)
         (λ port after ports ports_after outcome receives. subscriber.receives_one by may other_may degrading port.stands old.publisher_list port after ports ports_after outcome receives) old new answer does
     happens_as overrides decide other_decide deciding (Releases number sample answer) old new tests does =
-        subst (λ found. subscribing.ReleasesOf found number sample (whole old) answer (whole new)) (sym (reader_as by number old.subscribers)) (releases_of (members.subscriber_of number old.subscribers) number sample old new answer does)
+        releases_own (sample.subscriber == number) number sample old new answer does
     happens_as overrides decide other_decide deciding (SubscriberLeaves number answer) old new tests does =
         subst (λ found. subscribing.LeavesAt number found (whole old) answer (whole new)) (sym (reader_as by number old.subscribers)) (subscriber_leaves number (members.subscriber_of number old.subscribers) old new answer does)
 

@@ -21,17 +21,17 @@ use Rattle.iox_hub_laws.specs.HubCommands.DomainValues.declared.backpressure_str
 use Rattle.iox_hub_laws.specs.HubCommands.DomainValues.declared.degradation.DegradationAction.{DegradationAction}
 use Rattle.iox_hub_laws.specs.HubCommands.DomainValues.declared.degradation.DegradationCause.{DegradationCause}
 use Rattle.iox_hub_laws.specs.HubCommands.DomainValues.declared.degradation.DegradationInfo.{DegradationInfo}
-use Rattle.iox_hub_laws.specs.HubFactories.Closing.{ClosesUnless, ClosesIfOf, ClosesNumbered}
-use Rattle.iox_hub_laws.specs.HubFactories.Domain.Kept.{kept, forgotten}
-use Rattle.iox_hub_laws.specs.HubFactories.HubBase.Closing.{is_last, who_counts, lives_in, in_use, less_one}
-use Rattle.iox_hub_laws.specs.HubFactories.HubBase.Hubs.{factories_of}
-use Rattle.iox_hub_laws.specs.HubFactories.HubBase.declared.hub.Hub.{Hub}
-use Rattle.iox_hub_laws.specs.HubFactories.HubServices.Numbered.{is_number, not_number, others_beside}
-use Rattle.iox_hub_laws.specs.HubFactories.HubServices.Open.{presence_of}
-use Rattle.iox_hub_laws.specs.HubFactories.HubServices.Opening.{without_service}
-use Rattle.iox_hub_laws.specs.HubFactories.Maps.NumberTable.{Rises, value_at, removed}
-use Rattle.iox_hub_laws.specs.HubFactories.Tables.{FactoryTable, parts_of}
-use Rattle.iox_hub_laws.specs.HubFactories.declared.made.MadeFactory.{MadeFactory}
+use Rattle.iox_hub_laws.specs.HubCommands.Closing.{ClosesUnless, ClosesIfOf, ClosesNumbered}
+use Rattle.iox_hub_laws.specs.HubCommands.Domain.Kept.{kept, forgotten}
+use Rattle.iox_hub_laws.specs.HubCommands.HubBase.Closing.{is_last, who_counts, lives_in, in_use, less_one}
+use Rattle.iox_hub_laws.specs.HubCommands.HubBase.Hubs.{factories_of}
+use Rattle.iox_hub_laws.specs.HubCommands.HubBase.declared.hub.Hub.{Hub}
+use Rattle.iox_hub_laws.specs.HubCommands.HubServices.Numbered.{is_number, not_number, others_beside}
+use Rattle.iox_hub_laws.specs.HubCommands.HubServices.Open.{presence_of}
+use Rattle.iox_hub_laws.specs.HubCommands.HubServices.Opening.{without_service}
+use Rattle.iox_hub_laws.specs.HubCommands.Maps.NumberTable.{Rises, value_at, removed}
+use Rattle.iox_hub_laws.specs.HubCommands.ServicesTables.{FactoryTable, parts_of}
+use Rattle.iox_hub_laws.specs.HubCommands.declared.services.made.MadeFactory.{MadeFactory}
 use Rattle.iox_hub_laws.specs.HubRun.AgreementLaws.{service_of, carried_by}
 use Rattle.iox_hub_laws.specs.HubRun.Lives.{NumbersRise}
 use Rattle.iox_hub_laws.specs.HubRun.Services.{Closes}

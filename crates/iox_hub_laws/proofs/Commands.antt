@@ -15,10 +15,10 @@ use Rattle.iox_hub_laws.specs.HubCommands.DomainValues.declared.backpressure_str
 use Rattle.iox_hub_laws.specs.HubCommands.DomainValues.declared.degradation.DegradationAction.{DegradationAction}
 use Rattle.iox_hub_laws.specs.HubCommands.DomainValues.declared.degradation.DegradationCause.{DegradationCause}
 use Rattle.iox_hub_laws.specs.HubCommands.DomainValues.declared.degradation.DegradationInfo.{DegradationInfo}
-use Rattle.iox_hub_laws.specs.HubFactories.HubBase.Hubs.{is_node}
-use Rattle.iox_hub_laws.specs.HubFactories.HubBase.declared.hub.Hub.{Hub}
-use Rattle.iox_hub_laws.specs.HubFactories.declared.factories.Factories.{Factories}
-use Rattle.iox_hub_laws.specs.HubFactories.HubBase.Opening.{Made as Opened}
+use Rattle.iox_hub_laws.specs.HubCommands.HubBase.Hubs.{is_node}
+use Rattle.iox_hub_laws.specs.HubCommands.HubBase.declared.hub.Hub.{Hub}
+use Rattle.iox_hub_laws.specs.HubCommands.declared.services.factories.Factories.{Factories}
+use Rattle.iox_hub_laws.specs.HubCommands.HubBase.Opening.{Made as Opened}
 use Rattle.iox_hub_laws.specs.HubCommands.Command.declared.port.PublisherOptions.{PublisherOptions}
 use Rattle.iox_hub_laws.specs.HubCommands.Command.declared.port.SubscriberOptions.{SubscriberOptions}
 use Rattle.iox_hub_laws.specs.HubRun.Services.{NodeMakes, PublisherComes, SubscriberComes}

@@ -5,18 +5,18 @@ use Rattle.std.specs.BTreeMap.{is_at}
 use Rattle.std.specs.Map.{lookup, set_value}
 use Rattle.std.specs.Ordering.{nat_cmp}
 use Rattle.iox_hub_laws.specs.HubCommands.DescribeBase.declared.hash.ServiceHash.{ServiceHash}
-use Rattle.iox_hub_laws.specs.HubCommands.DomainHome.Homes.{AtDomain, LeavesDomain, MakesAt}
-use Rattle.iox_hub_laws.specs.HubCommands.DomainHome.declared.domain_id.DomainId.{DomainId}
-use Rattle.iox_hub_laws.specs.HubCommands.DomainPorts.declared.service_ports.ServicePorts.{ServicePorts}
+use Rattle.iox_hub_laws.specs.HubCommands.Domain.AtHomes.{AtDomain, LeavesDomain, MakesAt}
+use Rattle.iox_hub_laws.specs.HubCommands.Domain.declared.domain_id.DomainId.{DomainId}
+use Rattle.iox_hub_laws.specs.HubCommands.Domain.declared.ports.service_ports.ServicePorts.{ServicePorts}
 use Rattle.iox_hub_laws.specs.HubCommands.Delivery.Publishing.{changed_at}
-use Rattle.iox_hub_laws.specs.HubFactories.Domain.Domains.{with_ports}
-use Rattle.iox_hub_laws.specs.HubFactories.Domain.declared.domain.Domain.{Domain}
-use Rattle.iox_hub_laws.specs.HubFactories.HubBase.AsHome.{hub_ports, with_hub_ports, with_services}
-use Rattle.iox_hub_laws.specs.HubFactories.HubBase.declared.hub.Hub.{Hub}
-use Rattle.iox_hub_laws.specs.HubFactories.HubServices.AsHome.{domain_at, stepped, stepped_if}
-use Rattle.iox_hub_laws.specs.HubFactories.HubServices.Numbered.{changed_found, absent_unchanged, others_unchanged}
-use Rattle.iox_hub_laws.specs.HubFactories.HubServices.Open.{OpenServices, presence_of, here_if, with_domain}
-use Rattle.iox_hub_laws.specs.HubFactories.HubServices.declared.presence.Presence.TheVariants.{Here}
+use Rattle.iox_hub_laws.specs.HubCommands.Domain.Domains.{with_ports}
+use Rattle.iox_hub_laws.specs.HubCommands.Domain.declared.domain.Domain.{Domain}
+use Rattle.iox_hub_laws.specs.HubCommands.HubBase.AsHome.{hub_ports, with_hub_ports, with_services}
+use Rattle.iox_hub_laws.specs.HubCommands.HubBase.declared.hub.Hub.{Hub}
+use Rattle.iox_hub_laws.specs.HubCommands.HubServices.AsHome.{domain_at, ports_if, stepped, stepped_if}
+use Rattle.iox_hub_laws.specs.HubCommands.HubServices.Numbered.{changed_found, absent_unchanged, others_unchanged}
+use Rattle.iox_hub_laws.specs.HubCommands.HubServices.Open.{OpenServices, presence_of, here_if, with_domain}
+use Rattle.iox_hub_laws.specs.HubCommands.HubServices.declared.presence.Presence.TheVariants.{Here}
 use Rattle.iox_hub_laws.specs.Agreeing.{HubsAgree}
 
 set_found : {X : Type 0} (number : ℕ) (values : List (ℕ × X)) (w : X) (found : Option X) → lookup (is_at (nat_cmp number)) values ≡ found → lookup (is_at (nat_cmp number)) (set_value (is_at (nat_cmp number)) values w) ≡ option_map (λ x. w) found
@@ -63,7 +63,7 @@ module _ {T U B D : Type 0} (hash : ServiceHash) (mine : ℕ → Bool) where
         ∙ ap (λ found. if id.hub == one.services.hub then here_if found else None) (agree.presence id.service of)
 
     pub ports_same : (one other : Hub T U B D) → HubsAgree hash mine one other → hub_ports id other ≡ hub_ports id one
-    ports_same one other agree = ap (λ found. option_map (λ domain. domain.ports) found) (domain_same one other agree)
+    ports_same one other agree = ap ports_if (domain_same one other agree)
 
     -- the domain takes the same step in both
     pub stepped_agree : (step : Domain T U B D → Domain T U B D) (one other : Hub T U B D) → HubsAgree hash mine one other
@@ -94,7 +94,7 @@ module _ {T U B D : Type 0} (hash : ServiceHash) (mine : ℕ → Bool) where
     at_domain_alike step one new other answer agree at =
         let (after, there, agree_after) = at_found (step (domain_at id one.services)) (hub_ports id one) one new other answer agree at in (
           after,
-          subst (λ found. AtDomain (λ ports. with_hub_ports id ports other) (step found) (option_map (λ domain. domain.ports) found) other answer after) (sym (domain_same one other agree)) there,
+          subst (λ found. AtDomain (λ ports. with_hub_ports id ports other) (step found) (ports_if found) other answer after) (sym (domain_same one other agree)) there,
           agree_after,
         )
 

@@ -16,7 +16,7 @@ use Rattle.iox_hub_laws.specs.HubCommands.DescribeBase.declared.hash.ServiceHash
 use Rattle.iox_hub_laws.specs.HubCommands.DescribeBase.declared.message_type.MessageTypeDetails.{MessageTypeDetails}
 use Rattle.iox_hub_laws.specs.HubCommands.DescribeBase.declared.pattern.MessagingPattern.{MessagingPattern}
 use Rattle.iox_hub_laws.specs.HubCommands.DescribeSettings.declared.static_config.Settings.{Settings}
-use Rattle.iox_hub_laws.specs.HubCommands.DomainHome.declared.domain_id.DomainId.{DomainId}
+use Rattle.iox_hub_laws.specs.HubCommands.Domain.declared.domain_id.DomainId.{DomainId}
 use Rattle.iox_hub_laws.specs.HubCommands.DomainValues.declared.backpressure.BackpressureAction.{BackpressureAction}
 use Rattle.iox_hub_laws.specs.HubCommands.DomainValues.declared.backpressure.BackpressureDecision.{BackpressureDecision}
 use Rattle.iox_hub_laws.specs.HubCommands.DomainValues.declared.backpressure.BackpressureInfo.{BackpressureInfo}
@@ -24,21 +24,21 @@ use Rattle.iox_hub_laws.specs.HubCommands.DomainValues.declared.backpressure_str
 use Rattle.iox_hub_laws.specs.HubCommands.DomainValues.declared.degradation.DegradationAction.{DegradationAction}
 use Rattle.iox_hub_laws.specs.HubCommands.DomainValues.declared.degradation.DegradationCause.{DegradationCause}
 use Rattle.iox_hub_laws.specs.HubCommands.DomainValues.declared.degradation.DegradationInfo.{DegradationInfo}
-use Rattle.iox_hub_laws.specs.HubFactories.Closing.{ClosesUnless, ClosesIfOf, ClosesNumbered}
-use Rattle.iox_hub_laws.specs.HubFactories.Domain.declared.domain.Domain.{Domain}
-use Rattle.iox_hub_laws.specs.HubFactories.Foreign.{ActsNamed}
-use Rattle.iox_hub_laws.specs.HubFactories.HubBase.AsHome.{with_services}
-use Rattle.iox_hub_laws.specs.HubFactories.HubBase.Closing.{is_last, less_one}
-use Rattle.iox_hub_laws.specs.HubFactories.HubBase.Hubs.{one_more, factories_of}
-use Rattle.iox_hub_laws.specs.HubFactories.HubBase.Opening.{Made, Enters, Settles, OpensInHub}
-use Rattle.iox_hub_laws.specs.HubFactories.HubBase.declared.hub.Hub.{Hub}
-use Rattle.iox_hub_laws.specs.HubFactories.HubServices.AsHome.{domain_at, stepped, stepped_if}
-use Rattle.iox_hub_laws.specs.HubFactories.HubServices.Open.{OpenServices}
-use Rattle.iox_hub_laws.specs.HubFactories.HubServices.Opening.{Opens as ServiceOpens}
-use Rattle.iox_hub_laws.specs.HubFactories.HubServices.declared.presence.Presence.TheVariants.{Here}
-use Rattle.iox_hub_laws.specs.HubFactories.Numbering.{GetsNumber}
-use Rattle.iox_hub_laws.specs.HubFactories.Tables.{FactoryTable, parts_of}
-use Rattle.iox_hub_laws.specs.HubFactories.declared.made.MadeFactory.{MadeFactory}
+use Rattle.iox_hub_laws.specs.HubCommands.Closing.{ClosesUnless, ClosesIfOf, ClosesNumbered}
+use Rattle.iox_hub_laws.specs.HubCommands.Domain.declared.domain.Domain.{Domain}
+use Rattle.iox_hub_laws.specs.HubCommands.Foreign.{ActsNamed}
+use Rattle.iox_hub_laws.specs.HubCommands.HubBase.AsHome.{with_services}
+use Rattle.iox_hub_laws.specs.HubCommands.HubBase.Closing.{is_last, less_one}
+use Rattle.iox_hub_laws.specs.HubCommands.HubBase.Hubs.{one_more, factories_of}
+use Rattle.iox_hub_laws.specs.HubCommands.HubBase.Opening.{Made, Enters, Settles, OpensInHub}
+use Rattle.iox_hub_laws.specs.HubCommands.HubBase.declared.hub.Hub.{Hub}
+use Rattle.iox_hub_laws.specs.HubCommands.HubServices.AsHome.{domain_at, stepped, stepped_if}
+use Rattle.iox_hub_laws.specs.HubCommands.HubServices.Open.{OpenServices}
+use Rattle.iox_hub_laws.specs.HubCommands.HubServices.Opening.{Opens as ServiceOpens}
+use Rattle.iox_hub_laws.specs.HubCommands.HubServices.declared.presence.Presence.TheVariants.{Here}
+use Rattle.iox_hub_laws.specs.HubCommands.ServicesNumbering.{GetsNumber}
+use Rattle.iox_hub_laws.specs.HubCommands.ServicesTables.{FactoryTable, parts_of}
+use Rattle.iox_hub_laws.specs.HubCommands.declared.services.made.MadeFactory.{MadeFactory}
 use Rattle.iox_hub_laws.specs.HubRun.Steps.{IsReplied, Step}
 use Rattle.iox_hub_laws.specs.HubRun.declared.numbered_hub.NumberedHub.{NumberedHub}
 use Rattle.iox_hub_laws.specs.Asking.{hash_asked}
@@ -50,13 +50,14 @@ use Rattle.iox_hub_laws.specs.Negotiate.NegotiateTable.declared.step.ForeignStep
 use Rattle.iox_hub_laws.proofs.Negotiate.Agreements.{past-on, no-past, went-past, stepped-went-past}
 use Rattle.iox_hub_laws.proofs.Negotiate.Maps.{Rising, insert-rising, remove-rising, set-rising}
 use Rattle.iox_hub_laws.proofs.Negotiate.Stepping.{Past, acts-ran}
-use Rattle.iox_hub_laws.specs.HubFactories.Asking.{hash_of}
+use Rattle.iox_hub_laws.specs.HubCommands.Asking.{hash_of}
 use Rattle.iox_hub_laws.specs.Locality.{IsNode, IsOpening}
 use Rattle.iox_hub_laws.proofs.Keeping.{OfServices, step_keeps}
 use Rattle.iox_hub_laws.proofs.LocalityNegotiated.{IsNegotiation}
 use Rattle.iox_hub_laws.proofs.Opened.{opening_goes}
 
--- What is as it was in the hub, and what went on: the table, and the count of factories, by one at most; where numbers of domains and of counts rose they rise.
+-- What is as it was in the hub, and what went on: the table, and the count of factories, by one at most; where numbers of domains
+-- and of counts rose they rise.
 pub record GoesOn {T U B D : Type 0} (old new : Hub T U B D) : Type 0 where
   pub buffer : new.expired_connection_buffer ≡ old.expired_connection_buffer
   pub id : new.services.hub ≡ old.services.hub

@@ -8,25 +8,25 @@ use Rattle.iox_hub_laws.specs.Renaming.{Renaming, renamed_ports, renamed_call, r
 use Rattle.iox_hub_laws.specs.RenamingLaws.{DegradesWhateverService, DecidesWhateverService, TestsAlike}
 use Rattle.iox_hub_laws.proofs.Calls.{happens_as}
 use Rattle.iox_hub_laws.specs.HubCommands.Delivery.Publishing.{changed_at}
-use Rattle.iox_hub_laws.specs.HubCommands.DomainHome.Homes.{AtDomain, LeavesDomain, MakesAt}
-use Rattle.iox_hub_laws.specs.HubCommands.DomainHome.declared.domain_id.DomainId.{DomainId}
-use Rattle.iox_hub_laws.specs.HubCommands.DomainLaws.Calls.{PortCall, Happens}
-use Rattle.iox_hub_laws.specs.HubCommands.DomainPorts.declared.service_ports.ServicePorts.{ServicePorts}
+use Rattle.iox_hub_laws.specs.HubCommands.Domain.AtHomes.{AtDomain, LeavesDomain, MakesAt}
+use Rattle.iox_hub_laws.specs.HubCommands.Domain.declared.domain_id.DomainId.{DomainId}
+use Rattle.iox_hub_laws.specs.HubCommands.Domain.Calls.{PortCall, Happens}
+use Rattle.iox_hub_laws.specs.HubCommands.Domain.declared.ports.service_ports.ServicePorts.{ServicePorts}
 use Rattle.iox_hub_laws.specs.HubCommands.DomainValues.declared.backpressure.BackpressureDecision.{BackpressureDecision}
 use Rattle.iox_hub_laws.specs.HubCommands.DomainValues.declared.backpressure.BackpressureInfo.{BackpressureInfo}
 use Rattle.iox_hub_laws.specs.HubCommands.DomainValues.declared.degradation.DegradationAction.{DegradationAction}
 use Rattle.iox_hub_laws.specs.HubCommands.DomainValues.declared.degradation.DegradationCause.{DegradationCause}
 use Rattle.iox_hub_laws.specs.HubCommands.DomainValues.declared.degradation.DegradationCause.TheVariants.{FailedToEstablishConnection}
 use Rattle.iox_hub_laws.specs.HubCommands.DomainValues.declared.degradation.DegradationInfo.{DegradationInfo}
-use Rattle.iox_hub_laws.specs.HubFactories.Domain.Domains.{with_ports}
-use Rattle.iox_hub_laws.specs.HubFactories.Domain.Handling.{kept_degrades, kept_decides}
-use Rattle.iox_hub_laws.specs.HubFactories.Domain.declared.domain.Domain.{Domain}
-use Rattle.iox_hub_laws.specs.HubFactories.HubBase.AsHome.{hub_ports, with_hub_ports, with_services}
-use Rattle.iox_hub_laws.specs.HubFactories.HubBase.declared.hub.Hub.{Hub}
-use Rattle.iox_hub_laws.specs.HubFactories.HubServices.AsHome.{domain_at, stepped_if, stepped, publisher_handlers_in, subscriber_handler_in}
-use Rattle.iox_hub_laws.specs.HubFactories.HubServices.Open.{OpenServices, presence_of, domain_of, here_if}
-use Rattle.iox_hub_laws.specs.HubFactories.HubServices.declared.presence.Presence.{Presence}
-use Rattle.iox_hub_laws.specs.HubFactories.HubServices.declared.presence.Presence.TheVariants.{Here, Out}
+use Rattle.iox_hub_laws.specs.HubCommands.Domain.Domains.{with_ports}
+use Rattle.iox_hub_laws.specs.HubCommands.Domain.Handling.{kept_degrades, kept_decides}
+use Rattle.iox_hub_laws.specs.HubCommands.Domain.declared.domain.Domain.{Domain}
+use Rattle.iox_hub_laws.specs.HubCommands.HubBase.AsHome.{hub_ports, with_hub_ports, with_services}
+use Rattle.iox_hub_laws.specs.HubCommands.HubBase.declared.hub.Hub.{Hub}
+use Rattle.iox_hub_laws.specs.HubCommands.HubServices.AsHome.{domain_at, ports_if, stepped_if, stepped, publisher_handlers_in, subscriber_handler_in}
+use Rattle.iox_hub_laws.specs.HubCommands.HubServices.Open.{OpenServices, presence_of, domain_of, here_if}
+use Rattle.iox_hub_laws.specs.HubCommands.HubServices.declared.presence.Presence.{Presence}
+use Rattle.iox_hub_laws.specs.HubCommands.HubServices.declared.presence.Presence.TheVariants.{Here, Out}
 use Rattle.iox_hub_laws.specs.HubRun.Grown.{AnySlots, AnyAction, AnyDecision}
 use Rattle.iox_hub_laws.specs.HubRun.Steps.{publisher_may_degrade, publisher_may_decide, subscriber_may_degrade}
 use Rattle.iox_hub_laws.specs.NegotiateRenamedRenaming.{AreInOrder}
@@ -102,12 +102,12 @@ module _ {T U B D : Type 0} (by : Renaming) (order : AreInOrder by.services) whe
     abbrev there : Hub T U B D → Hub T U B D
     there hub = renamed_hub by next count hub
 
-    ports_found : (found : Option (Domain T U B D)) → option_map (λ domain. domain.ports) (option_map here found) ≡ option_map (renamed_ports by) (option_map (λ domain. domain.ports) found)
+    ports_found : (found : Option (Domain T U B D)) → ports_if (option_map here found) ≡ option_map (renamed_ports by) (ports_if found)
     ports_found None = refl
     ports_found (Some domain) = refl
 
     pub ports_as : (id : DomainId) (hub : Hub T U B D) → HaveNumbers by hub.services.domains → hub_ports (renamed_id by id) (there hub) ≡ option_map (renamed_ports by) (hub_ports id hub)
-    ports_as id hub live = ap (option_map (λ domain. domain.ports)) (domain_as id hub.services live) ∙ ports_found (domain_at id hub.services)
+    ports_as id hub live = ap ports_if (domain_as id hub.services live) ∙ ports_found (domain_at id hub.services)
 
     moves_as : (id : DomainId) (step other : Domain T U B D → Domain T U B D) (hub : Hub T U B D) → HaveNumbers by hub.services.domains → ((domain : Domain T U B D) → other (here domain) ≡ here (step domain))
         → with_services (there hub) (stepped (renamed_id by id) other (there_services hub.services)) ≡ there (with_services hub (stepped id step hub.services))

@@ -8,12 +8,12 @@ use Rattle.iox_hub_laws.specs.HubCommands.Command.declared.reply.Reply.{Reply}
 use Rattle.iox_hub_laws.specs.HubCommands.Delivery.Publishing.{AfterLoan}
 use Rattle.iox_hub_laws.specs.HubCommands.Delivery.Subscribing.{ReleasesOne}
 use Rattle.iox_hub_laws.specs.HubCommands.Delivery.declared.port_id.PortId.{PortId}
-use Rattle.iox_hub_laws.specs.HubCommands.DeliverySlices.Slices.{each_written_in, FillsLent, WritesAndSends}
-use Rattle.iox_hub_laws.specs.HubCommands.DomainHome.Homes.{AtDomain}
-use Rattle.iox_hub_laws.specs.HubCommands.DomainHome.Steps as steps
-use Rattle.iox_hub_laws.specs.HubCommands.DomainHome.declared.domain_id.DomainId.{DomainId}
-use Rattle.iox_hub_laws.specs.HubCommands.DomainPorts.Lending.{gave_up_in}
-use Rattle.iox_hub_laws.specs.HubCommands.DomainPorts.declared.service_ports.ServicePorts.{ServicePorts}
+use Rattle.iox_hub_laws.specs.HubCommands.Delivery.Slices.{each_written_in, FillsLent, WritesAndSends}
+use Rattle.iox_hub_laws.specs.HubCommands.Domain.AtHomes.{AtDomain}
+use Rattle.iox_hub_laws.specs.HubCommands.Domain.Steps as steps
+use Rattle.iox_hub_laws.specs.HubCommands.Domain.declared.domain_id.DomainId.{DomainId}
+use Rattle.iox_hub_laws.specs.HubCommands.Domain.Lending.{gave_up_in}
+use Rattle.iox_hub_laws.specs.HubCommands.Domain.declared.ports.service_ports.ServicePorts.{ServicePorts}
 use Rattle.iox_hub_laws.specs.HubCommands.DomainPublisher.declared.meeting.Sent.{Sent}
 use Rattle.iox_hub_laws.specs.HubCommands.DomainSubscriber.declared.attached.Taken.{Taken}
 use Rattle.iox_hub_laws.specs.HubCommands.DomainValues.declared.backpressure.BackpressureDecision.{BackpressureDecision}
@@ -25,9 +25,9 @@ use Rattle.iox_hub_laws.specs.HubCommands.DomainValues.declared.degradation.Degr
 use Rattle.iox_hub_laws.specs.HubCommands.DomainValues.declared.port_error.LoanError.{LoanError}
 use Rattle.iox_hub_laws.specs.HubCommands.DomainValues.declared.port_error.ReceiveError.{ReceiveError}
 use Rattle.iox_hub_laws.specs.HubCommands.DomainValues.declared.port_error.SendError.{SendError}
-use Rattle.iox_hub_laws.specs.HubFactories.HubBase.AsHome.{hub_ports, with_hub_ports, without_hub_publisher, without_hub_subscriber}
-use Rattle.iox_hub_laws.specs.HubFactories.HubBase.declared.hub.Hub.{Hub}
-use Rattle.iox_hub_laws.specs.HubFactories.HubServices.AsHome.{publisher_kept, subscriber_kept, publisher_forgotten, subscriber_forgotten}
+use Rattle.iox_hub_laws.specs.HubCommands.HubBase.AsHome.{hub_ports, with_hub_ports, without_hub_publisher, without_hub_subscriber}
+use Rattle.iox_hub_laws.specs.HubCommands.HubBase.declared.hub.Hub.{Hub}
+use Rattle.iox_hub_laws.specs.HubCommands.HubServices.AsHome.{publisher_kept, subscriber_kept, publisher_forgotten, subscriber_forgotten}
 use Rattle.iox_hub_laws.specs.HubCommands.Following.{UpdateStep, HasStep, LeaveStep}
 use Rattle.iox_hub_laws.specs.HubCommands.Lending.{LoanStep, LoanUninitStep, PutStep}
 use Rattle.iox_hub_laws.specs.HubCommands.Messages.{SetStep, FillStep, DropStep, SendStep, RetryStep, GiveUpStep, ReleaseStep}
@@ -41,7 +41,7 @@ use Rattle.iox_hub_laws.specs.HubCommands.Tables.{IsFull, lender, port_under}
 use Rattle.iox_hub_laws.specs.HubCommands.declared.ports.made.Made.{Made}
 use Rattle.iox_hub_laws.specs.HubCommands.declared.ports.made.MadeLoan.{MadeLoan}
 use Rattle.iox_hub_laws.specs.HubCommands.declared.ports.made.MadeSample.{MadeSample}
-use Rattle.iox_hub_laws.specs.HubFactories.Maps.NumberTable.{value_at}
+use Rattle.iox_hub_laws.specs.HubCommands.Maps.NumberTable.{value_at}
 use Rattle.iox_hub_laws.specs.HubCommands.Command.declared.command.Command.{Command}
 use Rattle.iox_hub_laws.specs.HubCommands.Command.declared.command.Command.TheVariants as command
 use Rattle.iox_hub_laws.specs.HubCommands.Command.declared.port.PublisherOptions.{PublisherOptions}
@@ -49,15 +49,15 @@ use Rattle.iox_hub_laws.specs.HubCommands.Command.declared.port.SubscriberOption
 use Rattle.iox_hub_laws.specs.HubCommands.Delivery.Publishing.{changed_at}
 use Rattle.iox_hub_laws.specs.HubCommands.DescribeBase.Detail.{Detail}
 use Rattle.iox_hub_laws.specs.HubCommands.DescribeBase.declared.message_type.MessageTypeDetails.{MessageTypeDetails}
-use Rattle.iox_hub_laws.specs.HubCommands.DomainHome.Homes.{LeavesDomain, MakesAt}
+use Rattle.iox_hub_laws.specs.HubCommands.Domain.AtHomes.{LeavesDomain, MakesAt}
 use Rattle.iox_hub_laws.specs.HubCommands.DomainValues.declared.backpressure.BackpressureAction.{BackpressureAction}
 use Rattle.iox_hub_laws.specs.HubCommands.DomainValues.declared.backpressure_strategy.BackpressureStrategy.{BackpressureStrategy}
 use Rattle.iox_hub_laws.specs.HubCommands.Naming.{publisher_handlers, subscriber_handler}
-use Rattle.iox_hub_laws.specs.HubFactories.Domain.Domains.{with_ports}
-use Rattle.iox_hub_laws.specs.HubFactories.Domain.declared.domain.Domain.{Domain}
-use Rattle.iox_hub_laws.specs.HubFactories.HubBase.AsHome.{with_services}
-use Rattle.iox_hub_laws.specs.HubFactories.HubBase.Opening.{Made as Opened}
-use Rattle.iox_hub_laws.specs.HubFactories.HubServices.AsHome.{stepped}
+use Rattle.iox_hub_laws.specs.HubCommands.Domain.Domains.{with_ports}
+use Rattle.iox_hub_laws.specs.HubCommands.Domain.declared.domain.Domain.{Domain}
+use Rattle.iox_hub_laws.specs.HubCommands.HubBase.AsHome.{with_services}
+use Rattle.iox_hub_laws.specs.HubCommands.HubBase.Opening.{Made as Opened}
+use Rattle.iox_hub_laws.specs.HubCommands.HubServices.AsHome.{stepped}
 use Rattle.iox_hub_laws.specs.HubRun.Services.{PublisherComes, SubscriberComes, domain_of_factory}
 use Rattle.iox_hub_laws.specs.HubRun.Steps.{IsReplied, Step, publisher_may_degrade, publisher_may_decide, subscriber_may_degrade}
 use Rattle.iox_hub_laws.specs.HubRun.declared.numbered_hub.NumberedHub.{NumberedHub}

@@ -31,8 +31,8 @@ use Rattle.iox_hub_laws.proofs.Stepped.{StepsAgree, stepped_went_alike}
 abbrev pub StandsAs : ServiceHash → Membership → Contents → Type 0
 StandsAs hash member table = (bytes : List ℕ) × (entry_at hash table ≡ Some (Described member.service.number bytes)) × (member.service.description.service_hash ≡ hash)
 
--- What is negotiated, with its answer: accesses under a hash alone. So it may be negotiated with the same answer in each other table that has the same
--- under the hash; and the service that a node came into stands under it.
+-- What is negotiated, with its answer: accesses under a hash alone. So it may be negotiated with the same answer in each other
+-- table that has the same under the hash; and the service that a node came into stands under it.
 pub record IsNegotiation {E : Type 0} (hash : ServiceHash) (negotiates : Steps → Result Membership E → Steps → Type 0) : Type 0 where
   pub alike : (one new other : Steps) (came : Result Membership E) → StepsAgree hash one other → IsTable one.table → IsTable other.table → negotiates one came new
       → (after : Steps) × negotiates other came after × StepsAgree hash new after

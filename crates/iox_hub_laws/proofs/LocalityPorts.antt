@@ -7,10 +7,10 @@ use Rattle.iox_hub_laws.specs.HubCommands.Delivery.Holding.{loan_found}
 use Rattle.iox_hub_laws.specs.HubCommands.Delivery.Publishing.{AfterLoan, changed_at}
 use Rattle.iox_hub_laws.specs.HubCommands.Delivery.Subscribing.{ReleasesOne}
 use Rattle.iox_hub_laws.specs.HubCommands.Delivery.declared.port_id.PortId.{PortId}
-use Rattle.iox_hub_laws.specs.HubCommands.DeliverySlices.Slices.{each_written_in, FillsLent, WritesAndSends}
-use Rattle.iox_hub_laws.specs.HubCommands.DomainHome.Steps as steps
-use Rattle.iox_hub_laws.specs.HubCommands.DomainPorts.Lending.{written_in}
-use Rattle.iox_hub_laws.specs.HubCommands.DomainPorts.declared.service_ports.ServicePorts.{ServicePorts}
+use Rattle.iox_hub_laws.specs.HubCommands.Delivery.Slices.{each_written_in, FillsLent, WritesAndSends}
+use Rattle.iox_hub_laws.specs.HubCommands.Domain.Steps as steps
+use Rattle.iox_hub_laws.specs.HubCommands.Domain.Lending.{written_in}
+use Rattle.iox_hub_laws.specs.HubCommands.Domain.declared.ports.service_ports.ServicePorts.{ServicePorts}
 use Rattle.iox_hub_laws.specs.HubCommands.DomainPublisher.declared.meeting.Sent.{Sent}
 use Rattle.iox_hub_laws.specs.HubCommands.DomainPublisher.Messages.{write_all}
 use Rattle.iox_hub_laws.specs.HubCommands.DomainPublisher.MessagesSending.{has_length}
@@ -28,10 +28,10 @@ use Rattle.iox_hub_laws.specs.HubCommands.Tables.{lender, port_under}
 use Rattle.iox_hub_laws.specs.HubCommands.declared.ports.made.MadeLoan.{MadeLoan}
 use Rattle.iox_hub_laws.specs.HubCommands.declared.ports.made.MadePublisher.{MadePublisher}
 use Rattle.iox_hub_laws.specs.HubCommands.declared.ports.made.MadeSample.{MadeSample}
-use Rattle.iox_hub_laws.specs.HubFactories.Domain.Handling.{kept_degrades, kept_decides}
-use Rattle.iox_hub_laws.specs.HubFactories.HubBase.AsHome.{hub_ports, with_hub_ports, without_hub_publisher, without_hub_subscriber}
-use Rattle.iox_hub_laws.specs.HubFactories.HubBase.declared.hub.Hub.{Hub}
-use Rattle.iox_hub_laws.specs.HubFactories.HubServices.AsHome.{publisher_forgotten, subscriber_forgotten, publisher_handlers_in, subscriber_handler_in}
+use Rattle.iox_hub_laws.specs.HubCommands.Domain.Handling.{kept_degrades, kept_decides}
+use Rattle.iox_hub_laws.specs.HubCommands.HubBase.AsHome.{hub_ports, with_hub_ports, without_hub_publisher, without_hub_subscriber}
+use Rattle.iox_hub_laws.specs.HubCommands.HubBase.declared.hub.Hub.{Hub}
+use Rattle.iox_hub_laws.specs.HubCommands.HubServices.AsHome.{publisher_forgotten, subscriber_forgotten, publisher_handlers_in, subscriber_handler_in}
 use Rattle.iox_hub_laws.specs.Asking.{service_at, publisher_service, loan_service, sample_service}
 use Rattle.iox_hub_laws.specs.HubRun.Steps.{publisher_may_degrade, publisher_may_decide, subscriber_may_degrade}
 use Rattle.iox_hub_laws.specs.Agreeing.{HubsAgree}

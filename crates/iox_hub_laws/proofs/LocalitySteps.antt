@@ -12,8 +12,8 @@ use Rattle.iox_hub_laws.specs.HubCommands.Command.declared.reply.Reply.TheVarian
 use Rattle.iox_hub_laws.specs.HubCommands.DescribeBase.Detail.{Detail}
 use Rattle.iox_hub_laws.specs.HubCommands.DescribeBase.declared.hash.ServiceHash.{ServiceHash}
 use Rattle.iox_hub_laws.specs.HubCommands.DescribeBase.declared.message_type.MessageTypeDetails.{MessageTypeDetails}
-use Rattle.iox_hub_laws.specs.HubCommands.DomainHome.declared.domain_id.DomainId.{DomainId}
-use Rattle.iox_hub_laws.specs.HubCommands.DomainPorts.Lending.{gave_up_in}
+use Rattle.iox_hub_laws.specs.HubCommands.Domain.declared.domain_id.DomainId.{DomainId}
+use Rattle.iox_hub_laws.specs.HubCommands.Domain.Lending.{gave_up_in}
 use Rattle.iox_hub_laws.specs.HubCommands.DomainSubscriber.declared.attached.Taken.{Taken}
 use Rattle.iox_hub_laws.specs.HubCommands.DomainValues.declared.backpressure.BackpressureAction.{BackpressureAction}
 use Rattle.iox_hub_laws.specs.HubCommands.DomainValues.declared.backpressure.BackpressureDecision.{BackpressureDecision}
@@ -40,16 +40,16 @@ use Rattle.iox_hub_laws.specs.HubCommands.Messages.{SetStep, FillStep, DropStep,
 use Rattle.iox_hub_laws.specs.HubCommands.Naming.{publisher_handlers, subscriber_handler}
 use Rattle.iox_hub_laws.specs.HubCommands.Receiving.{ReceiveStep, IsReceiveReply, IsArrival}
 use Rattle.iox_hub_laws.specs.HubCommands.Replies.{sent_reply, given_up_reply, updated_reply, has_reply, done_reply}
-use Rattle.iox_hub_laws.specs.HubFactories.HubBase.AsHome.{hub_ports, with_hub_ports, without_hub_publisher, without_hub_subscriber}
-use Rattle.iox_hub_laws.specs.HubFactories.HubBase.Hubs.{one_more}
-use Rattle.iox_hub_laws.specs.HubFactories.HubBase.Opening.{Made as Opened}
-use Rattle.iox_hub_laws.specs.HubFactories.HubBase.declared.hub.Hub.{Hub}
-use Rattle.iox_hub_laws.specs.HubFactories.HubServices.AsHome.{publisher_kept, subscriber_kept}
-use Rattle.iox_hub_laws.specs.HubFactories.Maps.NumberTable.{value_at, inserted}
-use Rattle.iox_hub_laws.proofs.HubFactories.Maps.Telling.{found_and_gone}
-use Rattle.iox_hub_laws.specs.HubFactories.Tables.{publish_subscribe_in}
-use Rattle.iox_hub_laws.specs.HubFactories.declared.made.MadeFactory.{MadeFactory}
-use Rattle.iox_hub_laws.specs.HubFactories.declared.made.MadeFactory.TheVariants as made
+use Rattle.iox_hub_laws.specs.HubCommands.HubBase.AsHome.{hub_ports, with_hub_ports, without_hub_publisher, without_hub_subscriber}
+use Rattle.iox_hub_laws.specs.HubCommands.HubBase.Hubs.{one_more}
+use Rattle.iox_hub_laws.specs.HubCommands.HubBase.Opening.{Made as Opened}
+use Rattle.iox_hub_laws.specs.HubCommands.HubBase.declared.hub.Hub.{Hub}
+use Rattle.iox_hub_laws.specs.HubCommands.HubServices.AsHome.{publisher_kept, subscriber_kept}
+use Rattle.iox_hub_laws.specs.HubCommands.Maps.NumberTable.{value_at, inserted}
+use Rattle.iox_hub_laws.proofs.HubCommands.Maps.Telling.{found_and_gone}
+use Rattle.iox_hub_laws.specs.HubCommands.ServicesTables.{publish_subscribe_in}
+use Rattle.iox_hub_laws.specs.HubCommands.declared.services.made.MadeFactory.{MadeFactory}
+use Rattle.iox_hub_laws.specs.HubCommands.declared.services.made.MadeFactory.TheVariants as made
 use Rattle.iox_hub_laws.specs.HubRun.AgreementLaws.{service_of}
 use Rattle.iox_hub_laws.specs.HubRun.Services.{NodeMakes, PublisherComes, SubscriberComes, domain_of_factory}
 use Rattle.iox_hub_laws.specs.HubRun.Steps.{Step, publisher_may_degrade, publisher_may_decide, subscriber_may_degrade}

@@ -3,7 +3,7 @@ use Rattle.std.proofs.Common.{◌≡◌, ◌∙◌, ◌≤◌, ℕ, Bool, true, 
 use Rattle.iox_hub_laws.specs.Renaming.{Renaming}
 use Rattle.iox_hub_laws.proofs.Lists.{each_found, each_gone}
 use Rattle.iox_hub_laws.specs.HubCommands.Delivery.declared.port_id.PortId.{PortId}
-use Rattle.iox_hub_laws.specs.HubCommands.DomainHome.declared.domain_id.DomainId.{DomainId}
+use Rattle.iox_hub_laws.specs.HubCommands.Domain.declared.domain_id.DomainId.{DomainId}
 use Rattle.iox_hub_laws.specs.HubCommands.DomainSubscriber.declared.attached.Taken.{Taken}
 use Rattle.iox_hub_laws.specs.HubCommands.DomainValues.declared.port_error.LoanError.{LoanError}
 use Rattle.iox_hub_laws.specs.HubCommands.DomainValues.declared.port_error.ReceiveError.{ReceiveError}
@@ -12,11 +12,11 @@ use Rattle.iox_hub_laws.specs.HubCommands.Numbering.{removed_if, with_loan, with
 use Rattle.iox_hub_laws.specs.HubCommands.Tables.{SameNumbers, IsRoomier, IsFull, lender, port_under, without_publisher, without_subscriber, without_loan, without_sample}
 use Rattle.iox_hub_laws.specs.HubCommands.declared.ports.made.Made.{Made}
 use Rattle.iox_hub_laws.specs.HubCommands.declared.ports.made.MadePublisher.{MadePublisher}
-use Rattle.iox_hub_laws.specs.HubFactories.HubBase.Opening.{Made as Opened}
-use Rattle.iox_hub_laws.specs.HubFactories.Maps.NumberTable.{NumberTable, value_at, inserted, removed}
-use Rattle.iox_hub_laws.specs.HubFactories.Tables.{publish_subscribe_in}
-use Rattle.iox_hub_laws.specs.HubFactories.declared.made.MadeFactory.{MadeFactory}
-use Rattle.iox_hub_laws.specs.HubFactories.declared.made.MadeFactory.TheVariants as made_factory
+use Rattle.iox_hub_laws.specs.HubCommands.HubBase.Opening.{Made as Opened}
+use Rattle.iox_hub_laws.specs.HubCommands.Maps.NumberTable.{NumberTable, value_at, inserted, removed}
+use Rattle.iox_hub_laws.specs.HubCommands.ServicesTables.{publish_subscribe_in}
+use Rattle.iox_hub_laws.specs.HubCommands.declared.services.made.MadeFactory.{MadeFactory}
+use Rattle.iox_hub_laws.specs.HubCommands.declared.services.made.MadeFactory.TheVariants as made_factory
 use Rattle.iox_hub_laws.specs.NegotiateRenamedRenaming.{renamed_member}
 use Rattle.iox_hub_laws.specs.RenamedRenaming.{renamed_id, renamed_port, renamed_made_publisher, renamed_made_loan, renamed_made_sample, mapped, renamed_made, renamed_factory}
 

@@ -29,8 +29,8 @@ use Rattle.iox_negotiate.specs.Laws.{IsMet}
 use Rattle.iox_negotiate.specs.Closing.{IsUntouched}
 use Rattle.iox_hub_laws.proofs.Names.{creates_under, opens_under, either_under, stepped_went_leaves}
 
--- What a negotiation under a hash comes to: the table went on; what lies under each other hash is as it was; the service that a node came into is of the
--- hash, and agreed just as whoever agreed on it before.
+-- What a negotiation under a hash comes to: the table went on; what lies under each other hash is as it was; the service that a
+-- node came into is of the hash, and agreed just as whoever agreed on it before.
 pub record Comes {E : Type 0} (under : ServiceHash) (old new : Contents) (answer : Result Membership E) : Type 0 where
   pub past : Past old new
   pub leaves : (other : ServiceHash) → under ≢ other → IsUntouched other old new

@@ -1,5 +1,5 @@
--- A command that creates or opens a service, whatever its pattern, seen as one kind of thing: nothing happens, or something is negotiated under its hash and a
--- factory gets a number.
+-- A command that creates or opens a service, whatever its pattern, seen as one kind of thing: nothing happens, or something is
+-- negotiated under its hash and a factory gets a number.
 use Rattle.std.proofs.Common.{◌≡◌, ℕ, Bool, true, false, List, Option, Some, Result, Ok, Err, ap}
 use Rattle.std.specs.declared.alloc.AllocError.{AllocError}
 use Rattle.iox_hub_laws.specs.HubCommands.Command.declared.command.Command.{Command}
@@ -22,15 +22,15 @@ use Rattle.iox_hub_laws.specs.HubCommands.DomainValues.declared.backpressure_str
 use Rattle.iox_hub_laws.specs.HubCommands.DomainValues.declared.degradation.DegradationAction.{DegradationAction}
 use Rattle.iox_hub_laws.specs.HubCommands.DomainValues.declared.degradation.DegradationCause.{DegradationCause}
 use Rattle.iox_hub_laws.specs.HubCommands.DomainValues.declared.degradation.DegradationInfo.{DegradationInfo}
-use Rattle.iox_hub_laws.specs.HubFactories.Asking.{hash_of, agreed_of, required_agreement}
-use Rattle.iox_hub_laws.specs.HubFactories.Creating.{CreatesAs, CreatesNumbered}
-use Rattle.iox_hub_laws.specs.HubFactories.Either.{EitherAs, EitherNumbered}
-use Rattle.iox_hub_laws.specs.HubFactories.HubBase.Opening.{OpensInHub}
-use Rattle.iox_hub_laws.specs.HubFactories.HubBase.declared.hub.Hub.{Hub}
-use Rattle.iox_hub_laws.specs.HubFactories.Numbering.{GetsNumber}
-use Rattle.iox_hub_laws.specs.HubFactories.Opening.{OpensAs, OpensNumbered}
-use Rattle.iox_hub_laws.specs.HubFactories.Tables.{FactoryTable, SameNumbers}
-use Rattle.iox_hub_laws.specs.HubFactories.declared.asked.ServiceAsked.{ServiceAsked}
+use Rattle.iox_hub_laws.specs.HubCommands.Asking.{hash_of, agreed_of, required_agreement}
+use Rattle.iox_hub_laws.specs.HubCommands.Creating.{CreatesAs, CreatesNumbered}
+use Rattle.iox_hub_laws.specs.HubCommands.Either.{EitherAs, EitherNumbered}
+use Rattle.iox_hub_laws.specs.HubCommands.HubBase.Opening.{OpensInHub}
+use Rattle.iox_hub_laws.specs.HubCommands.HubBase.declared.hub.Hub.{Hub}
+use Rattle.iox_hub_laws.specs.HubCommands.ServicesNumbering.{GetsNumber}
+use Rattle.iox_hub_laws.specs.HubCommands.Opening.{OpensAs, OpensNumbered}
+use Rattle.iox_hub_laws.specs.HubCommands.ServicesTables.{FactoryTable, SameNumbers}
+use Rattle.iox_hub_laws.specs.HubCommands.declared.services.asked.ServiceAsked.{ServiceAsked}
 use Rattle.iox_hub_laws.specs.HubRun.Steps.{IsReplied, Step}
 use Rattle.iox_hub_laws.specs.HubRun.declared.numbered_hub.NumberedHub.{NumberedHub}
 use Rattle.iox_hub_laws.specs.Asking.{hash_asked}

@@ -27,22 +27,22 @@ use Rattle.iox_hub_laws.specs.HubCommands.DomainValues.declared.degradation.Degr
 use Rattle.iox_hub_laws.specs.HubCommands.DomainValues.declared.degradation.DegradationCause.{DegradationCause}
 use Rattle.iox_hub_laws.specs.HubCommands.DomainValues.declared.degradation.DegradationInfo.{DegradationInfo}
 use Rattle.iox_hub_laws.specs.HubCommands.Replies.{factory_reply}
-use Rattle.iox_hub_laws.specs.HubFactories.Asking.{hash_of, agreed_of, required_agreement}
-use Rattle.iox_hub_laws.specs.HubFactories.Creating.{CreatesAs, CreatesNumbered, create_lacking}
-use Rattle.iox_hub_laws.specs.HubFactories.Either.{EitherAs, EitherNumbered, either_lacking}
-use Rattle.iox_hub_laws.specs.HubFactories.HubBase.Hubs.{factories_of, with_factory, one_more, is_node}
-use Rattle.iox_hub_laws.specs.HubFactories.HubBase.Opening.{Made, Enters, Settles, OpensInHub}
-use Rattle.iox_hub_laws.specs.HubFactories.HubBase.declared.hub.Hub.{Hub}
-use Rattle.iox_hub_laws.specs.HubFactories.HubServices.Numbered.{others_beside}
-use Rattle.iox_hub_laws.specs.HubFactories.HubServices.Open.{OpenServices, presence_of, opened}
-use Rattle.iox_hub_laws.specs.HubFactories.HubServices.Opening.{Opens as ServiceOpens}
-use Rattle.iox_hub_laws.specs.HubFactories.Domain.Domains.{IsNewDomain}
-use Rattle.iox_hub_laws.specs.HubFactories.HubServices.declared.presence.Presence.TheVariants.{Here}
-use Rattle.iox_hub_laws.specs.HubFactories.Maps.NumberTable.{Rises, inserted}
-use Rattle.iox_hub_laws.specs.HubFactories.Numbering.{Numbers, GetsNumber}
-use Rattle.iox_hub_laws.specs.HubFactories.Opening.{OpensAs, OpensNumbered, open_lacking}
-use Rattle.iox_hub_laws.specs.HubFactories.Tables.{FactoryTable}
-use Rattle.iox_hub_laws.specs.HubFactories.declared.asked.ServiceAsked.{ServiceAsked}
+use Rattle.iox_hub_laws.specs.HubCommands.Asking.{hash_of, agreed_of, required_agreement}
+use Rattle.iox_hub_laws.specs.HubCommands.Creating.{CreatesAs, CreatesNumbered, create_lacking}
+use Rattle.iox_hub_laws.specs.HubCommands.Either.{EitherAs, EitherNumbered, either_lacking}
+use Rattle.iox_hub_laws.specs.HubCommands.HubBase.Hubs.{factories_of, with_factory, one_more, is_node}
+use Rattle.iox_hub_laws.specs.HubCommands.HubBase.Opening.{Made, Enters, Settles, OpensInHub}
+use Rattle.iox_hub_laws.specs.HubCommands.HubBase.declared.hub.Hub.{Hub}
+use Rattle.iox_hub_laws.specs.HubCommands.HubServices.Numbered.{others_beside}
+use Rattle.iox_hub_laws.specs.HubCommands.HubServices.Open.{OpenServices, presence_of, opened}
+use Rattle.iox_hub_laws.specs.HubCommands.HubServices.Opening.{Opens as ServiceOpens}
+use Rattle.iox_hub_laws.specs.HubCommands.Domain.Domains.{IsNewDomain}
+use Rattle.iox_hub_laws.specs.HubCommands.HubServices.declared.presence.Presence.TheVariants.{Here}
+use Rattle.iox_hub_laws.specs.HubCommands.Maps.NumberTable.{Rises, inserted}
+use Rattle.iox_hub_laws.specs.HubCommands.ServicesNumbering.{Numbers, GetsNumber}
+use Rattle.iox_hub_laws.specs.HubCommands.Opening.{OpensAs, OpensNumbered, open_lacking}
+use Rattle.iox_hub_laws.specs.HubCommands.ServicesTables.{FactoryTable}
+use Rattle.iox_hub_laws.specs.HubCommands.declared.services.asked.ServiceAsked.{ServiceAsked}
 use Rattle.iox_hub_laws.specs.HubRun.AgreementLaws.{service_of}
 use Rattle.iox_hub_laws.specs.HubRun.Steps.{Step}
 use Rattle.iox_hub_laws.specs.HubRun.declared.numbered_hub.NumberedHub.{NumberedHub}

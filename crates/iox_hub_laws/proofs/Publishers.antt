@@ -2,40 +2,40 @@
 use Rattle.std.proofs.Common.{◌≡◌, ◌∙◌, ℕ, zero, suc, ◌+◌, ◌-◌, Bool, true, false, cond, List, [], ◌∷◌, length, Option, None, Some, Result, Ok, Err, is_ok, refl, sym, ap, subst, inl, inr, get_or, set}
 use Rattle.std.specs.Prelude.{slice_get, nat_lt}
 use Rattle.std.specs.declared.alloc.AllocError.{AllocError}
-use Rattle.iox_domain_laws.specs.DomainPorts.Lending as lending
-use Rattle.iox_domain_laws.specs.DomainPorts.Publishing as publishing
-use Rattle.iox_domain_laws.specs.DomainPorts.Rolls.{RollState}
-use Rattle.iox_domain_laws.specs.DomainPublisher.Leaving.{parted_at, parted_from, departed}
-use Rattle.iox_domain_laws.specs.DomainPublisher.Loaning as loaning
-use Rattle.iox_domain_laws.specs.DomainPublisher.Places.{is_attached}
-use Rattle.iox_domain_laws.specs.DomainPublisher.Ports.{connection_of, is_live, with_connection_of, connection_to, Connects, Joins, Attaches, ended_at, greeted_at, welcomed_at}
-use Rattle.iox_domain_laws.specs.DomainPublisher.Sending as sending
-use Rattle.iox_domain_laws.specs.DomainPublisher.Ties.{tie_put}
-use Rattle.iox_domain_laws.specs.DomainPublisher.Updating as updating
-use Rattle.iox_domain_laws.specs.DomainPublisher.Writing.{place_of, changed_if, given_up_at, given_up}
-use Rattle.iox_domain_laws.specs.DomainPublisher.declared.meeting.Meeting.{Meeting}
-use Rattle.iox_domain_laws.specs.DomainPublisher.declared.meeting.Meeting.TheVariants as meeting
-use Rattle.iox_domain_laws.specs.DomainPublisher.declared.meeting.Sent.{Sent}
-use Rattle.iox_domain_laws.specs.DomainPublisher.declared.publisher_port.PublisherPort.{PublisherPort}
-use Rattle.iox_domain_laws.specs.DomainPublisher.declared.reader.Reader.{Reader}
-use Rattle.iox_domain_laws.specs.DomainPublisher.declared.subscriber_entry.SubscriberEntry.{SubscriberEntry}
-use Rattle.iox_domain_laws.specs.DomainPublisher.Messages.{Loan, Message}
-use Rattle.iox_domain_laws.specs.DomainPublisher.MessagesSending.{opened_for}
-use Rattle.iox_domain_laws.specs.DomainSlots.Uses.{ended}
-use Rattle.iox_domain_laws.specs.DomainSubscriber.Publishers.{ended_if_left}
-use Rattle.iox_domain_laws.specs.DomainSubscriber.Reading.{given_back_at}
-use Rattle.iox_domain_laws.specs.DomainValues.declared.data_segment.AllocationStrategy.{AllocationStrategy}
-use Rattle.iox_domain_laws.specs.DomainValues.declared.data_segment.AllocationStrategy.TheVariants as strategy
-use Rattle.iox_domain_laws.specs.DomainValues.declared.backpressure.BackpressureDecision.{BackpressureDecision}
-use Rattle.iox_domain_laws.specs.DomainValues.declared.backpressure.BackpressureDecision.TheVariants as decided
-use Rattle.iox_domain_laws.specs.DomainValues.declared.backpressure.BackpressureInfo.{BackpressureInfo}
-use Rattle.iox_domain_laws.specs.DomainValues.declared.connection_failure.ConnectionFailure.{ConnectionFailure}
-use Rattle.iox_domain_laws.specs.DomainValues.declared.degradation.DegradationAction.{DegradationAction}
-use Rattle.iox_domain_laws.specs.DomainValues.declared.degradation.DegradationInfo.{DegradationInfo}
-use Rattle.iox_domain_laws.specs.DomainValues.declared.port_error.LoanError.{LoanError}
-use Rattle.iox_domain_laws.specs.DomainValues.declared.port_error.LoanError.TheVariants as refusal
-use Rattle.iox_domain_laws.specs.DomainValues.declared.port_error.SendError.{SendError}
-use Rattle.iox_domain_laws.specs.IndexBase.declared.container.Member.{Member}
+use Rattle.iox_domain.specs.Lending as lending
+use Rattle.iox_domain.specs.PortsPublishing as publishing
+use Rattle.iox_domain.specs.Rolls.{RollState}
+use Rattle.iox_domain.specs.DomainPublisher.Leaving.{parted_at, parted_from, departed}
+use Rattle.iox_domain.specs.DomainPublisher.Loaning as loaning
+use Rattle.iox_domain.specs.DomainPublisher.Places.{is_attached}
+use Rattle.iox_domain.specs.DomainPublisher.Ports.{connection_of, is_live, with_connection_of, connection_to, Connects, Joins, Attaches, ended_at, greeted_at, welcomed_at}
+use Rattle.iox_domain.specs.DomainPublisher.Sending as sending
+use Rattle.iox_domain.specs.DomainPublisher.Ties.{tie_put}
+use Rattle.iox_domain.specs.DomainPublisher.Updating as updating
+use Rattle.iox_domain.specs.DomainPublisher.Writing.{place_of, changed_if, given_up_at, given_up}
+use Rattle.iox_domain.specs.DomainPublisher.declared.meeting.Meeting.{Meeting}
+use Rattle.iox_domain.specs.DomainPublisher.declared.meeting.Meeting.TheVariants as meeting
+use Rattle.iox_domain.specs.DomainPublisher.declared.meeting.Sent.{Sent}
+use Rattle.iox_domain.specs.DomainPublisher.declared.publisher_port.PublisherPort.{PublisherPort}
+use Rattle.iox_domain.specs.DomainPublisher.declared.reader.Reader.{Reader}
+use Rattle.iox_domain.specs.DomainPublisher.declared.subscriber_entry.SubscriberEntry.{SubscriberEntry}
+use Rattle.iox_domain.specs.DomainPublisher.Messages.{Loan, Message}
+use Rattle.iox_domain.specs.DomainPublisher.MessagesSending.{opened_for}
+use Rattle.iox_domain.specs.DomainSlots.Uses.{ended}
+use Rattle.iox_domain.specs.DomainSubscriber.Publishers.{ended_if_left}
+use Rattle.iox_domain.specs.DomainSubscriber.Reading.{given_back_at}
+use Rattle.iox_domain.specs.DomainValues.declared.data_segment.AllocationStrategy.{AllocationStrategy}
+use Rattle.iox_domain.specs.DomainValues.declared.data_segment.AllocationStrategy.TheVariants as strategy
+use Rattle.iox_domain.specs.DomainValues.declared.backpressure.BackpressureDecision.{BackpressureDecision}
+use Rattle.iox_domain.specs.DomainValues.declared.backpressure.BackpressureDecision.TheVariants as decided
+use Rattle.iox_domain.specs.DomainValues.declared.backpressure.BackpressureInfo.{BackpressureInfo}
+use Rattle.iox_domain.specs.DomainValues.declared.connection_failure.ConnectionFailure.{ConnectionFailure}
+use Rattle.iox_domain.specs.DomainValues.declared.degradation.DegradationAction.{DegradationAction}
+use Rattle.iox_domain.specs.DomainValues.declared.degradation.DegradationInfo.{DegradationInfo}
+use Rattle.iox_domain.specs.DomainValues.declared.port_error.LoanError.{LoanError}
+use Rattle.iox_domain.specs.DomainValues.declared.port_error.LoanError.TheVariants as refusal
+use Rattle.iox_domain.specs.DomainValues.declared.port_error.SendError.{SendError}
+use Rattle.iox_domain.specs.IndexBase.declared.container.Member.{Member}
 use Rattle.iox_hub_laws.specs.Renaming.{Renaming, renamed_publisher, renamed_failure, renamed_mailbox}
 
 module _ {T U : Type 0} (by : Renaming) where

@@ -1,5 +1,5 @@
 -- Calls of ports by their numbers, in a hub whose lives go by other numbers.
-use Rattle.std.proofs.Common.{◌≡◌, ◌∙◌, ◌+◌, ◌&&◌, ℕ, Bool, true, false, not, List, [], ◌∷◌, Option, None, Some, option_map, Result, Ok, Err, IfOk, refl, sym, ap, subst, length, if◌then◌else◌}
+use Rattle.std.proofs.Common.{◌≡◌, ◌∙◌, ◌+◌, ◌&&◌, ◌==◌, ℕ, Bool, true, false, not, List, [], ◌∷◌, Option, None, Some, option_map, Result, Ok, Err, IfOk, refl, sym, ap, subst, length, if◌then◌else◌}
 use Rattle.std.specs.BTreeMap.{is_at}
 use Rattle.std.specs.Ordering.{nat_cmp}
 use Rattle.std.specs.Prelude.{is_some, replicate}
@@ -14,15 +14,15 @@ use Rattle.iox_hub_laws.specs.HubCommands.Delivery.Lent.{IsReady}
 use Rattle.iox_hub_laws.specs.HubCommands.Delivery.Publishing.{AfterLoan, changed_at}
 use Rattle.iox_hub_laws.specs.HubCommands.Delivery.Subscribing.{ReleasesOne}
 use Rattle.iox_hub_laws.specs.HubCommands.Delivery.declared.port_id.PortId.{PortId}
-use Rattle.iox_hub_laws.specs.HubCommands.DeliverySlices.Slices.{each_written, each_written_in, FillsLent, WritesAndSends}
-use Rattle.iox_hub_laws.specs.HubCommands.DomainHome.Homes.{AtDomain}
-use Rattle.iox_hub_laws.specs.HubCommands.DomainHome.Steps as steps
-use Rattle.iox_hub_laws.specs.HubCommands.DomainHome.declared.domain_id.DomainId.{DomainId}
-use Rattle.iox_hub_laws.specs.HubCommands.DomainLaws.Calls as call
-use Rattle.iox_hub_laws.specs.HubCommands.DomainPorts.Lending.{passes_port, written_in, gave_up_in}
-use Rattle.iox_hub_laws.specs.HubCommands.DomainPorts.Publishing.{is_blocked}
-use Rattle.iox_hub_laws.specs.HubCommands.DomainPorts.Subscribers.{subscriber_of}
-use Rattle.iox_hub_laws.specs.HubCommands.DomainPorts.declared.service_ports.ServicePorts.{ServicePorts}
+use Rattle.iox_hub_laws.specs.HubCommands.Delivery.Slices.{each_written, each_written_in, FillsLent, WritesAndSends}
+use Rattle.iox_hub_laws.specs.HubCommands.Domain.AtHomes.{AtDomain}
+use Rattle.iox_hub_laws.specs.HubCommands.Domain.Steps as steps
+use Rattle.iox_hub_laws.specs.HubCommands.Domain.declared.domain_id.DomainId.{DomainId}
+use Rattle.iox_hub_laws.specs.HubCommands.Domain.Calls as call
+use Rattle.iox_hub_laws.specs.HubCommands.Domain.Lending.{passes_port, written_in, gave_up_in}
+use Rattle.iox_hub_laws.specs.HubCommands.Domain.PortsPublishing.{is_blocked}
+use Rattle.iox_hub_laws.specs.HubCommands.Domain.Subscribers.{subscriber_of}
+use Rattle.iox_hub_laws.specs.HubCommands.Domain.declared.ports.service_ports.ServicePorts.{ServicePorts}
 use Rattle.iox_hub_laws.specs.HubCommands.DomainPublisher.Writing.{changed_if}
 use Rattle.iox_hub_laws.specs.HubCommands.DomainPublisher.declared.meeting.Sent.{Sent}
 use Rattle.iox_hub_laws.specs.HubCommands.DomainPublisher.declared.publisher_port.PublisherPort.{PublisherPort}
@@ -45,10 +45,10 @@ use Rattle.iox_hub_laws.specs.HubCommands.Loans.{loan_under, changed_under, is_f
 use Rattle.iox_hub_laws.specs.HubCommands.Reading.{values_under, is_held, ReleasesUnder}
 use Rattle.iox_hub_laws.specs.HubCommands.declared.ports.made.MadeLoan.{MadeLoan}
 use Rattle.iox_hub_laws.specs.HubCommands.declared.ports.made.MadeSample.{MadeSample}
-use Rattle.iox_hub_laws.specs.HubFactories.Domain.Domains.{with_ports}
-use Rattle.iox_hub_laws.specs.HubFactories.HubBase.AsHome.{hub_ports, with_hub_ports, without_hub_publisher, without_hub_subscriber}
-use Rattle.iox_hub_laws.specs.HubFactories.HubBase.declared.hub.Hub.{Hub}
-use Rattle.iox_hub_laws.specs.HubFactories.HubServices.AsHome.{publisher_forgotten, subscriber_forgotten}
+use Rattle.iox_hub_laws.specs.HubCommands.Domain.Domains.{with_ports}
+use Rattle.iox_hub_laws.specs.HubCommands.HubBase.AsHome.{hub_ports, with_hub_ports, without_hub_publisher, without_hub_subscriber}
+use Rattle.iox_hub_laws.specs.HubCommands.HubBase.declared.hub.Hub.{Hub}
+use Rattle.iox_hub_laws.specs.HubCommands.HubServices.AsHome.{publisher_forgotten, subscriber_forgotten}
 use Rattle.iox_hub_laws.specs.HubRun.Grown.{AnySlots, AnyAction, AnyDecision}
 use Rattle.iox_hub_laws.specs.HubRun.Steps.{publisher_may_degrade, publisher_may_decide, subscriber_may_degrade}
 use Rattle.iox_hub_laws.specs.NegotiateRenamedRenaming.{AreInOrder}
@@ -172,8 +172,10 @@ module _ {T U B D : Type 0} (by : Renaming) (order : AreInOrder by.services) (ne
   held_there None hub live = refl
   held_there (Some held) hub live =
       ap (holds_message held.port.number held.taken) (ports_as by order next count held.port.domain hub live)
-      ∙ ap (λ is. is && is_some (message_found held.taken (option_map (renamed_ports by) (hub_ports held.port.domain hub)))) (reader_as by held.port.number (hub_ports held.port.domain hub))
-      ∙ ap (λ message. is_some (subscriber_found held.port.number (hub_ports held.port.domain hub)) && is_some message) (message_as by held.taken (hub_ports held.port.domain hub))
+      ∙ ap (λ is. (is && is_some (message_found held.taken (option_map (renamed_ports by) (hub_ports held.port.domain hub)))) && (held.taken.subscriber == held.port.number))
+      (reader_as by held.port.number (hub_ports held.port.domain hub))
+      ∙ ap (λ message. (is_some (subscriber_found held.port.number (hub_ports held.port.domain hub)) && is_some message) && (held.taken.subscriber == held.port.number))
+      (message_as by held.taken (hub_ports held.port.domain hub))
 
   pub changed_there : (change : ℕ → ℕ → ServicePorts T U → ServicePorts T U) → ((number slot : ℕ) (ports : ServicePorts T U) → change number slot (renamed_ports by ports) ≡ renamed_ports by (change number slot ports)) → (found : Option MadeLoan) (hub : Hub T U B D) → Lives hub
       → changed_under hub_ports with_hub_ports change (option_map (renamed_made_loan by) found) (there hub) ≡ there (changed_under hub_ports with_hub_ports change found hub)

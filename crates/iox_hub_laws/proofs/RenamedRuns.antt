@@ -15,11 +15,11 @@ use Rattle.iox_hub_laws.specs.HubCommands.DomainValues.declared.degradation.Degr
 use Rattle.iox_hub_laws.specs.HubCommands.DomainValues.declared.degradation.DegradationCause.{DegradationCause}
 use Rattle.iox_hub_laws.specs.HubCommands.DomainValues.declared.degradation.DegradationInfo.{DegradationInfo}
 use Rattle.iox_hub_laws.specs.HubCommands.declared.ports.made.Made.{Made}
-use Rattle.iox_hub_laws.specs.HubFactories.HubBase.Hubs.{one_more}
-use Rattle.iox_hub_laws.specs.HubFactories.HubBase.declared.hub.HubConfig.{HubConfig}
-use Rattle.iox_hub_laws.specs.HubFactories.HubServices.Open.{OpenServices}
-use Rattle.iox_hub_laws.specs.HubFactories.Maps.NumberTable.{NumberTable}
-use Rattle.iox_hub_laws.specs.HubFactories.declared.factories.Factories.{Factories}
+use Rattle.iox_hub_laws.specs.HubCommands.HubBase.Hubs.{one_more}
+use Rattle.iox_hub_laws.specs.HubCommands.HubBase.declared.hub.HubConfig.{HubConfig}
+use Rattle.iox_hub_laws.specs.HubCommands.HubServices.Open.{OpenServices}
+use Rattle.iox_hub_laws.specs.HubCommands.Maps.NumberTable.{NumberTable}
+use Rattle.iox_hub_laws.specs.HubCommands.declared.services.factories.Factories.{Factories}
 use Rattle.iox_hub_laws.specs.HubCommands.DomainValues.Actions.{decision_of}
 use Rattle.iox_hub_laws.specs.HubRun.HubCommands.declared.handlers.FixedDegradation.{FixedDegradation}
 use Rattle.iox_hub_laws.specs.HubRun.HubCommands.declared.handlers.FixedHandlers.{FixedHandlers}

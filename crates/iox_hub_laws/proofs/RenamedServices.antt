@@ -25,28 +25,28 @@ use Rattle.iox_hub_laws.specs.HubCommands.DescribeBase.declared.message_type.Mes
 use Rattle.iox_hub_laws.specs.HubCommands.DescribeBase.declared.pattern.MessagingPattern.{MessagingPattern}
 use Rattle.iox_hub_laws.specs.HubCommands.DescribeSettings.Agreement.{Agreement}
 use Rattle.iox_hub_laws.specs.HubCommands.DescribeSettings.declared.static_config.Settings.{Settings}
-use Rattle.iox_hub_laws.specs.HubFactories.Asking.{hash_of, agreed_of, required_agreement}
-use Rattle.iox_hub_laws.specs.HubFactories.Closing.{Leaves, ClosesUnless, ClosesIfOf, ClosesNumbered}
-use Rattle.iox_hub_laws.specs.HubFactories.Creating.{CreatesAs, CreatesNumbered, create_lacking}
-use Rattle.iox_hub_laws.specs.HubFactories.Domain.Kept.{kept_under, kept, forgotten}
-use Rattle.iox_hub_laws.specs.HubFactories.Either.{EitherAs, EitherNumbered, either_lacking}
-use Rattle.iox_hub_laws.specs.HubFactories.Foreign.{ActsNamed}
-use Rattle.iox_hub_laws.specs.HubFactories.HubBase.Closing.{is_last, who_counts, lives_in, in_use, less_one}
-use Rattle.iox_hub_laws.specs.HubFactories.HubBase.Foreign.{ActsOn}
-use Rattle.iox_hub_laws.specs.HubFactories.HubBase.Hubs.{factories_of, with_factory, one_more}
-use Rattle.iox_hub_laws.specs.HubFactories.HubBase.Opening.{Made, Enters, Settles, OpensInHub}
-use Rattle.iox_hub_laws.specs.HubFactories.HubBase.declared.hub.Hub.{Hub}
-use Rattle.iox_hub_laws.specs.HubFactories.HubServices.Open.{OpenServices, presence_of}
-use Rattle.iox_hub_laws.specs.HubFactories.HubServices.Opening.{is_open, Opens as ServiceOpens, without_service}
-use Rattle.iox_hub_laws.specs.HubFactories.HubServices.declared.presence.Presence.{Presence}
-use Rattle.iox_hub_laws.specs.HubFactories.HubServices.declared.presence.Presence.TheVariants.{Here, Out}
-use Rattle.iox_hub_laws.specs.HubFactories.Maps.NumberTable.{value_at}
-use Rattle.iox_hub_laws.specs.HubFactories.Numbering.{Prepares, Numbers, GetsNumber, IsSkipped, IsRefusedWith}
-use Rattle.iox_hub_laws.specs.HubFactories.Opening.{OpensAs, OpensNumbered, open_lacking}
-use Rattle.iox_hub_laws.specs.HubFactories.Tables.{FactoryTable, pattern_in, parts_of}
-use Rattle.iox_hub_laws.specs.HubFactories.declared.asked.ServiceAsked.{ServiceAsked}
-use Rattle.iox_hub_laws.specs.HubFactories.declared.made.MadeFactory.{MadeFactory}
-use Rattle.iox_hub_laws.specs.HubFactories.declared.made.MadeFactory.TheVariants as made_factory
+use Rattle.iox_hub_laws.specs.HubCommands.Asking.{hash_of, agreed_of, required_agreement}
+use Rattle.iox_hub_laws.specs.HubCommands.Closing.{Leaves, ClosesUnless, ClosesIfOf, ClosesNumbered}
+use Rattle.iox_hub_laws.specs.HubCommands.Creating.{CreatesAs, CreatesNumbered, create_lacking}
+use Rattle.iox_hub_laws.specs.HubCommands.Domain.Kept.{kept_under, kept, forgotten}
+use Rattle.iox_hub_laws.specs.HubCommands.Either.{EitherAs, EitherNumbered, either_lacking}
+use Rattle.iox_hub_laws.specs.HubCommands.Foreign.{ActsNamed}
+use Rattle.iox_hub_laws.specs.HubCommands.HubBase.Closing.{is_last, who_counts, lives_in, in_use, less_one}
+use Rattle.iox_hub_laws.specs.HubCommands.HubBase.Foreign.{ActsOn}
+use Rattle.iox_hub_laws.specs.HubCommands.HubBase.Hubs.{factories_of, with_factory, one_more}
+use Rattle.iox_hub_laws.specs.HubCommands.HubBase.Opening.{Made, Enters, Settles, OpensInHub}
+use Rattle.iox_hub_laws.specs.HubCommands.HubBase.declared.hub.Hub.{Hub}
+use Rattle.iox_hub_laws.specs.HubCommands.HubServices.Open.{OpenServices, presence_of}
+use Rattle.iox_hub_laws.specs.HubCommands.HubServices.Opening.{is_open, Opens as ServiceOpens, without_service}
+use Rattle.iox_hub_laws.specs.HubCommands.HubServices.declared.presence.Presence.{Presence}
+use Rattle.iox_hub_laws.specs.HubCommands.HubServices.declared.presence.Presence.TheVariants.{Here, Out}
+use Rattle.iox_hub_laws.specs.HubCommands.Maps.NumberTable.{value_at}
+use Rattle.iox_hub_laws.specs.HubCommands.ServicesNumbering.{Prepares, Numbers, GetsNumber, IsSkipped, IsRefusedWith}
+use Rattle.iox_hub_laws.specs.HubCommands.Opening.{OpensAs, OpensNumbered, open_lacking}
+use Rattle.iox_hub_laws.specs.HubCommands.ServicesTables.{FactoryTable, pattern_in, parts_of}
+use Rattle.iox_hub_laws.specs.HubCommands.declared.services.asked.ServiceAsked.{ServiceAsked}
+use Rattle.iox_hub_laws.specs.HubCommands.declared.services.made.MadeFactory.{MadeFactory}
+use Rattle.iox_hub_laws.specs.HubCommands.declared.services.made.MadeFactory.TheVariants as made_factory
 use Rattle.iox_hub_laws.specs.Negotiate.Factory.{membership}
 use Rattle.iox_hub_laws.specs.Negotiate.Negotiation.{Negotiates, Creates, Either}
 use Rattle.iox_hub_laws.specs.Negotiate.declared.factory.Membership.{Membership}
@@ -441,8 +441,8 @@ module _ {T U B D : Type 0} (by : Renaming) (order : AreInOrder by.services) (ow
   living_as : (number owner : ℕ) (only : Bool) (found : Option (Presence T U B D)) → 0 < by.owners owner → lives_in (who_counts only (by.owners owner)) (option_map (renamed_presence by) found) ≡ lives_in (who_counts only owner) found
   living_as number owner only None here = refl
   living_as number owner only (Some (Out agreed)) here = refl
-  living_as number owner true (Some (Here domain)) here = ap (nat_lt 0) ((reads_alike T U).lives by domain.ports)
-  living_as number owner false (Some (Here domain)) here = ap (nat_lt 0) ((reads_alike T U).lives_of by owner domain.ports (λ other same. sym (same_life by.owners own_order other owner here (sym same))))
+  living_as number owner true (Some (Here domain)) here = ap (nat_lt 0) ((reads_alike T U).lives by domain.state.ports)
+  living_as number owner false (Some (Here domain)) here = ap (nat_lt 0) ((reads_alike T U).lives_of by owner domain.state.ports (λ other same. sym (same_life by.owners own_order other owner here (sym same))))
 
   in_use_as : (number owner next count : ℕ) (hub : Hub T U B D) → HaveNumbers by hub.services.domains → HaveNumbers by hub.factory_counts → 0 < by.owners owner → in_use (by.services number) (by.owners owner) (there next count hub) ≡ in_use number owner hub
   in_use_as number owner next count hub domains counts here =

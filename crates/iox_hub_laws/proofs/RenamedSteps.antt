@@ -14,11 +14,11 @@ use Rattle.iox_hub_laws.specs.HubCommands.Command.declared.port.SubscriberOption
 use Rattle.iox_hub_laws.specs.HubCommands.Command.declared.reply.Reply.{Reply}
 use Rattle.iox_hub_laws.specs.HubCommands.DescribeBase.Detail.{Detail}
 use Rattle.iox_hub_laws.specs.HubCommands.DescribeBase.declared.message_type.MessageTypeDetails.{MessageTypeDetails}
-use Rattle.iox_hub_laws.specs.HubCommands.DomainHome.Steps as steps
-use Rattle.iox_hub_laws.specs.HubCommands.DomainHome.declared.domain_id.DomainId.{DomainId}
-use Rattle.iox_hub_laws.specs.HubCommands.DomainLaws.Calls as call
-use Rattle.iox_hub_laws.specs.HubCommands.DomainPorts.Lending.{gave_up_in}
-use Rattle.iox_hub_laws.specs.HubCommands.DomainPorts.declared.service_ports.ServicePorts.{ServicePorts}
+use Rattle.iox_hub_laws.specs.HubCommands.Domain.Steps as steps
+use Rattle.iox_hub_laws.specs.HubCommands.Domain.declared.domain_id.DomainId.{DomainId}
+use Rattle.iox_hub_laws.specs.HubCommands.Domain.Calls as call
+use Rattle.iox_hub_laws.specs.HubCommands.Domain.Lending.{gave_up_in}
+use Rattle.iox_hub_laws.specs.HubCommands.Domain.declared.ports.service_ports.ServicePorts.{ServicePorts}
 use Rattle.iox_hub_laws.specs.HubCommands.DomainValues.declared.backpressure.BackpressureAction.{BackpressureAction}
 use Rattle.iox_hub_laws.specs.HubCommands.DomainValues.declared.backpressure.BackpressureDecision.{BackpressureDecision}
 use Rattle.iox_hub_laws.specs.HubCommands.DomainValues.declared.backpressure.BackpressureInfo.{BackpressureInfo}
@@ -41,14 +41,14 @@ use Rattle.iox_hub_laws.specs.HubCommands.Lending.{LoanStep, LoanUninitStep, Put
 use Rattle.iox_hub_laws.specs.HubCommands.Messages.{SetStep, FillStep, DropStep, SendStep, RetryStep, GiveUpStep, IsReadReply, SomeValues, ReadStep, ReleaseStep}
 use Rattle.iox_hub_laws.specs.HubCommands.Naming.{publisher_config, publisher_handlers, subscriber_config, subscriber_handler}
 use Rattle.iox_hub_laws.specs.HubCommands.Receiving.{IsArrival, IsTold, ReceiveStep}
-use Rattle.iox_hub_laws.specs.HubFactories.Domain.declared.domain.Domain.{Domain}
-use Rattle.iox_hub_laws.specs.HubFactories.HubBase.AsHome.{with_services, hub_ports, with_hub_ports, without_hub_publisher, without_hub_subscriber}
-use Rattle.iox_hub_laws.specs.HubFactories.HubBase.Opening.{Made as Opened}
-use Rattle.iox_hub_laws.specs.HubFactories.HubBase.declared.hub.Hub.{Hub}
-use Rattle.iox_hub_laws.specs.HubFactories.HubServices.AsHome.{stepped, publisher_kept, subscriber_kept}
-use Rattle.iox_hub_laws.specs.HubFactories.Maps.NumberTable.{value_at}
-use Rattle.iox_hub_laws.specs.HubFactories.Tables.{publish_subscribe_in}
-use Rattle.iox_hub_laws.specs.HubFactories.declared.factories.Factories.{Factories}
+use Rattle.iox_hub_laws.specs.HubCommands.Domain.declared.domain.Domain.{Domain}
+use Rattle.iox_hub_laws.specs.HubCommands.HubBase.AsHome.{with_services, hub_ports, with_hub_ports, without_hub_publisher, without_hub_subscriber}
+use Rattle.iox_hub_laws.specs.HubCommands.HubBase.Opening.{Made as Opened}
+use Rattle.iox_hub_laws.specs.HubCommands.HubBase.declared.hub.Hub.{Hub}
+use Rattle.iox_hub_laws.specs.HubCommands.HubServices.AsHome.{stepped, publisher_kept, subscriber_kept}
+use Rattle.iox_hub_laws.specs.HubCommands.Maps.NumberTable.{value_at}
+use Rattle.iox_hub_laws.specs.HubCommands.ServicesTables.{publish_subscribe_in}
+use Rattle.iox_hub_laws.specs.HubCommands.declared.services.factories.Factories.{Factories}
 use Rattle.iox_hub_laws.specs.HubRun.Grown.{AnySlots, AnyDecision}
 use Rattle.iox_hub_laws.specs.HubRun.Runs.{Runs}
 use Rattle.iox_hub_laws.specs.HubRun.Services.{domain_of_factory, owner_of_factory, PublisherComes, SubscriberComes}

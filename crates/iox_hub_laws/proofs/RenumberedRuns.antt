@@ -14,8 +14,8 @@ use Rattle.iox_hub_laws.specs.HubCommands.DomainValues.declared.backpressure_str
 use Rattle.iox_hub_laws.specs.HubCommands.DomainValues.declared.degradation.DegradationAction.{DegradationAction}
 use Rattle.iox_hub_laws.specs.HubCommands.DomainValues.declared.degradation.DegradationCause.{DegradationCause}
 use Rattle.iox_hub_laws.specs.HubCommands.DomainValues.declared.degradation.DegradationInfo.{DegradationInfo}
-use Rattle.iox_hub_laws.specs.HubFactories.HubBase.declared.hub.HubConfig.{HubConfig}
-use Rattle.iox_hub_laws.specs.HubFactories.Maps.NumberTable.{NumberTable, Rises, value_at}
+use Rattle.iox_hub_laws.specs.HubCommands.HubBase.declared.hub.HubConfig.{HubConfig}
+use Rattle.iox_hub_laws.specs.HubCommands.Maps.NumberTable.{NumberTable, Rises, value_at}
 use Rattle.iox_hub_laws.proofs.HubRun.Rooms.{new_rises}
 use Rattle.iox_hub_laws.specs.HubRun.Lives.{NumbersRise, NumbersGoOn}
 use Rattle.iox_hub_laws.specs.HubRun.Numbers.{IsNew}
@@ -322,7 +322,8 @@ module _ {T U B D : Type 0} (payload user_header : Detail) (types : MessageTypeD
       let (rf, rp, rs, rl, rm) = rises in
       record { factories = (f rf).1; publishers = (p rp).1; subscribers = (s rs).1; loans = (l rl).1; samples = (m rm).1 }
 
-  -- There are other numbers, as before below those that come next, by which the run goes in each hub in which what goes by numbers goes by these.
+  -- There are other numbers, as before below those that come next, by which the run goes in each hub in which what goes by
+  -- numbers goes by these.
   abbrev Counts_on : Renaming → Counts → List (Bool × Command T) → NumberedHub T U B D → List (Reply T) → NumberedHub T U B D → Type 0
   Counts_on start counts commands one replies new =
       (by : Renaming) × AllSame one start by × AllBeyond by one counts

@@ -27,7 +27,7 @@ use Rattle.iox_hub_laws.specs.HubCommands.DomainValues.declared.degradation.Degr
 use Rattle.iox_hub_laws.specs.HubCommands.DomainValues.declared.degradation.DegradationInfo.{DegradationInfo}
 use Rattle.iox_hub_laws.specs.HubCommands.DomainPublisher.declared.meeting.Sent.{Sent}
 use Rattle.iox_hub_laws.specs.HubCommands.DomainPublisher.declared.meeting.Sent.TheVariants as sent_as
-use Rattle.iox_hub_laws.specs.HubCommands.DomainPorts.Lending.{gave_up_in}
+use Rattle.iox_hub_laws.specs.HubCommands.Domain.Lending.{gave_up_in}
 use Rattle.iox_hub_laws.specs.HubCommands.DomainValues.declared.connection_failure.ConnectionFailure.{ConnectionFailure}
 use Rattle.iox_hub_laws.specs.HubCommands.DomainValues.declared.create_error.PublisherCreateError.{PublisherCreateError}
 use Rattle.iox_hub_laws.specs.HubCommands.DomainValues.declared.create_error.SubscriberCreateError.{SubscriberCreateError}
@@ -43,26 +43,26 @@ use Rattle.iox_hub_laws.specs.HubCommands.declared.ports.made.Made.{Made}
 use Rattle.iox_hub_laws.specs.HubCommands.Messages.{IsReadReply}
 use Rattle.iox_hub_laws.specs.HubCommands.Receiving.{IsReceiveReply, IsArrival}
 use Rattle.iox_hub_laws.specs.HubCommands.Replies.{factory_reply, foreign_reply, closed_reply, publisher_reply, subscriber_reply, loan_reply, sent_reply, given_up_reply, updated_reply, has_reply, done_reply}
-use Rattle.iox_hub_laws.specs.HubFactories.Closing.{ClosesUnless, ClosesIfOf, ClosesNumbered}
-use Rattle.iox_hub_laws.specs.HubFactories.Asking.{hash_of, agreed_of, required_agreement, required_publish_subscribe, required_event, required_request_response}
-use Rattle.iox_hub_laws.specs.HubFactories.Creating.{CreatesAgreed, CreatesAs, CreatesNumbered, create_lacking}
-use Rattle.iox_hub_laws.specs.HubFactories.Either.{EitherJudged, EitherAs, EitherNumbered, either_lacking}
-use Rattle.iox_hub_laws.specs.HubFactories.DescribeVerdict.EventClauses as event_clauses
-use Rattle.iox_hub_laws.specs.HubFactories.DescribeVerdict.PublishSubscribeClauses as publish_subscribe_clauses
-use Rattle.iox_hub_laws.specs.HubFactories.DescribeVerdict.RequestResponseClauses as request_response_clauses
-use Rattle.iox_hub_laws.specs.HubFactories.DescribeVerdict.Verdict.{first_unmet}
-use Rattle.iox_hub_laws.specs.HubFactories.NegotiateBase.EventErrors as event
-use Rattle.iox_hub_laws.specs.HubFactories.NegotiateBase.PublishSubscribeErrors as publish_subscribe
-use Rattle.iox_hub_laws.specs.HubFactories.NegotiateBase.RequestResponseErrors as request_response
-use Rattle.iox_hub_laws.specs.HubFactories.HubBase.AsHome.{hub_ports, with_hub_ports, without_hub_publisher, without_hub_subscriber}
-use Rattle.iox_hub_laws.specs.HubFactories.HubBase.Opening.{Made as Opened}
-use Rattle.iox_hub_laws.specs.HubFactories.HubBase.declared.hub.Hub.{Hub}
-use Rattle.iox_hub_laws.specs.HubFactories.Maps.NumberTable.{Rises, value_at, inserted, removed}
-use Rattle.iox_hub_laws.specs.HubFactories.Numbering.{Numbers, GetsNumber}
-use Rattle.iox_hub_laws.specs.HubFactories.Opening.{OpensJudged, OpensAs, OpensNumbered, open_lacking}
-use Rattle.iox_hub_laws.specs.HubFactories.Tables.{FactoryTable, parts_of, publish_subscribe_in}
-use Rattle.iox_hub_laws.specs.HubFactories.declared.asked.ServiceAsked.{ServiceAsked}
-use Rattle.iox_hub_laws.specs.HubFactories.declared.made.MadeFactory.{MadeFactory}
+use Rattle.iox_hub_laws.specs.HubCommands.Closing.{ClosesUnless, ClosesIfOf, ClosesNumbered}
+use Rattle.iox_hub_laws.specs.HubCommands.Asking.{hash_of, agreed_of, required_agreement, required_publish_subscribe, required_event, required_request_response}
+use Rattle.iox_hub_laws.specs.HubCommands.Creating.{CreatesAgreed, CreatesAs, CreatesNumbered, create_lacking}
+use Rattle.iox_hub_laws.specs.HubCommands.Either.{EitherJudged, EitherAs, EitherNumbered, either_lacking}
+use Rattle.iox_hub_laws.specs.HubCommands.DescribeVerdict.EventClauses as event_clauses
+use Rattle.iox_hub_laws.specs.HubCommands.DescribeVerdict.PublishSubscribeClauses as publish_subscribe_clauses
+use Rattle.iox_hub_laws.specs.HubCommands.DescribeVerdict.RequestResponseClauses as request_response_clauses
+use Rattle.iox_hub_laws.specs.HubCommands.DescribeVerdict.Verdict.{first_unmet}
+use Rattle.iox_hub_laws.specs.HubCommands.NegotiateBase.EventErrors as event
+use Rattle.iox_hub_laws.specs.HubCommands.NegotiateBase.PublishSubscribeErrors as publish_subscribe
+use Rattle.iox_hub_laws.specs.HubCommands.NegotiateBase.RequestResponseErrors as request_response
+use Rattle.iox_hub_laws.specs.HubCommands.HubBase.AsHome.{hub_ports, with_hub_ports, without_hub_publisher, without_hub_subscriber}
+use Rattle.iox_hub_laws.specs.HubCommands.HubBase.Opening.{Made as Opened}
+use Rattle.iox_hub_laws.specs.HubCommands.HubBase.declared.hub.Hub.{Hub}
+use Rattle.iox_hub_laws.specs.HubCommands.Maps.NumberTable.{Rises, value_at, inserted, removed}
+use Rattle.iox_hub_laws.specs.HubCommands.ServicesNumbering.{Numbers, GetsNumber}
+use Rattle.iox_hub_laws.specs.HubCommands.Opening.{OpensJudged, OpensAs, OpensNumbered, open_lacking}
+use Rattle.iox_hub_laws.specs.HubCommands.ServicesTables.{FactoryTable, parts_of, publish_subscribe_in}
+use Rattle.iox_hub_laws.specs.HubCommands.declared.services.asked.ServiceAsked.{ServiceAsked}
+use Rattle.iox_hub_laws.specs.HubCommands.declared.services.made.MadeFactory.{MadeFactory}
 use Rattle.iox_hub_laws.specs.HubRun.Lives.{NumbersRise}
 use Rattle.iox_hub_laws.specs.HubRun.Services.{PublisherComes, SubscriberComes}
 use Rattle.iox_hub_laws.specs.HubRun.Steps.{Step, publisher_may_degrade, publisher_may_decide, subscriber_may_degrade}

@@ -19,20 +19,20 @@ use Rattle.iox_hub_commands.specs.DescribeBase.declared.message_type.MessageType
 use Rattle.iox_hub_commands.specs.DescribeBase.declared.pattern.MessagingPattern.{MessagingPattern}
 use Rattle.iox_hub_commands.specs.DescribeSettings.Agreement.{Agreement}
 use Rattle.iox_hub_commands.specs.DescribeSettings.declared.static_config.Settings.{Settings}
-use Rattle.iox_hub_factories.specs.HubBase.Closing.{is_last, less_one}
-use Rattle.iox_hub_factories.specs.HubBase.declared.hub.Hub.{Hub}
-use Rattle.iox_hub_factories.specs.HubServices.Open.{OpenServices, presence_of}
-use Rattle.iox_hub_factories.specs.HubServices.Opening.{Opens as ServiceOpens}
-use Rattle.iox_hub_factories.specs.HubServices.declared.presence.Presence.TheVariants.{Here}
-use Rattle.iox_hub_factories.specs.Closing.{ClosesUnless, ClosesIfOf, ClosesNumbered}
-use Rattle.iox_hub_factories.specs.Creating.{CreatesAs, CreatesPrepared, CreatesNumbered}
-use Rattle.iox_hub_factories.specs.Either.{EitherAs, EitherPrepared, EitherNumbered}
-use Rattle.iox_hub_factories.specs.Foreign.{ActsNamed}
-use Rattle.iox_hub_factories.specs.Numbering.{Prepares, Numbers, GetsNumber}
-use Rattle.iox_hub_factories.specs.Opening.{OpensAs, OpensPrepared, OpensNumbered}
-use Rattle.iox_hub_factories.specs.Tables.{FactoryTable, parts_of}
-use Rattle.iox_hub_factories.specs.declared.asked.ServiceAsked.{ServiceAsked}
-use Rattle.iox_hub_factories.specs.declared.made.MadeFactory.{MadeFactory}
+use Rattle.iox_hub_commands.specs.HubBase.Closing.{is_last, less_one}
+use Rattle.iox_hub_commands.specs.HubBase.declared.hub.Hub.{Hub}
+use Rattle.iox_hub_commands.specs.HubServices.Open.{OpenServices, presence_of}
+use Rattle.iox_hub_commands.specs.HubServices.Opening.{Opens as ServiceOpens}
+use Rattle.iox_hub_commands.specs.HubServices.declared.presence.Presence.TheVariants.{Here}
+use Rattle.iox_hub_commands.specs.Closing.{ClosesUnless, ClosesIfOf, ClosesNumbered}
+use Rattle.iox_hub_commands.specs.Creating.{CreatesAs, CreatesPrepared, CreatesNumbered}
+use Rattle.iox_hub_commands.specs.Either.{EitherAs, EitherPrepared, EitherNumbered}
+use Rattle.iox_hub_commands.specs.Foreign.{ActsNamed}
+use Rattle.iox_hub_commands.specs.ServicesNumbering.{Prepares, Numbers, GetsNumber}
+use Rattle.iox_hub_commands.specs.Opening.{OpensAs, OpensPrepared, OpensNumbered}
+use Rattle.iox_hub_commands.specs.ServicesTables.{FactoryTable, parts_of}
+use Rattle.iox_hub_commands.specs.declared.services.asked.ServiceAsked.{ServiceAsked}
+use Rattle.iox_hub_commands.specs.declared.services.made.MadeFactory.{MadeFactory}
 use Rattle.iox_negotiate.specs.declared.factory.Membership.{Membership}
 use Rattle.iox_negotiate.specs.NegotiateBase.declared.errors.close.CloseError.{CloseError}
 use Rattle.iox_negotiate.specs.Agreements.{WasAgreed}
@@ -48,12 +48,12 @@ use Rattle.iox_negotiate.proofs.Agreements.{past-on, no-past, went-past}
 use Rattle.iox_negotiate.proofs.Stepping.{Past, acts-ran}
 use Rattle.iox_negotiate.specs.Closing.{IsUntouched}
 use Rattle.iox_hub_commands.specs.DescribeBase.Hash.{service_hash_of}
-use Rattle.iox_hub_factories.specs.Asking.{hash_of}
-use Rattle.iox_hub_factories.specs.Domain.Kept.{kept, forgotten}
-use Rattle.iox_hub_factories.specs.HubBase.Hubs.{factories_of}
-use Rattle.iox_hub_factories.specs.HubBase.Opening.{Made, Enters, Settles, OpensInHub}
-use Rattle.iox_hub_factories.specs.HubServices.Numbered.{is_number, not_number, others_beside}
-use Rattle.iox_hub_factories.specs.Maps.NumberTable.{Rises, value_at}
+use Rattle.iox_hub_commands.specs.Asking.{hash_of}
+use Rattle.iox_hub_commands.specs.Domain.Kept.{kept, forgotten}
+use Rattle.iox_hub_commands.specs.HubBase.Hubs.{factories_of}
+use Rattle.iox_hub_commands.specs.HubBase.Opening.{Made, Enters, Settles, OpensInHub}
+use Rattle.iox_hub_commands.specs.HubServices.Numbered.{is_number, not_number, others_beside}
+use Rattle.iox_hub_commands.specs.Maps.NumberTable.{Rises, value_at}
 use Rattle.iox_hub_run.specs.AgreementLaws.{service_of, carried_by}
 use Rattle.iox_hub_laws.specs.Left.{AllLeft, HubLeft}
 use Rattle.iox_hub_laws.specs.Laws.{IsService}

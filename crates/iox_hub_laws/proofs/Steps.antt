@@ -2,13 +2,13 @@
 use Rattle.std.proofs.Common.{◌≡◌, ◌≢◌, ℕ, true, Option, None, Some, Result, Ok, Err, ap, length}
 use Rattle.iox_hub_commands.specs.Command.declared.port.PortNumber.TheVariants as port_number
 use Rattle.iox_hub_commands.specs.DescribeBase.declared.hash.ServiceHash.{ServiceHash}
-use Rattle.iox_hub_factories.specs.HubBase.Opening.{Made as Opened}
-use Rattle.iox_hub_factories.specs.HubBase.Hubs.{factories_of}
-use Rattle.iox_hub_factories.specs.HubServices.Open.{presence_of}
-use Rattle.iox_hub_factories.specs.Maps.NumberTable.{Rises, value_at}
-use Rattle.iox_hub_factories.specs.Tables.{publish_subscribe_in}
-use Rattle.iox_hub_factories.specs.declared.made.MadeFactory.{MadeFactory}
-use Rattle.iox_hub_factories.specs.declared.made.MadeFactory.TheVariants as made
+use Rattle.iox_hub_commands.specs.HubBase.Opening.{Made as Opened}
+use Rattle.iox_hub_commands.specs.HubBase.Hubs.{factories_of}
+use Rattle.iox_hub_commands.specs.HubServices.Open.{presence_of}
+use Rattle.iox_hub_commands.specs.Maps.NumberTable.{Rises, value_at}
+use Rattle.iox_hub_commands.specs.ServicesTables.{publish_subscribe_in}
+use Rattle.iox_hub_commands.specs.declared.services.made.MadeFactory.{MadeFactory}
+use Rattle.iox_hub_commands.specs.declared.services.made.MadeFactory.TheVariants as made
 use Rattle.std.specs.declared.alloc.AllocError.{AllocError}
 use Rattle.iox_hub_commands.specs.Command.declared.command.Command.{Command}
 use Rattle.iox_hub_commands.specs.Command.declared.command.Command.TheVariants as command
@@ -18,7 +18,7 @@ use Rattle.iox_hub_commands.specs.Command.declared.port.SubscriberOptions.{Subsc
 use Rattle.iox_hub_commands.specs.Command.declared.reply.Reply.{Reply}
 use Rattle.iox_hub_commands.specs.DescribeBase.Detail.{Detail}
 use Rattle.iox_hub_commands.specs.DescribeBase.declared.message_type.MessageTypeDetails.{MessageTypeDetails}
-use Rattle.iox_hub_commands.specs.DomainHome.declared.domain_id.DomainId.{DomainId}
+use Rattle.iox_hub_commands.specs.Domain.declared.domain_id.DomainId.{DomainId}
 use Rattle.iox_hub_commands.specs.DomainValues.declared.backpressure.BackpressureAction.{BackpressureAction}
 use Rattle.iox_hub_commands.specs.DomainValues.declared.backpressure.BackpressureDecision.{BackpressureDecision}
 use Rattle.iox_hub_commands.specs.DomainValues.declared.backpressure.BackpressureInfo.{BackpressureInfo}
@@ -36,10 +36,10 @@ use Rattle.iox_hub_commands.specs.declared.ports.made.Made.{Made}
 use Rattle.iox_hub_run.specs.Services.{PublisherComes, SubscriberComes, domain_of_factory}
 use Rattle.iox_hub_run.specs.Steps.{IsReplied, Step, publisher_may_degrade, publisher_may_decide, subscriber_may_degrade}
 use Rattle.iox_hub_run.specs.declared.numbered_hub.NumberedHub.{NumberedHub}
-use Rattle.iox_hub_commands.specs.DomainPorts.Lending.{gave_up_in}
-use Rattle.iox_hub_factories.specs.HubBase.AsHome.{hub_ports, with_hub_ports, with_hub_publisher, with_hub_subscriber, without_hub_publisher, without_hub_subscriber}
-use Rattle.iox_hub_factories.specs.HubBase.declared.hub.Hub.{Hub}
-use Rattle.iox_hub_factories.specs.HubServices.AsHome.{publisher_kept, subscriber_kept}
+use Rattle.iox_hub_commands.specs.Domain.Lending.{gave_up_in}
+use Rattle.iox_hub_commands.specs.HubBase.AsHome.{hub_ports, with_hub_ports, with_hub_publisher, with_hub_subscriber, without_hub_publisher, without_hub_subscriber}
+use Rattle.iox_hub_commands.specs.HubBase.declared.hub.Hub.{Hub}
+use Rattle.iox_hub_commands.specs.HubServices.AsHome.{publisher_kept, subscriber_kept}
 use Rattle.iox_hub_commands.specs.Growing.{GrowsFirst}
 use Rattle.iox_hub_commands.specs.Loans.{set_in, filled_in}
 use Rattle.iox_hub_commands.specs.Naming.{publisher_handlers, subscriber_handler}

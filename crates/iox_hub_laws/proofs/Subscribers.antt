@@ -2,26 +2,26 @@
 use Rattle.std.proofs.Common.{◌≡◌, ◌∙◌, ◌==◌, ℕ, zero, suc, ◌+◌, Bool, true, false, cond, List, [], ◌∷◌, length, Option, None, Some, Result, Ok, Err, refl, sym, ap, subst, inl, inr, get_or, ◌&&◌, ◌||◌}
 use Rattle.std.specs.Prelude.{nat_lt, nat_le, slice_get, remove}
 use Rattle.std.specs.declared.alloc.AllocError.{AllocError}
-use Rattle.iox_domain_laws.specs.DomainPublisher.Ports.{detached_at}
-use Rattle.iox_domain_laws.specs.DomainPorts.Rolls.{RollState}
-use Rattle.iox_domain_laws.specs.DomainPorts.Subscribing as subscribing
-use Rattle.iox_domain_laws.specs.DomainPublisher.declared.publisher_port.PublisherPort.{PublisherPort}
-use Rattle.iox_domain_laws.specs.DomainSlots.Uses.{is_there}
-use Rattle.iox_domain_laws.specs.DomainSubscriber.Following as following
-use Rattle.iox_domain_laws.specs.DomainSubscriber.Publishers as among
-use Rattle.iox_domain_laws.specs.DomainSubscriber.Receiving as receiving
-use Rattle.iox_domain_laws.specs.DomainSubscriber.Subscribing as seeing
-use Rattle.iox_domain_laws.specs.DomainSubscriber.Updating as updating
-use Rattle.iox_domain_laws.specs.DomainSubscriber.declared.attached.Attached.{Attached}
-use Rattle.iox_domain_laws.specs.DomainSubscriber.declared.attached.Taken.{Taken}
-use Rattle.iox_domain_laws.specs.DomainSubscriber.declared.publisher_entry.PublisherEntry.{PublisherEntry}
-use Rattle.iox_domain_laws.specs.DomainSubscriber.declared.subscriber_port.SubscriberPort.{SubscriberPort}
-use Rattle.iox_domain_laws.specs.DomainValues.declared.connection_failure.ConnectionFailure.{ConnectionFailure}
-use Rattle.iox_domain_laws.specs.DomainValues.declared.connection_failure.ZeroCopyCreationError.{ZeroCopyCreationError}
-use Rattle.iox_domain_laws.specs.DomainValues.declared.degradation.DegradationAction.{DegradationAction}
-use Rattle.iox_domain_laws.specs.DomainValues.declared.degradation.DegradationInfo.{DegradationInfo}
-use Rattle.iox_domain_laws.specs.DomainValues.declared.port_error.ReceiveError.{ReceiveError}
-use Rattle.iox_domain_laws.specs.IndexBase.declared.container.Member.{Member}
+use Rattle.iox_domain.specs.DomainPublisher.Ports.{detached_at}
+use Rattle.iox_domain.specs.Rolls.{RollState}
+use Rattle.iox_domain.specs.PortsSubscribing as subscribing
+use Rattle.iox_domain.specs.DomainPublisher.declared.publisher_port.PublisherPort.{PublisherPort}
+use Rattle.iox_domain.specs.DomainSlots.Uses.{is_there}
+use Rattle.iox_domain.specs.DomainSubscriber.Following as following
+use Rattle.iox_domain.specs.DomainSubscriber.Publishers as among
+use Rattle.iox_domain.specs.DomainSubscriber.Receiving as receiving
+use Rattle.iox_domain.specs.DomainSubscriber.Subscribing as seeing
+use Rattle.iox_domain.specs.DomainSubscriber.Updating as updating
+use Rattle.iox_domain.specs.DomainSubscriber.declared.attached.Attached.{Attached}
+use Rattle.iox_domain.specs.DomainSubscriber.declared.attached.Taken.{Taken}
+use Rattle.iox_domain.specs.DomainSubscriber.declared.publisher_entry.PublisherEntry.{PublisherEntry}
+use Rattle.iox_domain.specs.DomainSubscriber.declared.subscriber_port.SubscriberPort.{SubscriberPort}
+use Rattle.iox_domain.specs.DomainValues.declared.connection_failure.ConnectionFailure.{ConnectionFailure}
+use Rattle.iox_domain.specs.DomainValues.declared.connection_failure.ZeroCopyCreationError.{ZeroCopyCreationError}
+use Rattle.iox_domain.specs.DomainValues.declared.degradation.DegradationAction.{DegradationAction}
+use Rattle.iox_domain.specs.DomainValues.declared.degradation.DegradationInfo.{DegradationInfo}
+use Rattle.iox_domain.specs.DomainValues.declared.port_error.ReceiveError.{ReceiveError}
+use Rattle.iox_domain.specs.IndexBase.declared.container.Member.{Member}
 use Rattle.iox_hub_laws.specs.Renaming.{Renaming, renamed_publishers, renamed_subscriber, renamed_failure}
 use Rattle.iox_hub_laws.proofs.AmongPublishers.{stands_as, lacks_as, connection_by_as, most_by_as, taken_of_as, ended_ports_as, taken_ports_as, detached_as, attaches_to}
 
@@ -113,7 +113,7 @@ module _ {T U : Type 0} (by : Renaming) where
 
   given_as : (giver : Option ℕ) (port : SubscriberPort) (ports : List (ℕ × PublisherPort T U)) → receiving.given giver (renamed_subscriber by port) (all ports) ≡ receiving.given giver port ports
   given_as None port ports = refl
-  given_as (Some key) port ports = taken_of_as by (seeing.attached_at key port) ports
+  given_as (Some key) port ports = taken_of_as by port.number (seeing.attached_at key port) ports
 
   given_ports_as : (giver : Option ℕ) (port : SubscriberPort) (ports : List (ℕ × PublisherPort T U)) → receiving.given_ports giver (renamed_subscriber by port) (all ports) ≡ all (receiving.given_ports giver port ports)
   given_ports_as None port ports = refl

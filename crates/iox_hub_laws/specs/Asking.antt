@@ -12,7 +12,7 @@ use Rattle.iox_hub_run.specs.HubCommands.declared.ports.made.MadeLoan.{MadeLoan}
 use Rattle.iox_hub_run.specs.HubCommands.declared.ports.made.MadePublisher.{MadePublisher}
 use Rattle.iox_hub_run.specs.HubCommands.declared.ports.made.MadeSample.{MadeSample}
 use Rattle.iox_hub_run.specs.declared.numbered_hub.NumberedHub.{NumberedHub}
-use Rattle.iox_hub_factories.specs.Asking.{hash_of}
+use Rattle.iox_hub_commands.specs.Asking.{hash_of}
 
 -- the number of the service of a port
 abbrev pub service_at : PortId → ℕ

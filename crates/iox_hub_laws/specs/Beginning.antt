@@ -12,8 +12,8 @@ use Rattle.iox_hub_laws.specs.HubRun.HubBase.HubServices.declared.presence.Prese
 use Rattle.iox_hub_laws.specs.HubRun.HubBase.HubServices.declared.presence.Presence.TheVariants.{Here}
 use Rattle.iox_hub_laws.specs.HubRun.HubBase.declared.hub.Hub.{Hub}
 use Rattle.iox_hub_laws.specs.HubRun.HubBase.declared.hub.HubConfig.{HubConfig}
-use Rattle.iox_hub_laws.specs.HubRun.HubCommands.DomainPorts.Living.{living}
-use Rattle.iox_hub_laws.specs.HubRun.HubCommands.DomainSettings.Sizes.{sizes}
+use Rattle.iox_hub_laws.specs.HubRun.HubCommands.Domain.Living.{living}
+use Rattle.iox_hub_laws.specs.HubRun.HubCommands.Domain.Sizes.{sizes}
 use Rattle.iox_hub_laws.specs.HubRun.HubCommands.Maps.NumberTable.{NumberTable, value_at}
 use Rattle.iox_hub_laws.specs.HubRun.HubCommands.declared.ports.made.Made.{Made}
 use Rattle.iox_hub_laws.specs.HubRun.Numbers.{IsNew}
@@ -46,15 +46,15 @@ pub record HasNothingOf {T U B D : Type 0} (number : ℕ) (hub : NumberedHub T U
 -- listed, and nobody decides for one. It is of the life of this number in this hub, and of the sizes that are agreed on.
 pub record IsEmptyDomain {T U B D : Type 0} (number : ℕ) (hub : Hub T U B D) (domain : Domain T U B D) : Type 0 where
   pub id : domain.id ≡ record { hub = hub.services.hub; service = number }
-  pub service : domain.ports.service ≡ number
-  pub sized : domain.ports.sizes ≡ sizes hub.expired_connection_buffer domain.agreed
-  pub publishers : domain.ports.publishers ≡ []
-  pub subscribers : domain.ports.subscribers ≡ []
-  pub nothing_lives : living None domain.ports ≡ 0
-  pub publishers_listed : AllByRecursion (λ listed. listed ≡ None) domain.ports.publisher_list.places
-  pub subscribers_listed : AllByRecursion (λ listed. listed ≡ None) domain.ports.subscriber_list.places
-  pub publisher_handlers : domain.publisher_handlers ≡ []
-  pub subscriber_handlers : domain.subscriber_handlers ≡ []
+  pub service : domain.state.ports.service ≡ number
+  pub sized : domain.state.ports.sizes ≡ sizes hub.expired_connection_buffer domain.agreed
+  pub publishers : domain.state.ports.publishers ≡ []
+  pub subscribers : domain.state.ports.subscribers ≡ []
+  pub nothing_lives : living None domain.state.ports ≡ 0
+  pub publishers_listed : AllByRecursion (λ listed. listed ≡ None) domain.state.ports.publisher_list.places
+  pub subscribers_listed : AllByRecursion (λ listed. listed ≡ None) domain.state.ports.subscriber_list.places
+  pub publisher_handlers : domain.state.publisher_handlers ≡ []
+  pub subscriber_handlers : domain.state.subscriber_handlers ≡ []
 
 module _ {T U B D : Type 0} where
   -- What lies under a name is of the life that lay there before, or of one that began since: the hub had nothing of that.
@@ -80,8 +80,8 @@ module _ {T U B D : Type 0} where
         → IsOpening asked × ((domain : Domain T U B D) × (presence ≡ Here domain) × IsEmptyDomain number old.hub domain)
         × (old.hub.table.next ≤ number → NothingMadeOf number new.made)
 
-    -- Of two moments of a run of a new hub, also where it stops: numbers of lives that come next don't fall, and what lies under a name at the
-    -- later one is of the life that lay there at the earlier one, or of a life of which the hub had nothing then.
+    -- Of two moments of a run of a new hub, also where it stops: numbers of lives that come next don't fall, and what lies under
+    -- a name at the later one is of the life that lay there at the earlier one, or of a life of which the hub had nothing then.
     abbrev pub LivesBeginAnew : Type 0
     LivesBeginAnew = (config : HubConfig) (first old new : NumberedHub T U B D) (before commands : List (Command T)) (told replies : List (Reply T)) (stopped : Bool)
         → IsNew config first → Runs step before first told old → IsRun step commands old replies stopped new

@@ -6,9 +6,9 @@ use Rattle.iox_hub_laws.specs.HubRun.Command.declared.command.Command.{Command}
 use Rattle.iox_hub_laws.specs.HubRun.Command.declared.command.Command.TheVariants as command
 use Rattle.iox_hub_laws.specs.HubRun.Command.declared.reply.Reply.{Reply}
 use Rattle.iox_hub_laws.specs.HubCommands.Replies.{factory_reply}
-use Rattle.iox_hub_laws.specs.HubFactories.Creating.{create_lacking}
-use Rattle.iox_hub_laws.specs.HubFactories.Either.{either_lacking}
-use Rattle.iox_hub_laws.specs.HubFactories.Opening.{open_lacking}
+use Rattle.iox_hub_laws.specs.HubCommands.Creating.{create_lacking}
+use Rattle.iox_hub_laws.specs.HubCommands.Either.{either_lacking}
+use Rattle.iox_hub_laws.specs.HubCommands.Opening.{open_lacking}
 use Rattle.iox_hub_laws.specs.HubRun.HubBase.DescribeBase.declared.hash.ServiceHash.{ServiceHash}
 use Rattle.iox_hub_laws.specs.HubRun.HubBase.declared.hub.Hub.{Hub}
 use Rattle.iox_hub_laws.specs.HubRun.Lives.{NumbersRise}
@@ -142,9 +142,9 @@ module _ {T U B D : Type 0} where
         → step asked one (Ok reply) new
         → (after : NumberedHub T U B D) × step asked other (Ok reply) after × AgreeOn hash mine new after
 
-    -- Of two hubs that agree on a service: what the one may reply to a command that creates it or opens it, the other may reply, unless no
-    -- memory was found, and then they agree on it again. The lives under its hash are the service's, and the same number of a life comes next
-    -- in both hubs. The tables of both came about by accesses and foreign steps.
+    -- Of two hubs that agree on a service: what the one may reply to a command that creates it or opens it, the other may reply,
+    -- unless no memory was found, and then they agree on it again. The lives under its hash are the service's, and the same
+    -- number of a life comes next in both hubs. The tables of both came about by accesses and foreign steps.
     abbrev pub OpensAnswerAlike : Type 0
     OpensAnswerAlike = (hash : ServiceHash) (mine : ℕ → Bool) (asked : Command T) (one new other : NumberedHub T U B D) (reply : Reply T)
         → IsOpening asked → IsReached one.hub.table → IsReached other.hub.table → NumbersRise one → NumbersRise other

@@ -83,8 +83,9 @@ renamed_came lives (Err error) = Err error
 abbrev pub renamed_steps : (ℕ → ℕ) → ℕ → Steps → Steps
 renamed_steps lives next steps = record { table = renamed_table lives next steps.table; lists = steps.lists }
 
--- The lives of a table have other numbers, each lock's, description's and segment's. Those that begin from here on, up to an end, go by the numbers
--- that follow one another from the one that comes next there, where so many fewer were given; and no number runs out.
+-- The lives of a table have other numbers, each lock's, description's and segment's. Those that begin from here on, up to an end,
+-- go by the numbers that follow one another from the one that comes next there, where so many fewer were given; and no number
+-- runs out.
 pub record GoBy (lives : ℕ → ℕ) (end fewer next : ℕ) (table : Contents) : Type 0 where
   pub entries : AllByRecursion (λ entry. 0 < lives (number_of entry.1)) table.entries
   pub segments : AllByRecursion (λ segment. 0 < lives segment.0.1) table.segments

@@ -19,7 +19,8 @@ use Rattle.iox_negotiate.specs.NegotiateTable.Stepped.{Steps, SteppedSight, Acts
 use Rattle.iox_negotiate.specs.NegotiateTable.declared.step.ForeignStep.{ForeignStep}
 use Rattle.iox_hub_laws.specs.NegotiateRenamedRenaming.{AreInOrder, GoBy, renamed_table, renamed_access, renamed_answer, renamed_steps}
 
--- From a table whose lives go by other numbers something leads to one whose lives do, too: what is done there, with this number next in the end.
+-- From a table whose lives go by other numbers something leads to one whose lives do, too: what is done there, with this number
+-- next in the end.
 abbrev pub LeadsOn : (ℕ → ℕ) → ℕ → ℕ → Contents → (ℕ → Type 0) → Type 0
 LeadsOn lives end fewer new does = (later : ℕ) × does later × GoBy lives end fewer later new
 

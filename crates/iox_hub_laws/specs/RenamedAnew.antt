@@ -29,10 +29,10 @@ abbrev pub HasNumbersLeft : {T U B D : Type 0} → NumberedHub T U B D → Type 
 HasNumbersLeft hub = (hub.hub.table.next < 2 ^ 64 - 1) × (hub.hub.factories < 2 ^ 64 - 1)
 
 module _ {T U B D : Type 0} (step : Command T → NumberedHub T U B D → Result (Reply T) AllocError → NumberedHub T U B D → Type 0) where
-  -- Whatever run of a new hub in which no memory is wanted to create or open a service, and no number ran out, and whatever service: it can be
-  -- told which commands are the service's, and which are of others, and those of the service, with those that make nodes, are a run of a new
-  -- hub: each with what it names under its other number, and replied to as it was, with the other number where one was given. No number is
-  -- passed over, of any kind.
+  -- Whatever run of a new hub in which no memory is wanted to create or open a service, and no number ran out, and whatever
+  -- service: it can be told which commands are the service's, and which are of others, and those of the service, with those that
+  -- make nodes, are a run of a new hub: each with what it names under its other number, and replied to as it was, with the other
+  -- number where one was given. No number is passed over, of any kind.
   abbrev pub EachServiceIsAlone : Type 0
   EachServiceIsAlone = (config : HubConfig) (hash : ServiceHash) (commands : List (Command T)) (first alone new : NumberedHub T U B D) (replies : List (Reply T))
       → IsNew config first → IsNew config alone → Runs (StepWithMemory step) commands first replies new → HasNumbersLeft new

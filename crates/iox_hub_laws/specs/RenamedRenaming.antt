@@ -2,19 +2,19 @@
 use Rattle.std.specs.Prelude.{ℕ, map}
 use Rattle.iox_hub_laws.specs.Renaming.{Renaming, renamed_ports}
 use Rattle.iox_hub_laws.specs.HubCommands.Delivery.declared.port_id.PortId.{PortId}
-use Rattle.iox_hub_laws.specs.HubCommands.DomainHome.declared.domain_id.DomainId.{DomainId}
+use Rattle.iox_hub_laws.specs.HubCommands.Domain.declared.domain_id.DomainId.{DomainId}
 use Rattle.iox_hub_laws.specs.HubCommands.declared.ports.made.Made.{Made}
 use Rattle.iox_hub_laws.specs.HubCommands.declared.ports.made.MadeLoan.{MadeLoan}
 use Rattle.iox_hub_laws.specs.HubCommands.declared.ports.made.MadePublisher.{MadePublisher}
 use Rattle.iox_hub_laws.specs.HubCommands.declared.ports.made.MadeSample.{MadeSample}
-use Rattle.iox_hub_laws.specs.HubFactories.Domain.declared.domain.Domain.{Domain}
-use Rattle.iox_hub_laws.specs.HubFactories.HubBase.declared.hub.Hub.{Hub}
-use Rattle.iox_hub_laws.specs.HubFactories.HubServices.Open.{OpenServices}
-use Rattle.iox_hub_laws.specs.HubFactories.HubServices.declared.presence.Presence.{Presence}
-use Rattle.iox_hub_laws.specs.HubFactories.HubServices.declared.presence.Presence.TheVariants.{Here, Out}
-use Rattle.iox_hub_laws.specs.HubFactories.Maps.NumberTable.{NumberTable}
-use Rattle.iox_hub_laws.specs.HubFactories.declared.made.MadeFactory.{MadeFactory}
-use Rattle.iox_hub_laws.specs.HubFactories.declared.made.MadeFactory.TheVariants as made
+use Rattle.iox_hub_laws.specs.HubCommands.Domain.declared.domain.Domain.{Domain}
+use Rattle.iox_hub_laws.specs.HubCommands.HubBase.declared.hub.Hub.{Hub}
+use Rattle.iox_hub_laws.specs.HubCommands.HubServices.Open.{OpenServices}
+use Rattle.iox_hub_laws.specs.HubCommands.HubServices.declared.presence.Presence.{Presence}
+use Rattle.iox_hub_laws.specs.HubCommands.HubServices.declared.presence.Presence.TheVariants.{Here, Out}
+use Rattle.iox_hub_laws.specs.HubCommands.Maps.NumberTable.{NumberTable}
+use Rattle.iox_hub_laws.specs.HubCommands.declared.services.made.MadeFactory.{MadeFactory}
+use Rattle.iox_hub_laws.specs.HubCommands.declared.services.made.MadeFactory.TheVariants as made
 use Rattle.iox_hub_laws.specs.HubRun.declared.numbered_hub.NumberedHub.{NumberedHub}
 use Rattle.iox_hub_laws.specs.NegotiateRenamedRenaming.{renamed_member, renamed_table}
 
@@ -63,7 +63,7 @@ renamed_factory by (made.RequestResponse factory) =
 module _ {T U B D : Type 0} where
   -- the domain of a life under its other number; who decides in it is the same
   abbrev pub renamed_domain : Renaming → Domain T U B D → Domain T U B D
-  renamed_domain by domain = record domain { id = renamed_id by domain.id; ports = renamed_ports by domain.ports }
+  renamed_domain by domain = record domain { id = renamed_id by domain.id; state = record domain.state { ports = renamed_ports by domain.state.ports } }
 
   -- a domain that is here or out, of a life under its other number
   abbrev pub renamed_presence : Renaming → Presence T U B D → Presence T U B D
@@ -74,7 +74,8 @@ module _ {T U B D : Type 0} where
   abbrev pub renamed_services : Renaming → OpenServices T U B D → OpenServices T U B D
   renamed_services by services = record services { domains = map (λ entry. (by.services entry.0, renamed_presence by entry.1)) services.domains }
 
-  -- A hub whose lives and counted factories go by other numbers: this number of a life comes next there, and so many factories were counted.
+  -- A hub whose lives and counted factories go by other numbers: this number of a life comes next there, and so many factories
+  -- were counted.
   abbrev pub renamed_hub : Renaming → ℕ → ℕ → Hub T U B D → Hub T U B D
   renamed_hub by next count hub = record hub {
     table = renamed_table by.services next hub.table;

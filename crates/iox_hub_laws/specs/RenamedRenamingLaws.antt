@@ -9,9 +9,9 @@ use Rattle.iox_hub_laws.specs.HubCommands.DomainValues.declared.backpressure.Bac
 use Rattle.iox_hub_laws.specs.HubCommands.DomainValues.declared.degradation.DegradationAction.{DegradationAction}
 use Rattle.iox_hub_laws.specs.HubCommands.DomainValues.declared.degradation.DegradationCause.{DegradationCause}
 use Rattle.iox_hub_laws.specs.HubCommands.DomainValues.declared.degradation.DegradationInfo.{DegradationInfo}
-use Rattle.iox_hub_laws.specs.HubFactories.HubBase.declared.hub.Hub.{Hub}
-use Rattle.iox_hub_laws.specs.HubFactories.Tables.{parts_of}
-use Rattle.iox_hub_laws.specs.HubFactories.declared.made.MadeFactory.{MadeFactory}
+use Rattle.iox_hub_laws.specs.HubCommands.HubBase.declared.hub.Hub.{Hub}
+use Rattle.iox_hub_laws.specs.HubCommands.ServicesTables.{parts_of}
+use Rattle.iox_hub_laws.specs.HubCommands.declared.services.made.MadeFactory.{MadeFactory}
 use Rattle.iox_hub_laws.specs.HubRun.Command.declared.command.Command.{Command}
 use Rattle.iox_hub_laws.specs.HubRun.Command.declared.command.Command.TheVariants as command
 use Rattle.iox_hub_laws.specs.HubRun.Command.declared.reply.Reply.{Reply}
@@ -32,9 +32,10 @@ pub record LooksAtNoService (B D : Type 0) (degrades : B → DegradationCause �
 abbrev pub HaveNumbers : {V : Type 0} → Renaming → List (ℕ × V) → Type 0
 HaveNumbers by entries = AllByRecursion (λ entry. 0 < by.services entry.0) entries
 
--- A hub whose lives and counted factories have other numbers: those of its table, of its domains and of what is counted for a life. The lives
--- that begin from here on, and the factories that are counted, up to a last one, go by the numbers that follow one another from those that come
--- next there, where so many fewer lives began, and so many factories weren't counted; and none runs out.
+-- A hub whose lives and counted factories have other numbers: those of its table, of its domains and of what is counted for a
+-- life. The lives that begin from here on, and the factories that are counted, up to a last one, go by the numbers that follow
+-- one another from those that come next there, where so many fewer lives began, and so many factories weren't counted; and none
+-- runs out.
 pub record HubGoesBy {T U B D : Type 0} (by : Renaming) (end fewer next last without count : ℕ) (hub : Hub T U B D) : Type 0 where
   pub table : GoBy by.services end fewer next hub.table
   pub domains : HaveNumbers by hub.services.domains
@@ -62,16 +63,17 @@ IsOfPorts (command.Close factory) = ⊥
 IsOfPorts asked = Unit {0}
 
 module _ {T U B D : Type 0} (step : Command T → NumberedHub T U B D → Result (Reply T) AllocError → NumberedHub T U B D → Type 0) where
-  -- What a command of ports does, it does in the hub whose lives and counted factories go by other numbers, of lives in the same order: it is
-  -- replied to in the same way, and in the end the hub is what it is, but for the numbers. Whichever numbers come next there.
+  -- What a command of ports does, it does in the hub whose lives and counted factories go by other numbers, of lives in the same
+  -- order: it is replied to in the same way, and in the end the hub is what it is, but for the numbers. Whichever numbers come
+  -- next there.
   abbrev pub GoesByAnyNumber : Type 0
   GoesByAnyNumber = (by : Renaming) (next count : ℕ) (asked : Command T) (old new : NumberedHub T U B D) (answer : Result (Reply T) AllocError)
       → AreInOrder by.services → HaveNumbers by old.hub.services.domains → IsOfPorts asked → step asked old answer new
       → step asked (renamed_numbered by next count old) answer (renamed_numbered by next count new)
 
-  -- What any command does in a hub whose lives and counted factories have other numbers, in the same order, it does there: it is replied to in the
-  -- same way, and the hub is what it is, but for the numbers, which all have others again. So it is as long as no more lives begin than have
-  -- numbers, and no more factories are counted.
+  -- What any command does in a hub whose lives and counted factories have other numbers, in the same order, it does there: it is
+  -- replied to in the same way, and the hub is what it is, but for the numbers, which all have others again. So it is as long as
+  -- no more lives begin than have numbers, and no more factories are counted.
   abbrev pub EachGoesByOtherNumbers : Type 0
   EachGoesByOtherNumbers = (by : Renaming) (end fewer next last without count : ℕ) (asked : Command T) (old new : NumberedHub T U B D) (answer : Result (Reply T) AllocError)
       → AreInOrder by.services → AreInOrder by.owners → IsReached old.hub.table → GoesBy by end fewer next last without count old → new.hub.table.next ≤ end → new.hub.factories ≤ last → step asked old answer new

@@ -1,13 +1,13 @@
 -- The ports of a service under other names: the service has another number, and so have those whose ports they are.
 use Rattle.std.specs.Prelude.{ℕ, List, map}
-use Rattle.iox_domain_laws.specs.Calls.{PortCall, PublisherComes, SubscriberComes}
-use Rattle.iox_domain_laws.specs.DomainPorts.declared.making.PublisherConfig.{PublisherConfig}
-use Rattle.iox_domain_laws.specs.DomainPorts.declared.service_ports.ServicePorts.{ServicePorts}
-use Rattle.iox_domain_laws.specs.DomainPublisher.declared.publisher_port.PublisherPort.{PublisherPort}
-use Rattle.iox_domain_laws.specs.DomainSubscriber.declared.subscriber_port.SubscriberPort.{SubscriberPort}
-use Rattle.iox_domain_laws.specs.DomainValues.declared.backpressure.BackpressureInfo.{BackpressureInfo}
-use Rattle.iox_domain_laws.specs.DomainValues.declared.degradation.DegradationInfo.{DegradationInfo}
-use Rattle.iox_domain_laws.specs.DomainValues.declared.port_owner.PortOwner.{PortOwner}
+use Rattle.iox_domain.specs.Calls.{PortCall, PublisherComes, SubscriberComes}
+use Rattle.iox_domain.specs.declared.ports.making.PublisherConfig.{PublisherConfig}
+use Rattle.iox_domain.specs.declared.ports.service_ports.ServicePorts.{ServicePorts}
+use Rattle.iox_domain.specs.DomainPublisher.declared.publisher_port.PublisherPort.{PublisherPort}
+use Rattle.iox_domain.specs.DomainSubscriber.declared.subscriber_port.SubscriberPort.{SubscriberPort}
+use Rattle.iox_domain.specs.DomainValues.declared.backpressure.BackpressureInfo.{BackpressureInfo}
+use Rattle.iox_domain.specs.DomainValues.declared.degradation.DegradationInfo.{DegradationInfo}
+use Rattle.iox_domain.specs.DomainValues.declared.port_owner.PortOwner.{PortOwner}
 
 -- By which number a service goes, and by which those whose ports they are.
 pub record Renaming : Type 0 where

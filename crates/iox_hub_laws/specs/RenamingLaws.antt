@@ -1,17 +1,17 @@
 -- What ports do doesn't depend on the number of their service, nor on whose they are.
 use Rattle.std.specs.Prelude.{ℕ, ◌≡◌, List, [], ◌∷◌, None, Some}
-use Rattle.iox_domain_laws.specs.Calls.{PortCall, Writes}
-use Rattle.iox_domain_laws.specs.Order.{Happen}
-use Rattle.iox_domain_laws.specs.DomainPorts.Lending.{loan_in}
-use Rattle.iox_domain_laws.specs.DomainPorts.Living.{living}
-use Rattle.iox_domain_laws.specs.DomainPorts.Reading.{sample_in, header_in}
-use Rattle.iox_domain_laws.specs.DomainPorts.declared.service_ports.ServicePorts.{ServicePorts}
-use Rattle.iox_domain_laws.specs.DomainPublisher.declared.publisher_port.PublisherPort.{PublisherPort}
-use Rattle.iox_domain_laws.specs.DomainSubscriber.declared.attached.Taken.{Taken}
-use Rattle.iox_domain_laws.specs.DomainValues.declared.backpressure.BackpressureDecision.{BackpressureDecision}
-use Rattle.iox_domain_laws.specs.DomainValues.declared.backpressure.BackpressureInfo.{BackpressureInfo}
-use Rattle.iox_domain_laws.specs.DomainValues.declared.degradation.DegradationAction.{DegradationAction}
-use Rattle.iox_domain_laws.specs.DomainValues.declared.degradation.DegradationInfo.{DegradationInfo}
+use Rattle.iox_domain.specs.Calls.{PortCall, Writes}
+use Rattle.iox_domain.specs.Order.{Happen}
+use Rattle.iox_domain.specs.Lending.{loan_in}
+use Rattle.iox_domain.specs.Living.{living}
+use Rattle.iox_domain.specs.Reading.{sample_in, header_in}
+use Rattle.iox_domain.specs.declared.ports.service_ports.ServicePorts.{ServicePorts}
+use Rattle.iox_domain.specs.DomainPublisher.declared.publisher_port.PublisherPort.{PublisherPort}
+use Rattle.iox_domain.specs.DomainSubscriber.declared.attached.Taken.{Taken}
+use Rattle.iox_domain.specs.DomainValues.declared.backpressure.BackpressureDecision.{BackpressureDecision}
+use Rattle.iox_domain.specs.DomainValues.declared.backpressure.BackpressureInfo.{BackpressureInfo}
+use Rattle.iox_domain.specs.DomainValues.declared.degradation.DegradationAction.{DegradationAction}
+use Rattle.iox_domain.specs.DomainValues.declared.degradation.DegradationInfo.{DegradationInfo}
 use Rattle.iox_hub_laws.specs.Renaming.{Renaming, renamed_publisher, renamed_ports, renamed_call}
 
 -- What may be answered of one failed connection may be answered of another that differs in the number of the service alone.
@@ -38,15 +38,15 @@ module _ {T U : Type 0} where
   renamed_calls by [] = []
   renamed_calls by (call ∷ calls) = (renamed_call by call.0, renamed_ports by call.1) ∷ renamed_calls by calls
 
--- Where who decides doesn't look at the number of the service: calls of ports, one after another, may be answered under any names as they are, and
--- the ports are in the end what they are, but for the names.
+-- Where who decides doesn't look at the number of the service: calls of ports, one after another, may be answered under any names
+-- as they are, and the ports are in the end what they are, but for the names.
 abbrev pub CallsGoByAnyName : (T U : Type 0) → (ℕ → ℕ → Type 0) → (DegradationInfo → DegradationAction → Type 0) → (BackpressureInfo → BackpressureDecision → Type 0) → Type 0
 CallsGoByAnyName T U overrides may decide = (by : Renaming) (calls : List (PortCall T U × ServicePorts T U)) (old new : ServicePorts T U)
     → DegradesWhateverService may → DecidesWhateverService decide → AllTestAlike by calls → Happen overrides may decide calls old new
     → Happen overrides may decide (renamed_calls by calls) (renamed_ports by old) (renamed_ports by new)
 
--- What is read is the same under other names: the loan in a slot, the message and the header of a sample; and as much lives, of all and of each
--- owner who shares the other number with none.
+-- What is read is the same under other names: the loan in a slot, the message and the header of a sample; and as much lives, of
+-- all and of each owner who shares the other number with none.
 pub record ReadsAlike (T U : Type 0) : Type 0 where
   pub loan : (by : Renaming) (number slot : ℕ) (ports : ServicePorts T U) → loan_in number slot (renamed_ports by ports) ≡ loan_in number slot ports
   pub sample : (by : Renaming) (sample : Taken) (ports : ServicePorts T U) → sample_in sample (renamed_ports by ports) ≡ sample_in sample ports

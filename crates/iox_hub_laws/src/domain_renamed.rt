@@ -1,12 +1,12 @@
-//! The ports of a service under other names: what they do doesn't depend on the number of their service, nor on whose they are. The law is the
-//! contract of a function that does nothing. A proof cites a law by a call of its function; what it states is then among the facts of
-//! the caller:
+//! The ports of a service under other names: what they do doesn't depend on the number of their service, nor on whose they are.
+//! The law is the contract of a function that does nothing. A proof cites a law by a call of its function; what it states is then
+//! among the facts of the caller:
 //!
 //! ```
 //! ports_go_by_any_name::<T, U, O, B>(overriding, handlers);
 //! ```
 
-ghost use Rattle.iox_domain_laws.specs.DomainValues.declared.degradation.DegradationCause.TheVariants as cause;
+ghost use Rattle.iox_domain.specs.DomainValues.declared.degradation.DegradationCause.TheVariants as cause;
 ghost use Rattle.iox_hub_laws.specs.RenamingLaws.{CallsGoByAnyName, ReadsAlike};
 
 use iox_domain_values::{Decides, Degrades, Overrides};

@@ -8,7 +8,7 @@
 
 ghost use Rattle.iox_hub_commands.specs.DescribeBase.Detail.{detail};
 ghost use Rattle.iox_hub_commands.specs.DescribeBase.declared.type_detail.TypeVariant.TheVariants.{FixedSize};
-ghost use Rattle.iox_hub_factories.specs.Asked.{types_of};
+ghost use Rattle.iox_hub_commands.specs.Asked.{types_of};
 ghost use Rattle.iox_hub_laws.specs.Laws.{LeavesOthers, LeftIsFound, RunsLeaveOthers};
 ghost use Rattle.iox_hub_run.specs.Steps.{Step};
 

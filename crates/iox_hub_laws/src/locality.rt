@@ -7,18 +7,19 @@
 
 ghost use Rattle.iox_hub_laws.specs.HubCommands.DescribeBase.Detail.{detail};
 ghost use Rattle.iox_hub_laws.specs.HubCommands.DescribeBase.declared.type_detail.TypeVariant.TheVariants.{FixedSize};
-ghost use Rattle.iox_hub_laws.specs.HubFactories.Asked.{types_of};
+ghost use Rattle.iox_hub_laws.specs.HubCommands.Asked.{types_of};
 ghost use Rattle.iox_hub_laws.specs.Locality.{CloseAnswersAlike, ForeignAnswersAlike, OpensAnswerAlike, PortsAnswerAlike, RunsAnswerAlike};
 ghost use Rattle.iox_hub_laws.specs.Order.{RunsAreInOrder, StaysInOrder};
 ghost use Rattle.iox_hub_laws.specs.HubRun.Steps.{Step};
 
 pub use crate::independence::{PublisherHandlers, SubscriberHandler, Words, ZeroCopySend};
 
-/// Of two hubs that agree on a service: what the one may reply to a command that asks something of a port, a loan or a sample of this
-/// service, makes a port of it, creates or opens it, closes a factory of it, or has nodes of others do steps on it, the other may reply, and
-/// then they agree on it again. So neither the reply nor what is left of the service depends on any other service. A reply that no memory was
-/// found to create or open it isn't spoken of. Two such hubs reply alike to any list of commands of its ports. In every run the numbers of a
-/// hub's domains are in order, and so are those of its counts of factories. It is the contract of a function that does nothing.
+/// Of two hubs that agree on a service: what the one may reply to a command that asks something of a port, a loan or a sample of
+/// this service, makes a port of it, creates or opens it, closes a factory of it, or has nodes of others do steps on it, the
+/// other may reply, and then they agree on it again. So neither the reply nor what is left of the service depends on any other
+/// service. A reply that no memory was found to create or open it isn't spoken of. Two such hubs reply alike to any list of
+/// commands of its ports. In every run the numbers of a hub's domains are in order, and so are those of its counts of factories.
+/// It is the contract of a function that does nothing.
 pub fn commands_look_at_their_service<
     T: Words + ZeroCopySend + Default,
     U: Copy + ZeroCopySend + Default,

@@ -7,17 +7,18 @@
 
 ghost use Rattle.iox_hub_laws.specs.HubCommands.DescribeBase.Detail.{detail};
 ghost use Rattle.iox_hub_laws.specs.HubCommands.DescribeBase.declared.type_detail.TypeVariant.TheVariants.{FixedSize};
-ghost use Rattle.iox_hub_laws.specs.HubFactories.Asked.{types_of};
+ghost use Rattle.iox_hub_laws.specs.HubCommands.Asked.{types_of};
 ghost use Rattle.iox_hub_laws.specs.Anew.{CountsAnew, EachServiceIsAloneAnew, IsAloneAnew};
 ghost use Rattle.iox_hub_laws.specs.HubRun.Steps.{Step};
 
 pub use crate::alone::{PublisherHandlers, SubscriberHandler, Words, ZeroCopySend};
 
-/// A run alone in which numbers of factories, ports, loans and samples are passed over is a run in which none is, with the same replies, if
-/// what commands name goes by the numbers that are counted anew, and replies tell these. So it is with the commands of a service in any run
-/// of a new hub: what was replied to them among the commands of others may be replied to them alone, by the service's own numbers. Of every
-/// run, and of every service, it can be told which commands these are, if no memory was wanted to create or open a service. Numbers of lives,
-/// and of the factories that a hub counts, are passed over still. It is the contract of a function that does nothing.
+/// A run alone in which numbers of factories, ports, loans and samples are passed over is a run in which none is, with the same
+/// replies, if what commands name goes by the numbers that are counted anew, and replies tell these. So it is with the commands
+/// of a service in any run of a new hub: what was replied to them among the commands of others may be replied to them alone, by
+/// the service's own numbers. Of every run, and of every service, it can be told which commands these are, if no memory was
+/// wanted to create or open a service. Numbers of lives, and of the factories that a hub counts, are passed over still. It is the
+/// contract of a function that does nothing.
 pub fn numbers_are_counted_anew<
     T: Words + ZeroCopySend + Default,
     U: Copy + ZeroCopySend + Default,

@@ -8,10 +8,10 @@ use Rattle.std.specs.declared.cmp.Ordering.{Ordering}
 use Rattle.std.specs.declared.cmp.Ordering.TheVariants.{Less, Equal, Greater}
 use Rattle.iox_hub_commands.specs.DescribeSettings.Agreement.{Agreement}
 use Rattle.iox_hub_commands.specs.DescribeSettings.declared.static_config.publish_subscribe.StaticConfig.{StaticConfig}
-use Rattle.iox_hub_factories.specs.HubServices.Numbered.{is_number}
-use Rattle.iox_hub_factories.specs.HubServices.declared.presence.Presence.{Presence}
-use Rattle.iox_hub_factories.specs.Tables.{FactoryTable, parts_of}
-use Rattle.iox_hub_factories.specs.declared.made.MadeFactory.{MadeFactory}
+use Rattle.iox_hub_commands.specs.HubServices.Numbered.{is_number}
+use Rattle.iox_hub_commands.specs.HubServices.declared.presence.Presence.{Presence}
+use Rattle.iox_hub_commands.specs.ServicesTables.{FactoryTable, parts_of}
+use Rattle.iox_hub_commands.specs.declared.services.made.MadeFactory.{MadeFactory}
 use Rattle.iox_negotiate.proofs.Maps.{Among, among-all}
 use Rattle.iox_hub_run.specs.Agreements.{agreed_in, HoldsOfDomains, HoldsOfFactories}
 

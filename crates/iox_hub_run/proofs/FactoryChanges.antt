@@ -12,16 +12,16 @@ use Rattle.iox_hub_commands.specs.DescribeBase.declared.attribute.Attribute.{Att
 use Rattle.iox_hub_commands.specs.DescribeBase.declared.message_type.MessageTypeDetails.{MessageTypeDetails}
 use Rattle.iox_hub_commands.specs.DescribeBase.declared.pattern.MessagingPattern.{MessagingPattern}
 use Rattle.iox_hub_commands.specs.DescribeBase.declared.pattern.MessagingPattern.TheVariants as pattern
-use Rattle.iox_hub_factories.specs.HubBase.Opening.{Made}
-use Rattle.iox_hub_factories.specs.HubBase.declared.hub.Hub.{Hub}
-use Rattle.iox_hub_factories.specs.Closing.{ClosesUnless, ClosesIfOf, ClosesNumbered}
-use Rattle.iox_hub_factories.specs.Creating.{CreatesAs, CreatesPrepared, CreatesNumbered}
-use Rattle.iox_hub_factories.specs.Either.{EitherAs, EitherPrepared, EitherNumbered}
-use Rattle.iox_hub_factories.specs.Numbering.{Prepares, Numbers}
-use Rattle.iox_hub_factories.specs.Opening.{OpensAs, OpensPrepared, OpensNumbered}
-use Rattle.iox_hub_factories.specs.Tables.{FactoryTable, parts_of}
-use Rattle.iox_hub_factories.specs.declared.asked.ServiceAsked.{ServiceAsked}
-use Rattle.iox_hub_factories.specs.declared.made.MadeFactory.{MadeFactory}
+use Rattle.iox_hub_commands.specs.HubBase.Opening.{Made}
+use Rattle.iox_hub_commands.specs.HubBase.declared.hub.Hub.{Hub}
+use Rattle.iox_hub_commands.specs.Closing.{ClosesUnless, ClosesIfOf, ClosesNumbered}
+use Rattle.iox_hub_commands.specs.Creating.{CreatesAs, CreatesPrepared, CreatesNumbered}
+use Rattle.iox_hub_commands.specs.Either.{EitherAs, EitherPrepared, EitherNumbered}
+use Rattle.iox_hub_commands.specs.ServicesNumbering.{Prepares, Numbers}
+use Rattle.iox_hub_commands.specs.Opening.{OpensAs, OpensPrepared, OpensNumbered}
+use Rattle.iox_hub_commands.specs.ServicesTables.{FactoryTable, parts_of}
+use Rattle.iox_hub_commands.specs.declared.services.asked.ServiceAsked.{ServiceAsked}
+use Rattle.iox_hub_commands.specs.declared.services.made.MadeFactory.{MadeFactory}
 use Rattle.iox_negotiate.specs.declared.factory.Membership.{Membership}
 use Rattle.iox_negotiate.specs.NegotiateBase.declared.errors.close.CloseError.{CloseError}
 use Rattle.iox_negotiate.specs.NegotiateTable.declared.step.ForeignStep.{ForeignStep}

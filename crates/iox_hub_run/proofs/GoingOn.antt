@@ -3,9 +3,9 @@ use Rattle.std.proofs.Common.{arith, ◌≡◌, ◌∙◌, ◌≤◌, ◌+◌, �
 use Rattle.std.proofs.lemmas.Bool.{eqb-true, eq-eqb}
 use Rattle.std.specs.Map.{lookup, remove_entry}
 use Rattle.std.specs.Prelude.{nat_eq}
-use Rattle.iox_hub_factories.proofs.Maps.Rising.{Rises-push, Rises-removed}
-use Rattle.iox_hub_factories.proofs.Maps.Telling.{found_and_gone}
-use Rattle.iox_hub_factories.specs.Maps.NumberTable.{NumberTable, Rises, value_at}
+use Rattle.iox_hub_commands.proofs.Maps.Rising.{Rises-push, Rises-removed}
+use Rattle.iox_hub_commands.proofs.Maps.Telling.{found_and_gone}
+use Rattle.iox_hub_commands.specs.Maps.NumberTable.{NumberTable, Rises, value_at}
 use Rattle.iox_hub_run.specs.Lives.{Stays, GetsOne, LosesOne, ChangesOne, GoesOn}
 
 module _ {V : Type 0} where

@@ -6,23 +6,23 @@ use Rattle.std.specs.Ordering.{nat_cmp, is_eq, match_ordering}
 use Rattle.std.specs.declared.cmp.Ordering.{Ordering}
 use Rattle.std.specs.declared.cmp.Ordering.TheVariants.{Less, Equal, Greater}
 use Rattle.iox_hub_commands.specs.Delivery.Publishing.{changed_at}
-use Rattle.iox_hub_commands.specs.DeliverySlices.Slices.{each_written}
-use Rattle.iox_hub_factories.specs.Domain.Domains.{with_ports}
-use Rattle.iox_hub_factories.specs.Domain.declared.domain.Domain.{Domain}
-use Rattle.iox_hub_factories.specs.HubBase.AsHome.{hub_ports, with_hub_ports, with_services}
-use Rattle.iox_hub_factories.specs.HubBase.declared.hub.Hub.{Hub}
-use Rattle.iox_hub_factories.specs.HubServices.AsHome.{domain_at, stepped_if, stepped}
-use Rattle.iox_hub_factories.specs.HubServices.HomeLaws.{here_stands, stands_at, stepped_elsewhere}
-use Rattle.iox_hub_factories.specs.HubServices.Numbered.{one_value, is_number, changed_found, changed_twice, same_unchanged}
-use Rattle.iox_hub_factories.specs.HubServices.Open.{OpenServices, presence_of}
-use Rattle.iox_hub_factories.specs.HubServices.declared.presence.Presence.{Presence}
-use Rattle.iox_hub_factories.specs.HubServices.declared.presence.Presence.TheVariants.{Here}
-use Rattle.iox_hub_commands.specs.DomainHome.Homes.{AtDomain, LeavesDomain, MakesAt}
-use Rattle.iox_hub_commands.specs.DomainHome.declared.domain_id.DomainId.{DomainId}
-use Rattle.iox_hub_commands.specs.DomainLaws.Calls.{PortCall, Writes, Happens}
-use Rattle.iox_hub_commands.specs.DomainLaws.Order.{Happen}
-use Rattle.iox_hub_commands.specs.DomainPorts.Lending.{written_in}
-use Rattle.iox_hub_commands.specs.DomainPorts.declared.service_ports.ServicePorts.{ServicePorts}
+use Rattle.iox_hub_commands.specs.Delivery.Slices.{each_written}
+use Rattle.iox_hub_commands.specs.Domain.Domains.{with_ports}
+use Rattle.iox_hub_commands.specs.Domain.declared.domain.Domain.{Domain}
+use Rattle.iox_hub_commands.specs.HubBase.AsHome.{hub_ports, with_hub_ports, with_services}
+use Rattle.iox_hub_commands.specs.HubBase.declared.hub.Hub.{Hub}
+use Rattle.iox_hub_commands.specs.HubServices.AsHome.{domain_at, ports_if, stepped_if, stepped}
+use Rattle.iox_hub_commands.specs.HubServices.HomeLaws.{here_stands, stands_at, stepped_elsewhere}
+use Rattle.iox_hub_commands.specs.HubServices.Numbered.{one_value, is_number, changed_found, changed_twice, same_unchanged}
+use Rattle.iox_hub_commands.specs.HubServices.Open.{OpenServices, presence_of}
+use Rattle.iox_hub_commands.specs.HubServices.declared.presence.Presence.{Presence}
+use Rattle.iox_hub_commands.specs.HubServices.declared.presence.Presence.TheVariants.{Here}
+use Rattle.iox_hub_commands.specs.Domain.AtHomes.{AtDomain, LeavesDomain, MakesAt}
+use Rattle.iox_hub_commands.specs.Domain.declared.domain_id.DomainId.{DomainId}
+use Rattle.iox_hub_commands.specs.Domain.Calls.{PortCall, Writes, Happens}
+use Rattle.iox_hub_commands.specs.Domain.Order.{Happen}
+use Rattle.iox_hub_commands.specs.Domain.Lending.{written_in}
+use Rattle.iox_hub_commands.specs.Domain.declared.ports.service_ports.ServicePorts.{ServicePorts}
 use Rattle.iox_hub_commands.specs.DomainPublisher.Writing.{changed_if}
 use Rattle.iox_hub_commands.specs.DomainPublisher.declared.publisher_port.PublisherPort.{PublisherPort}
 use Rattle.iox_hub_commands.specs.DomainPublisher.Messages.{Loan, write_value}
@@ -135,10 +135,10 @@ module _ {T U B D : Type 0} where
 
   -- a domain whose ports went on by calls, and which agreed on the same
   abbrev Goes : Domain T U B D → Domain T U B D → Type 0
-  Goes before after = (after.agreed ≡ before.agreed) × LeadsTo before.ports after.ports
+  Goes before after = (after.agreed ≡ before.agreed) × LeadsTo before.state.ports after.state.ports
 
   grows_more : (number : ℕ) (before after : Domain T U B D) → Goes before after → HasGrown {T = T} {U = U} {B = B} {D = D} number (Here before) → HasGrown {T = T} {U = U} {B = B} {D = D} number (Here after)
-  grows_more number before after (agreed, leads) (buffer, grown) = (buffer, rw agreed (leads_on _ before.ports after.ports grown leads))
+  grows_more number before after (agreed, leads) (buffer, grown) = (buffer, rw agreed (leads_on _ before.state.ports after.state.ports grown leads))
 
   step_grows_at : (id : DomainId) (step : Domain T U B D → Domain T U B D) (services : OpenServices T U B D) (found : Option (Domain T U B D)) → domain_at id services ≡ found
       → ((domain : Domain T U B D) → found ≡ Some domain → Goes domain (step domain)) → HaveGrown services.domains → HaveGrown (stepped_if found id.service step services).domains
@@ -194,9 +194,9 @@ module _ {T U B D : Type 0} where
   moves_on id old mid new (stay, grow, (table, keep)) (stay_later, grow_later, (table_later, keep_later)) =
       (λ other apart. stay_later other apart ∙ stay other apart, λ grown. grow_later (grow grown), (table_later ∙ table, kept_twice old.services.domains mid.services.domains new.services.domains keep keep_later))
 
-  ports_go : (ports after : ServicePorts T U) (domain : Domain T U B D) (found : Option (Domain T U B D)) → LeadsTo ports after → option_map (λ one. one.ports) found ≡ Some ports → found ≡ Some domain → Goes domain (with_ports after domain)
+  ports_go : (ports after : ServicePorts T U) (domain : Domain T U B D) (found : Option (Domain T U B D)) → LeadsTo ports after → ports_if found ≡ Some ports → found ≡ Some domain → Goes domain (with_ports after domain)
   ports_go ports after domain found leads are is =
-      let own : domain.ports ≡ ports = one_value (ap (option_map (λ one. one.ports)) (sym is) ∙ are) in
+      let own : domain.state.ports ≡ ports = one_value (ap ports_if (sym is) ∙ are) in
       (refl, rw own leads)
 
   -- a hub with other ports in one domain
@@ -204,9 +204,9 @@ module _ {T U B D : Type 0} where
   put_moves id ports after hub are leads = step_moves id (with_ports after) hub (λ domain is. ports_go ports after domain (domain_at id hub.services) leads are is)
 
   -- a step that touches neither ports nor what is agreed
-  pub keep_moves : (id : DomainId) (step : Domain T U B D → Domain T U B D) → ((domain : Domain T U B D) → ((step domain).agreed ≡ domain.agreed) × ((step domain).ports ≡ domain.ports)) → (hub : Hub T U B D)
+  pub keep_moves : (id : DomainId) (step : Domain T U B D → Domain T U B D) → ((domain : Domain T U B D) → ((step domain).agreed ≡ domain.agreed) × ((step domain).state.ports ≡ domain.state.ports)) → (hub : Hub T U B D)
       → Moves id hub (with_services hub (stepped id step hub.services))
-  keep_moves id step keeps hub = step_moves id step hub (λ domain is. let (agreed, ports) = keeps domain in (agreed, rw ports (leads_nowhere domain.ports)))
+  keep_moves id step keeps hub = step_moves id step hub (λ domain is. let (agreed, ports) = keeps domain in (agreed, rw ports (leads_nowhere domain.state.ports)))
 
   pub at_domain_moves : {A : Type 0} (id : DomainId) (step : ServicePorts T U → Option A → ServicePorts T U → Type 0) → ((ports after : ServicePorts T U) (answer : Option A) → step ports answer after → LeadsTo ports after)
       → (found : Option (ServicePorts T U)) (old new : Hub T U B D) (answer : Option A) → hub_ports id old ≡ found → AtDomain (λ after. with_hub_ports id after old) step found old answer new → Moves id old new

@@ -1,9 +1,9 @@
 -- The loans that may still be made are a measure: each loan takes one, and what ends it gives one.
 use Rattle.std.proofs.Common.{arith, ◌+◌, ◌≤◌, true, false, None, Some, Ok, Err, refl}
-use Rattle.iox_domain_room.specs.Loans.{loans_left, lent_by, ended_by, brought_by as lent_room}
-use Rattle.iox_domain_room.proofs.Calling.{loans_left_by_calls}
-use Rattle.iox_hub_commands.specs.DomainLaws.Calls.{PortCall, PublisherComes, SubscriberComes, Lends, Writes, GivesLoanUp, PublisherUpdates, Sends, Retries, GivesSendUp, PublisherLeaves, SubscriberUpdates, AsksForSamples, Receives, Releases, SubscriberLeaves, Happens}
-use Rattle.iox_hub_commands.specs.DomainPorts.declared.service_ports.ServicePorts.{ServicePorts}
+use Rattle.iox_domain.specs.Loans.{loans_left, lent_by, ended_by, brought_by as lent_room}
+use Rattle.iox_domain.proofs.AllowancesCalling.{loans_left_by_calls}
+use Rattle.iox_hub_commands.specs.Domain.Calls.{PortCall, PublisherComes, SubscriberComes, Lends, Writes, GivesLoanUp, PublisherUpdates, Sends, Retries, GivesSendUp, PublisherLeaves, SubscriberUpdates, AsksForSamples, Receives, Releases, SubscriberLeaves, Happens}
+use Rattle.iox_hub_commands.specs.Domain.declared.ports.service_ports.ServicePorts.{ServicePorts}
 use Rattle.iox_hub_run.specs.Grown.{AnySlots, AnyAction, AnyDecision}
 use Rattle.iox_hub_run.proofs.Measures.{Measure, taken_by, given_by, brought_by}
 

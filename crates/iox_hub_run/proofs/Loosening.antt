@@ -1,15 +1,15 @@
 -- What a call does by handlers that answer in some way it does where anything may be answered.
 use Rattle.std.proofs.Common.{ℕ, zero, suc, ◌+◌, Bool, true, false, List, [], ◌∷◌, Option, None, Some, Result, Ok, Err, is_ok}
 use Rattle.std.specs.declared.alloc.AllocError.{AllocError}
-use Rattle.iox_hub_commands.specs.DomainLaws.Calls.{PortCall, PublisherComes, SubscriberComes, Lends, Writes, GivesLoanUp, PublisherUpdates, Sends, Retries, GivesSendUp, PublisherLeaves, SubscriberUpdates, AsksForSamples, Receives, Releases, SubscriberLeaves, Happens}
-use Rattle.iox_hub_commands.specs.DomainPorts.Making.{slots_needed, publisher_place, subscriber_place, identity_of, AddsPublisher, CreatesPublisher, AddsSubscriber, CreatesSubscriber}
-use Rattle.iox_hub_commands.specs.DomainPorts.Ports.{AtPublisher, AtSubscriber}
-use Rattle.iox_hub_commands.specs.DomainPorts.Publishing as publishing
-use Rattle.iox_hub_commands.specs.DomainPorts.Rolls.{RollState}
-use Rattle.iox_hub_commands.specs.DomainPorts.Subscribers.{subscriber_of}
-use Rattle.iox_hub_commands.specs.DomainPorts.Subscribing as subscribing
-use Rattle.iox_hub_commands.specs.DomainPorts.declared.making.PublisherConfig.{PublisherConfig}
-use Rattle.iox_hub_commands.specs.DomainPorts.declared.service_ports.ServicePorts.{ServicePorts}
+use Rattle.iox_hub_commands.specs.Domain.Calls.{PortCall, PublisherComes, SubscriberComes, Lends, Writes, GivesLoanUp, PublisherUpdates, Sends, Retries, GivesSendUp, PublisherLeaves, SubscriberUpdates, AsksForSamples, Receives, Releases, SubscriberLeaves, Happens}
+use Rattle.iox_hub_commands.specs.Domain.Making.{slots_needed, publisher_place, subscriber_place, identity_of, AddsPublisher, CreatesPublisher, AddsSubscriber, CreatesSubscriber}
+use Rattle.iox_hub_commands.specs.Domain.Ports.{AtPublisher, AtSubscriber}
+use Rattle.iox_hub_commands.specs.Domain.PortsPublishing as publishing
+use Rattle.iox_hub_commands.specs.Domain.Rolls.{RollState}
+use Rattle.iox_hub_commands.specs.Domain.Subscribers.{subscriber_of}
+use Rattle.iox_hub_commands.specs.Domain.PortsSubscribing as subscribing
+use Rattle.iox_hub_commands.specs.Domain.declared.ports.making.PublisherConfig.{PublisherConfig}
+use Rattle.iox_hub_commands.specs.Domain.declared.ports.service_ports.ServicePorts.{ServicePorts}
 use Rattle.iox_hub_commands.specs.DomainPublisher.Sending as sending
 use Rattle.iox_hub_commands.specs.DomainPublisher.Updating as publisher
 use Rattle.iox_hub_commands.specs.DomainPublisher.declared.meeting.Meeting.{Meeting}

@@ -1,4 +1,5 @@
--- What is counted of the ports of all open services, what each call of a port makes of that, and what becomes of it as a domain goes on, comes or goes.
+-- What is counted of the ports of all open services, what each call of a port makes of that, and what becomes of it as a domain
+-- goes on, comes or goes.
 use Rattle.std.proofs.Common.{arith, ◌≡◌, ◌∙◌, ◌+◌, ◌≤◌, ℕ, Bool, true, false, List, [], ◌∷◌, Option, None, Some, Result, Ok, Err, if◌then◌else◌, option_map, refl, sym, ap, subst}
 use Rattle.std.proofs.lemmas.List.Sums.{sum_by-cons}
 use Rattle.std.proofs.lemmas.Map.Entries.{sum_by-set_value, sum_by-remove_entry}
@@ -11,29 +12,29 @@ use Rattle.std.specs.Prelude.{sum_by, IfSome}
 use Rattle.std.specs.declared.cmp.Ordering.{Ordering}
 use Rattle.std.specs.declared.cmp.Ordering.TheVariants.{Less, Equal, Greater}
 use Rattle.iox_hub_commands.specs.Delivery.Publishing.{changed_at}
-use Rattle.iox_hub_commands.specs.DomainHome.Homes.{AtDomain, LeavesDomain, MakesAt}
-use Rattle.iox_hub_commands.specs.DomainHome.declared.domain_id.DomainId.{DomainId}
-use Rattle.iox_hub_commands.specs.DomainLaws.Calls.{PortCall, PublisherComes, SubscriberComes, Lends, GivesLoanUp, Sends, Receives, Releases, Happens}
-use Rattle.iox_hub_commands.specs.DomainPorts.Ports.{no_ports}
-use Rattle.iox_hub_commands.specs.DomainPorts.declared.making.PublisherConfig.{PublisherConfig}
-use Rattle.iox_hub_commands.specs.DomainPorts.declared.service_ports.ServicePorts.{ServicePorts}
+use Rattle.iox_hub_commands.specs.Domain.AtHomes.{AtDomain, LeavesDomain, MakesAt}
+use Rattle.iox_hub_commands.specs.Domain.declared.domain_id.DomainId.{DomainId}
+use Rattle.iox_hub_commands.specs.Domain.Calls.{PortCall, PublisherComes, SubscriberComes, Lends, GivesLoanUp, Sends, Receives, Releases, Happens}
+use Rattle.iox_hub_commands.specs.Domain.Ports.{no_ports}
+use Rattle.iox_hub_commands.specs.Domain.declared.ports.making.PublisherConfig.{PublisherConfig}
+use Rattle.iox_hub_commands.specs.Domain.declared.ports.service_ports.ServicePorts.{ServicePorts}
 use Rattle.iox_hub_commands.specs.DomainPublisher.declared.meeting.Sent.{Sent}
 use Rattle.iox_hub_commands.specs.DomainSubscriber.declared.attached.Taken.{Taken}
 use Rattle.iox_hub_commands.specs.DomainValues.declared.port_error.LoanError.{LoanError}
 use Rattle.iox_hub_commands.specs.DomainValues.declared.port_error.ReceiveError.{ReceiveError}
 use Rattle.iox_hub_commands.specs.DomainValues.declared.port_error.SendError.{SendError}
 use Rattle.iox_hub_commands.specs.DomainValues.declared.service_sizes.ServiceSizes.{ServiceSizes}
-use Rattle.iox_hub_factories.specs.Domain.Domains.{with_ports}
-use Rattle.iox_hub_factories.specs.Domain.declared.domain.Domain.{Domain}
-use Rattle.iox_hub_factories.specs.HubBase.AsHome.{hub_ports, with_hub_ports, with_services}
-use Rattle.iox_hub_factories.specs.HubBase.declared.hub.Hub.{Hub}
-use Rattle.iox_hub_factories.specs.HubServices.AsHome.{domain_at, stepped_if, stepped}
-use Rattle.iox_hub_factories.specs.HubServices.HomeLaws.{here_stands, stands_at}
-use Rattle.iox_hub_factories.specs.HubServices.Numbered.{one_value}
-use Rattle.iox_hub_factories.specs.HubServices.Open.{OpenServices, presence_of, with_domain}
-use Rattle.iox_hub_factories.specs.HubServices.Room.{counted_at, counted_in}
-use Rattle.iox_hub_factories.specs.HubServices.declared.presence.Presence.{Presence}
-use Rattle.iox_hub_factories.specs.HubServices.declared.presence.Presence.TheVariants.{Here, Out}
+use Rattle.iox_hub_commands.specs.Domain.Domains.{with_ports}
+use Rattle.iox_hub_commands.specs.Domain.declared.domain.Domain.{Domain}
+use Rattle.iox_hub_commands.specs.HubBase.AsHome.{hub_ports, with_hub_ports, with_services}
+use Rattle.iox_hub_commands.specs.HubBase.declared.hub.Hub.{Hub}
+use Rattle.iox_hub_commands.specs.HubServices.AsHome.{domain_at, ports_if, stepped_if, stepped}
+use Rattle.iox_hub_commands.specs.HubServices.HomeLaws.{here_stands, stands_at}
+use Rattle.iox_hub_commands.specs.HubServices.Numbered.{one_value}
+use Rattle.iox_hub_commands.specs.HubServices.Open.{OpenServices, presence_of, with_domain}
+use Rattle.iox_hub_commands.specs.HubServices.Room.{counted_at, counted_in}
+use Rattle.iox_hub_commands.specs.HubServices.declared.presence.Presence.{Presence}
+use Rattle.iox_hub_commands.specs.HubServices.declared.presence.Presence.TheVariants.{Here, Out}
 use Rattle.iox_hub_run.specs.Grown.{AnySlots, AnyAction, AnyDecision}
 
 -- what a loan counts that was made, if one was
@@ -132,7 +133,7 @@ module _ {T U : Type 0} (m : Measure T U) where
 module _ {T U B D : Type 0} (m : Measure T U) where
   -- the ports of a domain that is here are fine
   abbrev pub IsFineAt : Presence T U B D → Type 0
-  IsFineAt (Here domain) = m.Fine domain.ports
+  IsFineAt (Here domain) = m.Fine domain.state.ports
   IsFineAt (Out agreed) = Unit {0}
 
   -- so it is with each service that is open
@@ -163,23 +164,23 @@ module _ {T U B D : Type 0} (m : Measure T U) where
       let (fine_after, other) = second between in
       (fine_after, omega (arith, one, other))
 
-  fine_found : (found : Option (Presence T U B D)) (domain : Domain T U B D) → found ≡ Some (Here domain) → IfSome found (λ presence. IsFineAt presence) → m.Fine domain.ports
+  fine_found : (found : Option (Presence T U B D)) (domain : Domain T U B D) → found ≡ Some (Here domain) → IfSome found (λ presence. IsFineAt presence) → m.Fine domain.state.ports
   fine_found found domain is fine = subst (λ one. IfSome one (λ presence. IsFineAt presence)) is fine
 
   -- another domain stands in the place of one
-  set_counts : (taken given number : ℕ) (domains : List (ℕ × Presence T U B D)) (before after : Domain T U B D) → presence_of number domains ≡ Some (Here before) → Steps m taken given before.ports after.ports
+  set_counts : (taken given number : ℕ) (domains : List (ℕ × Presence T U B D)) (before after : Domain T U B D) → presence_of number domains ≡ Some (Here before) → Steps m taken given before.state.ports after.state.ports
       → CountsIn taken given domains (with_domain number domains after)
   set_counts taken given number domains before after there steps fine =
-      let was : m.Fine before.ports = fine_found (presence_of number domains) before there (IfSome-lookup_from_All (λ presence. IsFineAt presence) (is_at (nat_cmp number)) domains fine) in
+      let was : m.Fine before.state.ports = fine_found (presence_of number domains) before there (IfSome-lookup_from_All (λ presence. IsFineAt presence) (is_at (nat_cmp number)) domains fine) in
       let (fine_after, few) = steps was in
       let sums = sum_by-set_value (λ presence. counted_at (λ ports. m.count ports) presence) (is_at (nat_cmp number)) domains (Here before) (Here after) there in
       (All-values-set_value (is_at (nat_cmp number)) (λ presence. IsFineAt presence) domains (Here after) fine fine_after, omega (arith, few, sums))
 
   -- a domain without ports comes
-  pub come_counts : (number : ℕ) (domains : List (ℕ × Presence T U B D)) (domain : Domain T U B D) (service : ℕ) (sizes : ServiceSizes) → domain.ports ≡ no_ports service sizes
+  pub come_counts : (number : ℕ) (domains : List (ℕ × Presence T U B D)) (domain : Domain T U B D) (service : ℕ) (sizes : ServiceSizes) → domain.state.ports ≡ no_ports service sizes
       → CountsIn 0 0 domains (insert_entry nat_cmp domains number (Here domain))
   come_counts number domains domain service sizes is fine =
-      let none : m.count domain.ports ≡ 0 = ap (λ ports. m.count ports) is ∙ m.nothing service sizes in
+      let none : m.count domain.state.ports ≡ 0 = ap (λ ports. m.count ports) is ∙ m.nothing service sizes in
       let few = sum_came (λ presence. counted_at (λ ports. m.count ports) presence) number domains (Here domain) in
       (All-values-insert_entry nat_cmp number (Here domain) (λ presence. IsFineAt presence) domains fine (subst (λ ports. m.Fine ports) (sym is) (m.begins service sizes)), omega (arith, few, none))
 
@@ -190,14 +191,14 @@ module _ {T U B D : Type 0} (m : Measure T U) where
       (All-map-remove_entry (is_at (nat_cmp number)) (λ entry. entry.1) (λ presence. IsFineAt presence) domains fine, omega (arith, few))
 
   step_counts : (taken given : ℕ) (id : DomainId) (step : Domain T U B D → Domain T U B D) (services : OpenServices T U B D) (domain : Domain T U B D) → domain_at id services ≡ Some domain
-      → Steps m taken given domain.ports (step domain).ports → CountsIn taken given services.domains (stepped_if (Some domain) id.service step services).domains
+      → Steps m taken given domain.state.ports (step domain).state.ports → CountsIn taken given services.domains (stepped_if (Some domain) id.service step services).domains
   step_counts taken given id step services domain is steps =
       set_counts taken given id.service services.domains domain (step domain) (here_stands (presence_of id.service services.domains) domain (stands_at id services domain is).found) steps
 
-  own_ports : (ports : ServicePorts T U) (domain : Domain T U B D) (found : Option (Domain T U B D)) → option_map (λ one. one.ports) found ≡ Some ports → found ≡ Some domain → ports ≡ domain.ports
-  own_ports ports domain found are is = one_value (sym are ∙ ap (option_map (λ one. one.ports)) is)
+  own_ports : (ports : ServicePorts T U) (domain : Domain T U B D) (found : Option (Domain T U B D)) → ports_if found ≡ Some ports → found ≡ Some domain → ports ≡ domain.state.ports
+  own_ports ports domain found are is = one_value (sym are ∙ ap ports_if is)
 
-  put_counts_at : (taken given : ℕ) (id : DomainId) (ports after : ServicePorts T U) (services : OpenServices T U B D) (found : Option (Domain T U B D)) → domain_at id services ≡ found → option_map (λ one. one.ports) found ≡ Some ports
+  put_counts_at : (taken given : ℕ) (id : DomainId) (ports after : ServicePorts T U) (services : OpenServices T U B D) (found : Option (Domain T U B D)) → domain_at id services ≡ found → ports_if found ≡ Some ports
       → Steps m taken given ports after → CountsIn taken given services.domains (stepped_if found id.service (with_ports after) services).domains
   put_counts_at taken given id ports after services None is are steps = cc
   put_counts_at taken given id ports after services (Some domain) is are steps =
@@ -207,13 +208,13 @@ module _ {T U B D : Type 0} (m : Measure T U) where
   pub put_counts : (taken given : ℕ) (id : DomainId) (ports after : ServicePorts T U) (hub : Hub T U B D) → hub_ports id hub ≡ Some ports → Steps m taken given ports after → Counts taken given hub (with_hub_ports id after hub)
   put_counts taken given id ports after hub are steps = put_counts_at taken given id ports after hub.services (domain_at id hub.services) refl are steps
 
-  keep_counts_at : (id : DomainId) (step : Domain T U B D → Domain T U B D) → ((domain : Domain T U B D) → (step domain).ports ≡ domain.ports) → (services : OpenServices T U B D) (found : Option (Domain T U B D)) → domain_at id services ≡ found
+  keep_counts_at : (id : DomainId) (step : Domain T U B D → Domain T U B D) → ((domain : Domain T U B D) → (step domain).state.ports ≡ domain.state.ports) → (services : OpenServices T U B D) (found : Option (Domain T U B D)) → domain_at id services ≡ found
       → CountsIn 0 0 services.domains (stepped_if found id.service step services).domains
   keep_counts_at id step keeps services None is = same_counts 0 0 services.domains services.domains (omega arith) refl
-  keep_counts_at id step keeps services (Some domain) is = step_counts 0 0 id step services domain is (subst (λ own. Steps m 0 0 domain.ports own) (sym (keeps domain)) (steps_nowhere m domain.ports))
+  keep_counts_at id step keeps services (Some domain) is = step_counts 0 0 id step services domain is (subst (λ own. Steps m 0 0 domain.state.ports own) (sym (keeps domain)) (steps_nowhere m domain.state.ports))
 
   -- a step that doesn't touch ports
-  pub keep_counts : (id : DomainId) (step : Domain T U B D → Domain T U B D) → ((domain : Domain T U B D) → (step domain).ports ≡ domain.ports) → (hub : Hub T U B D) → Counts 0 0 hub (with_services hub (stepped id step hub.services))
+  pub keep_counts : (id : DomainId) (step : Domain T U B D → Domain T U B D) → ((domain : Domain T U B D) → (step domain).state.ports ≡ domain.state.ports) → (hub : Hub T U B D) → Counts 0 0 hub (with_services hub (stepped id step hub.services))
   keep_counts id step keeps hub = keep_counts_at id step keeps hub.services (domain_at id hub.services) refl
 
   -- nothing changes

@@ -5,12 +5,12 @@ use Rattle.std.specs.Ordering.{nat_cmp}
 use Rattle.std.specs.BTreeMap.{is_at}
 use Rattle.std.proofs.lemmas.Map.Lookups.{exact_unsigned}
 use Rattle.iox_hub_commands.specs.DescribeSettings.declared.static_config.Settings.TheVariants.{PublishSubscribe}
-use Rattle.iox_hub_factories.specs.HubBase.declared.hub.Hub.{Hub}
-use Rattle.iox_hub_factories.specs.HubServices.Open.{presence_of}
-use Rattle.iox_hub_factories.specs.HubServices.declared.presence.Presence.{Presence}
-use Rattle.iox_hub_factories.specs.Maps.NumberTable.{value_at}
-use Rattle.iox_hub_factories.specs.Tables.{FactoryTable}
-use Rattle.iox_hub_factories.specs.declared.made.MadeFactory.{MadeFactory}
+use Rattle.iox_hub_commands.specs.HubBase.declared.hub.Hub.{Hub}
+use Rattle.iox_hub_commands.specs.HubServices.Open.{presence_of}
+use Rattle.iox_hub_commands.specs.HubServices.declared.presence.Presence.{Presence}
+use Rattle.iox_hub_commands.specs.Maps.NumberTable.{value_at}
+use Rattle.iox_hub_commands.specs.ServicesTables.{FactoryTable}
+use Rattle.iox_hub_commands.specs.declared.services.made.MadeFactory.{MadeFactory}
 use Rattle.iox_negotiate.proofs.Changes.{equal-of}
 use Rattle.iox_negotiate.proofs.Maps.{Among, among, among-all}
 use Rattle.iox_hub_run.specs.Agreements.{IsAgreement, AreOfOneAgreement, agreed_in}

@@ -8,10 +8,10 @@ use Rattle.std.specs.declared.alloc.AllocError.{AllocError}
 use Rattle.iox_command.specs.Ports.{command_of}
 use Rattle.iox_command.specs.declared.ports.port_command.PortCommand.{PortCommand}
 use Rattle.iox_command.specs.declared.ports.port_command.PortCommand.TheVariants as port_command
-use Rattle.iox_domain_room.specs.Roomy.{AreRoomy}
-use Rattle.iox_domain_room.specs.Samples.{samples_left, samples_at_most}
-use Rattle.iox_domain_room.proofs.Bounds.{few_left}
-use Rattle.iox_domain_room.proofs.StayRoomy.{new_roomy, stay_roomy}
+use Rattle.iox_domain.specs.Roomy.{AreRoomy}
+use Rattle.iox_domain.specs.Samples.{samples_left, samples_at_most}
+use Rattle.iox_domain.proofs.Bounds.{few_left}
+use Rattle.iox_domain.proofs.StayRoomy.{new_roomy, stay_roomy}
 use Rattle.iox_hub_commands.specs.Arriving.{PublisherStep, SubscriberStep}
 use Rattle.iox_hub_commands.specs.Command.declared.command.Command.{Command}
 use Rattle.iox_hub_commands.specs.Command.declared.command.Command.TheVariants as command
@@ -19,14 +19,14 @@ use Rattle.iox_hub_commands.specs.Command.declared.reply.Reply.{Reply}
 use Rattle.iox_hub_commands.specs.Delivery.declared.port_id.PortId.{PortId}
 use Rattle.iox_hub_commands.specs.DescribeBase.Detail.{Detail}
 use Rattle.iox_hub_commands.specs.DescribeBase.declared.message_type.MessageTypeDetails.{MessageTypeDetails}
-use Rattle.iox_hub_commands.specs.DomainHome.declared.domain_id.DomainId.{DomainId}
-use Rattle.iox_hub_commands.specs.DomainLaws.Calls.{PortCall}
-use Rattle.iox_hub_commands.specs.DomainLaws.Order.{Happen}
-use Rattle.iox_hub_commands.specs.DomainPorts.Ports.{no_ports}
-use Rattle.iox_hub_commands.specs.DomainPorts.declared.making.PublisherConfig.{PublisherConfig}
-use Rattle.iox_hub_commands.specs.DomainPorts.declared.making.SubscriberConfig.{SubscriberConfig}
-use Rattle.iox_hub_commands.specs.DomainPorts.declared.service_ports.ServicePorts.{ServicePorts}
-use Rattle.iox_hub_commands.specs.DomainSettings.Sizes.{sizes}
+use Rattle.iox_hub_commands.specs.Domain.declared.domain_id.DomainId.{DomainId}
+use Rattle.iox_hub_commands.specs.Domain.Calls.{PortCall}
+use Rattle.iox_hub_commands.specs.Domain.Order.{Happen}
+use Rattle.iox_hub_commands.specs.Domain.Ports.{no_ports}
+use Rattle.iox_hub_commands.specs.Domain.declared.ports.making.PublisherConfig.{PublisherConfig}
+use Rattle.iox_hub_commands.specs.Domain.declared.ports.making.SubscriberConfig.{SubscriberConfig}
+use Rattle.iox_hub_commands.specs.Domain.declared.ports.service_ports.ServicePorts.{ServicePorts}
+use Rattle.iox_hub_commands.specs.Domain.Sizes.{sizes}
 use Rattle.iox_hub_commands.specs.DomainSubscriber.declared.attached.Taken.{Taken}
 use Rattle.iox_hub_commands.specs.DomainValues.declared.backpressure.BackpressureAction.{BackpressureAction}
 use Rattle.iox_hub_commands.specs.DomainValues.declared.backpressure.BackpressureDecision.{BackpressureDecision}
@@ -45,12 +45,12 @@ use Rattle.iox_hub_commands.specs.Tables.{IsFull, lender}
 use Rattle.iox_hub_commands.specs.declared.ports.made.Made.{Made}
 use Rattle.iox_hub_commands.specs.Messages.{SomeValues}
 use Rattle.iox_hub_commands.specs.Receiving.{IsTold}
-use Rattle.iox_hub_factories.specs.HubBase.AsHome.{hub_ports, with_hub_ports, with_hub_publisher, with_hub_subscriber}
-use Rattle.iox_hub_factories.specs.HubBase.declared.hub.Hub.{Hub}
-use Rattle.iox_hub_factories.specs.HubServices.Room.{counted_at, loans_left_in, samples_left_in, samples_at_most_in}
-use Rattle.iox_hub_factories.specs.HubServices.declared.presence.Presence.{Presence}
-use Rattle.iox_hub_factories.specs.HubServices.declared.presence.Presence.TheVariants.{Here, Out}
-use Rattle.iox_hub_factories.specs.Maps.NumberTable.{NumberTable, value_at}
+use Rattle.iox_hub_commands.specs.HubBase.AsHome.{hub_ports, with_hub_ports, with_hub_publisher, with_hub_subscriber}
+use Rattle.iox_hub_commands.specs.HubBase.declared.hub.Hub.{Hub}
+use Rattle.iox_hub_commands.specs.HubServices.Room.{counted_at, loans_left_in, samples_left_in, samples_at_most_in}
+use Rattle.iox_hub_commands.specs.HubServices.declared.presence.Presence.{Presence}
+use Rattle.iox_hub_commands.specs.HubServices.declared.presence.Presence.TheVariants.{Here, Out}
+use Rattle.iox_hub_commands.specs.Maps.NumberTable.{NumberTable, value_at}
 use Rattle.iox_hub_run.specs.Grown.{AnySlots, AnyAction, AnyDecision, HasGrown, HaveGrown, GrowsOn}
 use Rattle.iox_hub_run.specs.PortRoom.{OfPorts, FitsBeside, FitsIfSome, most_samples, HasLoanRoom, HasSampleRoom, HasRoom, KeepsRoom, CameUnread, LacksInRoom}
 use Rattle.iox_hub_run.specs.Room.{OnlyRoomier}
@@ -173,7 +173,7 @@ module _ {T U B D : Type 0} where
   all_fine domains = λ k d within. fine_any _
 
   fine_grown : (number : ℕ) (presence : Presence T U B D) → HasGrown number presence → IsFineAt sample_measure presence
-  fine_grown number (Here domain) (buffer, (calls, happen)) = roomy_on calls (no_ports number (sizes buffer domain.agreed)) domain.ports happen (new_roomy AnySlots AnyAction AnyDecision number (sizes buffer domain.agreed))
+  fine_grown number (Here domain) (buffer, (calls, happen)) = roomy_on calls (no_ports number (sizes buffer domain.agreed)) domain.state.ports happen (new_roomy AnySlots AnyAction AnyDecision number (sizes buffer domain.agreed))
   fine_grown number (Out agreed) grown = tt
 
   -- domains that grew by calls of ports are roomy
@@ -182,7 +182,7 @@ module _ {T U B D : Type 0} where
   roomy_grown (service ∷ services) (first, rest) = All-cons (λ presence. IsFineAt sample_measure presence) service.1 (values_of services) (fine_grown service.0 service.1 first) (roomy_grown services rest)
 
   few_at : (presence : Presence T U B D) → counted_at (λ ports. samples_left ports) presence ≤ counted_at (λ ports. samples_at_most ports) presence
-  few_at (Here domain) = few_left domain.ports
+  few_at (Here domain) = few_left domain.state.ports
   few_at (Out agreed) = omega arith
 
   -- no more samples may still come than may be held at once

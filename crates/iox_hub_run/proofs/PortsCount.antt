@@ -12,15 +12,15 @@ use Rattle.iox_hub_commands.specs.Command.declared.reply.Reply.{Reply}
 use Rattle.iox_hub_commands.specs.Delivery.Publishing.{AfterLoan}
 use Rattle.iox_hub_commands.specs.Delivery.Subscribing.{ReleasesOne}
 use Rattle.iox_hub_commands.specs.Delivery.declared.port_id.PortId.{PortId}
-use Rattle.iox_hub_commands.specs.DeliverySlices.Slices.{each_written_in, FillsLent, WritesAndSends}
-use Rattle.iox_hub_commands.specs.DomainHome.Homes.{AtDomain}
-use Rattle.iox_hub_commands.specs.DomainHome.Steps as steps
-use Rattle.iox_hub_commands.specs.DomainHome.declared.domain_id.DomainId.{DomainId}
-use Rattle.iox_hub_commands.specs.DomainLaws.Calls as calls
-use Rattle.iox_hub_commands.specs.DomainPorts.Lending.{written_in, gave_up_in}
-use Rattle.iox_hub_commands.specs.DomainPorts.declared.making.PublisherConfig.{PublisherConfig}
-use Rattle.iox_hub_commands.specs.DomainPorts.declared.making.SubscriberConfig.{SubscriberConfig}
-use Rattle.iox_hub_commands.specs.DomainPorts.declared.service_ports.ServicePorts.{ServicePorts}
+use Rattle.iox_hub_commands.specs.Delivery.Slices.{each_written_in, FillsLent, WritesAndSends}
+use Rattle.iox_hub_commands.specs.Domain.AtHomes.{AtDomain}
+use Rattle.iox_hub_commands.specs.Domain.Steps as steps
+use Rattle.iox_hub_commands.specs.Domain.declared.domain_id.DomainId.{DomainId}
+use Rattle.iox_hub_commands.specs.Domain.Calls as calls
+use Rattle.iox_hub_commands.specs.Domain.Lending.{written_in, gave_up_in}
+use Rattle.iox_hub_commands.specs.Domain.declared.ports.making.PublisherConfig.{PublisherConfig}
+use Rattle.iox_hub_commands.specs.Domain.declared.ports.making.SubscriberConfig.{SubscriberConfig}
+use Rattle.iox_hub_commands.specs.Domain.declared.ports.service_ports.ServicePorts.{ServicePorts}
 use Rattle.iox_hub_commands.specs.DomainPublisher.declared.meeting.Sent.{Sent}
 use Rattle.iox_hub_commands.specs.DomainPublisher.declared.publisher_port.PublisherPort.{PublisherPort}
 use Rattle.iox_hub_commands.specs.DomainPublisher.Messages.{Loan, write_value, write_all}
@@ -36,9 +36,9 @@ use Rattle.iox_hub_commands.specs.DomainValues.declared.degradation.DegradationI
 use Rattle.iox_hub_commands.specs.DomainValues.declared.port_error.LoanError.{LoanError}
 use Rattle.iox_hub_commands.specs.DomainValues.declared.port_error.ReceiveError.{ReceiveError}
 use Rattle.iox_hub_commands.specs.DomainValues.declared.port_error.SendError.{SendError}
-use Rattle.iox_hub_factories.specs.HubBase.AsHome.{hub_ports, with_hub_ports, with_hub_publisher, with_hub_subscriber, without_hub_publisher, without_hub_subscriber}
-use Rattle.iox_hub_factories.specs.HubBase.declared.hub.Hub.{Hub}
-use Rattle.iox_hub_factories.specs.HubServices.AsHome.{publisher_kept, subscriber_kept, publisher_forgotten, subscriber_forgotten}
+use Rattle.iox_hub_commands.specs.HubBase.AsHome.{hub_ports, with_hub_ports, with_hub_publisher, with_hub_subscriber, without_hub_publisher, without_hub_subscriber}
+use Rattle.iox_hub_commands.specs.HubBase.declared.hub.Hub.{Hub}
+use Rattle.iox_hub_commands.specs.HubServices.AsHome.{publisher_kept, subscriber_kept, publisher_forgotten, subscriber_forgotten}
 use Rattle.iox_hub_commands.specs.Arriving.{PublisherStep, SubscriberStep}
 use Rattle.iox_hub_commands.specs.Following.{UpdateStep, HasStep, LeaveStep}
 use Rattle.iox_hub_commands.specs.Lending.{LoanStep, LoanUninitStep, PutStep}
@@ -54,8 +54,8 @@ use Rattle.iox_hub_commands.specs.Tables.{IsFull, IsRoomier, lender, port_under,
 use Rattle.iox_hub_commands.specs.declared.ports.made.Made.{Made}
 use Rattle.iox_hub_commands.specs.declared.ports.made.MadeLoan.{MadeLoan}
 use Rattle.iox_hub_commands.specs.declared.ports.made.MadeSample.{MadeSample}
-use Rattle.iox_hub_factories.proofs.Maps.Joined.{length-removed}
-use Rattle.iox_hub_factories.specs.Maps.NumberTable.{NumberTable, value_at}
+use Rattle.iox_hub_commands.proofs.Maps.Joined.{length-removed}
+use Rattle.iox_hub_commands.specs.Maps.NumberTable.{NumberTable, value_at}
 use Rattle.iox_hub_run.specs.Grown.{AnySlots, AnyAction, AnyDecision}
 use Rattle.iox_hub_run.proofs.Grown.{each_goes}
 use Rattle.iox_hub_run.proofs.Loosening.{loosened}

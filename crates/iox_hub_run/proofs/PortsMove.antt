@@ -9,15 +9,15 @@ use Rattle.iox_hub_commands.specs.Command.declared.reply.Reply.{Reply}
 use Rattle.iox_hub_commands.specs.Delivery.Publishing.{AfterLoan}
 use Rattle.iox_hub_commands.specs.Delivery.Subscribing.{ReleasesOne}
 use Rattle.iox_hub_commands.specs.Delivery.declared.port_id.PortId.{PortId}
-use Rattle.iox_hub_commands.specs.DeliverySlices.Slices.{each_written_in, FillsLent, WritesAndSends}
-use Rattle.iox_hub_commands.specs.DomainHome.Homes.{AtDomain}
-use Rattle.iox_hub_commands.specs.DomainHome.Steps as steps
-use Rattle.iox_hub_commands.specs.DomainHome.declared.domain_id.DomainId.{DomainId}
-use Rattle.iox_hub_commands.specs.DomainLaws.Calls as calls
-use Rattle.iox_hub_commands.specs.DomainPorts.Lending.{written_in, gave_up_in}
-use Rattle.iox_hub_commands.specs.DomainPorts.declared.making.PublisherConfig.{PublisherConfig}
-use Rattle.iox_hub_commands.specs.DomainPorts.declared.making.SubscriberConfig.{SubscriberConfig}
-use Rattle.iox_hub_commands.specs.DomainPorts.declared.service_ports.ServicePorts.{ServicePorts}
+use Rattle.iox_hub_commands.specs.Delivery.Slices.{each_written_in, FillsLent, WritesAndSends}
+use Rattle.iox_hub_commands.specs.Domain.AtHomes.{AtDomain}
+use Rattle.iox_hub_commands.specs.Domain.Steps as steps
+use Rattle.iox_hub_commands.specs.Domain.declared.domain_id.DomainId.{DomainId}
+use Rattle.iox_hub_commands.specs.Domain.Calls as calls
+use Rattle.iox_hub_commands.specs.Domain.Lending.{written_in, gave_up_in}
+use Rattle.iox_hub_commands.specs.Domain.declared.ports.making.PublisherConfig.{PublisherConfig}
+use Rattle.iox_hub_commands.specs.Domain.declared.ports.making.SubscriberConfig.{SubscriberConfig}
+use Rattle.iox_hub_commands.specs.Domain.declared.ports.service_ports.ServicePorts.{ServicePorts}
 use Rattle.iox_hub_commands.specs.DomainPublisher.declared.meeting.Sent.{Sent}
 use Rattle.iox_hub_commands.specs.DomainPublisher.Messages.{write_value, write_all}
 use Rattle.iox_hub_commands.specs.DomainPublisher.MessagesSending.{has_place, has_length}
@@ -32,9 +32,9 @@ use Rattle.iox_hub_commands.specs.DomainValues.declared.degradation.DegradationI
 use Rattle.iox_hub_commands.specs.DomainValues.declared.port_error.LoanError.{LoanError}
 use Rattle.iox_hub_commands.specs.DomainValues.declared.port_error.ReceiveError.{ReceiveError}
 use Rattle.iox_hub_commands.specs.DomainValues.declared.port_error.SendError.{SendError}
-use Rattle.iox_hub_factories.specs.HubBase.AsHome.{hub_ports, with_hub_ports, with_hub_publisher, with_hub_subscriber, without_hub_publisher, without_hub_subscriber}
-use Rattle.iox_hub_factories.specs.HubBase.declared.hub.Hub.{Hub}
-use Rattle.iox_hub_factories.specs.HubServices.AsHome.{publisher_kept, subscriber_kept, publisher_forgotten, subscriber_forgotten}
+use Rattle.iox_hub_commands.specs.HubBase.AsHome.{hub_ports, with_hub_ports, with_hub_publisher, with_hub_subscriber, without_hub_publisher, without_hub_subscriber}
+use Rattle.iox_hub_commands.specs.HubBase.declared.hub.Hub.{Hub}
+use Rattle.iox_hub_commands.specs.HubServices.AsHome.{publisher_kept, subscriber_kept, publisher_forgotten, subscriber_forgotten}
 use Rattle.iox_hub_commands.specs.Arriving.{PublisherStep, SubscriberStep}
 use Rattle.iox_hub_commands.specs.Following.{UpdateStep, HasStep, LeaveStep}
 use Rattle.iox_hub_commands.specs.Lending.{LoanStep, LoanUninitStep, PutStep}
@@ -49,7 +49,7 @@ use Rattle.iox_hub_commands.specs.Tables.{IsFull, lender, port_under}
 use Rattle.iox_hub_commands.specs.declared.ports.made.Made.{Made}
 use Rattle.iox_hub_commands.specs.declared.ports.made.MadeLoan.{MadeLoan}
 use Rattle.iox_hub_commands.specs.declared.ports.made.MadeSample.{MadeSample}
-use Rattle.iox_hub_factories.specs.Maps.NumberTable.{value_at}
+use Rattle.iox_hub_commands.specs.Maps.NumberTable.{value_at}
 use Rattle.iox_hub_run.specs.Grown.{AnySlots, AnyAction, AnyDecision, LeadsTo}
 use Rattle.iox_hub_run.proofs.Grown.{Moves, MovesOne, by_call, by_handlers, each_leads, is_moves, none_moves, moves_on, keep_moves, at_domain_moves, leaves_moves, makes_moves, changed_moves}
 

@@ -16,8 +16,8 @@ use Rattle.iox_hub_commands.specs.Command.declared.reply.Reply.{Reply}
 use Rattle.iox_hub_commands.specs.Delivery.declared.port_id.PortId.{PortId}
 use Rattle.iox_hub_commands.specs.DescribeBase.Detail.{Detail}
 use Rattle.iox_hub_commands.specs.DescribeBase.declared.message_type.MessageTypeDetails.{MessageTypeDetails}
-use Rattle.iox_hub_commands.specs.DomainHome.declared.domain_id.DomainId.{DomainId}
-use Rattle.iox_hub_commands.specs.DomainPorts.declared.service_ports.ServicePorts.{ServicePorts}
+use Rattle.iox_hub_commands.specs.Domain.declared.domain_id.DomainId.{DomainId}
+use Rattle.iox_hub_commands.specs.Domain.declared.ports.service_ports.ServicePorts.{ServicePorts}
 use Rattle.iox_hub_commands.specs.DomainSubscriber.declared.attached.Taken.{Taken}
 use Rattle.iox_hub_commands.specs.DomainValues.declared.backpressure.BackpressureAction.{BackpressureAction}
 use Rattle.iox_hub_commands.specs.DomainValues.declared.backpressure.BackpressureDecision.{BackpressureDecision}
@@ -37,13 +37,13 @@ use Rattle.iox_hub_commands.specs.Tables.{IsFull, IsRoomier, lender, without_pub
 use Rattle.iox_hub_commands.specs.declared.ports.made.Made.{Made}
 use Rattle.iox_hub_commands.specs.Lending.{LoanStep, LoanUninitStep, lent_reply}
 use Rattle.iox_hub_commands.specs.Receiving.{ReceiveStep}
-use Rattle.iox_hub_factories.proofs.Maps.Joined.{length-removed}
-use Rattle.iox_hub_factories.specs.HubBase.Opening.{Made as Opened}
-use Rattle.iox_hub_factories.specs.Maps.NumberTable.{NumberTable, Rises, value_at}
+use Rattle.iox_hub_commands.proofs.Maps.Joined.{length-removed}
+use Rattle.iox_hub_commands.specs.HubBase.Opening.{Made as Opened}
+use Rattle.iox_hub_commands.specs.Maps.NumberTable.{NumberTable, Rises, value_at}
 use Rattle.iox_hub_run.proofs.GoingOn.{stays_on}
-use Rattle.iox_hub_factories.specs.HubBase.AsHome.{hub_ports, with_hub_ports}
-use Rattle.iox_hub_factories.specs.HubBase.Hubs.{IsNewHub}
-use Rattle.iox_hub_factories.specs.HubBase.declared.hub.HubConfig.{HubConfig}
+use Rattle.iox_hub_commands.specs.HubBase.AsHome.{hub_ports, with_hub_ports}
+use Rattle.iox_hub_commands.specs.HubBase.Hubs.{IsNewHub}
+use Rattle.iox_hub_commands.specs.HubBase.declared.hub.HubConfig.{HubConfig}
 use Rattle.iox_hub_run.specs.Lives.{NumbersGoOn, NumbersRise}
 use Rattle.iox_hub_run.specs.Numbers.{HasNone, IsNew, numbers_used}
 use Rattle.iox_hub_run.specs.Room.{loans_of, samples_of, loans_in, samples_in, RepliesValues, FitsMore, FitsAll, OnlyRoomier, StopsInTime}

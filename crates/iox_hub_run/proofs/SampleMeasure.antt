@@ -1,11 +1,11 @@
 -- The samples that may still come are a measure: each that comes takes one, and one that is released gives one.
 use Rattle.std.proofs.Common.{arith, ◌+◌, ◌≤◌, true, false, None, Some, Ok, Err, refl}
-use Rattle.iox_domain_room.specs.Roomy.{AreRoomy}
-use Rattle.iox_domain_room.specs.Samples.{samples_left, received_by, released_by, held_by_one, brought_by as sample_room}
-use Rattle.iox_domain_room.proofs.LessLeft.{less_left}
-use Rattle.iox_domain_room.proofs.StayRoomy.{new_roomy, stay_roomy}
-use Rattle.iox_hub_commands.specs.DomainLaws.Calls.{PortCall, PublisherComes, SubscriberComes, Lends, Writes, GivesLoanUp, PublisherUpdates, Sends, Retries, GivesSendUp, PublisherLeaves, SubscriberUpdates, AsksForSamples, Receives, Releases, SubscriberLeaves, Happens}
-use Rattle.iox_hub_commands.specs.DomainPorts.declared.service_ports.ServicePorts.{ServicePorts}
+use Rattle.iox_domain.specs.Roomy.{AreRoomy}
+use Rattle.iox_domain.specs.Samples.{samples_left, received_by, released_by, held_by_one, brought_by as sample_room}
+use Rattle.iox_domain.proofs.LessLeft.{less_left}
+use Rattle.iox_domain.proofs.StayRoomy.{new_roomy, stay_roomy}
+use Rattle.iox_hub_commands.specs.Domain.Calls.{PortCall, PublisherComes, SubscriberComes, Lends, Writes, GivesLoanUp, PublisherUpdates, Sends, Retries, GivesSendUp, PublisherLeaves, SubscriberUpdates, AsksForSamples, Receives, Releases, SubscriberLeaves, Happens}
+use Rattle.iox_hub_commands.specs.Domain.declared.ports.service_ports.ServicePorts.{ServicePorts}
 use Rattle.iox_hub_run.specs.Grown.{AnySlots, AnyAction, AnyDecision}
 use Rattle.iox_hub_run.proofs.Measures.{Measure, taken_by, given_by, brought_by}
 

@@ -13,19 +13,19 @@ use Rattle.iox_hub_commands.specs.DescribeBase.declared.attribute.Attribute.{Att
 use Rattle.iox_hub_commands.specs.DescribeBase.declared.message_type.MessageTypeDetails.{MessageTypeDetails}
 use Rattle.iox_hub_commands.specs.DescribeBase.declared.pattern.MessagingPattern.{MessagingPattern}
 use Rattle.iox_hub_commands.specs.DescribeSettings.declared.static_config.Settings.{Settings}
-use Rattle.iox_hub_factories.specs.HubBase.Closing.{is_last, less_one}
-use Rattle.iox_hub_factories.specs.HubBase.Opening.{Made, Enters, Settles, OpensInHub}
-use Rattle.iox_hub_factories.specs.HubBase.declared.hub.Hub.{Hub}
-use Rattle.iox_hub_factories.specs.HubServices.Open.{OpenServices}
-use Rattle.iox_hub_factories.specs.HubServices.Opening.{Opens, without_service}
-use Rattle.iox_hub_factories.specs.Closing.{ClosesUnless, ClosesIfOf, ClosesNumbered}
-use Rattle.iox_hub_factories.specs.Creating.{CreatesAs, CreatesPrepared, CreatesNumbered}
-use Rattle.iox_hub_factories.specs.Either.{EitherAs, EitherPrepared, EitherNumbered}
-use Rattle.iox_hub_factories.specs.Foreign.{ActsNamed}
-use Rattle.iox_hub_factories.specs.Opening.{OpensAs, OpensPrepared, OpensNumbered}
-use Rattle.iox_hub_factories.specs.Tables.{FactoryTable, parts_of}
-use Rattle.iox_hub_factories.specs.declared.asked.ServiceAsked.{ServiceAsked}
-use Rattle.iox_hub_factories.specs.declared.made.MadeFactory.{MadeFactory}
+use Rattle.iox_hub_commands.specs.HubBase.Closing.{is_last, less_one}
+use Rattle.iox_hub_commands.specs.HubBase.Opening.{Made, Enters, Settles, OpensInHub}
+use Rattle.iox_hub_commands.specs.HubBase.declared.hub.Hub.{Hub}
+use Rattle.iox_hub_commands.specs.HubServices.Open.{OpenServices}
+use Rattle.iox_hub_commands.specs.HubServices.Opening.{Opens, without_service}
+use Rattle.iox_hub_commands.specs.Closing.{ClosesUnless, ClosesIfOf, ClosesNumbered}
+use Rattle.iox_hub_commands.specs.Creating.{CreatesAs, CreatesPrepared, CreatesNumbered}
+use Rattle.iox_hub_commands.specs.Either.{EitherAs, EitherPrepared, EitherNumbered}
+use Rattle.iox_hub_commands.specs.Foreign.{ActsNamed}
+use Rattle.iox_hub_commands.specs.Opening.{OpensAs, OpensPrepared, OpensNumbered}
+use Rattle.iox_hub_commands.specs.ServicesTables.{FactoryTable, parts_of}
+use Rattle.iox_hub_commands.specs.declared.services.asked.ServiceAsked.{ServiceAsked}
+use Rattle.iox_hub_commands.specs.declared.services.made.MadeFactory.{MadeFactory}
 use Rattle.iox_negotiate.specs.declared.factory.Membership.{Membership}
 use Rattle.iox_negotiate.specs.NegotiateBase.declared.errors.close.CloseError.{CloseError}
 use Rattle.iox_negotiate.specs.NegotiateTable.Stepped.{Steps}

@@ -14,22 +14,22 @@ use Rattle.iox_hub_commands.specs.DescribeBase.declared.attribute.Attribute.{Att
 use Rattle.iox_hub_commands.specs.DescribeBase.declared.message_type.MessageTypeDetails.{MessageTypeDetails}
 use Rattle.iox_hub_commands.specs.DescribeBase.declared.pattern.MessagingPattern.{MessagingPattern}
 use Rattle.iox_hub_commands.specs.DescribeSettings.declared.static_config.Settings.{Settings}
-use Rattle.iox_hub_commands.specs.DomainHome.declared.domain_id.DomainId.{DomainId}
-use Rattle.iox_hub_factories.specs.HubBase.declared.hub.Hub.{Hub}
-use Rattle.iox_hub_factories.specs.HubServices.AsHome.{domain_at}
-use Rattle.iox_hub_factories.specs.HubServices.Numbered.{is_number, not_number, others_beside}
-use Rattle.iox_hub_factories.specs.HubServices.Open.{OpenServices, here_if, presence_of, domain_of}
-use Rattle.iox_hub_factories.specs.HubServices.Opening.{Opens, without_service}
-use Rattle.iox_hub_factories.specs.HubServices.declared.presence.Presence.{Presence}
-use Rattle.iox_hub_factories.specs.HubServices.declared.presence.Presence.TheVariants.{Here}
-use Rattle.iox_hub_factories.specs.Closing.{ClosesNumbered}
-use Rattle.iox_hub_factories.specs.Creating.{CreatesNumbered}
-use Rattle.iox_hub_factories.specs.Either.{EitherNumbered}
-use Rattle.iox_hub_factories.specs.Foreign.{ActsNamed}
-use Rattle.iox_hub_factories.specs.Opening.{OpensNumbered}
-use Rattle.iox_hub_factories.specs.Tables.{FactoryTable}
-use Rattle.iox_hub_factories.specs.declared.asked.ServiceAsked.{ServiceAsked}
-use Rattle.iox_hub_factories.specs.declared.made.MadeFactory.{MadeFactory}
+use Rattle.iox_hub_commands.specs.Domain.declared.domain_id.DomainId.{DomainId}
+use Rattle.iox_hub_commands.specs.HubBase.declared.hub.Hub.{Hub}
+use Rattle.iox_hub_commands.specs.HubServices.AsHome.{domain_at}
+use Rattle.iox_hub_commands.specs.HubServices.Numbered.{is_number, not_number, others_beside}
+use Rattle.iox_hub_commands.specs.HubServices.Open.{OpenServices, here_if, presence_of, domain_of}
+use Rattle.iox_hub_commands.specs.HubServices.Opening.{Opens, without_service}
+use Rattle.iox_hub_commands.specs.HubServices.declared.presence.Presence.{Presence}
+use Rattle.iox_hub_commands.specs.HubServices.declared.presence.Presence.TheVariants.{Here}
+use Rattle.iox_hub_commands.specs.Closing.{ClosesNumbered}
+use Rattle.iox_hub_commands.specs.Creating.{CreatesNumbered}
+use Rattle.iox_hub_commands.specs.Either.{EitherNumbered}
+use Rattle.iox_hub_commands.specs.Foreign.{ActsNamed}
+use Rattle.iox_hub_commands.specs.Opening.{OpensNumbered}
+use Rattle.iox_hub_commands.specs.ServicesTables.{FactoryTable}
+use Rattle.iox_hub_commands.specs.declared.services.asked.ServiceAsked.{ServiceAsked}
+use Rattle.iox_hub_commands.specs.declared.services.made.MadeFactory.{MadeFactory}
 use Rattle.iox_negotiate.specs.NegotiateBase.declared.errors.close.CloseError.{CloseError}
 use Rattle.iox_hub_run.specs.Grown.{HaveGrown}
 use Rattle.iox_hub_run.proofs.Grown.{Serves, leads_nowhere, grown_come, grown_gone}

@@ -10,8 +10,8 @@ use Rattle.iox_hub_commands.specs.Command.declared.port.SubscriberOptions.{Subsc
 use Rattle.iox_hub_commands.specs.Command.declared.reply.Reply.{Reply}
 use Rattle.iox_hub_commands.specs.DescribeBase.Detail.{Detail}
 use Rattle.iox_hub_commands.specs.DescribeBase.declared.message_type.MessageTypeDetails.{MessageTypeDetails}
-use Rattle.iox_hub_commands.specs.DomainHome.declared.domain_id.DomainId.{DomainId}
-use Rattle.iox_hub_commands.specs.DomainPorts.declared.service_ports.ServicePorts.{ServicePorts}
+use Rattle.iox_hub_commands.specs.Domain.declared.domain_id.DomainId.{DomainId}
+use Rattle.iox_hub_commands.specs.Domain.declared.ports.service_ports.ServicePorts.{ServicePorts}
 use Rattle.iox_hub_commands.specs.DomainValues.declared.backpressure.BackpressureAction.{BackpressureAction}
 use Rattle.iox_hub_commands.specs.DomainValues.declared.backpressure.BackpressureDecision.{BackpressureDecision}
 use Rattle.iox_hub_commands.specs.DomainValues.declared.backpressure.BackpressureInfo.{BackpressureInfo}
@@ -19,7 +19,7 @@ use Rattle.iox_hub_commands.specs.DomainValues.declared.backpressure_strategy.Ba
 use Rattle.iox_hub_commands.specs.DomainValues.declared.degradation.DegradationAction.{DegradationAction}
 use Rattle.iox_hub_commands.specs.DomainValues.declared.degradation.DegradationCause.{DegradationCause}
 use Rattle.iox_hub_commands.specs.DomainValues.declared.degradation.DegradationInfo.{DegradationInfo}
-use Rattle.iox_hub_factories.specs.HubBase.Opening.{Made as Opened}
+use Rattle.iox_hub_commands.specs.HubBase.Opening.{Made as Opened}
 use Rattle.iox_hub_commands.specs.Following.{LeaveStep}
 use Rattle.iox_hub_commands.specs.Lending.{LoanStep, LoanUninitStep}
 use Rattle.iox_hub_commands.specs.Receiving.{ReceiveStep}
@@ -27,7 +27,7 @@ use Rattle.iox_hub_commands.specs.Calls.{ready}
 use Rattle.iox_hub_commands.specs.Numbering.{LendsNumbered, LendsWrittenNumbered, ReceivesNumbered}
 use Rattle.iox_hub_commands.specs.Tables.{IsFull, lender}
 use Rattle.iox_hub_commands.specs.declared.ports.made.Made.{Made}
-use Rattle.iox_hub_factories.specs.Maps.NumberTable.{value_at}
+use Rattle.iox_hub_commands.specs.Maps.NumberTable.{value_at}
 use Rattle.iox_hub_run.specs.Lives.{ChangesOne, OneChanges, ChangesOneThing, NumbersGoOn}
 use Rattle.iox_hub_run.specs.Numbers.{numbers_used}
 use Rattle.iox_hub_run.specs.Services.{PublisherComes, SubscriberComes, domain_of_factory}

@@ -11,8 +11,8 @@ use Rattle.iox_hub_commands.specs.Delivery.declared.port_id.PortId.{PortId}
 use Rattle.iox_hub_commands.specs.DescribeBase.Detail.{Detail}
 use Rattle.iox_hub_commands.specs.DescribeBase.declared.message_type.MessageTypeDetails.{MessageTypeDetails}
 use Rattle.iox_hub_commands.specs.DescribeSettings.declared.static_config.Settings.{Settings}
-use Rattle.iox_hub_commands.specs.DomainHome.declared.domain_id.DomainId.{DomainId}
-use Rattle.iox_hub_commands.specs.DomainPorts.declared.service_ports.ServicePorts.{ServicePorts}
+use Rattle.iox_hub_commands.specs.Domain.declared.domain_id.DomainId.{DomainId}
+use Rattle.iox_hub_commands.specs.Domain.declared.ports.service_ports.ServicePorts.{ServicePorts}
 use Rattle.iox_hub_commands.specs.DomainSubscriber.declared.attached.Taken.{Taken}
 use Rattle.iox_hub_commands.specs.DomainValues.declared.backpressure.BackpressureAction.{BackpressureAction}
 use Rattle.iox_hub_commands.specs.DomainValues.declared.backpressure.BackpressureDecision.{BackpressureDecision}
@@ -31,10 +31,10 @@ use Rattle.iox_hub_commands.specs.Tables.{IsFull, IsRoomier, lender, without_pub
 use Rattle.iox_hub_commands.specs.declared.ports.made.Made.{Made}
 use Rattle.iox_hub_commands.specs.Lending.{LoanStep, LoanUninitStep}
 use Rattle.iox_hub_commands.specs.Receiving.{ReceiveStep}
-use Rattle.iox_hub_factories.proofs.Maps.Joined.{length-removed}
-use Rattle.iox_hub_factories.specs.HubServices.Open.{OpenServices}
-use Rattle.iox_hub_factories.specs.HubServices.Opening.{Opens, without_service}
-use Rattle.iox_hub_factories.specs.Maps.NumberTable.{value_at}
+use Rattle.iox_hub_commands.proofs.Maps.Joined.{length-removed}
+use Rattle.iox_hub_commands.specs.HubServices.Open.{OpenServices}
+use Rattle.iox_hub_commands.specs.HubServices.Opening.{Opens, without_service}
+use Rattle.iox_hub_commands.specs.Maps.NumberTable.{value_at}
 use Rattle.iox_hub_run.specs.PortRoom.{OfPorts}
 use Rattle.iox_hub_run.specs.Steps.{IsReplied, Step, publisher_may_degrade, publisher_may_decide, subscriber_may_degrade}
 use Rattle.iox_hub_run.specs.declared.numbered_hub.NumberedHub.{NumberedHub}

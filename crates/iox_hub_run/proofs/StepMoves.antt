@@ -15,7 +15,7 @@ use Rattle.iox_hub_commands.specs.DomainValues.declared.backpressure_strategy.Ba
 use Rattle.iox_hub_commands.specs.DomainValues.declared.degradation.DegradationAction.{DegradationAction}
 use Rattle.iox_hub_commands.specs.DomainValues.declared.degradation.DegradationCause.{DegradationCause}
 use Rattle.iox_hub_commands.specs.DomainValues.declared.degradation.DegradationInfo.{DegradationInfo}
-use Rattle.iox_hub_factories.specs.HubBase.Opening.{Made as Opened}
+use Rattle.iox_hub_commands.specs.HubBase.Opening.{Made as Opened}
 use Rattle.iox_hub_commands.specs.Naming.{publisher_config, publisher_handlers, subscriber_config, subscriber_handler}
 use Rattle.iox_hub_run.specs.Services.{PublisherComes, SubscriberComes, domain_of_factory, owner_of_factory}
 use Rattle.iox_hub_run.specs.Steps.{IsReplied, Step, publisher_may_degrade, publisher_may_decide, subscriber_may_degrade}

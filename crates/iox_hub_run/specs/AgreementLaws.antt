@@ -2,12 +2,12 @@
 use Rattle.std.specs.Prelude.{ℕ, ◌≡◌, Some}
 use Rattle.iox_hub_commands.specs.DescribeSettings.Agreement.{Agreement}
 use Rattle.iox_hub_commands.specs.DescribeSettings.declared.static_config.Settings.TheVariants.{PublishSubscribe}
-use Rattle.iox_hub_factories.specs.HubBase.declared.hub.Hub.{Hub}
-use Rattle.iox_hub_factories.specs.HubServices.Open.{presence_of}
-use Rattle.iox_hub_factories.specs.HubServices.declared.presence.Presence.{Presence}
-use Rattle.iox_hub_factories.specs.Maps.NumberTable.{value_at}
-use Rattle.iox_hub_factories.specs.Tables.{FactoryTable, parts_of}
-use Rattle.iox_hub_factories.specs.declared.made.MadeFactory.{MadeFactory}
+use Rattle.iox_hub_commands.specs.HubBase.declared.hub.Hub.{Hub}
+use Rattle.iox_hub_commands.specs.HubServices.Open.{presence_of}
+use Rattle.iox_hub_commands.specs.HubServices.declared.presence.Presence.{Presence}
+use Rattle.iox_hub_commands.specs.Maps.NumberTable.{value_at}
+use Rattle.iox_hub_commands.specs.ServicesTables.{FactoryTable, parts_of}
+use Rattle.iox_hub_commands.specs.declared.services.made.MadeFactory.{MadeFactory}
 use Rattle.iox_hub_run.specs.Agreements.{AreOfOneAgreement, agreed_in}
 
 -- the number of a factory's service

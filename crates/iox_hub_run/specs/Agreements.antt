@@ -4,10 +4,10 @@ use Rattle.std.specs.List.{AllByRecursion}
 use Rattle.iox_hub_commands.specs.DescribeSettings.Agreement.{Agreement}
 use Rattle.iox_hub_commands.specs.DescribeSettings.declared.static_config.Settings.TheVariants.{PublishSubscribe}
 use Rattle.iox_hub_commands.specs.DescribeSettings.declared.static_config.publish_subscribe.StaticConfig.{StaticConfig}
-use Rattle.iox_hub_factories.specs.HubBase.declared.hub.Hub.{Hub}
-use Rattle.iox_hub_factories.specs.HubServices.declared.presence.Presence.{Presence}
-use Rattle.iox_hub_factories.specs.HubServices.declared.presence.Presence.TheVariants.{Here, Out}
-use Rattle.iox_hub_factories.specs.Tables.{FactoryTable, parts_of}
+use Rattle.iox_hub_commands.specs.HubBase.declared.hub.Hub.{Hub}
+use Rattle.iox_hub_commands.specs.HubServices.declared.presence.Presence.{Presence}
+use Rattle.iox_hub_commands.specs.HubServices.declared.presence.Presence.TheVariants.{Here, Out}
+use Rattle.iox_hub_commands.specs.ServicesTables.{FactoryTable, parts_of}
 use Rattle.iox_negotiate.specs.Agreements.{WasAgreed}
 use Rattle.iox_negotiate.specs.Histories.{IsReached}
 

@@ -2,21 +2,21 @@
 use Rattle.std.specs.Prelude.{ℕ, ◌≡◌, List, [], ◌∷◌}
 use Rattle.std.specs.List.{All}
 use Rattle.iox_hub_commands.specs.DescribeSettings.declared.static_config.publish_subscribe.StaticConfig.{StaticConfig}
-use Rattle.iox_hub_commands.specs.DomainHome.declared.domain_id.DomainId.{DomainId}
-use Rattle.iox_hub_commands.specs.DomainLaws.Calls.{PortCall}
-use Rattle.iox_hub_commands.specs.DomainLaws.Order.{Happen}
-use Rattle.iox_hub_commands.specs.DomainLaws.SizeLaws.{MadeFor, IsMadeFor}
-use Rattle.iox_hub_commands.specs.DomainPorts.Ports.{no_ports}
-use Rattle.iox_hub_commands.specs.DomainPorts.declared.service_ports.ServicePorts.{ServicePorts}
-use Rattle.iox_hub_commands.specs.DomainSettings.Sizes.{sizes}
+use Rattle.iox_hub_commands.specs.Domain.declared.domain_id.DomainId.{DomainId}
+use Rattle.iox_hub_commands.specs.Domain.Calls.{PortCall}
+use Rattle.iox_hub_commands.specs.Domain.Order.{Happen}
+use Rattle.iox_hub_commands.specs.Domain.SizeLaws.{MadeFor, IsMadeFor}
+use Rattle.iox_hub_commands.specs.Domain.Ports.{no_ports}
+use Rattle.iox_hub_commands.specs.Domain.declared.ports.service_ports.ServicePorts.{ServicePorts}
+use Rattle.iox_hub_commands.specs.Domain.Sizes.{sizes}
 use Rattle.iox_hub_commands.specs.DomainValues.declared.backpressure.BackpressureDecision.{BackpressureDecision}
 use Rattle.iox_hub_commands.specs.DomainValues.declared.backpressure.BackpressureInfo.{BackpressureInfo}
 use Rattle.iox_hub_commands.specs.DomainValues.declared.degradation.DegradationAction.{DegradationAction}
 use Rattle.iox_hub_commands.specs.DomainValues.declared.degradation.DegradationInfo.{DegradationInfo}
-use Rattle.iox_hub_factories.specs.HubBase.declared.hub.Hub.{Hub}
-use Rattle.iox_hub_factories.specs.HubServices.AsHome.{domain_at}
-use Rattle.iox_hub_factories.specs.HubServices.declared.presence.Presence.{Presence}
-use Rattle.iox_hub_factories.specs.HubServices.declared.presence.Presence.TheVariants.{Here, Out}
+use Rattle.iox_hub_commands.specs.HubBase.declared.hub.Hub.{Hub}
+use Rattle.iox_hub_commands.specs.HubServices.AsHome.{domain_at}
+use Rattle.iox_hub_commands.specs.HubServices.declared.presence.Presence.{Presence}
+use Rattle.iox_hub_commands.specs.HubServices.declared.presence.Presence.TheVariants.{Here, Out}
 
 -- a publisher may be given any number of slots
 abbrev pub AnySlots : ℕ → ℕ → Type 0
@@ -34,9 +34,10 @@ AnyDecision info decision = Unit {0}
 abbrev pub LeadsTo : {T U : Type 0} → ServicePorts T U → ServicePorts T U → Type 0
 LeadsTo {T} {U} old new = (calls : List (PortCall T U × ServicePorts T U)) × Happen AnySlots AnyAction AnyDecision calls old new
 
--- the ports of a domain that is here came, by calls of ports, from a service without ports: of its number, and of the sizes that it agreed on
+-- the ports of a domain that is here came, by calls of ports, from a service without ports: of its number, and of the sizes that
+-- it agreed on
 abbrev pub HasGrown : {T U B D : Type 0} → ℕ → Presence T U B D → Type 0
-HasGrown number (Here domain) = (expired_connection_buffer : ℕ) × LeadsTo (no_ports number (sizes expired_connection_buffer domain.agreed)) domain.ports
+HasGrown number (Here domain) = (expired_connection_buffer : ℕ) × LeadsTo (no_ports number (sizes expired_connection_buffer domain.agreed)) domain.state.ports
 HasGrown number (Out agreed) = Unit {0}
 
 -- so it is with each service that is open
@@ -67,7 +68,7 @@ agreed_on agreed = record {
 
 -- each publisher of a domain that is here is made for just what its service agreed on
 abbrev pub IsAsAgreed : {T U B D : Type 0} → Presence T U B D → Type 0
-IsAsAgreed (Here domain) = All (IsMadeFor (agreed_on domain.agreed)) domain.ports.publishers
+IsAsAgreed (Here domain) = All (IsMadeFor (agreed_on domain.agreed)) domain.state.ports.publishers
 IsAsAgreed (Out agreed) = Unit {0}
 
 -- so it is with each service that is open

@@ -11,7 +11,6 @@ pub mod Grown
 pub mod Agreements
 pub mod AgreementLaws
 pub use Rattle.iox_hub_commands.specs.Command as Command
-pub use Rattle.iox_hub_factories.specs.HubBase as HubBase
+pub use Rattle.iox_hub_commands.specs.HubBase as HubBase
 pub use Rattle.iox_hub_commands.specs as HubCommands
-pub use Rattle.iox_hub_factories.specs as HubFactories
 pub use Rattle.iox_command.specs.Ports as CommandPorts

@@ -2,7 +2,7 @@
 use Rattle.std.specs.Prelude.{ℕ, ◌≡◌, ◌+◌, ◌<◌, ◌≤◌, ◌++◌, [], ◌∷◌, ◌⊎◌, None, nat_eq}
 use Rattle.std.specs.Map.{remove_entry}
 use Rattle.iox_hub_commands.specs.declared.ports.made.Made.{Made}
-use Rattle.iox_hub_factories.specs.Maps.NumberTable.{NumberTable, Rises, value_at}
+use Rattle.iox_hub_commands.specs.Maps.NumberTable.{NumberTable, Rises, value_at}
 use Rattle.iox_hub_run.specs.declared.numbered_hub.NumberedHub.{NumberedHub}
 
 module _ {V : Type 0} where
@@ -22,7 +22,8 @@ module _ {V : Type 0} where
   abbrev pub ChangesOne : NumberTable V → NumberTable V → Type 0
   ChangesOne old new = Stays old new ⊎ (GetsOne old new ⊎ LosesOne old new)
 
-  -- Where the numbers of a table rise they rise later, too; no number is given again; and what a number stood for it stands for still, or for nothing.
+  -- Where the numbers of a table rise they rise later, too; no number is given again; and what a number stood for it stands for
+  -- still, or for nothing.
   abbrev pub GoesOn : NumberTable V → NumberTable V → Type 0
   GoesOn old new =
       Rises 1 old.entries old.next

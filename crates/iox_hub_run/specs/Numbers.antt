@@ -1,9 +1,9 @@
 -- How many numbers were given out.
 use Rattle.std.specs.Prelude.{ℕ, ◌≡◌, ◌+◌, []}
-use Rattle.iox_hub_factories.specs.HubBase.Hubs.{IsNewHub}
-use Rattle.iox_hub_factories.specs.HubBase.declared.hub.HubConfig.{HubConfig}
-use Rattle.iox_hub_factories.specs.Maps.NumberTable.{NumberTable}
-use Rattle.iox_hub_factories.specs.Tables.{no_factories}
+use Rattle.iox_hub_commands.specs.HubBase.Hubs.{IsNewHub}
+use Rattle.iox_hub_commands.specs.HubBase.declared.hub.HubConfig.{HubConfig}
+use Rattle.iox_hub_commands.specs.Maps.NumberTable.{NumberTable}
+use Rattle.iox_hub_commands.specs.ServicesTables.{no_factories}
 use Rattle.iox_hub_commands.specs.declared.ports.made.Made.{Made}
 use Rattle.iox_hub_run.specs.declared.numbered_hub.NumberedHub.{NumberedHub}
 

@@ -1,15 +1,16 @@
--- Room that is made when ports come: no loan of a publisher that is there lacks memory for its number, and no sample that comes to a subscriber.
+-- Room that is made when ports come: no loan of a publisher that is there lacks memory for its number, and no sample that comes
+-- to a subscriber.
 use Rattle.std.specs.Prelude.{ℕ, ◌≡◌, ◌+◌, ◌<◌, ◌⊎◌, [], length, Option, None, Some}
 use Rattle.iox_hub_commands.specs.Command.declared.command.Command.{Command}
 use Rattle.iox_hub_commands.specs.Command.declared.command.Command.TheVariants as command
-use Rattle.iox_domain_room.specs.Samples.{held_by_one}
-use Rattle.iox_hub_commands.specs.DomainHome.declared.domain_id.DomainId.{DomainId}
-use Rattle.iox_hub_commands.specs.DomainPorts.declared.service_ports.ServicePorts.{ServicePorts}
+use Rattle.iox_domain.specs.Samples.{held_by_one}
+use Rattle.iox_hub_commands.specs.Domain.declared.domain_id.DomainId.{DomainId}
+use Rattle.iox_hub_commands.specs.Domain.declared.ports.service_ports.ServicePorts.{ServicePorts}
 use Rattle.iox_hub_commands.specs.Reading.{values_under}
 use Rattle.iox_hub_commands.specs.Messages.{SomeValues}
-use Rattle.iox_hub_factories.specs.HubBase.AsHome.{hub_ports}
-use Rattle.iox_hub_factories.specs.HubServices.Room.{loans_left_in, samples_left_in}
-use Rattle.iox_hub_factories.specs.Maps.NumberTable.{NumberTable, value_at}
+use Rattle.iox_hub_commands.specs.HubBase.AsHome.{hub_ports}
+use Rattle.iox_hub_commands.specs.HubServices.Room.{loans_left_in, samples_left_in}
+use Rattle.iox_hub_commands.specs.Maps.NumberTable.{NumberTable, value_at}
 use Rattle.iox_hub_run.specs.Grown.{HaveGrown}
 use Rattle.iox_hub_run.specs.declared.numbered_hub.NumberedHub.{NumberedHub}
 
@@ -57,9 +58,9 @@ module _ {T U B D : Type 0} where
   abbrev pub CameUnread : NumberedHub T U B D → NumberedHub T U B D → Type 0
   CameUnread old new = (new.made.samples.next ≡ old.made.samples.next + 1) × SomeValues (values_under hub_ports (value_at new.made.samples old.made.samples.next) new.hub)
 
-  -- What a command that isn't replied to lacked memory for, where the ports that are there have room: one that lends for the number of a loan,
-  -- but only where no publisher is there; one that receives for the number of a sample, where no subscriber is there, or for the values of the
-  -- sample that came; one that reads for values. Each other command is replied to.
+  -- What a command that isn't replied to lacked memory for, where the ports that are there have room: one that lends for the
+  -- number of a loan, but only where no publisher is there; one that receives for the number of a sample, where no subscriber is
+  -- there, or for the values of the sample that came; one that reads for values. Each other command is replied to.
   abbrev pub LacksInRoom : Command T → NumberedHub T U B D → NumberedHub T U B D → Type 0
   LacksInRoom (command.Loan publisher elements) old new = old.made.publishers.entries ≡ []
   LacksInRoom (command.LoanUninit publisher elements) old new = old.made.publishers.entries ≡ []

@@ -6,7 +6,7 @@ use Rattle.iox_hub_commands.specs.Command.declared.command.Command.TheVariants a
 use Rattle.iox_hub_commands.specs.Command.declared.reply.Reply.{Reply}
 use Rattle.iox_hub_commands.specs.Tables.{IsRoomier}
 use Rattle.iox_hub_commands.specs.declared.ports.made.Made.{Made}
-use Rattle.iox_hub_factories.specs.Maps.NumberTable.{NumberTable}
+use Rattle.iox_hub_commands.specs.Maps.NumberTable.{NumberTable}
 use Rattle.iox_hub_run.specs.Runs.{IsRun, NeverBegins}
 use Rattle.iox_hub_run.specs.declared.numbered_hub.NumberedHub.{NumberedHub}
 
@@ -55,8 +55,8 @@ module _ {T U B D : Type 0} where
   abbrev pub OnlyRoomier : NumberedHub T U B D → NumberedHub T U B D → Type 0
   OnlyRoomier old new = IsRoomier old.made new.made × (new ≡ record old { made = new.made })
 
-  -- Commands are a run of the hub, once there is room for the numbers of all loans and samples that they may make; or no memory was found for
-  -- the list of their replies or for that room, and none is carried out.
+  -- Commands are a run of the hub, once there is room for the numbers of all loans and samples that they may make; or no memory
+  -- was found for the list of their replies or for that room, and none is carried out.
   abbrev pub RunsInRoom : (Command T → NumberedHub T U B D → Result (Reply T) AllocError → NumberedHub T U B D → Type 0) → List (Command T) → NumberedHub T U B D → List (Reply T) → Bool → NumberedHub T U B D → Type 0
   RunsInRoom step commands old replies stopped new =
       (roomier : NumberedHub T U B D) × OnlyRoomier old roomier × IsRun step commands roomier replies stopped new

@@ -13,28 +13,28 @@ use Rattle.iox_hub_commands.specs.DescribeBase.Detail.{Detail}
 use Rattle.iox_hub_commands.specs.DescribeBase.declared.attribute.Attribute.{Attribute}
 use Rattle.iox_hub_commands.specs.DescribeBase.declared.message_type.MessageTypeDetails.{MessageTypeDetails}
 use Rattle.iox_hub_commands.specs.DescribeBase.declared.pattern.MessagingPattern.{MessagingPattern}
-use Rattle.iox_hub_commands.specs.DomainHome.declared.domain_id.DomainId.{DomainId}
+use Rattle.iox_hub_commands.specs.Domain.declared.domain_id.DomainId.{DomainId}
 use Rattle.iox_hub_commands.specs.DomainValues.declared.backpressure.BackpressureAction.{BackpressureAction}
 use Rattle.iox_hub_commands.specs.DomainValues.declared.backpressure_strategy.BackpressureStrategy.{BackpressureStrategy}
 use Rattle.iox_hub_commands.specs.DomainValues.declared.degradation.DegradationAction.{DegradationAction}
 use Rattle.iox_hub_commands.specs.DomainValues.declared.degradation.DegradationCause.{DegradationCause}
 use Rattle.iox_hub_commands.specs.DomainValues.declared.degradation.DegradationInfo.{DegradationInfo}
 use Rattle.iox_hub_commands.specs.DomainValues.declared.port_owner.PortOwner.{PortOwner}
-use Rattle.iox_hub_factories.specs.HubBase.AsHome.{hub_ports, with_hub_ports, with_hub_publisher, with_hub_subscriber}
-use Rattle.iox_hub_factories.specs.HubBase.Hubs.{is_node, one_more}
-use Rattle.iox_hub_factories.specs.HubBase.Opening.{Made as Opened}
+use Rattle.iox_hub_commands.specs.HubBase.AsHome.{hub_ports, with_hub_ports, with_hub_publisher, with_hub_subscriber}
+use Rattle.iox_hub_commands.specs.HubBase.Hubs.{is_node, one_more}
+use Rattle.iox_hub_commands.specs.HubBase.Opening.{Made as Opened}
 use Rattle.iox_hub_commands.specs.Arriving.{PublisherStep, SubscriberStep}
 use Rattle.iox_hub_commands.specs.Naming.{publisher_config, publisher_handlers, subscriber_config, subscriber_handler}
 use Rattle.iox_hub_commands.specs.Replies.{factory_reply, foreign_reply, closed_reply}
-use Rattle.iox_hub_factories.specs.Closing.{ClosesNumbered}
-use Rattle.iox_hub_factories.specs.Creating.{CreatesNumbered}
-use Rattle.iox_hub_factories.specs.Either.{EitherNumbered}
-use Rattle.iox_hub_factories.specs.Foreign.{ActsNamed}
-use Rattle.iox_hub_factories.specs.Opening.{OpensNumbered}
-use Rattle.iox_hub_factories.specs.Tables.{publish_subscribe_in}
-use Rattle.iox_hub_factories.specs.declared.asked.ServiceAsked.{ServiceAsked}
+use Rattle.iox_hub_commands.specs.Closing.{ClosesNumbered}
+use Rattle.iox_hub_commands.specs.Creating.{CreatesNumbered}
+use Rattle.iox_hub_commands.specs.Either.{EitherNumbered}
+use Rattle.iox_hub_commands.specs.Foreign.{ActsNamed}
+use Rattle.iox_hub_commands.specs.Opening.{OpensNumbered}
+use Rattle.iox_hub_commands.specs.ServicesTables.{publish_subscribe_in}
+use Rattle.iox_hub_commands.specs.declared.services.asked.ServiceAsked.{ServiceAsked}
 use Rattle.iox_negotiate.specs.NegotiateBase.declared.errors.close.CloseError.{CloseError}
-use Rattle.iox_hub_factories.specs.Maps.NumberTable.{value_at}
+use Rattle.iox_hub_commands.specs.Maps.NumberTable.{value_at}
 use Rattle.iox_hub_run.specs.declared.numbered_hub.NumberedHub.{NumberedHub}
 
 -- the domain of a factory's service

@@ -5,14 +5,15 @@ ghost use Rattle.iox_hub_run.specs.Services.{PublisherArrives, SubscriberArrives
 
 use crate::numbered_hub::NumberedHub;
 use iox_command::{PublisherOptions, Reply, SubscriberOptions};
-use iox_domain_home::DomainId;
+use iox_domain::DomainId;
 use iox_domain_values::{Decides, Degrades, PortOwner};
 use iox_hub_commands::{arriving, most_loans};
 use std::alloc::Global;
 
 impl<T: Copy, U: Copy + Default, B: Decides + Degrades, D: Degrades> NumberedHub<T, U, B, D> {
-    /// A publisher of slices comes to a domain, with what is named, and gets the next number; `handlers` decide for it. Skipped where the domain
-    /// isn't here; else refused as `Made::make_publisher` refuses it, also where an allocation fails for the room for its loans.
+    /// A publisher of slices comes to a domain, with what is named, and gets the next number; `handlers` decide for it. Skipped
+    /// where the domain isn't here; else refused as `Made::make_publisher` refuses it, also where an allocation fails for the
+    /// room for its loans.
     /// Example: `let reply = hub.publisher_with(alloc, domain, owner, &options, handlers);`
     pub fn publisher_with(
         &mut self,
@@ -42,8 +43,9 @@ impl<T: Copy, U: Copy + Default, B: Decides + Degrades, D: Degrades> NumberedHub
 }
 
 impl<T: Copy, U: Copy, B: Decides + Degrades, D: Degrades> NumberedHub<T, U, B, D> {
-    /// A subscriber comes to a domain, with what is named, and gets the next number; `handler` decides for it. Skipped where the domain isn't
-    /// here; else refused as `Made::make_subscriber` refuses it, also where an allocation fails for the room for its samples.
+    /// A subscriber comes to a domain, with what is named, and gets the next number; `handler` decides for it. Skipped where the
+    /// domain isn't here; else refused as `Made::make_subscriber` refuses it, also where an allocation fails for the room for its
+    /// samples.
     /// Example: `let reply = hub.subscriber_with(alloc, domain, owner, &options, handler);`
     pub fn subscriber_with(
         &mut self,

@@ -8,8 +8,8 @@ pub fn agreement_is_one<T, U, B, D>()
     ensures { AgreementIsOne T U B D }
 {}
 
-/// A new hub with more room for numbers is a new hub. So what is said of every run of a new hub, here and in the crates above, is said of each
-/// `NumberedHub::run` of one, which makes room first. It is the contract of a function that does nothing.
+/// A new hub with more room for numbers is a new hub. So what is said of every run of a new hub, here and in the crates above, is
+/// said of each `NumberedHub::run` of one, which makes room first. It is the contract of a function that does nothing.
 pub fn room_keeps_it_new<T, U, B, D>()
     ensures { StaysNew T U B D }
 {}

@@ -29,7 +29,7 @@ pub mod run;
 mod services;
 mod step;
 
+pub use iox_hub_commands::services::HubConfig;
 pub use iox_hub_commands::{FixedDegradation, FixedHandlers};
-pub use iox_hub_factories::HubConfig;
 pub use numbered_hub::NumberedHub;
 pub use run::RunReport;

@@ -6,8 +6,8 @@ ghost use Rattle.iox_hub_run.specs.Lives.{NumbersRise};
 ghost use Rattle.iox_hub_run.specs.Numbers.{IsNew, numbers_used};
 ghost use Rattle.iox_hub_run.specs.PortRoom.{HasRoom};
 
+use iox_hub_commands::services::{Factories, Hub, HubConfig};
 use iox_hub_commands::{FixedDegradation, FixedHandlers, Made};
-use iox_hub_factories::{Factories, Hub, HubConfig};
 use std::alloc::Global;
 
 /// A hub, and what commands made in it, under numbers that are counted from 1 for each kind. A number is spent when what it stands for

@@ -1,14 +1,14 @@
 //! Room for the numbers of loans and samples, which a run makes before its first command, and a port that comes.
 ghost use Rattle.std.specs.Prelude.{◌≡◌, ◌+◌, ◌-◌, ◌^◌, ◌≤◌, ◌<◌, length, min, IsOk, OnOk, OnErr};
 ghost use Rattle.iox_hub_commands.specs.Tables.{SameNumbers};
-ghost use Rattle.iox_hub_factories.specs.HubServices.Room.{loans_left_in, samples_left_in, samples_at_most_in};
+ghost use Rattle.iox_hub_commands.specs.HubServices.Room.{loans_left_in, samples_left_in, samples_at_most_in};
 ghost use Rattle.iox_hub_run.specs.PortRoom.{FitsBeside, most_samples_at};
 ghost use Rattle.iox_hub_run.specs.Room.{loans_of, samples_of, loans_in, samples_in, FitsMore, FitsAll, OnlyRoomier};
 
 use crate::numbered_hub::NumberedHub;
 use iox_command::Command;
-use iox_domain_home::{DomainId, Home};
-use iox_domain_room::samples::held_by_one;
+use iox_domain::allowances::samples::held_by_one;
+use iox_domain::{DomainId, calls};
 use iox_domain_values::{Decides, Degrades};
 use iox_maps::by_number::Numbered;
 use std::alloc::AllocError;
@@ -76,8 +76,8 @@ fn room_for<V>(numbers: &mut Numbered<V>, more: usize) -> Result<(), AllocError>
 }
 
 impl<T, U, B, D> NumberedHub<T, U, B, D> {
-    /// Makes room for the numbers of all loans and samples that some commands may make. Fails only where there isn't as much already, and an
-    /// allocation fails; then there may be more room than before.
+    /// Makes room for the numbers of all loans and samples that some commands may make. Fails only where there isn't as much
+    /// already, and an allocation fails; then there may be more room than before.
     /// Example: `hub.make_room(&commands)?;`
     pub fn make_room(&mut self, commands: &[Command<T>]) -> Result<(), AllocError>
         ensures same { OnlyRoomier self.old self.new }
@@ -120,8 +120,8 @@ fn room_beside<V>(numbers: &mut Numbered<V>, left: u64, more: u64) -> Result<(),
 }
 
 impl<T: Copy, U: Copy, B: Drop, D: Drop> NumberedHub<T, U, B, D> {
-    /// Makes room for the numbers of the loans that are out, of all that the publishers may still make, of so many more, and of one beside them.
-    /// Fails only where there isn't as much already, and an allocation fails.
+    /// Makes room for the numbers of the loans that are out, of all that the publishers may still make, of so many more, and of
+    /// one beside them. Fails only where there isn't as much already, and an allocation fails.
     /// Example: `hub.room_for_loans(2)?;`
     pub fn room_for_loans(&mut self, more: u64) -> Result<(), AllocError>
         ensures same { OnlyRoomier self.old self.new }
@@ -132,8 +132,9 @@ impl<T: Copy, U: Copy, B: Drop, D: Drop> NumberedHub<T, U, B, D> {
         room_beside(&mut self.made.loans, left, more)
     }
 
-    /// Makes room for the numbers of the samples that are held, of as many as the subscribers that are there may hold at once, of so many more,
-    /// and of one beside them: so also for all that may still come. Fails only where there isn't as much already, and an allocation fails.
+    /// Makes room for the numbers of the samples that are held, of as many as the subscribers that are there may hold at once, of
+    /// so many more, and of one beside them: so also for all that may still come. Fails only where there isn't as much already,
+    /// and an allocation fails.
     /// Example: `hub.room_for_samples(2)?;`
     pub fn room_for_samples(&mut self, more: u64) -> Result<(), AllocError>
         ensures same { OnlyRoomier self.old self.new }
@@ -152,7 +153,7 @@ impl<T: Copy, U: Copy, B: Decides + Degrades, D: Degrades> NumberedHub<T, U, B, 
     pub fn most_samples(&self, domain: DomainId) -> u64
         ensures { result ≡ min (most_samples_at domain self.now) (2 ^ 64 - 1) }
     {
-        match self.hub.ports(domain) {
+        match calls::ports(&self.hub, domain) {
             Some(ports) => held_by_one(&ports.sizes),
             None => 0,
         }

@@ -2,7 +2,7 @@
 ghost use Rattle.std.specs.Prelude.{◌≡◌, ◌+◌, ◌<◌, ◌≤◌, ◌^◌, true, length};
 ghost use Rattle.iox_hub_commands.specs.DescribeBase.Detail.{detail};
 ghost use Rattle.iox_hub_commands.specs.DescribeBase.declared.type_detail.TypeVariant.TheVariants.{FixedSize};
-ghost use Rattle.iox_hub_factories.specs.Asked.{types_of};
+ghost use Rattle.iox_hub_commands.specs.Asked.{types_of};
 ghost use Rattle.iox_hub_run.specs.Agreements.{AreOfOneAgreement};
 ghost use Rattle.iox_hub_run.specs.Grown.{GrowsOn, HaveGrown, AreAsAgreed};
 ghost use Rattle.iox_hub_run.specs.Lives.{NumbersGoOn};
@@ -40,8 +40,8 @@ impl<
     /// Carries out commands, one after another, once there is room for all replies, and for the numbers of all loans and samples that the
     /// commands may make.
     ///
-    /// It stops before the first command, where an allocation fails for that room, and then nothing has changed; or at a command that receives
-    /// or reads, where an allocation fails for the values of its reply, and those before it are replied to.
+    /// It stops before the first command, where an allocation fails for that room, and then only room may have grown; or at a command
+    /// that receives or reads, where an allocation fails for the values of its reply, and those before it are replied to.
     /// Example: `let report = hub.run(alloc, commands);`
     pub fn run(&mut self, alloc: Global, commands: Vec<Command<T>>) -> RunReport<T>
         requires { numbers_used self.old + length commands.items < 2 ^ 64 }

@@ -2,25 +2,25 @@
 ghost use Rattle.std.specs.Prelude.{◌≡◌, ◌+◌, ◌<◌, ◌^◌, option_map};
 ghost use Rattle.iox_hub_commands.specs.DescribeBase.Detail.{detail};
 ghost use Rattle.iox_hub_commands.specs.DescribeBase.declared.type_detail.TypeVariant.TheVariants.{FixedSize};
-ghost use Rattle.iox_hub_factories.specs.Asked.{types_of};
+ghost use Rattle.iox_hub_commands.specs.Asked.{types_of};
 ghost use Rattle.iox_hub_run.specs.PortRoom.{KeepsRoom};
 ghost use Rattle.iox_hub_run.specs.Services.{NodeMakes, Creates, Opens, OpensOrCreates, Acts, Closes, MakesPublisher, MakesSubscriber, domain_of_factory, owner_of_factory};
-ghost use Rattle.iox_hub_factories.specs.Tables.{publish_subscribe_in};
-ghost use Rattle.iox_hub_factories.specs.Maps.NumberTable.{value_at};
+ghost use Rattle.iox_hub_commands.specs.ServicesTables.{publish_subscribe_in};
+ghost use Rattle.iox_hub_commands.specs.Maps.NumberTable.{value_at};
 
 use crate::numbered_hub::NumberedHub;
 use iox_command::{ForeignStep, PublisherOptions, Refusal, Reply, StepBefore, SubscriberOptions};
 use iox_describe_base::{
     AttributeSpecifier, AttributeVerifier, MessagingPattern, ServiceName, ZeroCopySend,
 };
-use iox_domain_home::DomainId;
+use iox_domain::DomainId;
 use iox_domain_values::{Decides, Degrades, PortOwner};
 use iox_hub_commands::replies::{closed_reply, factory_reply, foreign_reply};
+use iox_hub_commands::services::{ServiceAsked, foreign};
 use iox_hub_commands::{
     PublisherHandlers, SubscriberHandler, arriving, most_loans, publisher_handlers,
     subscriber_handler,
 };
-use iox_hub_factories::{ServiceAsked, foreign};
 use iox_queues_base::Words;
 use std::alloc::Global;
 

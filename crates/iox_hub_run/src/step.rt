@@ -2,7 +2,7 @@
 ghost use Rattle.std.specs.Prelude.{◌+◌, ◌<◌, ◌≤◌, ◌^◌, OnErr};
 ghost use Rattle.iox_hub_commands.specs.DescribeBase.Detail.{detail};
 ghost use Rattle.iox_hub_commands.specs.DescribeBase.declared.type_detail.TypeVariant.TheVariants.{FixedSize};
-ghost use Rattle.iox_hub_factories.specs.Asked.{types_of};
+ghost use Rattle.iox_hub_commands.specs.Asked.{types_of};
 ghost use Rattle.iox_hub_run.specs.Agreements.{AreOfOneAgreement};
 ghost use Rattle.iox_hub_run.specs.Grown.{GrowsOn, HaveGrown, AreAsAgreed, OneDomainMoves};
 ghost use Rattle.iox_hub_run.specs.Lives.{ChangesOneThing};
@@ -13,10 +13,10 @@ ghost use Rattle.iox_hub_run.specs.Steps.{Step};
 use crate::numbered_hub::NumberedHub;
 use iox_command::{Command, Reply};
 use iox_describe_base::ZeroCopySend;
+use iox_hub_commands::services::ServiceAsked;
 use iox_hub_commands::{
     PublisherHandlers, SubscriberHandler, following, lending, messages, receiving,
 };
-use iox_hub_factories::ServiceAsked;
 use iox_queues_base::Words;
 use std::alloc::{AllocError, Global};
 
@@ -32,12 +32,13 @@ impl<
     /// pattern than publish-subscribe, where a publisher waits with a send (or none waits, for `Retry` and `GiveUp`), where a loan isn't
     /// written, or has other values or places than are named. A call that is refused is replied to with its error.
     ///
-    /// A publisher comes once there is room for the numbers of all loans that it may make, and a subscriber once there is room for those of all
-    /// samples that it may hold, beside those of all others: so no loan and no sample lacks memory for its number. Where an allocation fails for
-    /// that room the port is refused.
+    /// A publisher comes once there is room for the numbers of all loans that it may make, and a subscriber once there is room
+    /// for those of all samples that it may hold, beside those of all others: so no loan and no sample lacks memory for its
+    /// number. Where an allocation fails for that room the port is refused.
     ///
-    /// Fails only where an allocation fails for the values of the reply; or for one more number of a loan where no publisher is there, or of a
-    /// sample where no subscriber is. Then nothing has changed but that a sample that came is held, and that there may be more room.
+    /// Fails only where an allocation fails for the values of the reply; or for one more number of a loan where no publisher is
+    /// there, or of a sample where no subscriber is. Then nothing has changed but that a sample that came is held, and that there
+    /// may be more room.
     /// Example: `let reply = hub.step(alloc, Command::Node)?;`
     pub fn step(&mut self, alloc: Global, command: Command<T>) -> Result<Reply<T>, AllocError>
         requires { numbers_used self.old + 1 < 2 ^ 64 }

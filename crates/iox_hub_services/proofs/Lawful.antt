@@ -6,9 +6,9 @@ use Rattle.iox_domain.specs.DescribeSettings.declared.static_config.Settings.{Se
 use Rattle.iox_domain.proofs.Keeping.{kept_is_there}
 use Rattle.iox_domain.specs.Domains.{IsNewDomain}
 use Rattle.iox_domain.specs.declared.domain.Domain.{Domain}
-use Rattle.iox_domain.specs.DomainHome.declared.domain_id.DomainId.{DomainId}
+use Rattle.iox_domain.specs.declared.domain_id.DomainId.{DomainId}
 use Rattle.iox_hub_services.proofs.Own.{own_found}
-use Rattle.iox_hub_services.specs.AsHome.{ports_at}
+use Rattle.iox_hub_services.specs.AsHome.{ports_at, ports_if}
 use Rattle.iox_hub_services.specs.HomeLaws.{at_hub}
 use Rattle.iox_hub_services.specs.Laws.{OthersStay, OpenedIsFound, IsBlank, BeginsAnew, GivesBack}
 use Rattle.iox_hub_services.specs.Numbered.{changed_found, others_unchanged, same_unchanged, changed_twice, others_beside}
@@ -98,7 +98,7 @@ back number old new domain answer own there puts =
       put.0,
       put.1,
       ap is_some out,
-      ap (option_map (λ d. d.ports)) (at_hub id (without number old domain) refl ∙ ap here_if out),
+      ap ports_if (at_hub id (without number old domain) refl ∙ ap here_if out),
       (refl, λ other apart. others_unchanged number other old.domains (Out domain.agreed) apart),
       λ again after. no_more number (without number old domain) after again (ap here_if out),
     )

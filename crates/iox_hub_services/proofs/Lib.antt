@@ -1,7 +1,6 @@
 pub mod Own
 pub mod Takings
 pub mod Same
-pub mod Homely
 pub mod Lawful
 mod Rising
 mod Placed

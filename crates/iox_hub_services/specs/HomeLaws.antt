@@ -1,21 +1,14 @@
--- What holds of the services of a hub as a home of ports.
-use Rattle.std.proofs.Common.{ℕ, ◌≡◌, Bool, true, false, List, Option, None, Some, refl, sym, ap, subst, ◌∙◌, cond}
+-- What holds of the services of a hub as a home of domains.
+use Rattle.std.proofs.Common.{ℕ, ◌≡◌, Bool, true, false, List, Option, None, Some, refl, sym, ap, ◌∙◌, cond}
 use Rattle.std.proofs.lemmas.Bool.{eqb-true, eq-eqb}
 use Rattle.std.specs.Option.{option_map}
-use Rattle.std.specs.Prelude.{◌==◌, ◌&&◌, IsSome}
-use Rattle.iox_domain.specs.AsHome.{same_id}
-use Rattle.iox_domain.specs.Domains.{with_ports}
-use Rattle.iox_domain.specs.Handling.{kept_degrades, kept_decides}
+use Rattle.std.specs.Prelude.{◌==◌}
+use Rattle.iox_domain.specs.Domains.{in_state}
 use Rattle.iox_domain.specs.declared.domain.Domain.{Domain}
-use Rattle.iox_domain.specs.DomainHome.declared.domain_id.DomainId.{DomainId}
-use Rattle.iox_domain.specs.DomainPorts.declared.service_ports.ServicePorts.{ServicePorts}
-use Rattle.iox_domain.specs.DomainValues.declared.backpressure.BackpressureDecision.{BackpressureDecision}
-use Rattle.iox_domain.specs.DomainValues.declared.backpressure.BackpressureInfo.{BackpressureInfo}
-use Rattle.iox_domain.specs.DomainValues.declared.degradation.DegradationAction.{DegradationAction}
-use Rattle.iox_domain.specs.DomainValues.declared.degradation.DegradationCause.{DegradationCause}
-use Rattle.iox_domain.specs.DomainValues.declared.degradation.DegradationInfo.{DegradationInfo}
-use Rattle.iox_hub_services.specs.AsHome.{domain_at, ports_at, stepped_if, stepped, with_ports_at, publisher_kept, subscriber_kept, publisher_forgotten, subscriber_forgotten, with_publisher_at, with_subscriber_at, without_publisher_at, without_subscriber_at, publisher_handlers_in, subscriber_handler_in}
-use Rattle.iox_hub_services.specs.Numbered.{one_value, changed_found, others_unchanged, same_unchanged, changed_twice}
+use Rattle.iox_domain.specs.declared.state.DomainState.{DomainState}
+use Rattle.iox_domain.specs.declared.domain_id.DomainId.{DomainId}
+use Rattle.iox_hub_services.specs.AsHome.{domain_at, state_if, state_at, stepped_if, stepped, changed_at}
+use Rattle.iox_hub_services.specs.Numbered.{one_value, changed_found as value_found, others_unchanged, same_unchanged, changed_twice}
 use Rattle.iox_hub_services.specs.Open.{OpenServices, here_if, presence_of, domain_of, with_domain}
 use Rattle.iox_hub_services.specs.declared.presence.Presence.{Presence}
 use Rattle.iox_hub_services.specs.declared.presence.Presence.TheVariants.{Here, Out}
@@ -29,7 +22,7 @@ here_stands (Some (Out agreed)) domain is = cc
 -- a domain that is changed in its place is found
 found_number : {T U B D : Type 0} (number : ℕ) (domains : List (ℕ × Presence T U B D)) (domain after : Domain T U B D) → domain_of number domains ≡ Some domain → domain_of number (with_domain number domains after) ≡ Some after
 found_number number domains domain after is =
-    ap here_if (changed_found number domains (Here domain) (Here after) (here_stands (presence_of number domains) domain is))
+    ap here_if (value_found number domains (Here domain) (Here after) (here_stands (presence_of number domains) domain is))
 
 other_number : {T U B D : Type 0} (number other : ℕ) (domains : List (ℕ × Presence T U B D)) (after : Domain T U B D) → (number ≡ other → ⊥) → domain_of other (with_domain number domains after) ≡ domain_of other domains
 other_number number other domains after apart = ap here_if (others_unchanged number other domains (Here after) apart)
@@ -91,89 +84,38 @@ stepped_other id other step services (Some domain) is apart =
 pub stepped_elsewhere : {T U B D : Type 0} (id other : DomainId) (step : Domain T U B D → Domain T U B D) (services : OpenServices T U B D) → (id ≡ other → ⊥) → domain_at other (stepped id step services) ≡ domain_at other services
 stepped_elsewhere id other step services apart = stepped_other id other step services (domain_at id services) refl apart
 
-spared_if : {T U B D X : Type 0} (seen : Option (Domain T U B D) → X) (step : Domain T U B D → Domain T U B D) → ((domain : Domain T U B D) → seen (Some (step domain)) ≡ seen (Some domain)) → (found : Option (Domain T U B D)) → seen (option_map step found) ≡ seen found
-spared_if seen step spares None = refl
-spared_if seen step spares (Some domain) = spares domain
+-- a step of what is lent, as it is found
+state_stepped : {T U B D : Type 0} (step : DomainState T U B D → DomainState T U B D) (found : Option (Domain T U B D)) → state_if (option_map (in_state step) found) ≡ option_map step (state_if found)
+state_stepped step None = refl
+state_stepped step (Some domain) = refl
 
-both_same : (a b : DomainId) → (hub service : Bool) → (a.hub == b.hub) ≡ hub → (a.service == b.service) ≡ service → (hub && service) ≡ true → a ≡ b
-both_same a b true true hub service same =
-    ap (λ h. record { hub = h; service = a.service }) (eqb-true a.hub b.hub hub) ∙ ap (λ s. record { hub = b.hub; service = s }) (eqb-true a.service b.service service)
-both_same a b true false hub service same = cc
-both_same a b false true hub service same = cc
-both_same a b false false hub service same = cc
-
-itself : (a b : DomainId) → a ≡ b → same_id a b ≡ true
-itself a b same = ap (λ hub. hub && (a.service == b.service)) (eq-eqb a.hub b.hub (ap (λ id. id.hub) same)) ∙ eq-eqb a.service b.service (ap (λ id. id.service) same)
-
-differ : true ≡ false → ⊥
-differ e = cc
-
-spared_by : {T U B D X : Type 0} (same : Bool) (seen : Option (Domain T U B D) → X) (id other : DomainId) (step : Domain T U B D → Domain T U B D) (services : OpenServices T U B D) → same_id id other ≡ same
-    → ((domain : Domain T U B D) → seen (Some (step domain)) ≡ seen (Some domain)) → seen (domain_at other (stepped id step services)) ≡ seen (domain_at other services)
-spared_by true seen id other step services is spares =
-    subst (λ found. seen (domain_at found (stepped id step services)) ≡ seen (domain_at found services)) (both_same id other (id.hub == other.hub) (id.service == other.service) refl refl is)
-    (ap seen (stepped_here id step services) ∙ spared_if seen step spares (domain_at id services))
-spared_by false seen id other step services is spares = ap seen (stepped_elsewhere id other step services (λ same. differ (sym (itself id other same) ∙ is)))
-
--- what a step spares of a domain is as before in each
-pub spared : {T U B D X : Type 0} (seen : Option (Domain T U B D) → X) (id other : DomainId) (step : Domain T U B D → Domain T U B D) (services : OpenServices T U B D)
-    → ((domain : Domain T U B D) → seen (Some (step domain)) ≡ seen (Some domain)) → seen (domain_at other (stepped id step services)) ≡ seen (domain_at other services)
-spared seen id other step services spares = spared_by (same_id id other) seen id other step services refl spares
-
--- the ports of a domain that may be here
-abbrev ports_if : {T U B D : Type 0} → Option (Domain T U B D) → Option (ServicePorts T U)
-ports_if found = option_map (λ domain. domain.ports) found
-
-put_if : {T U B D : Type 0} (ports : ServicePorts T U) (found : Option (Domain T U B D)) → IsSome (ports_if found) → ports_if (option_map (with_ports ports) found) ≡ Some ports
-put_if ports None there = cc
-put_if ports (Some domain) there = refl
-
--- what was put there is there
-pub put_is_there : {T U B D : Type 0} (id : DomainId) (ports : ServicePorts T U) (services : OpenServices T U B D) → IsSome (ports_at id services) → ports_at id (with_ports_at id ports services) ≡ Some ports
-put_is_there id ports services there = ap ports_if (stepped_here id (with_ports ports) services) ∙ put_if ports (domain_at id services) there
+-- what was changed is found so
+pub changed_found : {T U B D : Type 0} (id : DomainId) (step : DomainState T U B D → DomainState T U B D) (services : OpenServices T U B D) → state_at id (changed_at id step services) ≡ option_map step (state_at id services)
+changed_found id step services = ap state_if (stepped_here id (in_state step) services) ∙ state_stepped step (domain_at id services)
 
 -- the other domains stay as they were
-pub others_stay : {T U B D : Type 0} (id other : DomainId) (ports : ServicePorts T U) (services : OpenServices T U B D) → (id ≡ other → ⊥) → ports_at other (with_ports_at id ports services) ≡ ports_at other services
-others_stay id other ports services apart = ap ports_if (stepped_elsewhere id other (with_ports ports) services apart)
+pub others_stay : {T U B D : Type 0} (id other : DomainId) (step : DomainState T U B D → DomainState T U B D) (services : OpenServices T U B D) → (id ≡ other → ⊥) → state_at other (changed_at id step services) ≡ state_at other services
+others_stay id other step services apart = ap state_if (stepped_elsewhere id other (in_state step) services apart)
 
-same_if : {T U B D : Type 0} (id : DomainId) (ports : ServicePorts T U) (services : OpenServices T U B D) (found : Option (Domain T U B D)) → domain_at id services ≡ found → ports_if found ≡ Some ports
-    → stepped_if found id.service (with_ports ports) services ≡ services
-same_if id ports services None is there = refl
-same_if id ports services (Some domain) is there =
-    let same : with_ports ports domain ≡ domain = ap (λ p. record domain { ports = p }) (sym (one_value there)) in
+alike_if : {T U B D : Type 0} (number : ℕ) (one other : DomainState T U B D → DomainState T U B D) (services : OpenServices T U B D) (found : Option (Domain T U B D)) → option_map one (state_if found) ≡ option_map other (state_if found)
+    → stepped_if found number (in_state one) services ≡ stepped_if found number (in_state other) services
+alike_if number one other services None same = refl
+alike_if number one other services (Some domain) same = ap (λ state. record services { domains = with_domain number services.domains (record domain { state = state }) }) (one_value same)
+
+-- steps that make the same of what is there are one
+pub alike : {T U B D : Type 0} (id : DomainId) (one other : DomainState T U B D → DomainState T U B D) (services : OpenServices T U B D) → option_map one (state_at id services) ≡ option_map other (state_at id services) → changed_at id one services ≡ changed_at id other services
+alike id one other services same = alike_if id.service one other services (domain_at id services) same
+
+unchanged_if : {T U B D : Type 0} (id : DomainId) (services : OpenServices T U B D) (found : Option (Domain T U B D)) → domain_at id services ≡ found → stepped_if found id.service (in_state (λ state. state)) services ≡ services
+unchanged_if id services None is = refl
+unchanged_if id services (Some domain) is =
     let stands = here_stands (presence_of id.service services.domains) domain (stands_at id services domain is).found in
-    ap (λ domains. record services { domains = domains })
-    (ap (with_domain id.service services.domains) same ∙ same_unchanged id.service services.domains (Here domain) stands)
+    ap (λ domains. record services { domains = domains }) (same_unchanged id.service services.domains (Here domain) stands)
 
--- to put what is there changes nothing
-pub same_stays : {T U B D : Type 0} (id : DomainId) (ports : ServicePorts T U) (services : OpenServices T U B D) → ports_at id services ≡ Some ports → with_ports_at id ports services ≡ services
-same_stays id ports services there = same_if id ports services (domain_at id services) refl there
+-- a step that changes nothing
+pub unchanged : {T U B D : Type 0} (id : DomainId) (services : OpenServices T U B D) → changed_at id (λ state. state) services ≡ services
+unchanged id services = unchanged_if id services (domain_at id services) refl
 
--- who decides for a port has no part in the ports
-pub ports_with_publisher : {T U B D : Type 0} (id other : DomainId) (number : ℕ) (handlers : B) (services : OpenServices T U B D) → ports_at other (with_publisher_at id number handlers services) ≡ ports_at other services
-ports_with_publisher id other number handlers services = spared ports_if id other (publisher_kept number handlers) services (λ domain. refl)
-
-pub ports_with_subscriber : {T U B D : Type 0} (id other : DomainId) (number : ℕ) (handler : D) (services : OpenServices T U B D) → ports_at other (with_subscriber_at id number handler services) ≡ ports_at other services
-ports_with_subscriber id other number handler services = spared ports_if id other (subscriber_kept number handler) services (λ domain. refl)
-
-pub ports_without_publisher : {T U B D : Type 0} (id other : DomainId) (number : ℕ) (services : OpenServices T U B D) → ports_at other (without_publisher_at id number services) ≡ ports_at other services
-ports_without_publisher id other number services = spared ports_if id other (publisher_forgotten number) services (λ domain. refl)
-
-pub ports_without_subscriber : {T U B D : Type 0} (id other : DomainId) (number : ℕ) (services : OpenServices T U B D) → ports_at other (without_subscriber_at id number services) ≡ ports_at other services
-ports_without_subscriber id other number services = spared ports_if id other (subscriber_forgotten number) services (λ domain. refl)
-
--- other ports change nothing about who decides
-pub same_publisher_handlers : {T U B D : Type 0} (id other : DomainId) (number : ℕ) (ports : ServicePorts T U) (services : OpenServices T U B D)
-    → publisher_handlers_in number (domain_at other (with_ports_at id ports services)) ≡ publisher_handlers_in number (domain_at other services)
-same_publisher_handlers id other number ports services = spared (publisher_handlers_in number) id other (with_ports ports) services (λ domain. refl)
-
-pub same_subscriber_handler : {T U B D : Type 0} (id other : DomainId) (number : ℕ) (ports : ServicePorts T U) (services : OpenServices T U B D)
-    → subscriber_handler_in number (domain_at other (with_ports_at id ports services)) ≡ subscriber_handler_in number (domain_at other services)
-same_subscriber_handler id other number ports services = spared (subscriber_handler_in number) id other (with_ports ports) services (λ domain. refl)
-
--- what may be answered by who decides, where the same does
-pub same_degrading : {H : Type 0} (degrades : H → DegradationCause → DegradationInfo → DegradationAction → Type 0) (info : DegradationInfo) (action : DegradationAction) {before after : Option H} → after ≡ before → kept_degrades degrades after info action → kept_degrades degrades before info action
-same_degrading degrades info action same may = subst (λ found. kept_degrades degrades found info action) same may
-
-pub same_deciding : {H : Type 0} (decides : H → BackpressureInfo → BackpressureDecision → Type 0) (info : BackpressureInfo) (decision : BackpressureDecision) {before after : Option H} → after ≡ before → kept_decides decides after info decision → kept_decides decides before info decision
-same_deciding decides info decision same may = subst (λ found. kept_decides decides found info decision) same may
+-- two steps are one
+pub again : {T U B D : Type 0} (id : DomainId) (first second : DomainState T U B D → DomainState T U B D) (services : OpenServices T U B D) → changed_at id second (changed_at id first services) ≡ changed_at id (λ state. second (first state)) services
+again id first second services = stepped_again id (in_state first) (in_state second) services

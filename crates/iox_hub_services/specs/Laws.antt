@@ -3,7 +3,7 @@ use Rattle.std.specs.Prelude.{ℕ, ◌≡◌, true, [], None, Some, Result, Ok, 
 use Rattle.iox_domain.specs.DescribeBase.Detail.{Detail}
 use Rattle.iox_domain.specs.DescribeSettings.declared.static_config.Settings.{Settings}
 use Rattle.iox_domain.specs.declared.domain.Domain.{Domain}
-use Rattle.iox_domain.specs.DomainSettings.Fitting.{Fits}
+use Rattle.iox_domain.specs.Fitting.{Fits}
 use Rattle.iox_hub_services.specs.AsHome.{ports_at}
 use Rattle.iox_hub_services.specs.Open.{OpenServices, AreOwn, presence_of, domain_of}
 use Rattle.iox_hub_services.specs.Opening.{is_open, Opens}
@@ -25,7 +25,7 @@ OpenedIsFound T U B D =
 -- A domain has no port, no message and no history, and is of this hub and number.
 abbrev pub IsBlank : {T U B D : Type 0} → ℕ → ℕ → Domain T U B D → Type 0
 IsBlank hub number domain =
-    (domain.id ≡ record { hub = hub; service = number }) × (domain.ports.service ≡ number) × (domain.ports.publishers ≡ []) × (domain.ports.subscribers ≡ []) × (domain.publisher_handlers ≡ []) × (domain.subscriber_handlers ≡ [])
+    (domain.id ≡ record { hub = hub; service = number }) × (domain.state.ports.service ≡ number) × (domain.state.ports.publishers ≡ []) × (domain.state.ports.subscribers ≡ []) × (domain.state.publisher_handlers ≡ []) × (domain.state.subscriber_handlers ≡ [])
 
 -- A service that opens where nothing was open under its number has a blank domain, whatever was there earlier.
 abbrev pub BeginsAnew : (T U B D : Type 0) → Type 0
@@ -33,7 +33,8 @@ BeginsAnew T U B D =
     (payload user_header : Detail) (buffer number : ℕ) (settings : Settings) (old new : OpenServices T U B D) → presence_of number old.domains ≡ None → Opens payload user_header buffer number settings old (Ok tt) new → Fits payload user_header settings
     → (domain : Domain T U B D) × (domain_of number new.domains ≡ Some domain) × IsBlank old.hub number domain
 
--- A domain that is taken and put back is accepted, and all is as it was. While it is out its service is open, its ports aren't lent, and it isn't taken again; the others stay.
+-- A domain that is taken and put back is accepted, and all is as it was. While it is out its service is open, its ports aren't
+-- lent, and it isn't taken again; the others stay.
 abbrev pub GivesBack : (T U B D : Type 0) → Type 0
 GivesBack T U B D =
     (number : ℕ) (old between new : OpenServices T U B D) (domain : Domain T U B D) (answer : Result (Unit {0}) (DomainIsForeign (Domain T U B D))) → AreOwn old.hub old.domains → Takes number old (Ok domain) between → Puts domain between answer new

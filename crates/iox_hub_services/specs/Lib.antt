@@ -9,7 +9,6 @@ pub mod Opening
 pub mod Taking
 pub mod AsHome
 pub mod HomeLaws
-pub mod Within
 pub mod Room
 pub mod Laws
-pub use Rattle.iox_domain_room.specs as DomainRoom
+pub use Rattle.iox_domain.specs as Domain

@@ -4,7 +4,7 @@ use Rattle.iox_domain.specs.DescribeBase.Detail.{Detail}
 use Rattle.iox_domain.specs.DescribeSettings.declared.static_config.Settings.{Settings}
 use Rattle.iox_domain.specs.Domains.{IsNewDomain}
 use Rattle.iox_domain.specs.declared.domain.Domain.{Domain}
-use Rattle.iox_domain.specs.DomainSettings.Fitting.{Fits}
+use Rattle.iox_domain.specs.Fitting.{Fits}
 use Rattle.iox_domain.specs.DomainValues.declared.create_error.DomainError.{DomainError}
 use Rattle.iox_domain.specs.DomainValues.declared.create_error.DomainError.TheVariants.{OutOfMemory}
 use Rattle.iox_hub_services.specs.Open.{OpenServices, presence_of, opened, closed}
@@ -20,7 +20,8 @@ HasNew {T} {U} {B} {D} buffer number settings old new =
     (domain : Domain T U B D) × IsNewDomain (record { hub = old.hub; service = number }) buffer settings domain
     × (new ≡ record old { domains = opened number (Here domain) old.domains })
 
--- A service opens: where one of this number is open, or the settings don't fit, nothing happens; else a new domain is here under it. It is refused for want of memory alone, where a new one would be made, and then nothing has changed.
+-- A service opens: where one of this number is open, or the settings don't fit, nothing happens; else a new domain is here under
+-- it. It is refused for want of memory alone, where a new one would be made, and then nothing has changed.
 abbrev pub Opens : {T U B D : Type 0} → Detail → Detail → ℕ → ℕ → Settings → OpenServices T U B D → Result (Unit {0}) DomainError → OpenServices T U B D → Type 0
 Opens payload user_header buffer number settings old (Ok done) new =
     (((is_open number old ≡ true) ⊎ (Fits payload user_header settings → ⊥)) × (new ≡ old))

@@ -1,15 +1,15 @@
 -- How many loans may still be made in all open services together, and how many samples may still come.
 use Rattle.std.specs.Prelude.{ℕ, List, sum_by}
 use Rattle.std.specs.Map.{values_of}
-use Rattle.iox_domain.specs.DomainPorts.declared.service_ports.ServicePorts.{ServicePorts}
-use Rattle.iox_domain_room.specs.Loans.{loans_left}
-use Rattle.iox_domain_room.specs.Samples.{samples_left, samples_at_most}
+use Rattle.iox_domain.specs.declared.ports.service_ports.ServicePorts.{ServicePorts}
+use Rattle.iox_domain.specs.Loans.{loans_left}
+use Rattle.iox_domain.specs.Samples.{samples_left, samples_at_most}
 use Rattle.iox_hub_services.specs.declared.presence.Presence.{Presence}
 use Rattle.iox_hub_services.specs.declared.presence.Presence.TheVariants.{Here, Out}
 
 -- what is counted of the ports of a domain that is here; nothing of one that is out
 abbrev pub counted_at : {T U B D : Type 0} → (ServicePorts T U → ℕ) → Presence T U B D → ℕ
-counted_at count (Here domain) = count domain.ports
+counted_at count (Here domain) = count domain.state.ports
 counted_at count (Out agreed) = 0
 
 -- what is counted of all open services together

@@ -5,7 +5,7 @@
 //! | `presence` | a domain that is here, or what is agreed while it is out |
 //! | `services` | the services of a hub: they open and close |
 //! | `taking` | a domain is taken out, to be driven elsewhere, and put back |
-//! | `home` | the services of a hub as a home of ports |
+//! | `home` | the services of a hub as a home of domains |
 //! | `laws` | what holds of these calls, in other words |
 //! | `presences` | what is open, by numbers |
 //! | `by_number` | values by their numbers, of which one is found at once |

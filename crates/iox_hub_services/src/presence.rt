@@ -5,13 +5,13 @@ ghost use Rattle.std.specs.Option.{option_copied_mut};
 ghost use Rattle.iox_hub_services.specs.Open.{here, taken_out};
 ghost use Rattle.iox_hub_services.specs.Agreeing.{same_agreement};
 ghost use Rattle.iox_hub_services.specs.Room.{counted_at};
-ghost use Rattle.iox_domain_room.specs.Loans.{loans_left};
-ghost use Rattle.iox_domain_room.specs.Samples.{samples_at_most};
+ghost use Rattle.iox_domain.specs.Loans.{loans_left};
+ghost use Rattle.iox_domain.specs.Samples.{samples_at_most};
 ghost use Rattle.iox_hub_services.specs.declared.presence.Presence.TheVariants.{Out};
 
 use iox_describe_settings::publish_subscribe::StaticConfig;
 use iox_domain::Domain;
-use iox_domain_room::{loans, samples};
+use iox_domain::allowances::{loans, samples};
 use iox_domain_values::{DegradationHandler, Handlers};
 use std::mem;
 
@@ -80,7 +80,7 @@ impl<T: Copy, U: Copy, B, D> Presence<T, U, B, D> {
         ensures { result ≡ min (counted_at (λ ports. loans_left ports) self.now) (2 ^ 64 - 1) }
     {
         match self {
-            Presence::Here(domain) => loans::loans_left(&domain.ports),
+            Presence::Here(domain) => loans::loans_left(&domain.state.ports),
             Presence::Out(_) => 0,
         }
     }
@@ -90,7 +90,7 @@ impl<T: Copy, U: Copy, B, D> Presence<T, U, B, D> {
         ensures { result ≡ min (counted_at (λ ports. samples_at_most ports) self.now) (2 ^ 64 - 1) }
     {
         match self {
-            Presence::Here(domain) => samples::samples_at_most(&domain.ports),
+            Presence::Here(domain) => samples::samples_at_most(&domain.state.ports),
             Presence::Out(_) => 0,
         }
     }

@@ -19,8 +19,8 @@ use std::marker::Model;
 /// The open publish-subscribe services of a hub, by their numbers, each with its domain here, or out: taken by the user to be driven
 /// elsewhere.
 ///
-/// Contracts see the number of the hub, and each service with its number, by rising number. A domain that is here is of this hub, and of the
-/// service under whose number it is kept. This port's own.
+/// Contracts see the number of the hub, and each service with its number, by rising number. A domain that is here is of this hub,
+/// and of the service under whose number it is kept. This port's own.
 #[derive(Drop)]
 pub struct Services<T, U, B = Handlers, D = DegradationHandler> {
     pub(crate) hub: u64,

@@ -57,6 +57,15 @@ module _ (entries : List (ℕ × ℕ)) (entry : ℕ × ℕ) (middle : ℕ) (any 
             subst (λ e. IsBehind e entry) (sym (ap (λ n. get_or entries n default) same ∙ there default)) behind
       ]
 
+-- it stands where what is one below comes before it, and what is there doesn't
+pub stands-between : (entries : List (ℕ × ℕ)) (entry : ℕ × ℕ) (at : ℕ) (any : ℕ × ℕ) → Rises entries → at ≤ length entries
+    → (0 < at → IsBefore (get_or entries (at - 1) any) entry) → (at < length entries → IsBehind (get_or entries at any) entry) → StandsAt entries entry at
+stands-between entries entry at any rises within below there = record {
+  within = within;
+  before = λ k default less. lower-half entries entry (at - 1) any rises (omega arith) (below (omega arith)) k default (omega arith);
+  behind = λ k default least more. upper-half entries entry at any rises (omega arith) (there (omega arith)) k default least more;
+}
+
 -- what stands where it would and is among them stands there
 pub stands-there : (entries : List (ℕ × ℕ)) (entry : ℕ × ℕ) (at : ℕ) → Rises entries → StandsAt entries entry at → Contains entries entry
     → (at < length entries) × (get_or entries at entry ≡ entry)

@@ -52,9 +52,10 @@ impl ContainerHandle {
 /// had a member, or one behind it, so a container of many places that has few members is small, and quickly made and
 /// searched.
 ///
-/// `first_of`, `find` and `recover` search a list of owners and places: they cost what the owner has or was the last to
-/// have, each by the logarithm of all. `remove` costs the same at any size. `add` goes over the places below the one that
-/// it fills; where that was another owner's last, it also moves what lies between the two in the list.
+/// `first_of`, `find` and `recover` search a list of owners and places once, by the logarithm of all. Then each place that the
+/// owner has, or was the last to have, costs the same at any size. `remove` costs the same at any size. `add` goes over the
+/// places below the one that it fills; where that was another owner's last, it also moves what stands behind either in the
+/// list.
 ///
 /// Ported from `iceoryx2_bb_lock_free::mpmc::container::Container`.
 #[derive(Drop)]
@@ -216,7 +217,7 @@ impl<T: Copy> Container<T> {
     pub fn first_of(&self, owner: OwnerId) -> Option<ContainerHandle>
         ensures { result ≡ first_handle (members_of owner self.now.id self.now.members) }
     {
-        match next_told(owner, self.id, &self.owners, &self.members, 0) {
+        match next_told(owner, self.id, &self.owners, &self.members, 0, &mut 0) {
             None => None,
             Some(first) => Some(first.0),
         }
@@ -392,20 +393,21 @@ fn told_of<T: Copy>(
     told(id, index, member)
 }
 
-// What is told of the owner's first member from one index on.
+// What is told of the owner's first member from one index on; its place is looked for as `Owners::next` says.
 fn next_told<T: Copy>(
     owner: OwnerId,
     id: u64,
     owners: &Owners,
     members: &Places<Member<T>>,
     from: usize,
+    near: &mut usize,
 ) -> Option<(ContainerHandle, T)>
     requires { AreOwned (λ member. member.owner) members.now owners.now }
     ensures some { IfSome result (λ found. IsToldNext (told_of owner id) members.now from found.0.index found) }
     ensures none { IfNone result (rest_from (told_of owner id) members.now from ≡ []) }
 {
     let mut at = from;
-    while let Some(index) = owners.next(owner, at) {
+    while let Some(index) = owners.next(owner, at, near) {
         at = index + 1;
         if let Some(found) = told_of(owner, id, index, members.get(index)) {
             return Some(found);
@@ -427,7 +429,8 @@ fn call_members<T: Copy, F: FnMut(ContainerHandle, T)>(
     ensures callable { F.IsAlwaysCallable callback.new }
 {
     let mut at = 0usize;
-    while let Some(found) = next_told(owner, id, owners, members, at) {
+    let mut near = 0usize;
+    while let Some(found) = next_told(owner, id, owners, members, at, &mut near) {
         at = found.0.index + 1;
         callback(found.0, found.1);
     }
@@ -474,7 +477,8 @@ fn remove_where<T: Copy, F: FnMut(ContainerHandle, T) -> bool>(
     ensures owned { AreOwned (λ member. member.owner) members.new owners.now }
 {
     let mut at = 0usize;
-    while let Some(found) = next_told(owner, id, owners, members, at) {
+    let mut near = 0usize;
+    while let Some(found) = next_told(owner, id, owners, members, at, &mut near) {
         at = found.0.index + 1;
         if decide(found.0, found.1) {
             members.empty(found.0.index);

@@ -66,23 +66,24 @@ impl Owners {
         insert(&mut self.entries, owner, place);
     }
 
-    /// The first place from one on that the owner had last; `None` where there is none.
-    pub(crate) fn next(&self, owner: OwnerId, from: usize) -> Option<usize>
+    /// The first place from one on that the owner had last; `None` where there is none. The list is looked into at `near`
+    /// before it is searched; where a place is found, `near` becomes the position behind it.
+    pub(crate) fn next(&self, owner: OwnerId, from: usize, near: &mut usize) -> Option<usize>
         ensures some { IfSome result (λ place. IsNext self.now.last owner from place) }
         ensures none { IfNone result ((place : ℕ) → from ≤ place → slice_get self.now.last place ≢ Some owner) }
     {
-        next_of(self.entries.as_slice(), owner.value(), from)
+        next_of(self.entries.as_slice(), owner.value(), from, near)
     }
 }
 
-// The first place from one on that stands with the owner.
-fn next_of(entries: &[(u64, usize)], owner: u64, from: usize) -> Option<usize>
+// The first place from one on that stands with the owner; it is looked for as `Owners::next` says.
+fn next_of(entries: &[(u64, usize)], owner: u64, from: usize, near: &mut usize) -> Option<usize>
     requires { Rises entries.now }
     ensures some { IfSome result (λ place. Contains entries.now (owner, place) × (from ≤ place) × ((other : ℕ) → from ≤ other → other < place → Contains entries.now (owner, other) → ⊥)) }
     ensures none { IfNone result ((place : ℕ) → from ≤ place → Contains entries.now (owner, place) → ⊥) }
     ensures bound { length entries.now < 2 ^ 64 }
 {
-    let at = search(entries, owner, from);
+    let at = search_near(entries, owner, from, *near);
     if at == entries.len() {
         return None;
     }
@@ -90,6 +91,7 @@ fn next_of(entries: &[(u64, usize)], owner: u64, from: usize) -> Option<usize>
     if found.0 != owner {
         return None;
     }
+    *near = at + 1;
     Some(found.1)
 }
 
@@ -115,6 +117,32 @@ fn remove(entries: &mut Vec<(u64, usize)>, owner: u64, place: usize)
 {
     let at = search(entries.as_slice(), owner, place);
     let _ = entries.remove(at);
+}
+
+// Where an owner with a place stands among them, or would. A position is tried before they are searched.
+fn search_near(entries: &[(u64, usize)], owner: u64, place: usize, near: usize) -> usize
+    requires { Rises entries.now }
+    ensures { StandsAt entries.now (owner, place) result }
+{
+    if stands_at(entries, owner, place, near) {
+        near
+    } else {
+        search(entries, owner, place)
+    }
+}
+
+// Whether an owner with a place stands at this position, or would.
+fn stands_at(entries: &[(u64, usize)], owner: u64, place: usize, at: usize) -> bool
+    requires { Rises entries.now }
+    ensures { result ≡ true → StandsAt entries.now (owner, place) at }
+{
+    if at > entries.len() {
+        return false;
+    }
+    if at > 0 && !is_before(entries[at - 1], owner, place) {
+        return false;
+    }
+    at == entries.len() || !is_before(entries[at], owner, place)
 }
 
 // Where an owner with a place stands among them, or would.

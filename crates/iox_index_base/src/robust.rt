@@ -15,9 +15,10 @@ use std::marker::Model;
 
 /// A set of the indices below a capacity, which are handed out lowest first and know their holders.
 ///
-/// `find` and `recover` search a list of owners and places: they cost what the owner holds or was the last to hold, each by
-/// the logarithm of all. `release` costs the same at any size. `acquire` goes over the indices below the one that it hands
-/// out; where another owner held that last, it also moves what lies between the two in the list.
+/// `find` and `recover` search a list of owners and places once, by the logarithm of all. Then each index that the owner
+/// holds, or was the last to hold, costs the same at any size. `release` costs the same at any size. `acquire` goes over the
+/// indices below the one that it hands out; where another owner held that last, it also moves what stands behind either in
+/// the list.
 ///
 /// Ported from `iceoryx2_bb_lock_free::mpmc::robust_unique_index_set::RobustUniqueIndexSet`.
 #[derive(Drop)]
@@ -165,14 +166,20 @@ fn is_of(owner: OwnerId, cell: Option<OwnerId>) -> bool
     }
 }
 
-// The owner's first index from one on.
-fn next_held(owner: OwnerId, owners: &Owners, cells: &Places<OwnerId>, from: usize) -> Option<usize>
+// The owner's first index from one on; it is looked for as `Owners::next` says.
+fn next_held(
+    owner: OwnerId,
+    owners: &Owners,
+    cells: &Places<OwnerId>,
+    from: usize,
+    near: &mut usize,
+) -> Option<usize>
     requires { AreOwned (λ owner. owner) cells.now owners.now }
     ensures some { IfSome result (λ index. IsToldNext (index_of owner) cells.now from index index) }
     ensures none { IfNone result (rest_from (index_of owner) cells.now from ≡ []) }
 {
     let mut at = from;
-    while let Some(index) = owners.next(owner, at) {
+    while let Some(index) = owners.next(owner, at, near) {
         at = index + 1;
         if is_of(owner, cells.get(index)) {
             return Some(index);
@@ -194,7 +201,8 @@ fn call_held<F: FnMut(usize)>(
     ensures callable { F.IsAlwaysCallable callback.new }
 {
     let mut at = 0usize;
-    while let Some(index) = next_held(owner, owners, cells, at) {
+    let mut near = 0usize;
+    while let Some(index) = next_held(owner, owners, cells, at, &mut near) {
         at = index + 1;
         callback(index);
     }
@@ -215,7 +223,8 @@ fn free_where<F: FnMut(usize) -> bool>(
     ensures owned { AreOwned (λ owner. owner) cells.new owners.now }
 {
     let mut at = 0usize;
-    while let Some(index) = next_held(owner, owners, cells, at) {
+    let mut near = 0usize;
+    while let Some(index) = next_held(owner, owners, cells, at, &mut near) {
         at = index + 1;
         if decide(index) {
             cells.empty(index);

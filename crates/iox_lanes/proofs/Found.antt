@@ -19,21 +19,21 @@ use Rattle.iox_lanes_machine.proofs.StartUses.{start_kept}
 use Rattle.iox_lanes.specs.Finding.{WasFound}
 
 -- lanes that were just made
-pub was_made : (sizes : LaneSizes) (m : World) → 0 < sizes.buffer → sizes.buffer < 2 ^ 61 → sizes.most_borrowed < 2 ^ 61 → sizes.subscribers < 2 ^ 61 → m ≡ start sizes → WasFound m
-was_made sizes m some buffer borrowed ports is = record { sizes = sizes; some = some; ports = ports; small = omega (arith, buffer, borrowed); found = []; finds = is }
+pub was_made : (sizes : LaneSizes) (m : World) → 0 < sizes.buffer → sizes.buffer < 2 ^ 61 → sizes.most_borrowed < 2 ^ 61 → sizes.subscribers < 2 ^ 61 → m ≡ start sizes → WasFound sizes m
+was_made sizes m some buffer borrowed ports is = record { some = some; ports = ports; small = omega (arith, buffer, borrowed); found = []; finds = is }
 
 -- one more behind a list of findings
 one_more : (s : World) (fs : List Found) (m : World) (f : Found) → AreFound s fs m → finds m f ≡ true → AreFound s (fs ++ f ∷ []) (with_found m f)
 one_more s [] m f h fit = subst (λ (x : World). (finds x f ≡ true) × (with_found m f ≡ with_found x f)) h (fit, refl)
 one_more s (g ∷ fs) m f h fit = (h.0, one_more (with_found s g) fs m f h.1 fit)
 
-pub found_on : (m : World) (f : Found) (answer : Bool) (n : World) → FindsTo m f answer n → WasFound m → WasFound n
-found_on m f true n h w = subst WasFound (sym h.1) (record { sizes = w.sizes; some = w.some; ports = w.ports; small = w.small; found = w.found ++ f ∷ []; finds = one_more (start w.sizes) w.found m f w.finds h.0 })
-found_on m f false n h w = subst WasFound (sym h.1) w
+pub found_on : (sizes : LaneSizes) (m : World) (f : Found) (answer : Bool) (n : World) → FindsTo m f answer n → WasFound sizes m → WasFound sizes n
+found_on sizes m f true n h w = subst (WasFound sizes) (sym h.1) (record { some = w.some; ports = w.ports; small = w.small; found = w.found ++ f ∷ []; finds = one_more (start sizes) w.found m f w.finds h.0 })
+found_on sizes m f false n h w = subst (WasFound sizes) (sym h.1) w
 
 -- they came from where they were made
-pub came : (m : World) → WasFound m → CameTo m
-came m w = record { sizes = w.sizes; some = w.some; ports = w.ports; small = w.small; found = w.found; begun = m; finds = w.finds; schedule = []; made = 0; runs = (refl, refl) }
+pub came : (sizes : LaneSizes) (m : World) → WasFound sizes m → CameTo m
+came sizes m w = record { sizes = sizes; some = w.some; ports = w.ports; small = w.small; found = w.found; begun = m; finds = w.finds; schedule = []; made = 0; runs = (refl, refl) }
 
 no_moments : (s : World) (fs : List Found) (m : World) → AreFound s fs m → m.moments ≡ s.moments
 no_moments s [] m h = ap (λ (x : World). x.moments) h
@@ -43,10 +43,10 @@ all_from : {X : Type 0} (P : X → Type 0) (xs : List X) → ((at : ℕ) (x : X)
 all_from P xs f = λ k d below. f k (get_or xs k d) (slice_get-get_or xs k d below)
 
 -- and nobody is inside a call
-pub between : (m : World) → WasFound m → AllBetween m
-between m w =
-    let kept : IsKept m = all_found (start w.sizes) w.found m w.finds (start_kept w.sizes w.some w.ports w.small) in
-    let fresh : IsFresh m = kept.fresh (no_moments (start w.sizes) w.found m w.finds) in
+pub between : (sizes : LaneSizes) (m : World) → WasFound sizes m → AllBetween m
+between sizes m w =
+    let kept : IsKept m = all_found (start sizes) w.found m w.finds (start_kept sizes w.some w.ports w.small) in
+    let fresh : IsFresh m = kept.fresh (no_moments (start sizes) w.found m w.finds) in
     record {
       publishers = all_from (λ (lane : PublisherLaneState). publisher_is_idle lane.port.call ≡ true) m.publishers (λ at lane there. ap publisher_is_idle (fresh.publishers at lane there).idle);
       subscribers = all_from (λ (lane : SubscriberLaneState). subscriber_is_idle lane.port.call ≡ true) m.subscribers (λ at lane there. ap subscriber_is_idle (fresh.subscribers at lane there).idle);

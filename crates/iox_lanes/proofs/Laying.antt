@@ -1,7 +1,7 @@
 -- Messages that lie in slots.
 use Rattle.std.proofs.Common.{arith, ℕ, ◌≡◌, ◌+◌, ◌<◌, ◌≤◌, Bool, true, false, nat_lt, List, length, Option, None, Some, option_map, slice_get, map, refl, ap, sym, subst, ◌∙◌}
 use Rattle.std.proofs.lemmas.Option.{slice_get-map, slice_get_past}
-use Rattle.iox_domain.specs.DomainPorts.DomainPublisher.Messages.{Message}
+use Rattle.iox_domain.specs.DomainPublisher.Messages.{Message}
 use Rattle.iox_domain.specs.DomainPublisher.declared.publisher_port.PublisherPort.{PublisherPort}
 use Rattle.iox_lanes_machine.specs.LanesBase.Table.{TableWords}
 use Rattle.iox_lanes.specs.Holding.{IsNamedIf}

@@ -6,4 +6,5 @@ mod PortsLeft
 mod Numbers
 mod JoinedLanes
 mod Found
+mod Sizing
 pub mod Forgetting

@@ -28,5 +28,5 @@ AreWithout numbers old new = (number : ℕ) → port_of number new ≡ emptied_i
 
 -- The publishers of these numbers in a domain have no messages any longer; all else of the domain is as it was.
 pub record IsEnded {T U B D : Type 0} (numbers : List ℕ) (old new : Domain T U B D) : Type 0 where
-  pub rest : new ≡ record old { ports = record old.ports { publishers = new.ports.publishers } }
-  pub publishers : AreWithout numbers old.ports.publishers new.ports.publishers
+  pub rest : new ≡ record old { state = record old.state { ports = record old.state.ports { publishers = new.state.ports.publishers } } }
+  pub publishers : AreWithout numbers old.state.ports.publishers new.state.ports.publishers

@@ -6,9 +6,13 @@ use Rattle.iox_lanes_machine.specs.World.{World}
 use Rattle.iox_lanes_machine.specs.declared.found.Found.{Found}
 use Rattle.iox_lanes_machine.specs.declared.sizes.LaneSizes.{LaneSizes}
 
--- lanes that were made, and what they found
-pub record WasFound (m : World) : Type 0 where
+-- Lanes before their first step, with the sizes that they were made of.
+pub record Beginning : Type 0 where
   pub sizes : LaneSizes
+  pub lanes : World
+
+-- lanes that were made of these sizes, and what they found
+pub record WasFound (sizes : LaneSizes) (m : World) : Type 0 where
   pub some : 0 < sizes.buffer
   pub ports : sizes.subscribers < 2 ^ 61
   pub small : sizes.buffer + sizes.most_borrowed + 1 < 2 ^ 62

@@ -1,13 +1,13 @@
 -- What lanes hold of a domain.
 use Rattle.std.specs.Prelude.{ℕ, ◌≡◌, ◌+◌, ◌*◌, ◌<◌, Bool, true, false, is_some, count_by, List, [], ◌∷◌, length, take, get_or, slice_get, Option, None, Some}
-use Rattle.iox_domain.specs.DomainPorts.IndexBase.declared.container.Member.{Member}
-use Rattle.iox_domain.specs.DomainPorts.DomainSubscriber.Publishers.{port_of}
-use Rattle.iox_domain.specs.DomainPorts.DomainSubscriber.Subscribing.{attached_at}
-use Rattle.iox_domain.specs.DomainPorts.DomainSubscriber.declared.attached.Attached.{Attached}
-use Rattle.iox_domain.specs.DomainPorts.DomainSubscriber.declared.subscriber_port.SubscriberPort.{SubscriberPort}
+use Rattle.iox_domain.specs.IndexBase.declared.container.Member.{Member}
+use Rattle.iox_domain.specs.DomainSubscriber.Publishers.{port_of}
+use Rattle.iox_domain.specs.DomainSubscriber.Subscribing.{attached_at}
+use Rattle.iox_domain.specs.DomainSubscriber.declared.attached.Attached.{Attached}
+use Rattle.iox_domain.specs.DomainSubscriber.declared.subscriber_port.SubscriberPort.{SubscriberPort}
 use Rattle.iox_domain.specs.DomainPublisher.Ports.{connection_of}
 use Rattle.iox_domain.specs.DomainPublisher.declared.publisher_port.PublisherPort.{PublisherPort}
-use Rattle.iox_domain.specs.DomainPorts.Subscribers.{subscriber_of}
+use Rattle.iox_domain.specs.Subscribers.{subscriber_of}
 use Rattle.iox_domain.specs.declared.domain.Domain.{Domain}
 use Rattle.iox_lanes_machine.specs.Links.{LinkState}
 use Rattle.iox_lanes_machine.specs.World.{World}
@@ -64,10 +64,10 @@ IsLaneIf payload_words header_words table (Some port) (Some lane) = IsLaneOf pay
 -- the publisher at a place of the lanes is the one of the domain that has the number of this place
 abbrev pub SenderHolds : {T U B D : Type 0} → (T → List ℕ) → (U → List ℕ) → Domain T U B D → World → List ℕ → ℕ → Type 0
 SenderHolds payload_words header_words domain lanes publishers place =
-    IsLaneIf payload_words header_words lanes.table (port_if domain.ports.publishers (slice_get publishers place)) (slice_get lanes.publishers place)
+    IsLaneIf payload_words header_words lanes.table (port_if domain.state.ports.publishers (slice_get publishers place)) (slice_get lanes.publishers place)
 
--- A link is a connection of a publisher to a subscriber, the one that its messages for the subscriber's place go to: it leads from the one's place to the other's, as
--- many may wait, and the same messages do.
+-- A link is a connection of a publisher to a subscriber, the one that its messages for the subscriber's place go to: it leads
+-- from the one's place to the other's, as many may wait, and the same messages do.
 pub record IsLinkOf {T U : Type 0} (payload_words : T → List ℕ) (header_words : U → List ℕ) (table : TableWords) (overflows : Bool) (port : PublisherPort T U) (reader : SubscriberPort) (first index publisher subscriber : ℕ) (link : LinkState) : Type 0 where
   pub from : link.publisher ≡ publisher
   pub to : link.subscriber ≡ subscriber
@@ -86,11 +86,12 @@ IsLinkIf payload_words header_words table overflows publisher subscriber (Some p
 IsLinkIf payload_words header_words table overflows publisher subscriber (Some port) (Some reader) (Some lane) (Some index) (Some link) =
     IsLinkOf payload_words header_words table overflows port reader lane.port.book.first index publisher subscriber link
 
--- the connection of the lanes between a publisher and a subscriber, at these places, is that of the domain; it has the number of its place, publisher by publisher
+-- the connection of the lanes between a publisher and a subscriber, at these places, is that of the domain; it has the number of
+-- its place, publisher by publisher
 abbrev pub LinkHolds : {T U B D : Type 0} → (T → List ℕ) → (U → List ℕ) → Domain T U B D → World → List ℕ → List ℕ → List ℕ → ℕ → ℕ → Type 0
 LinkHolds payload_words header_words domain lanes publishers subscribers connections publisher subscriber =
-    IsLinkIf payload_words header_words lanes.table domain.ports.sizes.enable_safe_overflow publisher subscriber
-    (port_if domain.ports.publishers (slice_get publishers publisher)) (reader_if domain.ports.subscribers (slice_get subscribers subscriber))
+    IsLinkIf payload_words header_words lanes.table domain.state.ports.sizes.enable_safe_overflow publisher subscriber
+    (port_if domain.state.ports.publishers (slice_get publishers publisher)) (reader_if domain.state.ports.subscribers (slice_get subscribers subscriber))
     (slice_get lanes.publishers publisher) (slice_get connections (publisher * length subscribers + subscriber))
     (slice_get lanes.links (publisher * length subscribers + subscriber))
 
@@ -120,18 +121,19 @@ FollowIf lanes publishers subscriber None lane = ⊥
 FollowIf lanes publishers subscriber (Some port) None = ⊥
 FollowIf lanes publishers subscriber (Some port) (Some lane) = FollowKeys lanes publishers subscriber port lane.port.routes
 
--- the subscriber at a place of the lanes goes over its connections in the order of the keys of the one of the domain that has the number of this place
+-- the subscriber at a place of the lanes goes over its connections in the order of the keys of the one of the domain that has the
+-- number of this place
 abbrev pub ReaderHolds : {T U B D : Type 0} → Domain T U B D → World → List ℕ → List ℕ → ℕ → Type 0
 ReaderHolds domain lanes publishers subscribers place =
-    FollowIf lanes publishers place (reader_if domain.ports.subscribers (slice_get subscribers place)) (slice_get lanes.subscribers place)
+    FollowIf lanes publishers place (reader_if domain.state.ports.subscribers (slice_get subscribers place)) (slice_get lanes.subscribers place)
 
 -- Lanes hold what a domain has: before their first step, its publishers and subscribers by their places, with their connections.
 pub record LanesHold {T U B D : Type 0} (payload_words : T → List ℕ) (header_words : U → List ℕ) (payload_count header_count : ℕ) (domain : Domain T U B D) (lanes : World) (senders readers indices : List ℕ) : Type 0 where
   pub moments : lanes.moments ≡ 0
   pub payload : lanes.table.sizes.payload_words ≡ payload_count
   pub user_header : lanes.table.sizes.user_header_words ≡ header_count
-  pub publishers : senders ≡ numbers_of (λ entry. entry.publisher) domain.ports.publisher_list.places
-  pub subscribers : readers ≡ numbers_of (λ entry. entry.subscriber) domain.ports.subscriber_list.places
+  pub publishers : senders ≡ numbers_of (λ entry. entry.publisher) domain.state.ports.publisher_list.places
+  pub subscribers : readers ≡ numbers_of (λ entry. entry.subscriber) domain.state.ports.subscriber_list.places
   pub publisher_count : length lanes.publishers ≡ length senders
   pub subscriber_count : length lanes.subscribers ≡ length readers
   pub link_count : length lanes.links ≡ length senders * length readers

@@ -2,7 +2,7 @@
 use Rattle.std.specs.Prelude.{ℕ, ◌≡◌, ◌+◌, ◌*◌, ◌<◌, List, length, take, drop, slice_get, Option, None, Some}
 use Rattle.iox_domain.specs.DomainPublisher.Ports.{connection_of}
 use Rattle.iox_domain.specs.DomainPublisher.declared.publisher_port.PublisherPort.{PublisherPort}
-use Rattle.iox_domain.specs.DomainPorts.DomainSlots.declared.stage.Stage.TheVariants as stage
+use Rattle.iox_domain.specs.DomainSlots.declared.stage.Stage.TheVariants as stage
 use Rattle.iox_lanes_opening.specs.Restored.{IsRested, place_of}
 use Rattle.iox_lanes_machine.specs.Fixed.{FixedSlots, StaysFixed, slots_at}
 use Rattle.iox_lanes_machine.specs.Links.{LinkState}
@@ -36,8 +36,8 @@ pub record SenderJoins {T U : Type 0} (ports : List (ℕ × PublisherPort T U)) 
   pub slots : HasSlotsIf (port_if ports (slice_get senders place)) (slots_at lanes place)
   pub alone : place_if (slice_get senders place) senders ≡ Some place
 
--- A connection of the lanes, from the publisher at this place, is one of the publisher's in the domain: it goes on, as many may wait, and no other connection of the
--- publisher before it has its index.
+-- A connection of the lanes, from the publisher at this place, is one of the publisher's in the domain: it goes on, as many may
+-- wait, and no other connection of the publisher before it has its index.
 pub record IsLinkTo {T U : Type 0} (port : PublisherPort T U) (publisher subscriber : ℕ) (row : List ℕ) (index : ℕ) (link : LinkState) : Type 0 where
   pub from : link.publisher ≡ publisher
   pub live : (connection_of index port).stage ≡ stage.Live
@@ -57,8 +57,8 @@ LinkJoins ports lanes senders readers indices publisher subscriber =
     IsLinkToIf (port_if ports (slice_get senders publisher)) publisher subscriber (row_of readers indices publisher)
     (slice_get indices (publisher * readers + subscriber)) (slice_get lanes.links (publisher * readers + subscriber))
 
--- Lanes go with the publishers of a domain: as many words for its values, its publishers by their places, and for each of them a connection to each of so many subscribers;
--- and there is a place for one value.
+-- Lanes go with the publishers of a domain: as many words for its values, its publishers by their places, and for each of them a
+-- connection to each of so many subscribers; and there is a place for one value.
 pub record IsJoined {T U : Type 0} (payload_count header_count places : ℕ) (lanes : World) (ports : List (ℕ × PublisherPort T U)) (senders : List ℕ) (readers : ℕ) (indices : List ℕ) : Type 0 where
   pub some : 0 < places
   pub payload : lanes.table.sizes.payload_words ≡ payload_count

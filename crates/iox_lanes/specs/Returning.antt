@@ -1,7 +1,7 @@
 -- The domain that lanes leave.
 use Rattle.std.specs.Prelude.{ℕ, ◌≡◌, ◌+◌, ◌*◌, ◌<◌, ◌≤◌, List, length, slice_get, Option, None, Some}
-use Rattle.iox_domain.specs.DomainPorts.DomainPublisher.MessagesSending.{with_uses}
-use Rattle.iox_domain.specs.DomainPorts.DomainSubscriber.Publishers.{port_of}
+use Rattle.iox_domain.specs.DomainPublisher.MessagesSending.{with_uses}
+use Rattle.iox_domain.specs.DomainSubscriber.Publishers.{port_of}
 use Rattle.iox_domain.specs.DomainPublisher.Ports.{connection_of}
 use Rattle.iox_domain.specs.DomainPublisher.declared.publisher_port.PublisherPort.{PublisherPort}
 use Rattle.iox_domain.specs.declared.domain.Domain.{Domain}
@@ -17,8 +17,8 @@ use Rattle.iox_lanes.specs.declared.into_domain_error.IntoDomainError.TheVariant
 use Rattle.iox_lanes_machine.specs.Fixed.{slots_at}
 use Rattle.iox_lanes.specs.Joined.{HasSlotsIf, IsLinkToIf, row_of}
 
--- A publisher as lanes leave it: what waits at a connection by its order waits at the one of its index, nothing waits at a connection of which the lanes have none, the history
--- is that of the lanes, and all else is as it was.
+-- A publisher as lanes leave it: what waits at a connection by its order waits at the one of its index, nothing waits at a
+-- connection of which the lanes have none, the history is that of the lanes, and all else is as it was.
 pub record IsPortLeft {T U : Type 0} (value_of : List ℕ → T) (header_of : List ℕ → U) (lanes : World) (from : ℕ) (row : List ℕ) (lane : PublisherLaneState) (old new : PublisherPort T U) : Type 0 where
   pub rest : new ≡ record old { sender = with_uses (record old.sender.uses { history = new.sender.uses.history; connections = new.sender.uses.connections }) old.sender }
   pub count : length new.sender.uses.connections ≡ length old.sender.uses.connections
@@ -53,7 +53,7 @@ ArePortsLeft value_of header_of lanes senders readers indices old new =
 
 -- a domain of which only the publishers have changed
 abbrev pub OnlyPublishers : {T U B D : Type 0} → Domain T U B D → Domain T U B D → Type 0
-OnlyPublishers old new = new ≡ record old { ports = record old.ports { publishers = new.ports.publishers } }
+OnlyPublishers old new = new ≡ record old { state = record old.state { ports = record old.state.ports { publishers = new.state.ports.publishers } } }
 
 -- no party is in a call, and at most 2^63 steps were made: each connection is at rest
 abbrev pub AllRest : World → Type 0

@@ -1,6 +1,7 @@
 //! Lanes find what a domain has.
-ghost use Rattle.std.specs.Prelude.{◌≡◌, ◌+◌, ◌<◌, IfOk};
-ghost use Rattle.iox_lanes.specs.Holding.{numbers_of};
+ghost use Rattle.std.specs.Prelude.{◌≡◌, ◌+◌, ◌<◌, length, max, IfOk};
+ghost use Rattle.iox_lanes.specs.Holding.{kind_of, numbers_of};
+ghost use Rattle.iox_lanes.specs.Sized.{AreAgreed, AreSized};
 ghost use Rattle.iox_lanes_machine.specs.Resting.{AllBetween};
 ghost use Rattle.iox_lanes_machine.specs.WholeReads.{CameTo};
 
@@ -24,11 +25,12 @@ pub(crate) fn build<T: Words, U: Words>(
 ) -> Result<Opened<T>, AllocError>
     ensures came { IfOk result (λ opened. CameTo opened.lanes) }
     ensures between { IfOk result (λ opened. AllBetween opened.lanes) }
-    ensures publishers { IfOk result (λ opened. opened.publishers.items ≡ numbers_of (λ entry. entry.publisher) domain.now.ports.publisher_list.places) }
-    ensures subscribers { IfOk result (λ opened. opened.subscribers.items ≡ numbers_of (λ entry. entry.subscriber) domain.now.ports.subscriber_list.places) }
+    ensures sized { IfOk result (λ opened. AreSized domain.now.state.ports.sizes (length opened.publishers.items) (length opened.subscribers.items) T.WORDS U.WORDS opened.lanes) }
+    ensures publishers { IfOk result (λ opened. opened.publishers.items ≡ numbers_of (λ entry. entry.publisher) domain.now.state.ports.publisher_list.places) }
+    ensures subscribers { IfOk result (λ opened. opened.subscribers.items ≡ numbers_of (λ entry. entry.subscriber) domain.now.state.ports.subscriber_list.places) }
 {
-    let publishers = publishers_listed(alloc, &domain.ports.publisher_list)?;
-    let subscribers = subscribers_listed(alloc, &domain.ports.subscriber_list)?;
+    let publishers = publishers_listed(alloc, &domain.state.ports.publisher_list)?;
+    let subscribers = subscribers_listed(alloc, &domain.state.ports.subscriber_list)?;
     let mut lanes = NewLanes::new(
         alloc,
         sizes_of(
@@ -48,7 +50,7 @@ pub(crate) fn build<T: Words, U: Words>(
     )?;
     find_orders(&mut lanes, domain, &publishers, &subscribers)?;
     let mut one = Vec::new(alloc);
-    one.push(domain.blank)?;
+    one.push(domain.state.blank)?;
     Ok(Opened {
         lanes: lanes.into_lanes(),
         publishers,
@@ -65,9 +67,10 @@ fn sizes_of<T: Words, U: Words>(
     publishers: u64,
     subscribers: u64,
 ) -> LaneSizes
-    ensures { 0 < result.buffer }
+    ensures some { 0 < result.buffer }
+    ensures agreed { AreAgreed domain.now.state.ports.sizes publishers subscribers T.WORDS U.WORDS result }
 {
-    let sizes = domain.ports.sizes;
+    let sizes = domain.state.ports.sizes;
     LaneSizes {
         publishers,
         subscribers,
@@ -82,7 +85,9 @@ fn sizes_of<T: Words, U: Words>(
     }
 }
 
-fn kind_of(overflows: bool) -> RingKind {
+fn kind_of(overflows: bool) -> RingKind
+    ensures { result ≡ kind_of overflows }
+{
     if overflows {
         RingKind::Overflowing
     } else {
@@ -93,7 +98,7 @@ fn kind_of(overflows: bool) -> RingKind {
 fn most_loans<T: Words, U: Words>(domain: &Domain<T, U>, numbers: &[u64]) -> u64 {
     let mut most = 0;
     for number in numbers {
-        if let Some(port) = domain.ports.publishers.get(*number) {
+        if let Some(port) = domain.state.ports.publishers.get(*number) {
             most = (port.sender.most_loans() as u64).max(most);
         }
     }
@@ -103,7 +108,7 @@ fn most_loans<T: Words, U: Words>(domain: &Domain<T, U>, numbers: &[u64]) -> u64
 fn most_slots<T: Words, U: Words>(domain: &Domain<T, U>, numbers: &[u64]) -> u64 {
     let mut most = 0;
     for number in numbers {
-        if let Some(port) = domain.ports.publishers.get(*number) {
+        if let Some(port) = domain.state.ports.publishers.get(*number) {
             most = slots_of(port).max(most);
         }
     }
@@ -121,9 +126,11 @@ fn find_publishers<T: Words, U: Words>(
     publishers: &[u64],
     subscribers: &[u64],
     connections: &mut Vec<usize>,
-) -> Result<(), AllocError> {
+) -> Result<(), AllocError>
+    ensures { lanes.new.sizes ≡ lanes.old.sizes }
+{
     for place in 0..publishers.len() {
-        if let Some(port) = domain.ports.publishers.get(publishers[place]) {
+        if let Some(port) = domain.state.ports.publishers.get(publishers[place]) {
             find_publisher(lanes, place, port)?;
             let first = first_slot(lanes.lanes(), place);
             find_history(lanes, place, first, port)?;
@@ -138,7 +145,9 @@ fn find_publisher<T: Words, U: Words>(
     lanes: &mut NewLanes,
     place: usize,
     port: &PublisherPort<T, U>,
-) -> Result<(), AllocError> {
+) -> Result<(), AllocError>
+    ensures { lanes.new.sizes ≡ lanes.old.sizes }
+{
     lanes.find(Found::Slots {
         publisher: place,
         slots: slots_of(port),
@@ -164,7 +173,9 @@ fn find_history<T: Words, U: Words>(
     place: usize,
     first: u64,
     port: &PublisherPort<T, U>,
-) -> Result<(), AllocError> {
+) -> Result<(), AllocError>
+    ensures { lanes.new.sizes ≡ lanes.old.sizes }
+{
     for at in 0..port.sender.history() {
         let slot = port.sender.remembered(at);
         find_message(lanes, first, port, slot)?;
@@ -184,7 +195,9 @@ fn find_connections<T: Words, U: Words>(
     port: &PublisherPort<T, U>,
     subscribers: &[u64],
     connections: &mut Vec<usize>,
-) -> Result<(), AllocError> {
+) -> Result<(), AllocError>
+    ensures { lanes.new.sizes ≡ lanes.old.sizes }
+{
     for other in 0..subscribers.len() {
         let index = tie_to(domain, port, subscribers[other]);
         connections.push(index)?;
@@ -204,7 +217,7 @@ fn tie_to<T: Words, U: Words>(
     port: &PublisherPort<T, U>,
     subscriber: u64,
 ) -> usize {
-    match domain.ports.subscribers.get(subscriber) {
+    match domain.state.ports.subscribers.get(subscriber) {
         Some(reader) => port.ties.get(reader.place).unwrap_or(usize::MAX),
         None => usize::MAX,
     }
@@ -224,7 +237,9 @@ fn find_waiting<T: Words, U: Words>(
     port: &PublisherPort<T, U>,
     other: u64,
     index: usize,
-) -> Result<(), AllocError> {
+) -> Result<(), AllocError>
+    ensures { lanes.new.sizes ≡ lanes.old.sizes }
+{
     for at in 0..waiting_at(port, index) {
         let Some(slot) = waiting_slot(port, index, at) else {
             return Ok(());
@@ -268,6 +283,7 @@ fn find_message<T: Words, U: Words>(
     slot: usize,
 ) -> Result<(), AllocError>
     requires { slot < port.now.sender.uses.first + port.now.sender.uses.size }
+    ensures { lanes.new.sizes ≡ lanes.old.sizes }
 {
     let at = first.saturating_add(slot as u64);
     find_word(lanes, at, SlotWord::Header(0), port.owner.node_id)?;
@@ -280,12 +296,9 @@ fn find_message<T: Words, U: Words>(
     }
 }
 
-fn find_word(
-    lanes: &mut NewLanes,
-    slot: u64,
-    word: SlotWord,
-    value: u64,
-) -> Result<(), AllocError> {
+fn find_word(lanes: &mut NewLanes, slot: u64, word: SlotWord, value: u64) -> Result<(), AllocError>
+    ensures { lanes.new.sizes ≡ lanes.old.sizes }
+{
     lanes.find(Found::Held { slot, word, value })
 }
 
@@ -293,7 +306,9 @@ fn find_user_header<U: Words>(
     lanes: &mut NewLanes,
     slot: u64,
     user_header: &U,
-) -> Result<(), AllocError> {
+) -> Result<(), AllocError>
+    ensures { lanes.new.sizes ≡ lanes.old.sizes }
+{
     for word in 0..U::WORDS {
         find_word(
             lanes,
@@ -305,7 +320,9 @@ fn find_user_header<U: Words>(
     Ok(())
 }
 
-fn find_value<T: Words>(lanes: &mut NewLanes, slot: u64, value: &T) -> Result<(), AllocError> {
+fn find_value<T: Words>(lanes: &mut NewLanes, slot: u64, value: &T) -> Result<(), AllocError>
+    ensures { lanes.new.sizes ≡ lanes.old.sizes }
+{
     for word in 0..T::WORDS {
         find_word(
             lanes,
@@ -323,9 +340,11 @@ fn find_orders<T: Words, U: Words>(
     domain: &Domain<T, U>,
     publishers: &[u64],
     subscribers: &[u64],
-) -> Result<(), AllocError> {
+) -> Result<(), AllocError>
+    ensures { lanes.new.sizes ≡ lanes.old.sizes }
+{
     for place in 0..subscribers.len() {
-        if let Some(port) = domain.ports.subscribers.get(subscribers[place]) {
+        if let Some(port) = domain.state.ports.subscribers.get(subscribers[place]) {
             find_order(lanes, place, port, publishers)?;
         }
     }
@@ -337,7 +356,9 @@ fn find_order(
     place: usize,
     port: &SubscriberPort,
     publishers: &[u64],
-) -> Result<(), AllocError> {
+) -> Result<(), AllocError>
+    ensures { lanes.new.sizes ≡ lanes.old.sizes }
+{
     let mut to = 0u64;
     for key in 0..port.connections.reached() {
         if let Some(attached) = port.attached(key) {

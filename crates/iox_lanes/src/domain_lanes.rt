@@ -6,6 +6,7 @@ ghost use Rattle.iox_lanes_machine.specs.WholeReads.{CameTo};
 ghost use Rattle.iox_lanes.specs.Opening.{told_of};
 ghost use Rattle.iox_lanes.specs.Holding.{LanesHold};
 ghost use Rattle.iox_lanes.specs.Joined.{IsJoined};
+ghost use Rattle.iox_lanes.specs.Sized.{AreSized};
 
 use crate::building::build;
 use crate::holding::hold;
@@ -54,12 +55,16 @@ pub(crate) struct Opened<T> {
     pub(crate) one: Vec<T>,
 }
 
-/// The lanes of a domain: each publisher and subscriber that it lists, in the order of their places, with the buffer of each connection, the slots, loans and
-/// history of each publisher, what waits at each connection, the words of each message, and the order in which each subscriber goes over its connections.
+/// The lanes of a domain: each publisher and subscriber that it lists, in the order of their places, with the buffer of each
+/// connection, the slots, loans and history of each publisher, what waits at each connection, the words of each message, and the
+/// order in which each subscriber goes over its connections.
 ///
-/// The lanes are such as `Lanes::new` makes them and what they found leaves, and nobody is inside a call: so each law of lanes holds of them.
+/// The lanes are such as `Lanes::new` makes them and what they found leaves, and nobody is inside a call: so each law of lanes
+/// holds of them. Their sizes are those that the service agreed on: its buffer, one message at least, its borrow limit and its
+/// history.
 ///
-/// Refused with the first reason of `refusal` that applies, else with `OutOfMemory` where an allocation fails; then the domain is handed back as it was.
+/// Refused with the first reason of `refusal` that applies, else with `OutOfMemory` where an allocation fails; then the domain is
+/// handed back as it was.
 pub fn into_lanes<T: Words, U: Words>(
     alloc: Global,
     domain: Domain<T, U>,
@@ -67,8 +72,9 @@ pub fn into_lanes<T: Words, U: Words>(
     ensures lanes { IfOk result (λ opened. LanesHold T.parts U.parts T.WORDS U.WORDS domain opened.lanes opened.publishers.items opened.subscribers.items opened.connections.items) }
     ensures came { IfOk result (λ opened. CameTo opened.lanes) }
     ensures between { IfOk result (λ opened. AllBetween opened.lanes) }
+    ensures sized { IfOk result (λ opened. AreSized domain.state.ports.sizes (length opened.publishers.items) (length opened.subscribers.items) T.WORDS U.WORDS opened.lanes) }
     ensures domain { IfOk result (λ opened. opened.domain ≡ domain) }
-    ensures joined { IfOk result (λ opened. IsJoined T.WORDS U.WORDS (length opened.one.items) opened.lanes domain.ports.publishers opened.publishers.items (length opened.subscribers.items) opened.connections.items) }
+    ensures joined { IfOk result (λ opened. IsJoined T.WORDS U.WORDS (length opened.one.items) opened.lanes domain.state.ports.publishers opened.publishers.items (length opened.subscribers.items) opened.connections.items) }
     ensures none { OnOk result (first_reason domain ≡ None) }
     ensures told { IfErr result (λ refused. refused.error ≡ told_of (first_reason domain)) }
     ensures same { IfErr result (λ refused. refused.domain ≡ domain) }
@@ -103,7 +109,8 @@ fn with<T, U>(opened: Opened<T>, domain: Domain<T, U>) -> DomainLanes<T, U>
 fn open<T: Words, U: Words>(alloc: Global, domain: &Domain<T, U>) -> Option<Opened<T>>
     ensures came { IfSome result (λ opened. CameTo opened.lanes) }
     ensures between { IfSome result (λ opened. AllBetween opened.lanes) }
-    ensures joined { IfSome result (λ opened. IsJoined T.WORDS U.WORDS (length opened.one.items) opened.lanes domain.now.ports.publishers opened.publishers.items (length opened.subscribers.items) opened.connections.items) }
+    ensures sized { IfSome result (λ opened. AreSized domain.now.state.ports.sizes (length opened.publishers.items) (length opened.subscribers.items) T.WORDS U.WORDS opened.lanes) }
+    ensures joined { IfSome result (λ opened. IsJoined T.WORDS U.WORDS (length opened.one.items) opened.lanes domain.now.state.ports.publishers opened.publishers.items (length opened.subscribers.items) opened.connections.items) }
     ensures holds { IfSome result (λ opened. LanesHold T.parts U.parts T.WORDS U.WORDS domain.now opened.lanes opened.publishers.items opened.subscribers.items opened.connections.items) }
 {
     match build(alloc, domain) {

@@ -1,5 +1,5 @@
 //! Lanes before their first step, to which nothing happened but that something was found.
-ghost use Rattle.std.specs.Prelude.{◌≡◌, ◌<◌};
+ghost use Rattle.std.specs.Prelude.{◌≡◌, ◌<◌, IfOk};
 
 use iox_lanes_machine::{Found, LaneSizes, Lanes};
 use std::alloc::{AllocError, Global};
@@ -8,28 +8,31 @@ use std::marker::Model;
 /// Such lanes.
 #[derive(Drop)]
 pub(crate) struct NewLanes {
+    sizes: LaneSizes,
     lanes: Lanes,
 }
 
 impl Model for NewLanes {
-    ghost use Rattle.iox_lanes_machine.specs.World.{World};
-    ghost use Rattle.iox_lanes.specs.Finding.{WasFound};
+    ghost use Rattle.iox_lanes.specs.Finding.{Beginning, WasFound};
 
-    ghost Value = { World };
+    ghost Value = { Beginning };
 
-    ghost view = { λ n. n.lanes };
+    ghost view = { λ n. record { sizes = n.sizes; lanes = n.lanes } };
 
-    ghost invariant = { λ n. WasFound n.lanes };
+    ghost invariant = { λ n. WasFound n.sizes n.lanes };
 }
 
 impl NewLanes {
     ghost use Rattle.iox_lanes_machine.specs.Resting.{AllBetween};
     ghost use Rattle.iox_lanes_machine.specs.WholeReads.{CameTo};
+    ghost use Rattle.iox_lanes.specs.Finding.{WasFound};
 
-    /// Lanes of these sizes. Fails only where an allocation fails; no memory has room for buffers, borrowed samples or subscribers of 2^61 or more.
+    /// Lanes of these sizes. Fails only where an allocation fails; no memory has room for buffers, borrowed samples or
+    /// subscribers of 2^61 or more.
     #[tactic(auto, using(crate::proofs::Found::was_made))]
     pub fn new(alloc: Global, sizes: LaneSizes) -> Result<NewLanes, AllocError>
         requires { 0 < sizes.buffer }
+        ensures { IfOk result (λ made. made.sizes ≡ sizes) }
     {
         if sizes.buffer >= 1 << 61 {
             return Err(AllocError);
@@ -41,19 +44,21 @@ impl NewLanes {
             return Err(AllocError);
         }
         let lanes = Lanes::new(alloc, sizes)?;
-        Ok(NewLanes { lanes })
+        Ok(NewLanes { sizes, lanes })
     }
 
     /// This is found, if it may be.
     #[tactic(auto, using(crate::proofs::Found::found_on))]
-    pub fn find(&mut self, found: Found) -> Result<(), AllocError> {
+    pub fn find(&mut self, found: Found) -> Result<(), AllocError>
+        ensures { self.new.sizes ≡ self.old.sizes }
+    {
         let _ = self.lanes.find(found)?;
         Ok(())
     }
 
     /// The lanes so far.
     pub fn lanes(&self) -> &Lanes
-        ensures { result.now ≡ self.now }
+        ensures { result.now ≡ self.now.lanes }
     {
         &self.lanes
     }
@@ -63,8 +68,9 @@ impl NewLanes {
     pub fn into_lanes(self) -> Lanes
         ensures came { CameTo result }
         ensures between { AllBetween result }
+        ensures found { WasFound self.sizes result }
     {
-        let NewLanes { lanes } = self;
+        let NewLanes { lanes, .. } = self;
         lanes
     }
 }

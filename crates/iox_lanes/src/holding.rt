@@ -12,8 +12,8 @@ use iox_queues_base::Words;
 
 /// Whether lanes hold what a domain has, whose listed ports have these numbers.
 pub(crate) fn hold<T: Words, U: Words>(domain: &Domain<T, U>, opened: &Opened<T>) -> bool
-    requires publishers { opened.now.publishers.items ≡ numbers_of (λ entry. entry.publisher) domain.now.ports.publisher_list.places }
-    requires subscribers { opened.now.subscribers.items ≡ numbers_of (λ entry. entry.subscriber) domain.now.ports.subscriber_list.places }
+    requires publishers { opened.now.publishers.items ≡ numbers_of (λ entry. entry.publisher) domain.now.state.ports.publisher_list.places }
+    requires subscribers { opened.now.subscribers.items ≡ numbers_of (λ entry. entry.subscriber) domain.now.state.ports.subscriber_list.places }
     ensures { OnTrue result (LanesHold T.parts U.parts T.WORDS U.WORDS domain.now opened.now.lanes opened.now.publishers.items opened.now.subscribers.items opened.now.connections.items) }
 {
     if !are_sized::<T, U>(opened) {

@@ -2,7 +2,7 @@
 ghost use Rattle.std.specs.Prelude.{◌≡◌, ◌+◌, ◌*◌, ◌<◌, ℕ, length, slice_get, option_copied, option_map, IfSome, None, Some};
 ghost use Rattle.std.specs.Bool.{OnTrue};
 ghost use Rattle.iox_domain.specs.DomainPublisher.Ports.{connection_of};
-ghost use Rattle.iox_domain.specs.DomainPorts.DomainSlots.declared.stage.Stage.TheVariants as stage;
+ghost use Rattle.iox_domain.specs.DomainSlots.declared.stage.Stage.TheVariants as stage;
 ghost use Rattle.iox_lanes_opening.specs.Restored.{place_of};
 ghost use Rattle.iox_lanes_machine.specs.Fixed.{fixed_slots};
 ghost use Rattle.iox_lanes.specs.Holding.{LanesHold};
@@ -21,7 +21,7 @@ use iox_queues_base::Words;
 /// Whether lanes that hold what a domain has go with it.
 pub(crate) fn joins<T: Words, U: Words>(domain: &Domain<T, U>, opened: &Opened<T>) -> bool
     requires { LanesHold T.parts U.parts T.WORDS U.WORDS domain.now opened.now.lanes opened.now.publishers.items opened.now.subscribers.items opened.now.connections.items }
-    ensures { OnTrue result (IsJoined T.WORDS U.WORDS (length opened.now.one.items) opened.now.lanes domain.now.ports.publishers opened.now.publishers.items (length opened.now.subscribers.items) opened.now.connections.items) }
+    ensures { OnTrue result (IsJoined T.WORDS U.WORDS (length opened.now.one.items) opened.now.lanes domain.now.state.ports.publishers opened.now.publishers.items (length opened.now.subscribers.items) opened.now.connections.items) }
 {
     if !is_sized(opened) {
         return false;
@@ -47,7 +47,7 @@ fn is_sized<T: Words>(opened: &Opened<T>) -> bool
 }
 
 fn senders_join<T: Words, U: Words>(domain: &Domain<T, U>, opened: &Opened<T>) -> bool
-    ensures { OnTrue result ((place : ℕ) → place < length opened.now.publishers.items → SenderJoins domain.now.ports.publishers opened.now.lanes opened.now.publishers.items place) }
+    ensures { OnTrue result ((place : ℕ) → place < length opened.now.publishers.items → SenderJoins domain.now.state.ports.publishers opened.now.lanes opened.now.publishers.items place) }
 {
     for place in 0..opened.publishers.len() {
         if !sender_joins(domain, opened, place) {
@@ -58,7 +58,7 @@ fn senders_join<T: Words, U: Words>(domain: &Domain<T, U>, opened: &Opened<T>) -
 }
 
 fn sender_joins<T: Words, U: Words>(domain: &Domain<T, U>, opened: &Opened<T>, place: usize) -> bool
-    ensures { OnTrue result (SenderJoins domain.now.ports.publishers opened.now.lanes opened.now.publishers.items place) }
+    ensures { OnTrue result (SenderJoins domain.now.state.ports.publishers opened.now.lanes opened.now.publishers.items place) }
 {
     if !is_alone_in(&opened.publishers, place) {
         return false;
@@ -129,7 +129,7 @@ fn has_slots_of<T: Words, U: Words>(port: &PublisherPort<T, U>, lane: &Publisher
 
 fn links_join<T: Words, U: Words>(domain: &Domain<T, U>, opened: &Opened<T>) -> bool
     ensures { OnTrue result ((publisher : ℕ) → publisher < length opened.now.publishers.items → (subscriber : ℕ) → subscriber < length opened.now.subscribers.items
-        → LinkJoins domain.now.ports.publishers opened.now.lanes opened.now.publishers.items (length opened.now.subscribers.items) opened.now.connections.items publisher subscriber) }
+        → LinkJoins domain.now.state.ports.publishers opened.now.lanes opened.now.publishers.items (length opened.now.subscribers.items) opened.now.connections.items publisher subscriber) }
 {
     for publisher in 0..opened.publishers.len() {
         if !links_of_join(domain, opened, publisher) {
@@ -145,7 +145,7 @@ fn links_of_join<T: Words, U: Words>(
     publisher: usize,
 ) -> bool
     ensures { OnTrue result ((subscriber : ℕ) → subscriber < length opened.now.subscribers.items
-        → LinkJoins domain.now.ports.publishers opened.now.lanes opened.now.publishers.items (length opened.now.subscribers.items) opened.now.connections.items publisher subscriber) }
+        → LinkJoins domain.now.state.ports.publishers opened.now.lanes opened.now.publishers.items (length opened.now.subscribers.items) opened.now.connections.items publisher subscriber) }
 {
     for subscriber in 0..opened.subscribers.len() {
         if !link_joins(domain, opened, publisher, subscriber) {
@@ -161,7 +161,7 @@ fn link_joins<T: Words, U: Words>(
     publisher: usize,
     subscriber: usize,
 ) -> bool
-    ensures { OnTrue result (LinkJoins domain.now.ports.publishers opened.now.lanes opened.now.publishers.items (length opened.now.subscribers.items) opened.now.connections.items publisher subscriber) }
+    ensures { OnTrue result (LinkJoins domain.now.state.ports.publishers opened.now.lanes opened.now.publishers.items (length opened.now.subscribers.items) opened.now.connections.items publisher subscriber) }
 {
     let readers = opened.subscribers.len();
     let Some(number) = number_of(publisher, readers, subscriber) else {

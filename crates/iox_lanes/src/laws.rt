@@ -1,8 +1,23 @@
 //! What holds of lanes and of the domain beside them.
 ghost use Rattle.iox_lanes.specs.Joined.{JoinedStays};
+ghost use Rattle.iox_lanes.specs.Sized.{AgreedLoansEndSoon, AgreedSlotsSuffice};
 
-/// Lanes that go with a domain still do after a step: what [`into_lanes`](crate::into_lanes) says of the lanes that it gives holds until they become a domain again. That a step
-/// leaves what this takes, `Lanes::step` and `Lanes::run` say.
+/// Lanes that go with a domain still do after a step: what [`into_lanes`](crate::into_lanes) says of the lanes that it gives
+/// holds until they become a domain again. That a step leaves what this takes, `Lanes::step` and `Lanes::run` say.
 pub fn joined_stays<T, U>()
     ensures { JoinedStays T U }
+{}
+
+/// A loan of the lanes that [`into_lanes`](crate::into_lanes) gives takes at most 4 · S · (B + R + 2) + 2 steps of its publisher, its
+/// begin and its last step among them. So it is wherever steps brought the lanes: for S subscribers, at each of which as many
+/// messages may wait (B) and samples be borrowed (R) as the service agreed on; as long as at most 2^63 steps were made.
+pub fn agreed_loans_end_soon()
+    ensures { AgreedLoansEndSoon }
+{}
+
+/// Such a loan ends with a slot, if as it began fewer loans were out than may be, and the publisher had S · (B + R) slots, one for
+/// each message of the agreed history, and one for each loan; as long as at most 2^63 steps were made, and for slots with numbers
+/// below 2^64.
+pub fn agreed_slots_suffice()
+    ensures { AgreedSlotsSuffice }
 {}

@@ -2,7 +2,7 @@
 ghost use Rattle.std.specs.Prelude.{◌≡◌, ◌+◌, ◌<◌, ◌*◌, ℕ, true, length, get_or, slice_get, option_copied, IfSome, None, Some};
 ghost use Rattle.std.specs.Bool.{OnTrue};
 ghost use Rattle.iox_domain.specs.DomainPublisher.Ports.{connection_of};
-ghost use Rattle.iox_domain.specs.DomainPorts.DomainSlots.Uses.{is_there};
+ghost use Rattle.iox_domain.specs.DomainSlots.Uses.{is_there};
 ghost use Rattle.iox_lanes.specs.Lying.{AreLaid, IsLaidAt};
 ghost use Rattle.iox_lanes.specs.Holding.{kind_of, reader_if, IsLinkOf, IsLinkIf, LinkHolds};
 
@@ -24,10 +24,10 @@ pub(crate) fn subscriber_at<'a, T: Words, U: Words>(
     subscribers: &[u64],
     place: usize,
 ) -> Option<&'a SubscriberPort>
-    ensures { option_copied result ≡ reader_if domain.now.ports.subscribers (slice_get subscribers.now place) }
+    ensures { option_copied result ≡ reader_if domain.now.state.ports.subscribers (slice_get subscribers.now place) }
 {
     match subscribers.get(place) {
-        Some(number) => domain.ports.subscribers.get(*number),
+        Some(number) => domain.state.ports.subscribers.get(*number),
         None => None,
     }
 }
@@ -44,7 +44,7 @@ pub(crate) fn link_holds<T: Words, U: Words>(
     match number_of(publisher, opened.subscribers.len(), subscriber) {
         Some(number) => is_link_if(
             opened.lanes.table(),
-            domain.ports.sizes.enable_safe_overflow,
+            domain.state.ports.sizes.enable_safe_overflow,
             publisher,
             subscriber,
             publisher_at(domain, &opened.publishers, publisher),

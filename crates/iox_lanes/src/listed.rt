@@ -2,7 +2,7 @@
 ghost use Rattle.std.specs.Prelude.{◌≡◌, ◌++◌, ◌∷◌, [], IfOk, OnOk};
 ghost use Rattle.iox_lanes.specs.Holding.{numbers_of};
 
-use iox_domain_ports::Roll;
+use iox_domain::ports::Roll;
 use iox_domain_publisher::Member;
 use iox_domain_subscriber::{PublisherEntry, SubscriberEntry};
 use std::alloc::{AllocError, Global};

@@ -1,7 +1,7 @@
 //! Whether a message of a domain lies in a slot of lanes.
 ghost use Rattle.std.specs.Prelude.{◌≡◌, ◌+◌, ◌<◌, ℕ, slice_get, Some};
 ghost use Rattle.std.specs.Bool.{OnTrue};
-ghost use Rattle.iox_domain.specs.DomainPorts.DomainPublisher.Messages.{Message};
+ghost use Rattle.iox_domain.specs.DomainPublisher.Messages.{Message};
 ghost use Rattle.iox_domain.specs.DomainPublisher.Ports.{connection_of};
 ghost use Rattle.iox_lanes_machine.specs.LanesBase.Numbers.{IsWord};
 ghost use Rattle.iox_lanes_machine.specs.LanesBase.Table.{held_by};

@@ -1,7 +1,7 @@
 //! Whether subscribers of lanes are those of a domain.
 ghost use Rattle.std.specs.Prelude.{◌≡◌, ◌+◌, if◌then◌else◌, is_some, slice_get, option_copied, IfSome, Some};
 ghost use Rattle.std.specs.Bool.{OnTrue};
-ghost use Rattle.iox_domain.specs.DomainPorts.DomainSubscriber.Subscribing.{attached_at};
+ghost use Rattle.iox_domain.specs.DomainSubscriber.Subscribing.{attached_at};
 ghost use Rattle.iox_lanes.specs.Holding.{LeadsFrom, IsRouteOf, IsRouteIf, FollowKeys, FollowIf, ReaderHolds};
 
 use crate::domain_lanes::Opened;
@@ -68,7 +68,8 @@ fn follows_keys(
     true
 }
 
-// The place behind the route of the connection of a key, which stands at this one; the same place where the key has none. None where another route stands there.
+// The place behind the route of the connection of a key, which stands at this one; the same place where the key has none. None
+// where another route stands there.
 fn next_place(
     lanes: &Lanes,
     publishers: &[u64],

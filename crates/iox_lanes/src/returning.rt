@@ -1,8 +1,8 @@
 //! The domain that lanes leave.
 ghost use Rattle.std.specs.Prelude.{◌≡◌, ◌+◌, ◌*◌, ◌^◌, ◌<◌, ◌≤◌, ℕ, IfErr, IfOk, OnOk, length, slice_get, option_copied, vec_capacity, IfSome, None, Some, false};
 ghost use Rattle.std.specs.Bool.{OnTrue};
-ghost use Rattle.iox_domain.specs.DomainPorts.DomainPublisher.MessagesSending.{with_uses};
-ghost use Rattle.iox_domain.specs.DomainPorts.DomainSubscriber.Publishers.{port_of};
+ghost use Rattle.iox_domain.specs.DomainPublisher.MessagesSending.{with_uses};
+ghost use Rattle.iox_domain.specs.DomainSubscriber.Publishers.{port_of};
 ghost use Rattle.iox_lanes_opening.specs.Restored.{IsRested, IsRestored, place_of};
 ghost use Rattle.iox_lanes_opening.specs.Restoring.{IsWhole};
 ghost use Rattle.iox_lanes_machine.specs.Kept.{IsWithin};
@@ -31,11 +31,13 @@ pub struct StillLanes<T, U> {
 }
 
 impl<T: Words, U: Words> DomainLanes<T, U> {
-    /// The domain as the lanes leave it: what waits at each connection by its order waits there in the domain, each publisher's history is that of its lane, each message with the
-    /// values, user header and number of elements that its slot holds, and all else is as it was when the lanes began. Where the lanes made no step, it is the domain as it was. It takes no memory.
+    /// The domain as the lanes leave it: what waits at each connection by its order waits there in the domain, each publisher's
+    /// history is that of its lane, each message with the values, user header and number of elements that its slot holds, and all
+    /// else is as it was when the lanes began. Where the lanes made no step, it is the domain as it was. It takes no memory.
     ///
-    /// Refused with `PartyInCall` while a party is inside a call, else with `SamplesOut` while a loan or a sample is out; then the lanes are handed back as they were. What is
-    /// said of the messages is said of at most 2^63 steps, and of lanes that go with the domain beside them, as those do that `into_lanes` gives, and still do after any steps.
+    /// Refused with `PartyInCall` while a party is inside a call, else with `SamplesOut` while a loan or a sample is out; then
+    /// the lanes are handed back as they were. What is said of the messages is said of at most 2^63 steps, and of lanes that go
+    /// with the domain beside them, as those do that `into_lanes` gives, and still do after any steps.
     ///
     /// This port's own.
     pub fn into_domain(self) -> Result<Domain<T, U>, StillLanes<T, U>>
@@ -45,8 +47,8 @@ impl<T: Words, U: Words> DomainLanes<T, U> {
         ensures same { IfOk result (λ domain. self.lanes.moments ≡ 0 → domain ≡ self.domain) }
         ensures rest { IfOk result (λ domain. OnlyPublishers self.domain domain) }
         ensures left { IfOk result (λ domain. 0 < self.lanes.moments → self.lanes.moments ≤ 2 ^ 63
-            → IsJoined T.WORDS U.WORDS (length self.one.items) self.lanes self.domain.ports.publishers self.publishers.items (length self.subscribers.items) self.connections.items
-            → ArePortsLeft T.of_parts U.of_parts self.lanes self.publishers.items (length self.subscribers.items) self.connections.items self.domain.ports.publishers domain.ports.publishers) }
+            → IsJoined T.WORDS U.WORDS (length self.one.items) self.lanes self.domain.state.ports.publishers self.publishers.items (length self.subscribers.items) self.connections.items
+            → ArePortsLeft T.of_parts U.of_parts self.lanes self.publishers.items (length self.subscribers.items) self.connections.items self.domain.state.ports.publishers domain.state.ports.publishers) }
     {
         if let Some(unrest) = self.lanes.unrest() {
             return Err(StillLanes {
@@ -74,8 +76,8 @@ fn error_of(unrest: Unrest) -> IntoDomainError
 // The domain with the messages that the lanes leave, where these lanes go with it.
 fn returned<T: Words, U: Words>(opened: DomainLanes<T, U>) -> Domain<T, U>
     ensures rest { OnlyPublishers opened.domain result }
-    ensures left { AllRest opened.lanes → IsJoined T.WORDS U.WORDS (length opened.one.items) opened.lanes opened.domain.ports.publishers opened.publishers.items (length opened.subscribers.items) opened.connections.items
-        → ArePortsLeft T.of_parts U.of_parts opened.lanes opened.publishers.items (length opened.subscribers.items) opened.connections.items opened.domain.ports.publishers result.ports.publishers }
+    ensures left { AllRest opened.lanes → IsJoined T.WORDS U.WORDS (length opened.one.items) opened.lanes opened.domain.state.ports.publishers opened.publishers.items (length opened.subscribers.items) opened.connections.items
+        → ArePortsLeft T.of_parts U.of_parts opened.lanes opened.publishers.items (length opened.subscribers.items) opened.connections.items opened.domain.state.ports.publishers result.state.ports.publishers }
 {
     let DomainLanes {
         lanes,
@@ -99,7 +101,7 @@ fn returned<T: Words, U: Words>(opened: DomainLanes<T, U>) -> Domain<T, U>
         &publishers,
         readers,
         &connections,
-        &mut domain.ports.publishers,
+        &mut domain.state.ports.publishers,
         &mut one,
     );
     domain

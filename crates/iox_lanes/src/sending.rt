@@ -18,10 +18,10 @@ pub(crate) fn publisher_at<'a, T: Words, U: Words>(
     publishers: &[u64],
     place: usize,
 ) -> Option<&'a PublisherPort<T, U>>
-    ensures { option_copied result ≡ port_if domain.now.ports.publishers (slice_get publishers.now place) }
+    ensures { option_copied result ≡ port_if domain.now.state.ports.publishers (slice_get publishers.now place) }
 {
     match publishers.get(place) {
-        Some(number) => domain.ports.publishers.get(*number),
+        Some(number) => domain.state.ports.publishers.get(*number),
         None => None,
     }
 }

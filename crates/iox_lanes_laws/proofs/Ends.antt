@@ -14,8 +14,9 @@ use Rattle.iox_lanes_machine.specs.Resting.{AllBetween}
 use Rattle.iox_lanes_machine.specs.WholeReads.{CameTo}
 use Rattle.iox_lanes_machine.specs.World.{World, publisher_fits_at, subscriber_fits_at}
 use Rattle.iox_lanes_machine.proofs.Ends.{some_is}
+use Rattle.iox_lanes_machine.proofs.Runs.{came_on}
 use Rattle.iox_lanes_laws.specs.Turns.{IsInTurn, CallsEndInTurn}
-use Rattle.iox_lanes_laws.proofs.Chains.{came_on, all_came, all_from}
+use Rattle.iox_lanes_laws.proofs.Chains.{all_came, all_from}
 use Rattle.iox_lanes_laws.proofs.Publishers as publishers
 use Rattle.iox_lanes_laws.proofs.Subscribers as subscribers
 

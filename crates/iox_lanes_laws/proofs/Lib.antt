@@ -22,3 +22,6 @@ pub mod Lanes
 pub mod Sent
 pub mod Whole
 pub mod Records
+pub mod PublisherCourses
+pub mod SubscriberCourses
+pub mod Takes

@@ -1,6 +1,6 @@
 -- Runs of lanes that keep messages, one step after the other.
-use Rattle.std.proofs.Common.{ℕ, ◌≡◌, ◌+◌, true, false, List, [], ◌∷◌, ◌++◌, append_assoc, append-nil, refl, sym, ◌∙◌, ap, ap₂, subst, inl, inr, arith}
-use Rattle.iox_lanes_machine.specs.QueuesSteps.Schedule.{count_of, is_stopped_of}
+use Rattle.std.proofs.Common.{ℕ, ◌≡◌, ◌+◌, List, [], ◌∷◌, ◌++◌, append_assoc, append-nil, refl, sym, ◌∙◌, ap, ap₂, subst, inl, inr, arith}
+use Rattle.iox_lanes_machine.specs.QueuesSteps.Schedule.{count_of}
 use Rattle.iox_lanes_machine.specs.QueuesSteps.declared.schedule.Stepped.{Stepped}
 use Rattle.iox_lanes_machine.specs.QueuesSteps.declared.schedule.Stepped.TheVariants as stepped
 use Rattle.iox_lanes_machine.specs.LanesParties.declared.call.Entry.{Entry}
@@ -15,22 +15,15 @@ use Rattle.iox_lanes_laws.proofs.Whole.{reads_give_what_was_sent}
 made_of : (n : RecordState) (lanes : World) (messages : List MessageState) → n.lanes ≡ lanes → n.messages ≡ messages → n ≡ record { lanes = lanes; messages = messages }
 made_of n lanes messages e f = ap₂ (λ (l : World) (ms : List MessageState). record { lanes = l; messages = ms }) e f
 
--- a step that didn't stop, and a run of the rest
+-- a step, and a run of the rest
 pub run_more : (r : RecordState) (entry : Entry) (entries : List Entry) (answer : Stepped) (next n : RecordState) (k made : ℕ)
-    → RecordsTo r entry.party entry.step answer next → is_stopped_of answer ≡ false → made ≡ count_of answer + k → RecordsRun next entries k n → RecordsRun r (entry ∷ entries) made n
-run_more r entry entries stepped.Went next n k made h go e g = inr (inl (h.0.0, (k, omega arith, subst (λ (x : RecordState). RecordsRun x entries k n) (made_of next (happens r.lanes entry.party entry.step) (r.messages ++ begun_messages r.lanes entry.party entry.step) h.0.2 h.1) g)))
-run_more r entry entries stepped.Finished next n k made h go e g = inr (inl (h.0.0, (k, omega arith, subst (λ (x : RecordState). RecordsRun x entries k n) (made_of next (happens r.lanes entry.party entry.step) (r.messages ++ begun_messages r.lanes entry.party entry.step) h.0.2 h.1) g)))
-run_more r entry entries stepped.Skipped next n k made h go e g =
+    → RecordsTo r entry.party entry.step answer next → made ≡ count_of answer + k → RecordsRun next entries k n → RecordsRun r (entry ∷ entries) made n
+run_more r entry entries stepped.Went next n k made h e g = inr (inl (h.0.0, (k, omega arith, subst (λ (x : RecordState). RecordsRun x entries k n) (made_of next (happens r.lanes entry.party entry.step) (r.messages ++ begun_messages r.lanes entry.party entry.step) h.0.2 h.1) g)))
+run_more r entry entries stepped.Finished next n k made h e g = inr (inl (h.0.0, (k, omega arith, subst (λ (x : RecordState). RecordsRun x entries k n) (made_of next (happens r.lanes entry.party entry.step) (r.messages ++ begun_messages r.lanes entry.party entry.step) h.0.2 h.1) g)))
+run_more r entry entries stepped.Skipped next n k made h e g =
     inl (h.0, subst (λ (i : ℕ). RecordsRun r entries i n) (omega arith) (subst (λ (x : RecordState). RecordsRun x entries k n) h.1 g))
-run_more r entry entries stepped.NoMemory next n k made h go e g = absurd (cc)
-
--- a step that found no memory
-pub run_stops : (r : RecordState) (entry : Entry) (entries : List Entry) (answer : Stepped) (next : RecordState)
-    → RecordsTo r entry.party entry.step answer next → is_stopped_of answer ≡ true → RecordsRun r (entry ∷ entries) 0 next
-run_stops r entry entries stepped.Went next h go = absurd (cc)
-run_stops r entry entries stepped.Finished next h go = absurd (cc)
-run_stops r entry entries stepped.Skipped next h go = absurd (cc)
-run_stops r entry entries stepped.NoMemory next h go = inr (inr (h.0, h.1, refl, h.2))
+run_more r entry entries stepped.NoMemory next n k made h e g =
+    inr (inr (h.0, h.1, subst (λ (i : ℕ). RecordsRun r entries i n) (omega arith) (subst (λ (x : RecordState). RecordsRun x entries k n) h.2 g)))
 
 -- what a run leaves, told of the lanes alone
 record Sends (r n : RecordState) : Type 0 where
@@ -53,7 +46,7 @@ sends r (entry ∷ entries) made n (inr (inl h)) =
       through = inr (h.0, (rest.sent, refl, rest.through));
       kept = rest.kept ∙ append_assoc r.messages (begun_messages r.lanes entry.party entry.step) rest.sent;
     }
-sends r (entry ∷ entries) made n (inr (inr h)) = none_sent r n h.3
+sends r (entry ∷ entries) made n (inr (inr h)) = sends r entries made n h.2
 
 pub reads_give_what_is_kept : ReadsGiveWhatIsKept
 reads_give_what_is_kept r entries made n came between none run few party step stepped.Went after h call slot more is =

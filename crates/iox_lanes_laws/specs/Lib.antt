@@ -10,3 +10,5 @@ pub mod Subscribing
 pub mod Messages
 pub mod WholeMessages
 pub mod Recorded
+pub mod Accesses
+pub mod Takes

@@ -33,14 +33,14 @@ RecordsTo r party step stepped.Finished n = StepsTo r.lanes party step stepped.F
 RecordsTo r party step stepped.Skipped n = (fits r.lanes party step ≡ false) × (n ≡ r)
 RecordsTo r party step stepped.NoMemory n = (fits r.lanes party step ≡ true) × RecordsAt r party step × (n ≡ r)
 
--- a list of steps, of which `made` were made; it may stop where an allocation fails for what a step records
+-- A list of entries, of which `made` were made, one after the other. One that doesn't fit is left out, and so is one that finds no memory for what it records.
 abbrev pub RecordsRun : RecordState → List Entry → ℕ → RecordState → Type 0
 RecordsRun r [] made n = (made ≡ 0) × (n ≡ r)
 RecordsRun r (entry ∷ entries) made n =
     ((fits r.lanes entry.party entry.step ≡ false) × RecordsRun r entries made n)
     ⊎ (((fits r.lanes entry.party entry.step ≡ true)
     × ((fewer : ℕ) × (made ≡ fewer + 1) × RecordsRun (recorded_after r entry.party entry.step) entries fewer n))
-    ⊎ ((fits r.lanes entry.party entry.step ≡ true) × RecordsAt r entry.party entry.step × (made ≡ 0) × (n ≡ r)))
+    ⊎ ((fits r.lanes entry.party entry.step ≡ true) × RecordsAt r entry.party entry.step × RecordsRun r entries made n))
 
 -- Whatever is run from where nobody is inside a call and no message is kept: a read that ends behind it gives just the words of the last message that is kept for its slot; of a slot for which none
 -- is, those that it held at first. So it is as long as at most 2^63 steps were made.

@@ -135,7 +135,7 @@ run_sized : (sizes : LaneSizes) (m : World) (entries : List Entry) (made : ℕ) 
 run_sized sizes m [] made n h k s = subst (IsSized sizes) (sym h.1) s
 run_sized sizes m (entry ∷ entries) made n (inl h) k s = run_sized sizes m entries made n h.1 k s
 run_sized sizes m (entry ∷ entries) made n (inr (inl h)) k s = run_sized sizes (happens m entry.party entry.step) entries (h.1).0 n (h.1).2 (happens_keeps m entry.party entry.step h.0 k) (sized_on sizes m entry.party entry.step h.0 k s)
-run_sized sizes m (entry ∷ entries) made n (inr (inr h)) k s = subst (IsSized sizes) (sym h.3) s
+run_sized sizes m (entry ∷ entries) made n (inr (inr h)) k s = run_sized sizes m entries made n h.2 k s
 
 -- a loan stores no word, and a send those of header and user header
 abbrev IsPaced : CallName → Type 0

@@ -35,7 +35,7 @@ pub run_keeps : (m : World) (entries : List Entry) (made : ℕ) (n : World) → 
 run_keeps m [] made n h k = subst IsKept (sym h.1) k
 run_keeps m (entry ∷ entries) made n (inl h) k = run_keeps m entries made n h.1 k
 run_keeps m (entry ∷ entries) made n (inr (inl h)) k = run_keeps (happens m entry.party entry.step) entries (h.1).0 n (h.1).2 (happens_keeps m entry.party entry.step h.0 k)
-run_keeps m (entry ∷ entries) made n (inr (inr h)) k = subst IsKept (sym h.3) k
+run_keeps m (entry ∷ entries) made n (inr (inr h)) k = run_keeps m entries made n h.2 k
 
 -- what steps leave of a slot that has a use before each of them
 record Through (m n : World) (slot : ℕ) : Type 0 where

@@ -1,5 +1,6 @@
 -- A read gives what its slot held when its message was sent, whatever steps lie between.
 use Rattle.std.specs.Prelude.{ℕ, ◌≡◌, ◌+◌, ◌<◌, ◌≤◌, ◌^◌, ◌⊎◌, true, false, List, [], ◌∷◌, ◌++◌, length, get_or}
+use Rattle.iox_lanes_machine.specs.QueuesSteps.declared.schedule.Stepped.{Stepped}
 use Rattle.iox_lanes_machine.specs.LanesBase.Table.{held_by}
 use Rattle.iox_lanes_machine.specs.LanesBase.declared.words.word.SharedWord.{SharedWord}
 use Rattle.iox_lanes_machine.specs.LanesBase.declared.words.word.SharedWord.TheVariants.{Slot}
@@ -15,7 +16,7 @@ use Rattle.iox_lanes_machine.specs.Findings.{AreFound}
 use Rattle.iox_lanes_machine.specs.Held.{extent_of, slot_held}
 use Rattle.iox_lanes_machine.specs.Made.{start}
 use Rattle.iox_lanes_machine.specs.Reads.{width}
-use Rattle.iox_lanes_machine.specs.World.{World, fits, happens, RunsTo}
+use Rattle.iox_lanes_machine.specs.World.{World, fits, happens, StepsTo, RunsTo}
 use Rattle.iox_lanes_machine.specs.declared.found.Found.{Found}
 use Rattle.iox_lanes_machine.specs.declared.sizes.LaneSizes.{LaneSizes}
 
@@ -31,6 +32,14 @@ pub record CameTo (m : World) : Type 0 where
   pub schedule : List Entry
   pub made : ℕ
   pub runs : RunsTo begun schedule made m
+
+-- However a step is answered, lanes that were made and led somewhere are led by it to where it leaves them.
+abbrev pub StepsComeOn : Type 0
+StepsComeOn = (m : World) → CameTo m → (party : Party) (step : Move) (answer : Stepped) (n : World) → StepsTo m party step answer n → CameTo n
+
+-- So does a list of entries, however many of them were made.
+abbrev pub RunsComeOn : Type 0
+RunsComeOn = (m : World) → CameTo m → (entries : List Entry) (made : ℕ) (n : World) → RunsTo m entries made n → CameTo n
 
 -- a list of steps leads from one place to another, and before each of them the slot stands in a history or at a connection
 abbrev pub UsedThrough : ℕ → World → List Entry → World → Type 0

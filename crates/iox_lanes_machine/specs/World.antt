@@ -260,11 +260,11 @@ StepsTo m party step stepped.Finished n = (fits m party step ≡ true) × (ends 
 StepsTo m party step stepped.Skipped n = (fits m party step ≡ false) × (n ≡ m)
 StepsTo m party step stepped.NoMemory n = (fits m party step ≡ true) × Records m party step × (n ≡ m)
 
--- a list of steps, of which `made` were made; it may stop where a step finds no memory for what it records
+-- A list of entries, of which `made` were made, one after the other. One that doesn't fit is left out, and so is one that finds no memory for what it records.
 abbrev pub RunsTo : World → List Entry → ℕ → World → Type 0
 RunsTo m [] made n = (made ≡ 0) × (n ≡ m)
 RunsTo m (entry ∷ entries) made n =
     ((fits m entry.party entry.step ≡ false) × RunsTo m entries made n)
     ⊎ (((fits m entry.party entry.step ≡ true)
     × ((fewer : ℕ) × (made ≡ fewer + 1) × RunsTo (happens m entry.party entry.step) entries fewer n))
-    ⊎ ((fits m entry.party entry.step ≡ true) × Records m entry.party entry.step × (made ≡ 0) × (n ≡ m)))
+    ⊎ ((fits m entry.party entry.step ≡ true) × Records m entry.party entry.step × RunsTo m entries made n))

@@ -132,8 +132,8 @@ impl Lanes {
         self.state.step(party, step)
     }
 
-    /// Makes the entries one after the other, leaves out those that do not fit, and stops where an allocation fails. The answer is how many were made.
-    /// It leaves as it was what no step changes.
+    /// Makes the entries one after the other, and leaves out those that do not fit or find no memory for what they record; these
+    /// change nothing. The answer is how many were made, so how many went or finished. It leaves as it was what no step changes.
     pub fn run(&mut self, schedule: &[Entry]) -> usize
         ensures runs { RunsTo self.old schedule.now result self.new }
         ensures fixed { StaysFixed self.old self.new }
@@ -150,11 +150,7 @@ impl Lanes {
         let mut made = 0;
         let mut rest = schedule;
         while let Some((entry, tail)) = rest.split_first() {
-            let stepped = self.step(entry.party, &entry.step);
-            if stepped.is_stopped() {
-                return made;
-            }
-            made += stepped.count();
+            made += self.step(entry.party, &entry.step).count();
             rest = tail;
         }
         made

@@ -2,7 +2,14 @@
 ghost use Rattle.iox_lanes_machine.specs.FullLoans.{LoansFindAllUsed};
 ghost use Rattle.iox_lanes_machine.specs.Paces.{LoansEndSoon, SendsEndSoon};
 ghost use Rattle.iox_lanes_machine.specs.PermittedLoans.{LoansEndAsBegun};
-ghost use Rattle.iox_lanes_machine.specs.WholeReads.{ReadsGiveWhatStood, ReadsGiveWhatWasStored};
+ghost use Rattle.iox_lanes_machine.specs.WholeReads.{ReadsGiveWhatStood, ReadsGiveWhatWasStored, RunsComeOn, StepsComeOn};
+
+/// The laws are about lanes that were made, found what they found, and were led somewhere since (`CameTo`). A step leads them on,
+/// whatever it answers, and so does a run, whatever it left out: what the laws ask of lanes is true of these again.
+pub fn lanes_come_on()
+    ensures steps { StepsComeOn }
+    ensures runs { RunsComeOn }
+{}
 
 /// A read of a sample gives just the words that its slot held when something began to use it, header, user header and payload, however many steps lie
 /// between, and whoever made them; as long as at most 2^63 steps were made.

@@ -35,8 +35,8 @@ is_kept_object (Some handler) = is_object handler
 
 -- An object that the caller made decides for some port.
 abbrev pub has_handlers : {T U X Y Z : Type 0} {F : X → Type 0} {G : Y → Type 0} {H : Z → Type 0} → Domain T U (Handlers X Y F G) (DegradationHandler Z H) → Bool
-has_handlers domain = list_any (λ entry. has_object (kept_under entry.0 domain.publisher_handlers)) domain.ports.publishers
-    || list_any (λ entry. is_kept_object (kept_under entry.0 domain.subscriber_handlers)) domain.ports.subscribers
+has_handlers domain = list_any (λ entry. has_object (kept_under entry.0 domain.state.publisher_handlers)) domain.state.ports.publishers
+    || list_any (λ entry. is_kept_object (kept_under entry.0 domain.state.subscriber_handlers)) domain.state.ports.subscribers
 
 -- what is answered at a full mailbox each time, if anybody answers the same each time
 abbrev pub fixed_answer : {X : Type 0} {F : X → Type 0} → Option (BackpressureHandler X F) → Option BackpressureAction
@@ -61,4 +61,4 @@ retries handlers entry = entry.1.stands && would_wait (kept_under entry.0 handle
 
 -- A full mailbox doesn't drop its oldest message, and a send of some publisher would wait there.
 abbrev pub is_retrying : {T U X Y D : Type 0} {F : X → Type 0} {G : Y → Type 0} → Domain T U (Handlers X Y F G) D → Bool
-is_retrying domain = not domain.ports.sizes.enable_safe_overflow && list_any (retries domain.publisher_handlers) domain.ports.publishers
+is_retrying domain = not domain.state.ports.sizes.enable_safe_overflow && list_any (retries domain.state.publisher_handlers) domain.state.ports.publishers

@@ -1,17 +1,17 @@
 -- What is still out, and who left and isn't gone.
 use Rattle.std.specs.Prelude.{ℕ, ◌||◌, Bool, true, false, not, nat_lt, List, length, get_or, Option, None, Some}
 use Rattle.std.specs.List.{list_any}
-use Rattle.iox_domain.specs.DomainPorts.DomainSlots.Uses.{Connection}
-use Rattle.iox_domain.specs.DomainPorts.DomainSlots.declared.stage.Stage.{Stage}
-use Rattle.iox_domain.specs.DomainPorts.DomainSlots.declared.stage.Stage.TheVariants as stage
-use Rattle.iox_domain.specs.DomainPorts.DomainSubscriber.Publishers.{stands_in}
-use Rattle.iox_domain.specs.DomainPorts.DomainSubscriber.declared.attached.Attached.{Attached}
-use Rattle.iox_domain.specs.DomainPorts.DomainSubscriber.declared.publisher_entry.PublisherEntry.{PublisherEntry}
-use Rattle.iox_domain.specs.DomainPorts.DomainSubscriber.declared.subscriber_port.SubscriberPort.{SubscriberPort}
+use Rattle.iox_domain.specs.DomainSlots.Uses.{Connection}
+use Rattle.iox_domain.specs.DomainSlots.declared.stage.Stage.{Stage}
+use Rattle.iox_domain.specs.DomainSlots.declared.stage.Stage.TheVariants as stage
+use Rattle.iox_domain.specs.DomainSubscriber.Publishers.{stands_in}
+use Rattle.iox_domain.specs.DomainSubscriber.declared.attached.Attached.{Attached}
+use Rattle.iox_domain.specs.DomainSubscriber.declared.publisher_entry.PublisherEntry.{PublisherEntry}
+use Rattle.iox_domain.specs.DomainSubscriber.declared.subscriber_port.SubscriberPort.{SubscriberPort}
 use Rattle.iox_domain.specs.DomainPublisher.declared.publisher_port.PublisherPort.{PublisherPort}
 use Rattle.iox_domain.specs.DomainPublisher.declared.subscriber_entry.SubscriberEntry.{SubscriberEntry}
-use Rattle.iox_domain.specs.DomainPorts.Rolls.{RollState}
-use Rattle.iox_domain.specs.DomainPorts.declared.service_ports.ServicePorts.{ServicePorts}
+use Rattle.iox_domain.specs.Rolls.{RollState}
+use Rattle.iox_domain.specs.declared.ports.service_ports.ServicePorts.{ServicePorts}
 use Rattle.iox_lanes_opening.specs.Listed.{is_member}
 
 -- whether a connection ended that is still there

@@ -5,8 +5,8 @@ use Rattle.iox_domain.specs.DomainValues.declared.data_segment.AllocationStrateg
 use Rattle.iox_domain.specs.DomainValues.declared.data_segment.AllocationStrategy.TheVariants as strategy
 use Rattle.iox_domain.specs.DomainValues.declared.degradation_handler.DegradationHandler.{DegradationHandler}
 use Rattle.iox_domain.specs.DomainValues.declared.handlers.Handlers.{Handlers}
-use Rattle.iox_domain.specs.DomainPorts.Publishing as publishing
-use Rattle.iox_domain.specs.DomainPorts.declared.service_ports.ServicePorts.{ServicePorts}
+use Rattle.iox_domain.specs.PortsPublishing as publishing
+use Rattle.iox_domain.specs.declared.ports.service_ports.ServicePorts.{ServicePorts}
 use Rattle.iox_domain.specs.declared.domain.Domain.{Domain}
 use Rattle.iox_lanes_opening.specs.UpToDate.{is_up_to_date}
 use Rattle.iox_lanes_opening.specs.Deciding.{has_handlers, is_retrying}
@@ -32,11 +32,11 @@ has_growing ports = list_any (λ entry. may_grow entry.1.allocation) ports.publi
 -- The first of the reasons that applies; none where none does.
 abbrev pub first_reason : {T U X Y Z : Type 0} {F : X → Type 0} {G : Y → Type 0} {H : Z → Type 0} → Domain T U (Handlers X Y F G) (DegradationHandler Z H) → Option IntoLanesError
 first_reason domain =
-    if is_blocked domain.ports then Some reason.Blocked
-    else if not (is_up_to_date domain.ports) then Some reason.ConnectionsNotUpToDate
-    else if has_growing domain.ports then Some reason.NotStatic
+    if is_blocked domain.state.ports then Some reason.Blocked
+    else if not (is_up_to_date domain.state.ports) then Some reason.ConnectionsNotUpToDate
+    else if has_growing domain.state.ports then Some reason.NotStatic
     else if has_handlers domain then Some reason.HasHandlers
     else if is_retrying domain then Some reason.Retrying
-    else if is_lingering domain.ports then Some reason.Lingering
+    else if is_lingering domain.state.ports then Some reason.Lingering
     else if has_slices domain then Some reason.HasSlices
     else None

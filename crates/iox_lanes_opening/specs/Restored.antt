@@ -8,7 +8,8 @@ use Rattle.iox_lanes_machine.specs.World.{World}
 use Rattle.iox_lanes_opening.specs.Clearing.{NoneBorrowed}
 use Rattle.iox_lanes_opening.specs.Restoring.{IsQuiet, MayWaitAll, MayRememberAll, messages_in}
 
--- nothing of a publisher is out: it sends nothing, lends nothing, and nothing is borrowed of its connections; and it has room for a value in each slot
+-- nothing of a publisher is out: it sends nothing, lends nothing, and nothing is borrowed of its connections; and it has room for
+-- a value in each slot
 pub record IsRested {T U : Type 0} (sender : SenderState T U) : Type 0 where
   pub quiet : IsQuiet sender
   pub none : NoneBorrowed sender.uses
@@ -31,8 +32,8 @@ abbrev pub MayWaitAt : {T U : Type 0} → World → ℕ → ℕ → ℕ → Send
 MayWaitAt lanes from first index sender None = Unit {0}
 MayWaitAt lanes from first index sender (Some place) = MayWaitAll lanes (from + place) first index sender
 
--- Only what waits at connections and the history have changed. What the lanes leave at a connection waits at that of its index, if it may, and nothing at one of which the
--- lanes have none; and the history is that of the lanes, if it may be.
+-- Only what waits at connections and the history have changed. What the lanes leave at a connection waits at that of its index,
+-- if it may, and nothing at one of which the lanes have none; and the history is that of the lanes, if it may be.
 pub record IsRestored {T U : Type 0} (value_of : List ℕ → T) (header_of : List ℕ → U) (lanes : World) (from : ℕ) (indices : List ℕ) (first : ℕ) (history : List ℕ) (old new : SenderState T U) : Type 0 where
   pub rest : new ≡ with_uses (record old.uses { history = new.uses.history; connections = new.uses.connections }) old
   pub count : length new.uses.connections ≡ length old.uses.connections

@@ -52,8 +52,8 @@ OnlyRemembers old new = new ≡ with_uses (record old.uses { history = new.uses.
 abbrev pub messages_in : {T U : Type 0} → (List ℕ → T) → (List ℕ → U) → TableWords → ℕ → List ℕ → List (Message T U)
 messages_in value_of header_of table first slots = map (λ slot. message_in value_of header_of table first (slot - first)) slots
 
--- The ports of a connection of the lanes are between calls, and at most 2^63 steps were made; what waits there has its slots in the publisher's current segment; and
--- the connection of an index of the publisher goes on, and as many may wait there.
+-- The ports of a connection of the lanes are between calls, and at most 2^63 steps were made; what waits there has its slots in
+-- the publisher's current segment; and the connection of an index of the publisher goes on, and as many may wait there.
 pub record MayWaitAll {T U : Type 0} (lanes : World) (connection first index : ℕ) (sender : SenderState T U) : Type 0 where
   pub rests : Rests lanes connection
   pub own : (at slot : ℕ) → slice_get (mail_at lanes connection) at ≡ Some slot → IsOwn first slot lanes.table.sizes.slots sender.uses

@@ -3,8 +3,8 @@ use Rattle.std.specs.Prelude.{◌==◌, ◌||◌, Bool, true, false, not, length
 use Rattle.std.specs.List.{list_any}
 use Rattle.iox_domain.specs.DescribeBase.declared.type_detail.TypeVariant.{TypeVariant}
 use Rattle.iox_domain.specs.DescribeBase.declared.type_detail.TypeVariant.TheVariants as variant
-use Rattle.iox_domain.specs.DomainPorts.DomainPublisher.Messages.{Message}
-use Rattle.iox_domain.specs.DomainPorts.DomainSlots.Uses.{Connection}
+use Rattle.iox_domain.specs.DomainPublisher.Messages.{Message}
+use Rattle.iox_domain.specs.DomainSlots.Uses.{Connection}
 use Rattle.iox_domain.specs.DomainPublisher.declared.publisher_port.PublisherPort.{PublisherPort}
 use Rattle.iox_domain.specs.declared.domain.Domain.{Domain}
 
@@ -36,4 +36,4 @@ deals_in_slices port = not (port.unit == 1) || (not (port.sender.room == 1) || k
 
 -- The messages of a domain are slices, or some publisher deals in slices.
 abbrev pub has_slices : {T U B D : Type 0} → Domain T U B D → Bool
-has_slices domain = is_dynamic domain.agreed.types.payload.variant || list_any (λ entry. deals_in_slices entry.1) domain.ports.publishers
+has_slices domain = is_dynamic domain.agreed.types.payload.variant || list_any (λ entry. deals_in_slices entry.1) domain.state.ports.publishers

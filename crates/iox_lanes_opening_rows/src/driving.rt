@@ -4,8 +4,8 @@ ghost use Rattle.std.specs.Prelude.{⊤};
 use iox_describe_base::{AttributeSpecifier, Header, MessageTypeDetails, ServiceName, TypeVariant};
 use iox_describe_settings::publish_subscribe::StaticConfig;
 use iox_describe_settings::{Description, Settings};
+use iox_domain::ports::{PublisherConfig, SubscriberConfig};
 use iox_domain::{Domain, DomainId};
-use iox_domain_ports::{PublisherConfig, SubscriberConfig};
 use iox_domain_publisher::{Member, Sent, Ties};
 use iox_domain_subscriber::Taken;
 use iox_domain_values::{
@@ -86,6 +86,8 @@ pub(crate) enum Step {
     Hold(u64, u64),
     /// The sample of a subscriber is released.
     Release(u64),
+    /// A subscriber can't release the sample that is kept: another received it.
+    Spare(u64),
     /// A subscriber receives this value and releases it.
     Take(u64, u64),
     /// A subscriber receives nothing.
@@ -206,15 +208,15 @@ fn ties_all<V>(ties: &Ties, listed: &[Option<Member<V>>]) -> bool {
 }
 
 fn publisher_ties_all(domain: &Numbers, number: u64) -> bool {
-    match domain.ports.publishers.get(number) {
-        Some(port) => ties_all(&port.ties, domain.ports.subscriber_list.listed()),
+    match domain.state.ports.publishers.get(number) {
+        Some(port) => ties_all(&port.ties, domain.state.ports.subscriber_list.listed()),
         None => false,
     }
 }
 
 fn subscriber_ties_all(domain: &Numbers, number: u64) -> bool {
-    match domain.ports.subscribers.get(number) {
-        Some(port) => ties_all(&port.places, domain.ports.publisher_list.listed()),
+    match domain.state.ports.subscribers.get(number) {
+        Some(port) => ties_all(&port.places, domain.state.ports.publisher_list.listed()),
         None => false,
     }
 }
@@ -243,7 +245,10 @@ fn publishes(
         unit: 1,
         allocation: plan.allocation,
     };
-    match domain.create_publisher(alloc, config, 6, &overriding(plan.slots), by) {
+    match domain
+        .state
+        .create_publisher(alloc, config, 6, &overriding(plan.slots), by)
+    {
         Ok(made) => comes_as(made, number, publisher_ties_all(domain, made)),
         Err(_) => Err(AllocError),
     }
@@ -273,7 +278,7 @@ fn subscribes(
         owner: OWNER,
         buffer_size,
     };
-    match domain.create_subscriber(alloc, config, by) {
+    match domain.state.create_subscriber(alloc, config, by) {
         Ok(made) => comes_as(made, number, subscriber_ties_all(domain, made)),
         Err(_) => Err(AllocError),
     }
@@ -311,7 +316,7 @@ fn lent(
     number: u64,
     values: usize,
 ) -> Result<Option<usize>, AllocError> {
-    match domain.loan(alloc, number, values, values as u64) {
+    match domain.state.loan(alloc, number, values, values as u64) {
         Some(Ok(slot)) => Ok(Some(slot)),
         Some(Err(LoanError::OutOfMemory)) => Err(AllocError),
         _ => Ok(None),
@@ -329,7 +334,7 @@ fn lend(
     match lent(domain, alloc, number, values) {
         Ok(Some(slot)) => {
             kept.loan = slot;
-            Ok(values == 0 || domain.ports.write_payload(number, slot, 5))
+            Ok(values == 0 || domain.state.ports.write_payload(number, slot, 5))
         }
         Ok(None) => Ok(false),
         Err(error) => Err(error),
@@ -344,7 +349,7 @@ fn sends(
     slot: usize,
     sent: Sent,
 ) -> Result<bool, AllocError> {
-    match domain.send(alloc, number, slot) {
+    match domain.state.send(alloc, number, slot) {
         Some(Ok(answer)) => Ok(answer == sent),
         Some(Err(SendError::ConnectionError(_))) => Err(AllocError),
         _ => Ok(false),
@@ -361,7 +366,7 @@ fn puts(
 ) -> Result<bool, AllocError> {
     match lent(domain, alloc, number, 1) {
         Ok(Some(slot)) => {
-            domain.ports.write_payload(number, slot, value);
+            domain.state.ports.write_payload(number, slot, value);
             sends(domain, alloc, number, slot, sent)
         }
         Ok(None) => Ok(false),
@@ -391,7 +396,7 @@ fn receive(
     alloc: Global,
     number: u64,
 ) -> Result<Option<Option<Taken>>, AllocError> {
-    match domain.receive(alloc, number) {
+    match domain.state.receive(alloc, number) {
         Some(Ok(taken)) => Ok(Some(taken)),
         Some(Err(ReceiveError::ConnectionFailure(_))) => Err(AllocError),
         _ => Ok(None),
@@ -409,7 +414,7 @@ fn holds(
     match receive(domain, alloc, number) {
         Ok(Some(Some(sample))) => {
             kept.sample = Some(sample);
-            Ok(domain.ports.payload(sample) == Some(&[value]))
+            Ok(domain.state.ports.payload(sample) == Some(&[value]))
         }
         Ok(_) => Ok(false),
         Err(error) => Err(error),
@@ -418,7 +423,7 @@ fn holds(
 
 fn release(domain: &mut Numbers, kept: &Kept, number: u64) -> bool {
     match kept.sample {
-        Some(sample) => domain.ports.release(number, sample),
+        Some(sample) => domain.state.ports.release(number, sample),
         None => false,
     }
 }
@@ -435,10 +440,11 @@ fn follows(answer: Option<Result<(), ConnectionFailure>>) -> Result<bool, AllocE
 // Whether a step goes so of those that take no memory.
 fn stands(domain: &mut Numbers, kept: &mut Kept, step: &Step) -> bool {
     match *step {
-        Step::Drop(number) => domain.ports.drop_loan(number, kept.loan),
+        Step::Drop(number) => domain.state.ports.drop_loan(number, kept.loan),
         Step::Release(number) => release(domain, kept, number),
-        Step::Leave(number) => domain.leave_publisher(number),
-        Step::Depart(number) => domain.leave_subscriber(number),
+        Step::Spare(number) => kept.sample.is_some() && !release(domain, kept, number),
+        Step::Leave(number) => domain.state.leave_publisher(number),
+        Step::Depart(number) => domain.state.leave_subscriber(number),
         Step::Refused(reason) => refusal(domain) == Some(reason),
         Step::May => refusal(domain).is_none(),
         _ => false,
@@ -462,8 +468,8 @@ fn hands_on(
             Ok(holds(domain, kept, alloc, number, value)? && release(domain, kept, number))
         }
         Step::Nothing(number) => Ok(receive(domain, alloc, number)? == Some(None)),
-        Step::Update(number) => follows(domain.update_publisher(alloc, number)),
-        Step::Follow(number) => follows(domain.update_subscriber(alloc, number)),
+        Step::Update(number) => follows(domain.state.update_publisher(alloc, number)),
+        Step::Follow(number) => follows(domain.state.update_subscriber(alloc, number)),
         _ => Ok(stands(domain, kept, step)),
     }
 }

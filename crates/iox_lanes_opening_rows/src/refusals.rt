@@ -179,6 +179,24 @@ const OUT: [Step; 14] = [
     Step::May,
 ];
 
+// Two subscribers receive the same message, and each releases its own sample alone.
+const SHARED: [Step; 14] = [
+    Step::Subscribe(1, None),
+    Step::Subscribe(2, None),
+    Step::Come(3, PLAIN),
+    Step::Follow(1),
+    Step::Follow(2),
+    Step::Put(3, 5, Sent::Delivered(2)),
+    Step::Hold(1, 5),
+    Step::Spare(2),
+    Step::Refused(IntoLanesError::Lingering),
+    Step::Release(1),
+    Step::Hold(2, 5),
+    Step::Spare(1),
+    Step::Release(2),
+    Step::May,
+];
+
 // The publisher left, and its messages can still be read.
 const EXPIRES: [Step; 12] = [
     Step::Subscribe(1, None),
@@ -229,7 +247,7 @@ const EMPTY: [Step; 6] = [
     Step::Refused(IntoLanesError::HasSlices),
 ];
 
-const CASES: [Case; 13] = [
+const CASES: [Case; 14] = [
     Case {
         name: "a send that waits",
         service: &REFUSING,
@@ -270,6 +288,12 @@ const CASES: [Case; 13] = [
         name: "a loan and a sample that are out",
         service: &OVERFLOWING,
         steps: &OUT,
+        then: Then::Rests,
+    },
+    Case {
+        name: "samples that two subscribers hold",
+        service: &OVERFLOWING,
+        steps: &SHARED,
         then: Then::Rests,
     },
     Case {

@@ -1,7 +1,8 @@
-//! Every schedule of small worlds, to some depth: each connection's order is held against a plain mailbox, and each read against what was sent.
+//! Every schedule of small worlds, to some depth: each connection's order is held against a plain mailbox, and each read against
+//! what was sent.
 //!
-//! The publisher lends, writes and sends round and round, a subscriber receives, reads and releases. The first steps are the publisher's alone, up to where its send
-//! begins to push; from there on each entry is any party's.
+//! The publisher lends, writes and sends round and round, a subscriber receives, reads and releases. The first steps are the
+//! publisher's alone, up to where its send begins to push; from there on each entry is any party's.
 ghost use Rattle.std.specs.Prelude.{◌≡◌};
 
 use crate::known::{
@@ -181,7 +182,8 @@ fn are_right(alloc: Global, world: World) -> Result<bool, AllocError> {
     Ok(true)
 }
 
-// The first send begins to push behind fourteen entries, or eighteen with two subscribers, and the second behind thirty-three, or forty-three.
+// The first send begins to push behind fourteen entries, or eighteen with two subscribers, and the second behind thirty-three, or
+// forty-three.
 const WORLDS: [(u64, u64, u64, u64); 4] = [
     (2, 14, 15, 1 << 15),
     (2, 33, 15, 1 << 15),

@@ -33,8 +33,8 @@ pub(crate) const SLOTS: u64 = 16;
 // What stands where a subscriber holds no sample.
 const NONE: u64 = u64::MAX;
 
-/// What was written into each slot and what was sent with it, what each subscriber holds in it, and which slot each party got last; how many reads were right, which
-/// party rests, and where chance stands.
+/// What was written into each slot and what was sent with it, what each subscriber holds in it, and which slot each party got
+/// last; how many reads were right, which party rests, and where chance stands.
 #[derive(Clone, Copy)]
 pub(crate) struct Known {
     pub(crate) written: [u64; 16],

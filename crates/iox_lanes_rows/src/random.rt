@@ -25,7 +25,8 @@ fn crowd(kind: RingKind) -> LaneSizes
     crowd
 }
 
-// What single ports are found to have: one message may wait at a connection, a publisher has fewer slots and loans, and a subscriber receives in another order.
+// What single ports are found to have: one message may wait at a connection, a publisher has fewer slots and loans, and a
+// subscriber receives in another order.
 const FINDINGS: [Found; 3] = [
     Found::Buffer {
         publisher: 1,

@@ -98,8 +98,8 @@ fn subscriber_lanes(ports: Vec<LaneSubscriber>, room: Vec<SubscriberLane>) -> Ve
     lanes
 }
 
-/// Ends all ports of a board: they stand still again, each with what its lane knows, and the words are gone. It takes no memory. All come back where a port
-/// is missing or is another board's (`NotAllPorts`).
+/// Ends all ports of a board: they stand still again, each with what its lane knows, and the words are gone. It takes no memory.
+/// All come back where a port is missing or is another board's (`NotAllPorts`).
 pub fn end(
     board: Board,
     publishers: Vec<LanePublisher>,

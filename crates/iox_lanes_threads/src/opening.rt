@@ -26,10 +26,11 @@ fn refusal(lanes: &Lanes) -> Option<OpenError>
     None
 }
 
-/// Threads take over from lanes: each publisher and subscriber gets its share of the words, which stay as the lanes left them, and may go to a thread of its own.
-/// The board has this number, by which it knows its ports: whoever opens two gives them two. The lanes come back where a party is inside a call
-/// (`PartyInCall`), a loan or a sample is out (`SamplesOut`), more than 2^63 steps were made (`TooManySteps`), or an allocation fails (`OutOfMemory`), in this order. The
-/// ports take no memory from here on.
+/// Threads take over from lanes: each publisher and subscriber gets its share of the words, which stay as the lanes left them,
+/// and may go to a thread of its own. The board has this number, by which it knows its ports: whoever opens two gives them two.
+/// The lanes come back where a party is inside a call (`PartyInCall`), a loan or a sample is out (`SamplesOut`), more than 2^63
+/// steps were made (`TooManySteps`), or an allocation fails (`OutOfMemory`), in this order. The ports take no memory from here
+/// on.
 pub fn open_threads(
     alloc: Global,
     board: u64,

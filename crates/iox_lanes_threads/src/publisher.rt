@@ -13,7 +13,8 @@ use iox_lanes_parties::publisher::LoanAnswer;
 use iox_lanes_threads_ports::ThreadedPublisher;
 use std::marker::Model;
 
-/// A publisher that steps on the words that it shares with the other ports of its board. It may go to any thread; no call takes a lock, memory or leave to wait.
+/// A publisher that steps on the words that it shares with the other ports of its board. It may go to any thread; no call takes a
+/// lock, memory or leave to wait.
 #[derive(Drop)]
 pub struct LanePublisher {
     words: Share,
@@ -58,9 +59,10 @@ impl LanePublisher {
         self.place
     }
 
-    /// Asks for a slot to be written. It ends after at most as many steps as its connections need to give back all that they have room for, and one more sample each.
-    /// None where the port stands inside a call, or where one connection gave back more samples during this call than its ring of samples given back has cells, which
-    /// no lanes come to: then it stays inside this one.
+    /// Asks for a slot to be written. It ends after at most as many steps as its connections need to give back all that they have
+    /// room for, and one more sample each. None where the port stands inside a call, or where one connection gave back more
+    /// samples during this call than its ring of samples given back has cells, which no lanes come to: then it stays inside this
+    /// one.
     pub fn loan_uninit(&mut self) -> Option<LoanAnswer>
         ensures same { StaysPublisher self.old self.new }
         ensures call { Loans self.old.own self.new.own result }
@@ -68,8 +70,9 @@ impl LanePublisher {
         self.port.loan_uninit(self.words.words())
     }
 
-    /// Writes the words of a payload into the slot of a loan, and keeps those of a user header for its send. False where the slot is no loan of this port, or the
-    /// words are not as many as a payload and a user header have, or the port stands inside a call; then nothing is done.
+    /// Writes the words of a payload into the slot of a loan, and keeps those of a user header for its send. False where the slot
+    /// is no loan of this port, or the words are not as many as a payload and a user header have, or the port stands inside a
+    /// call; then nothing is done.
     pub fn write(&mut self, loan: u64, payload: &[u64], user_header: &[u64]) -> bool
         ensures same { StaysPublisher self.old self.new }
         ensures call { Writes self.old.own loan payload.now user_header.now self.new.own result }
@@ -80,7 +83,8 @@ impl LanePublisher {
             .write(self.words.words(), loan, payload, user_header)
     }
 
-    /// Sends a loan that is written, and tells how many connections took it. None where the slot is no such loan of this port, or as of a loan.
+    /// Sends a loan that is written, and tells how many connections took it. None where the slot is no such loan of this port, or
+    /// as of a loan.
     pub fn send(&mut self, loan: u64) -> Option<Delivery>
         ensures same { StaysPublisher self.old self.new }
         ensures call { Sends self.old.own loan self.new.own result }

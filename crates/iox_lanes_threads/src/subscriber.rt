@@ -14,8 +14,8 @@ use iox_lanes_threads_ports::ThreadedSubscriber;
 use std::marker::Model;
 use std::sync::Wait;
 
-/// A subscriber that steps on the words that it shares with the other ports of its board. It may go to any thread; no call takes a lock or memory, and `receive`
-/// alone leave to wait.
+/// A subscriber that steps on the words that it shares with the other ports of its board. It may go to any thread; no call takes
+/// a lock or memory, and `receive` alone leave to wait.
 #[derive(Drop)]
 pub struct LaneSubscriber {
     words: Share,

@@ -1,4 +1,5 @@
--- After a send that was answered the port knows its slot in the ring of each connection that took it, and the rings of the others are as they were.
+-- After a send that was answered the port knows its slot in the ring of each connection that took it, and the rings of the others
+-- are as they were.
 use Rattle.std.proofs.Common.{ℕ, zero, suc, ◌≡◌, ◌+◌, ◌-◌, ◌<◌, ◌≤◌, ◌^◌, ◌⊎◌, ◌==◌, ◌%◌, Bool, true, false, not, if◌then◌else◌, nat_lt, List, [], ◌∷◌, length, set, slice_get, Option, Some, None, IfSome, refl, sym, ◌∙◌, ap, subst, inl, inr, arith}
 use Rattle.std.proofs.lemmas.Bool.{cases_order, eqb-true, eq-eqb}
 use Rattle.std.proofs.lemmas.Nat.{mod_below}

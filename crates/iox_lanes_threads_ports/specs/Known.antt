@@ -35,8 +35,8 @@ abbrev pub KnowsRead : Port → SlotExtent → ℕ → List ℕ → Type 0
 KnowsRead p extent slot words =
     (k : ℕ) → k < length words → k < 3 + extent.user_header_words + extent.payload_words → knows p (Slot slot (word_at extent k)) ≡ slice_index words k
 
--- Something was put into a ring that the port writes: it stands in the cell of the write position that the port knew, which is one higher now; positions stop at
--- the largest number.
+-- Something was put into a ring that the port writes: it stands in the cell of the write position that the port knew, which is
+-- one higher now; positions stop at the largest number.
 abbrev pub KnowsPut : Port → Port → ℕ → ConnectionRing → ℕ → ℕ → Type 0
 KnowsPut old new connection ring cells value =
     (knows new (Ring connection ring Write) ≡ successor (knows old (Ring connection ring Write)))
@@ -60,8 +60,8 @@ abbrev pub KeepsGivenBack : Port → Port → SubscriberLaneState → ℕ → Ty
 KeepsGivenBack old new lane sample =
     (place : ℕ) (route : Route) → place_of sample lane ≡ Some place → slice_get lane.port.routes place ≡ Some route → KeepsWrite old new route.connection Completion
 
--- What a send did, by the places of its connections: those that got the slot have it in their rings of messages, and they are as many as took it; the others refuse,
--- and their rings are as they were.
+-- What a send did, by the places of its connections: those that got the slot have it in their rings of messages, and they are as
+-- many as took it; the others refuse, and their rings are as they were.
 pub record KnowsSent (old new : Port) (routes : List Route) (slot : ℕ) (delivery : Delivery) : Type 0 where
   pub got : ℕ → Bool
   pub puts : (place : ℕ) (route : Route) → slice_get routes place ≡ Some route → got place ≡ true → KnowsPut old new route.connection Submission route.submission_cells slot

@@ -32,7 +32,8 @@ abbrev pub taken_in : {p : Port} {lane : PublisherLaneState} {q : Port} {now : P
 taken_in stays = λ place. 0
 taken_in (goes q now answer before told) = λ place. taken_in before place + back_at place (publisher_change now.port.call answer)
 
--- at each connection four steps for each sample that its ring of samples given back has a cell for, four for one more, and two that find none
+-- at each connection four steps for each sample that its ring of samples given back has a cell for, four for one more, and two
+-- that find none
 abbrev pub sweep_steps : TableSizes → ℕ
 sweep_steps sizes = sizes.connections * (4 * (sizes.completion_cells + 1) + 2)
 
@@ -44,7 +45,8 @@ loan_steps sizes = sweep_steps sizes + 1
 abbrev pub write_steps : TableSizes → ℕ
 write_steps sizes = sizes.payload_words + 1
 
--- the most steps of a send: one for each word of header and user header, and one for the history; it takes back, makes at most six at each connection, and ends
+-- the most steps of a send: one for each word of header and user header, and one for the history; it takes back, makes at most
+-- six at each connection, and ends
 abbrev pub send_steps : TableSizes → ℕ
 send_steps sizes = 3 + sizes.user_header_words + 1 + sweep_steps sizes + 6 * sizes.connections + 1
 
@@ -57,8 +59,8 @@ pub record PublisherEnds (most : ℕ) (p : Port) (lane : PublisherLaneState) (q 
   pub after : now ≡ publisher_after 0 last
   pub answers : publisher_answer last.port.call now.port.book.answer ≡ Some answer
 
--- So many steps of a publisher's call, without its last. That is so only where one connection gave back more samples in this one call than its ring of samples
--- given back has cells.
+-- So many steps of a publisher's call, without its last. That is so only where one connection gave back more samples in this one
+-- call than its ring of samples given back has cells.
 pub record StaysInside (most : ℕ) (p : Port) (lane : PublisherLaneState) (q : Port) (now : PublisherLaneState) : Type 0 where
   pub goes : PublisherGoes p lane q now
   pub all : steps_in goes ≡ most

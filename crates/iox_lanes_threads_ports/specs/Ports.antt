@@ -106,7 +106,8 @@ pub record SubscriberStands (p : Port) (lane : SubscriberLaneState) : Type 0 whe
   pub routes : All (IsEnd p.service receiver_of p.name) lane.port.routes
   pub knows : SubscriberKnows p lane.port.call
 
--- a publisher's begin that fits keeps it standing so, and its next access is one that its port may make, after whose answer it stands so again
+-- a publisher's begin that fits keeps it standing so, and its next access is one that its port may make, after whose answer it
+-- stands so again
 abbrev pub PublishersGoOn : Type 0
 PublishersGoOn = (p : Port) (lane : PublisherLaneState) → PublisherStands p lane
     → ((moment : ℕ) (call : Call) → publisher_fits lane (Begin call) ≡ true → PublisherStands p (publisher_begun moment call lane))

@@ -79,7 +79,8 @@ abbrev pub subscriber_begins : Move → SubscriberLaneState → SubscriberLaneSt
 subscriber_begins GoOn lane = lane
 subscriber_begins (Begin c) lane = subscriber_begun 0 c lane
 
--- What a publisher does that is asked for something, and answers: nothing where it doesn't fit, and else the steps of its call, at most so many.
+-- What a publisher does that is asked for something, and answers: nothing where it doesn't fit, and else the steps of its call,
+-- at most so many.
 abbrev pub PublisherDoes : ℕ → Port → PublisherLaneState → Move → Port → PublisherLaneState → Option Answer → Type 0
 PublisherDoes most p lane step q now given =
     ((publisher_fits lane step ≡ false) × (given ≡ None) × (q ≡ p) × (now ≡ lane))
@@ -119,8 +120,9 @@ sent_of (Some (answer.Released done)) = None
 abbrev pub StaysPut : PublisherPort → PublisherPort → Type 0
 StaysPut old new = (new.table ≡ old.table) × (new.port ≡ old.port) × (new.lane ≡ old.lane)
 
--- A call of a publisher, one that fits or doesn't, with what its lane is when it begins, and the most steps of it. It has no answer where it doesn't fit, which does
--- nothing, or where it is still inside after all of these steps; else the answer is that of its last step.
+-- A call of a publisher, one that fits or doesn't, with what its lane is when it begins, and the most steps of it. It has no
+-- answer where it doesn't fit, which does nothing, or where it is still inside after all of these steps; else the answer is that
+-- of its last step.
 abbrev pub Publishes : PublisherPort → PublisherPort → Bool → PublisherLaneState → ℕ → Option Answer → Type 0
 Publishes old new fits begun most None = ((fits ≡ false) × StaysPut old new) ⊎ ((fits ≡ true) × StaysInside most old.port begun new.port new.lane)
 Publishes old new fits begun most (Some answer) = (fits ≡ true) × PublisherEnds most old.port begun new.port new.lane answer

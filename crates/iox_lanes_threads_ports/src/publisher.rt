@@ -193,9 +193,9 @@ impl ThreadedPublisher {
         }
     }
 
-    /// Asks for a slot to be written, in at most as many steps as its connections need to give back all that they have room for, and one more sample each. None where
-    /// the port stands inside a call, or where one connection gave back more samples during this call than its ring of samples given back has cells, which no lanes
-    /// come to: then it stays inside this one.
+    /// Asks for a slot to be written, in at most as many steps as its connections need to give back all that they have room for,
+    /// and one more sample each. None where the port stands inside a call, or where one connection gave back more samples during
+    /// this call than its ring of samples given back has cells, which no lanes come to: then it stays inside this one.
     pub fn loan_uninit<K: Opening>(&mut self, words: &Words<K>) -> Option<LoanAnswer>
         requires { self.old.table ≡ words.now.table_id }
         ensures same { SamePublisher self.old self.new }
@@ -214,8 +214,9 @@ impl ThreadedPublisher {
         lent(answer)
     }
 
-    /// Writes the words of a payload into the slot of a loan, and keeps those of a user header for its send. False where the slot is no loan of this port, the
-    /// words are not as many as a payload and a user header have, or the port stands inside a call; then nothing is done.
+    /// Writes the words of a payload into the slot of a loan, and keeps those of a user header for its send. False where the slot
+    /// is no loan of this port, the words are not as many as a payload and a user header have, or the port stands inside a call;
+    /// then nothing is done.
     pub fn write<K: Opening>(
         &mut self,
         words: &Words<K>,
@@ -244,7 +245,8 @@ impl ThreadedPublisher {
         answer.is_some()
     }
 
-    /// Sends a loan that is written, and tells how many connections took it. None where the slot is no such loan of this port, or as of a loan.
+    /// Sends a loan that is written, and tells how many connections took it. None where the slot is no such loan of this port, or
+    /// as of a loan.
     pub fn send<K: Opening>(&mut self, words: &Words<K>, loan: u64) -> Option<Delivery>
         requires { self.old.table ≡ words.now.table_id }
         ensures same { SamePublisher self.old self.new }

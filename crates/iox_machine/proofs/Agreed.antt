@@ -15,13 +15,13 @@ use Rattle.iox_machine.specs.Table.{at, removed}
 use Rattle.iox_machine.proofs.Beginning.{or-first, or-second}
 use Rattle.iox_machine.proofs.Calls.{IsSettled, create-settles, open-settles, either-settles, fold-all}
 use Rattle.iox_machine.proofs.Cases.{same-some, never-some, both-true}
-use Rattle.iox_machine.proofs.Kept.{has, joined-has, one-has, filter-has}
+use Rattle.iox_machine.proofs.Counts.{has, joined-has, one-has, filter-has, one_if}
 use Rattle.iox_machine.proofs.Lists.{all-weaker, all-joined, all-filtered}
 use Rattle.iox_machine.proofs.Moving.{closed}
 use Rattle.iox_machine.proofs.Names.{pattern-is, name-is, name-itself, and-true, phases-where, at-itself, at-off}
 use Rattle.iox_machine.proofs.Phases.{each-all}
 use Rattle.iox_machine.proofs.Ported.{ports-move}
-use Rattle.iox_machine.proofs.Shares.{Counts, share, one_if, more_of, in-share, counts-same}
+use Rattle.iox_machine.proofs.Shares.{Counts, share, more_of, in-share, counts-same}
 use Rattle.iox_machine.proofs.Stands.{Stands, any-joined, any-last, any-weaker, each-false, any-filtered, all-passing, all-swapped, one-there, one-later, distinct-joined, distinct-filtered, tally-some, manned-of, phase-stands, moved-stands, IsOpened, opened-so}
 use Rattle.iox_machine.proofs.Standing.{all-both, tally, Apart, tally-joined, tally-removed, removed-none, apart-joined, apart-filtered, Linked, settings-pattern, Fits, fits-acted, fits-lost, fits-won, fits-entered, fits-closed, absurd-count}
 use Rattle.iox_command.specs.NegotiateBase.DescribeBase.declared.message_type.MessageTypeDetails.{MessageTypeDetails}

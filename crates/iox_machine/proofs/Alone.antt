@@ -28,7 +28,7 @@ use Rattle.iox_machine.specs.SubscriberUpdate as subscribing
 use Rattle.iox_machine.specs.Table.{at, removed}
 use Rattle.iox_machine.proofs.Agreed.{step-stands, new-stands}
 use Rattle.iox_machine.proofs.Cases.{by-bool, by-option, both-true}
-use Rattle.iox_machine.proofs.Kept.{Kept, itself, publisher-turned, updates-first, goes-on, lends-loan, puts, drops, sends-loan, writes, subscriber-updates, receives, releases, publisher-arrives, subscriber-arrives, publisher-leaves, subscriber-leaves}
+use Rattle.iox_machine.proofs.Kept.{Kept, itself, ends, publisher-turned, updates-first, goes-on, lends-loan, puts, drops, sends-loan, writes, subscriber-updates, receives, releases, publisher-arrives, subscriber-arrives, publisher-leaves, subscriber-leaves}
 use Rattle.iox_machine.proofs.Left.{step-left}
 use Rattle.iox_machine.proofs.Names.{pattern-is, pattern-itself, name-is, name-itself, and-true, phase-there}
 use Rattle.iox_machine.proofs.Own.{own_phases, own-at, own-open, into-bool, find-own, find-none, any-own, filter-swap, filter-joined-on, replaced-own}
@@ -197,7 +197,7 @@ module _ {T : Type 0} (pattern : MessagingPattern) (name : List ℕ) where
       (λ one service after did. elim
       (by-option one.blocked (Does one service answer after) (λ send. IsSkipped service answer after) did) [
         | inl w ↦ kept one service after w.1
-        | inr w ↦ stays old.made service after answer w.2.1
+        | inr w ↦ stays old.made service after answer reply.Skipped w.2 tt
       ]) h
 
   own-blocked : (number : ℕ) (Does : Publisher T → Send T → Service T → Reply T → Service T → Type 0) (old : State T) (answer : Reply T)
@@ -213,7 +213,7 @@ module _ {T : Type 0} (pattern : MessagingPattern) (name : List ℕ) where
       (by-asked (λ (other : Service T). is_some (publisher_in number other)) old on)
       (λ one service after did. elim
       (by-option one.blocked (IsSkipped service answer after) (λ send. Does one send service answer after) did) [
-        | inl w ↦ stays old.made service after answer w.1.1
+        | inl w ↦ stays old.made service after answer reply.Skipped w.1 tt
         | inr w ↦ kept one w.0 service after w.2
       ]) h
 
@@ -623,64 +623,65 @@ module _ {T : Type 0} (pattern : MessagingPattern) (name : List ℕ) where
         (new_publisher factory options service.settings) service) old answer new on
         (λ service after did. publisher-arrives old.made service answer (old.made.publishers + 1)
         (new_publisher factory options service.settings)
-        service after (itself old.made service answer) refl did) h
+        service after (itself old.made service) refl did) h
     own-step (command.Subscriber factory options) old answer new stands h on =
         own-factory types IsDefault buffer factory
         (λ (service : Service T). SubscriberArrives buffer (old.made.subscribers + 1)
         (new_subscriber factory options service.settings) service) old answer new on
         (λ service after did. subscriber-arrives old.made service answer buffer (old.made.subscribers + 1)
-        (new_subscriber factory options service.settings) service after (itself old.made service answer) refl did) h
+        (new_subscriber factory options service.settings) service after (itself old.made service) refl did) h
     own-step (command.Loan publisher count) old answer new stands (value, default, h) on = (
       value,
       default,
       own-free publisher (LendsLoan (old.made.loans + 1) publisher count (Some value)) old answer new on
           (λ one service after did. lends-loan old.made service answer (old.made.loans + 1) publisher count (Some value) one service after
-          (itself old.made service answer) refl did) h,
+          (itself old.made service) refl did) h,
     )
     own-step (command.LoanUninit publisher count) old answer new stands h on =
         own-free publisher (LendsLoan (old.made.loans + 1) publisher count None) old answer new on
         (λ one service after did. lends-loan old.made service answer (old.made.loans + 1) publisher count None one service after
-        (itself old.made service answer) refl did) h
+        (itself old.made service) refl did) h
     own-step (command.Set loan place value) old answer new stands h on =
         own-one (λ (service : Service T). at loan service.loans)
         (λ (one : Loan T). Writes loan one (is_written one && nat_lt place (length one.values))
         (set one.values place (Some value))) old answer new (by-asked
         (λ (other : Service T). is_some ((λ (service : Service T). at loan service.loans) other)) old on)
         (λ one service after did. writes old.made service answer loan one (is_written one && nat_lt place (length one.values))
-        (set one.values place (Some value)) service after (itself old.made service answer) did) h
+        (set one.values place (Some value)) service after (itself old.made service) did) h
     own-step (command.Fill loan values) old answer new stands h on =
         own-one (λ (service : Service T). at loan service.loans)
         (λ (one : Loan T). Writes loan one (length values == length one.values) (map Some values)) old answer new
         (by-asked (λ (other : Service T). is_some ((λ (service : Service T). at loan service.loans) other)) old on)
         (λ one service after did. writes old.made service answer loan one (length values == length one.values)
         (map Some values) service after
-        (itself old.made service answer) did) h
+        (itself old.made service) did) h
     own-step (command.Drop loan) old answer new stands h on =
         own-one (λ (service : Service T). at loan service.loans)
         (λ (one : Loan T) (service : Service T) (answered : Reply T) (after : Service T). (answered ≡ reply.Done)
         × (after ≡ record service { loans = removed loan service.loans })) old answer new
         (by-asked (λ (other : Service T). is_some ((λ (service : Service T). at loan service.loans) other)) old on)
-        (λ one service after did. drops old.made service answer loan service after (itself old.made service answer) did.1) h
+        (λ one service after did. drops old.made service answer loan service after (itself old.made service) did) h
     own-step (command.Send loan) old answer new stands h on =
         own-one (λ (service : Service T). at loan service.loans) (SendsLoan loan) old answer new
         (by-asked (λ (other : Service T). is_some ((λ (service : Service T). at loan service.loans) other)) old on)
-        (λ one service after did. sends-loan old.made service answer loan one service after (itself old.made service answer) did) h
+        (λ one service after did. sends-loan old.made service answer loan one service after (itself old.made service) did) h
     own-step (command.Put publisher values) old answer new stands h on =
         own-free publisher (Puts publisher values) old answer new on
-        (λ one service after did. puts old.made service answer publisher values one service after (itself old.made service answer) did) h
+        (λ one service after did. puts old.made service answer publisher values one service after (itself old.made service) did) h
     own-step (command.Retry publisher nanoseconds) old answer new stands h on =
         own-blocked publisher
         (λ (one : Publisher T) (send : Send T). GoesOn publisher one
         (record send { retries = send.retries + 1; elapsed = nanoseconds })) old answer new on
         (λ one send service after did. goes-on old.made service answer publisher one
-        (record send { retries = send.retries + 1; elapsed = nanoseconds }) service after (itself old.made service answer) did) h
+        (record send { retries = send.retries + 1; elapsed = nanoseconds }) service after (itself old.made service) did) h
     own-step (command.GiveUp publisher) old answer new stands h on =
         own-blocked publisher
         (λ (one : Publisher T) (send : Send T) (service : Service T) (answered : Reply T) (after : Service T).
         (answered ≡ reply.Delivered send.delivered)
         × (after ≡ with_publisher publisher (record one { blocked = None }) service)) old answer new on
-        (λ one send service after did. subst (λ (it : Service T). Kept old.made service answer it) (sym did.1)
-        (publisher-turned old.made service answer publisher (record one { blocked = None }) service (itself old.made service answer))) h
+        (λ one send service after did. ends old.made service answer (reply.Delivered send.delivered)
+        (with_publisher publisher (record one { blocked = None }) service) after
+        (publisher-turned old.made service answer publisher (record one { blocked = None }) service (itself old.made service)) did tt) h
     own-step (command.Receive subscriber) old answer new stands h on =
         own-one (subscriber_in subscriber)
         (subscribing.UpdatesFirst buffer subscriber (λ failure. refusal.Receive (receive_error.ConnectionFailure failure))
@@ -688,7 +689,7 @@ module _ {T : Type 0} (pattern : MessagingPattern) (name : List ℕ) where
         (by-asked (λ (other : Service T). is_some ((subscriber_in subscriber) other)) old on)
         (λ one service after did. subscriber-updates old.made service answer buffer subscriber
         (λ failure. refusal.Receive (receive_error.ConnectionFailure failure)) (Receives subscriber (old.made.samples + 1)) one service
-        after (itself old.made service answer)
+        after (itself old.made service)
         (λ next mid k took. receives old.made service answer subscriber (old.made.samples + 1) next mid after k refl took) did) h
     own-step (command.Read sample) old answer new stands h on =
         own-one (λ (service : Service T). at sample service.samples)
@@ -696,11 +697,11 @@ module _ {T : Type 0} (pattern : MessagingPattern) (name : List ℕ) where
         (vec_items values ≡ one.message.values)
         × (answered ≡ reply.Values values) × (after ≡ service)) old answer new
         (by-asked (λ (other : Service T). is_some ((λ (service : Service T). at sample service.samples) other)) old on)
-        (λ one service after did. stays old.made service after answer did.3) h
+        (λ one service after did. stays old.made service after answer (reply.Values did.0) (did.2, did.3) tt) h
     own-step (command.Release sample) old answer new stands h on =
         own-one (λ (service : Service T). at sample service.samples) (Releases sample) old answer new
         (by-asked (λ (other : Service T). is_some ((λ (service : Service T). at sample service.samples) other)) old on)
-        (λ one service after did. releases old.made service answer sample one service after (itself old.made service answer) did) h
+        (λ one service after did. releases old.made service answer sample one service after (itself old.made service) did) h
     own-step (command.Update (port.Publisher number)) old answer new stands h on =
         own-free number
         (publishing.UpdatesFirst number refusal.Connection
@@ -708,8 +709,8 @@ module _ {T : Type 0} (pattern : MessagingPattern) (name : List ℕ) where
         old answer new on
         (λ one service after did. updates-first old.made service answer number refusal.Connection
         (λ (it : Publisher T) (mid : Service T) (answered : Reply T) (end : Service T). (answered ≡ reply.Done) × (end ≡ mid)) one service
-        after (itself old.made service answer)
-        (λ it mid k done. subst (λ (end : Service T). Kept old.made service answer end) (sym done.1) k) did) h
+        after (itself old.made service)
+        (λ it mid k done. ends old.made service answer reply.Done mid after k done tt) did) h
     own-step (command.Update (port.Subscriber number)) old answer new stands h on =
         own-one (subscriber_in number)
         (subscribing.UpdatesFirst buffer number refusal.Connection
@@ -717,15 +718,15 @@ module _ {T : Type 0} (pattern : MessagingPattern) (name : List ℕ) where
         old answer new (by-asked (λ (other : Service T). is_some ((subscriber_in number) other)) old on)
         (λ one service after did. subscriber-updates old.made service answer buffer number refusal.Connection
         (λ (it : Subscriber) (mid : Service T) (answered : Reply T) (end : Service T). (answered ≡ reply.Done) × (end ≡ mid)) one service
-        after (itself old.made service answer)
-        (λ it mid k done. subst (λ (end : Service T). Kept old.made service answer end) (sym done.1) k) did) h
+        after (itself old.made service)
+        (λ it mid k done. ends old.made service answer reply.Done mid after k done tt) did) h
     own-step (command.Leave (port.Publisher number)) old answer new stands h on =
         own-free number
         (λ (one : Publisher T) (service : Service T) (answered : Reply T) (after : Service T). (answered ≡ reply.Done)
         × (after ≡ with_publisher number (record one { stands = false })
         (record service { publisher_list = left number service.publisher_list }))) old answer new on
         (λ one service after did. publisher-leaves old.made service answer number (record one { stands = false }) service after
-        (itself old.made service answer) did.1) h
+        (itself old.made service) did) h
     own-step (command.Leave (port.Subscriber number)) old answer new stands h on =
         own-one (subscriber_in number)
         (λ (one : Subscriber) (service : Service T) (answered : Reply T) (after : Service T). (answered ≡ reply.Done)
@@ -733,7 +734,7 @@ module _ {T : Type 0} (pattern : MessagingPattern) (name : List ℕ) where
         (record service { subscriber_list = left number service.subscriber_list }))) old answer new
         (by-asked (λ (other : Service T). is_some ((subscriber_in number) other)) old on)
         (λ one service after did. subscriber-leaves old.made service answer number (record one { stands = false }) service after
-        (itself old.made service answer) did.1) h
+        (itself old.made service) did) h
     own-step (command.Has subscriber) old answer new stands h on =
         own-one (subscriber_in subscriber)
         (subscribing.UpdatesFirst buffer subscriber refusal.Connection
@@ -742,8 +743,8 @@ module _ {T : Type 0} (pattern : MessagingPattern) (name : List ℕ) where
         × (after ≡ service))) old answer new (by-asked (λ (other : Service T). is_some ((subscriber_in subscriber) other)) old on)
         (λ one service after did. subscriber-updates old.made service answer buffer subscriber refusal.Connection
         (λ (it : Subscriber) (mid : Service T) (answered : Reply T) (end : Service T).
-        (answered ≡ reply.Has (has_samples subscriber it mid)) × (end ≡ mid)) one service after (itself old.made service answer)
-        (λ it mid k done. subst (λ (end : Service T). Kept old.made service answer end) (sym done.1) k) did) h
+        (answered ≡ reply.Has (has_samples subscriber it mid)) × (end ≡ mid)) one service after (itself old.made service)
+        (λ it mid k done. ends old.made service answer (reply.Has (has_samples subscriber it mid)) mid after k done tt) did) h
 
     left-asks : (asked : Command T) (old : State T) → concerns pattern name asked old ≡ false → asks pattern name asked old ≡ false
     left-asks command.Node old off = refl

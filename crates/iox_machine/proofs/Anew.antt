@@ -1,17 +1,19 @@
 -- A new life of a name has nothing of the lives before.
-use Rattle.std.proofs.Common.{◌≡◌, ◌≤◌, ◌<◌, ◌+◌, ℕ, Bool, true, false, ◌&&◌, ◌||◌, List, [], ◌∷◌, refl, sym, ap, subst, inl, inr, arith, ◌∙◌, true≢false}
+use Rattle.std.proofs.Common.{◌≡◌, ◌≤◌, ◌<◌, ◌+◌, ℕ, Bool, true, false, ◌&&◌, ◌||◌, List, [], ◌∷◌, Some, refl, sym, ap, subst, inl, inr, arith, ◌∙◌, true≢false}
 use Rattle.std.proofs.lemmas.Bool.{eqb-true, eq-eqb, false_from_ne_true}
 use Rattle.std.specs.List.{AllByRecursion, list_any}
 use Rattle.std.specs.Prelude.{◌==◌}
 use Rattle.iox_machine.specs.AgreementLaws.{AreAbove, IsLaterThan, LivesStartAnew}
+use Rattle.iox_machine.specs.NumberLaws.{publisher_told, subscriber_told, loan_told, sample_told}
 use Rattle.iox_machine.specs.Phase.{same_pattern}
 use Rattle.iox_machine.specs.Run.{Step, Runs, factory_of}
 use Rattle.iox_machine.specs.Service.{Service}
 use Rattle.iox_machine.specs.State.{State, Made, Factory, new_state, counted, is_service_of, same_name}
 use Rattle.iox_machine.proofs.Agreed.{new-stands, runs-stand}
 use Rattle.iox_machine.proofs.Beginning.{or-first, or-second}
-use Rattle.iox_machine.proofs.Cases.{both-true}
-use Rattle.iox_machine.proofs.Kept.{Kept, has}
+use Rattle.iox_machine.proofs.Cases.{both-true, same-some, never-some}
+use Rattle.iox_machine.proofs.Counts.{has, added}
+use Rattle.iox_machine.proofs.Kept.{Kept, IsNext}
 use Rattle.iox_machine.proofs.Lists.{all-weaker}
 use Rattle.iox_machine.proofs.Moving.{Keeps, IsNegotiated, creates, opens, opens-or-creates, negotiated-keeps, closed, closed-keeps, replaced-keeps, skipped-keeps}
 use Rattle.iox_machine.proofs.Names.{and-true, name-is}
@@ -69,6 +71,26 @@ before-counted bound other made h = h
 next-above : (low high number : ℕ) → low ≤ high → number ≡ high + 1 → low < number
 next-above low high number h is = omega (arith, h, is)
 
+publisher-next : {T : Type 0} (made : Made) (answer : Reply T) (number : ℕ) → publisher_told answer ≡ Some number → IsNext made answer
+    → number ≡ made.publishers + 1
+publisher-next made (reply.PublisherMade told) number is next = sym (same-some told number is) ∙ next
+publisher-next made other number is next = never-some number is
+
+subscriber-next : {T : Type 0} (made : Made) (answer : Reply T) (number : ℕ) → subscriber_told answer ≡ Some number → IsNext made answer
+    → number ≡ made.subscribers + 1
+subscriber-next made (reply.SubscriberMade told) number is next = sym (same-some told number is) ∙ next
+subscriber-next made other number is next = never-some number is
+
+loan-next : {T : Type 0} (made : Made) (answer : Reply T) (number : ℕ) → loan_told answer ≡ Some number → IsNext made answer
+    → number ≡ made.loans + 1
+loan-next made (reply.LoanMade told) number is next = sym (same-some told number is) ∙ next
+loan-next made other number is next = never-some number is
+
+sample-next : {T : Type 0} (made : Made) (answer : Reply T) (number : ℕ) → sample_told answer ≡ Some number → IsNext made answer
+    → number ≡ made.samples + 1
+sample-next made (reply.Received told values) number is next = sym (same-some told number is) ∙ next
+sample-next made other number is next = never-some number is
+
 module _ {T : Type 0} (name : List ℕ) (bound : Made) where
   -- A service of this name goes by later numbers.
   abbrev Later : Service T → Type 0
@@ -78,22 +100,30 @@ module _ {T : Type 0} (name : List ℕ) (bound : Made) where
       → Before bound made → Later service → Later after
   kept-later made service answer after kept before later is =
       let was : IsLaterThan bound service = later (subst (λ (n : List ℕ). same_name n name ≡ true) kept.name is) in (
-        above-all bound.publishers after.publishers (λ number found. elim (kept.publishers number found) [
-          | inl there ↦ above-has bound.publishers service.publishers was.0 number there
-          | inr told ↦ next-above bound.publishers made.publishers number before.0 told.1
-        ]),
-        above-all bound.subscribers after.subscribers (λ number found. elim (kept.subscribers number found) [
-          | inl there ↦ above-has bound.subscribers service.subscribers was.1 number there
-          | inr told ↦ next-above bound.subscribers made.subscribers number before.1 told.1
-        ]),
-        above-all bound.loans after.loans (λ number found. elim (kept.loans number found) [
-          | inl there ↦ above-has bound.loans service.loans was.2 number there
-          | inr told ↦ next-above bound.loans made.loans number before.2 told.1
-        ]),
-        above-all bound.samples after.samples (λ number found. elim (kept.samples number found) [
-          | inl there ↦ above-has bound.samples service.samples was.3 number there
-          | inr told ↦ next-above bound.samples made.samples number before.3 told.2
-        ]),
+        above-all bound.publishers after.publishers (λ number found. elim
+            (added number service.publishers (publisher_told answer) after.publishers kept.publishers found) [
+              | inl there ↦ above-has bound.publishers service.publishers was.0 number there
+              | inr told ↦ next-above bound.publishers made.publishers number before.0
+                  (publisher-next made answer number told kept.next)
+            ]),
+        above-all bound.subscribers after.subscribers (λ number found. elim
+            (added number service.subscribers (subscriber_told answer) after.subscribers kept.subscribers found) [
+              | inl there ↦ above-has bound.subscribers service.subscribers was.1 number there
+              | inr told ↦ next-above bound.subscribers made.subscribers number before.1
+                  (subscriber-next made answer number told kept.next)
+            ]),
+        above-all bound.loans after.loans (λ number found. elim
+            (added number service.loans (loan_told answer) after.loans kept.loans found) [
+              | inl there ↦ above-has bound.loans service.loans was.2 number there
+              | inr told ↦ next-above bound.loans made.loans number before.2
+                  (loan-next made answer number told kept.next)
+            ]),
+        above-all bound.samples after.samples (λ number found. elim
+            (added number service.samples (sample_told answer) after.samples kept.samples found) [
+              | inl there ↦ above-has bound.samples service.samples was.3 number there
+              | inr told ↦ next-above bound.samples made.samples number before.3
+                  (sample-next made answer number told kept.next)
+            ]),
       )
 
   module _ (types : MessageTypeDetails) (IsDefault : T → Type 0) (buffer : ℕ) where

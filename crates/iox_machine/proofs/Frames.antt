@@ -467,11 +467,11 @@ module _ {T : Type 0} where
   pub by-sends-loan : (number : ℕ) (loan : Loan T) (old : Service T) (answer : Reply T) (new : Service T)
       → SendsLoan number loan old answer new → ByPublisher loan.publisher old new
   by-sends-loan number loan old answer new h =
-      elim (by-option (at loan.publisher old.publishers) ⊥
+      elim (by-option (at loan.publisher old.publishers) (IsSkipped old answer new)
       (λ publisher. MatchBool (is_written loan && not (is_some publisher.blocked))
       (Sends loan.publisher (sent_as loan) publisher (record old { loans = removed number old.loans }) answer new)
       (IsSkipped old answer new)) h) [
-        | inl w ↦ absurd w.1
+        | inl w ↦ subst (λ (s : Service T). ByPublisher loan.publisher old s) (sym w.1.1) (by-none loan.publisher old)
         | inr w ↦ elim (by-bool (is_written loan && not (is_some w.0.blocked))
             (Sends loan.publisher (sent_as loan) w.0 (record old { loans = removed number old.loans }) answer new)
             (IsSkipped old answer new) w.2) [

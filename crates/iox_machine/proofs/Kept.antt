@@ -1,18 +1,17 @@
 -- What a command leaves of a service: its name, its settings, and what goes by numbers, but for what it makes.
-use Rattle.std.proofs.Common.{◌≡◌, ◌⊎◌, ◌+◌, ◌^◌, ℕ, Bool, true, false, cond, not, ◌&&◌, ◌||◌, List, [], ◌∷◌, ◌++◌, Option, None, Some, refl, sym, ap, subst, inl, inr, ◌∙◌}
-use Rattle.std.proofs.lemmas.Bool.{eqb-true}
-use Rattle.std.specs.Global.{Vec}
+use Rattle.std.proofs.Common.{◌≡◌, ◌⊎◌, ◌+◌, ◌^◌, ℕ, Bool, true, false, cond, not, ◌&&◌, ◌||◌, List, [], ◌∷◌, ◌++◌, Option, None, Some, refl, sym, subst, inl, inr, ◌∙◌}
 use Rattle.std.specs.List.{list_any, list_all}
 use Rattle.std.specs.Option.{option_map_or}
-use Rattle.std.specs.Prelude.{◌==◌, nat_lt, nat_le, is_some, option_map, filter, find, slice_get, replicate, MatchBool, MatchResult}
+use Rattle.std.specs.Prelude.{◌==◌, ⊤, nat_lt, nat_le, is_some, filter, slice_get, replicate, MatchBool, MatchResult}
 use Rattle.iox_machine.specs.Arriving.{worst_case, PublisherArrives, SubscriberArrives}
 use Rattle.iox_machine.specs.Mailbox.{Mailbox, newest, put, taken, given_back}
 use Rattle.iox_machine.specs.Message.{Message, Loan, Sample, sent_as, is_written}
+use Rattle.iox_machine.specs.NumberLaws.{publisher_told, subscriber_told, loan_told, sample_told}
 use Rattle.iox_machine.specs.PortList.{those, registered, left}
 use Rattle.iox_machine.specs.Ports.{LendsLoan, Puts, SendsLoan, Writes, Releases}
 use Rattle.iox_machine.specs.PublisherUpdate as publishing
 use Rattle.iox_machine.specs.PublisherUpdate.{update_answer}
-use Rattle.iox_machine.specs.Receiving.{Receives, Takes, lasting}
+use Rattle.iox_machine.specs.Receiving.{Receives, Takes, lasting, has_samples}
 use Rattle.iox_machine.specs.Replies.{IsSkipped, IsRefused}
 use Rattle.iox_machine.specs.Sending.{offered, deliver, decision_at, GoesOn, Begins, Sends}
 use Rattle.iox_machine.specs.Service.{Service, Publisher, Subscriber, Send, with_publisher, with_subscriber, mailbox, with_mailbox, connect}
@@ -20,118 +19,86 @@ use Rattle.iox_machine.specs.State.{Made}
 use Rattle.iox_machine.specs.SubscriberUpdate as subscribing
 use Rattle.iox_machine.specs.Table.{at, changed, removed}
 use Rattle.iox_machine.proofs.Cases.{by-bool, by-option, by-result}
+use Rattle.iox_machine.proofs.Counts.{Adds, adds-itself, adds-still, adds-changed, adds-filtered, adds-joined, adds-on}
 use Rattle.iox_machine.proofs.Lists.{fold-keeps}
 use Rattle.iox_command.specs.DomainValues.declared.backpressure.BackpressureDecision.{BackpressureDecision}
 use Rattle.iox_command.specs.DomainValues.declared.backpressure.BackpressureDecision.TheVariants.{Retry, DiscardData, DiscardDataAndFail}
 use Rattle.iox_command.specs.DomainValues.declared.connection_failure.ConnectionFailure.{ConnectionFailure}
 use Rattle.iox_command.specs.DomainValues.declared.create_error.PublisherCreateError.TheVariants as publisher_error
 use Rattle.iox_command.specs.DomainValues.declared.create_error.SubscriberCreateError.TheVariants as subscriber_error
+use Rattle.iox_command.specs.DomainValues.declared.port_error.ReceiveError.TheVariants.{ExceedsMaxBorrows}
 use Rattle.iox_command.specs.DomainValues.declared.port_error.SendError.TheVariants as error
 use Rattle.iox_command.specs.declared.refusal.Refusal.{Refusal}
 use Rattle.iox_command.specs.declared.refusal.Refusal.TheVariants as refusal
 use Rattle.iox_command.specs.declared.reply.Reply.{Reply}
 use Rattle.iox_command.specs.declared.reply.Reply.TheVariants as reply
 
--- ---- tables
-
-module _ {V : Type 0} where
-  -- whether something goes by a number
-  abbrev pub has : ℕ → List (ℕ × V) → Bool
-  has number table = list_any (λ entry. entry.0 == number) table
-
-  -- Who goes by a number after went by it before, or is new.
-  abbrev pub Within : List (ℕ × V) → (ℕ → Type 0) → List (ℕ × V) → Type 0
-  Within old IsNew new = (number : ℕ) → has number new ≡ true → (has number old ≡ true) ⊎ IsNew number
-
-  pub at-has : (number : ℕ) (table : List (ℕ × V)) → is_some (at number table) ≡ has number table
-  at-has number [] = refl
-  at-has number (entry ∷ table) = here (entry.0 == number) (find (λ (other : ℕ × V). other.0 == number) table) (at-has number table)
-    where
-      here : (b : Bool) (more : Option (ℕ × V)) → is_some (option_map (λ (e : ℕ × V). e.1) more) ≡ has number table
-          → is_some (option_map (λ (e : ℕ × V). e.1) (cond b (Some entry) more)) ≡ (b || has number table)
-      here true more on = refl
-      here false more on = on
-
-  key-kept : (b : Bool) (number : ℕ) (v : V) (entry : ℕ × V) → (b ≡ true → entry.0 ≡ number) → (cond b (number, v) entry).0 ≡ entry.0
-  key-kept true number v entry on = sym (on refl)
-  key-kept false number v entry on = refl
-
-  pub changed-has : (one : ℕ) (number : ℕ) (v : V) (table : List (ℕ × V)) → has one (changed number v table) ≡ has one table
-  changed-has one number v [] = refl
-  changed-has one number v (entry ∷ table) =
-      ap (λ (key : ℕ). (key == one) || has one (changed number v table))
-      (key-kept (entry.0 == number) number v entry (λ is. eqb-true entry.0 number is))
-      ∙ ap (λ (rest : Bool). (entry.0 == one) || rest) (changed-has one number v table)
-
-  pub joined-has : (one : ℕ) (xs ys : List (ℕ × V)) → has one (xs ++ ys) ≡ true → (has one xs ≡ true) ⊎ (has one ys ≡ true)
-  joined-has one [] ys e = inr e
-  joined-has one (entry ∷ xs) ys e = here (entry.0 == one) e (joined-has one xs ys)
-    where
-      here : (b : Bool) → (b || has one (xs ++ ys)) ≡ true → (has one (xs ++ ys) ≡ true → (has one xs ≡ true) ⊎ (has one ys ≡ true))
-          → ((b || has one xs) ≡ true) ⊎ (has one ys ≡ true)
-      here true e on = inl refl
-      here false e on = on e
-
-  pub one-has : (one number : ℕ) (v : V) → has one ((number, v) ∷ []) ≡ true → number ≡ one
-  one-has one number v e = here (number == one) refl e
-    where
-      here : (b : Bool) → (number == one) ≡ b → (b || false) ≡ true → number ≡ one
-      here true is e = eqb-true number one is
-      here false is e = absurd (differ e)
-        where
-          differ : false ≡ true → ⊥
-          differ e = cc
-
-  pub filter-has : (one : ℕ) (test : ℕ × V → Bool) (table : List (ℕ × V)) → has one (filter test table) ≡ true → has one table ≡ true
-  filter-has one test [] e = e
-  filter-has one test (entry ∷ table) e = here (test entry) (entry.0 == one) e (filter-has one test table) refl
-    where
-      here : (b c : Bool) → has one (cond b (entry ∷ filter test table) (filter test table)) ≡ true
-          → (has one (filter test table) ≡ true → has one table ≡ true) → (entry.0 == one) ≡ c → (c || has one table) ≡ true
-      here b true e on is = refl
-      here true false e on is = on (subst (λ (it : Bool). (it || has one (filter test table)) ≡ true) is e)
-      here false false e on is = on e
-
--- ---- a service
+-- A reply tells the number that comes next, if it tells one.
+abbrev pub IsNext : {T : Type 0} → Made → Reply T → Type 0
+IsNext made (reply.NodeMade number) = number ≡ made.nodes + 1
+IsNext made (reply.FactoryMade number) = number ≡ made.factories + 1
+IsNext made (reply.PublisherMade number) = number ≡ made.publishers + 1
+IsNext made (reply.SubscriberMade number) = number ≡ made.subscribers + 1
+IsNext made (reply.LoanMade number) = number ≡ made.loans + 1
+IsNext made (reply.Received number values) = number ≡ made.samples + 1
+IsNext made other = ⊤
 
 -- What a command leaves of a service: its name, its settings, and what goes by numbers; of that no more, but what the reply tells, by
--- the number
--- that comes next.
+-- the number that comes next.
 pub record Kept {T : Type 0} (made : Made) (old : Service T) (answer : Reply T) (new : Service T) : Type 0 where
   pub name : new.name ≡ old.name
   pub settings : new.settings ≡ old.settings
-  pub publishers : Within old.publishers (λ number. (answer ≡ reply.PublisherMade number) × (number ≡ made.publishers + 1))
-      new.publishers
-  pub subscribers : Within old.subscribers (λ number. (answer ≡ reply.SubscriberMade number) × (number ≡ made.subscribers + 1))
-      new.subscribers
-  pub loans : Within old.loans (λ number. (answer ≡ reply.LoanMade number) × (number ≡ made.loans + 1)) new.loans
-  pub samples : Within old.samples (λ number. (values : Vec T) × (answer ≡ reply.Received number values) × (number ≡ made.samples + 1))
-      new.samples
+  pub publishers : Adds old.publishers (publisher_told answer) new.publishers
+  pub subscribers : Adds old.subscribers (subscriber_told answer) new.subscribers
+  pub loans : Adds old.loans (loan_told answer) new.loans
+  pub samples : Adds old.samples (sample_told answer) new.samples
+  pub next : IsNext made answer
 
 module _ {T : Type 0} where
-  pub itself : (made : Made) (service : Service T) (answer : Reply T) → Kept made service answer service
-  itself made service answer = record {
+  pub itself : (made : Made) (service : Service T) → Kept made service reply.Done service
+  itself made service = record {
     name = refl;
     settings = refl;
-    publishers = λ number is. inl is;
-    subscribers = λ number is. inl is;
-    loans = λ number is. inl is;
-    samples = λ number is. inl is;
+    publishers = adds-itself service.publishers;
+    subscribers = adds-itself service.subscribers;
+    loans = adds-itself service.loans;
+    samples = adds-itself service.samples;
+    next = tt;
   }
 
 module _ {T : Type 0} (counts : Made) (origin : Service T) (answer : Reply T) where
+  -- So far nothing was made.
   abbrev K : Service T → Type 0
-  K service = Kept counts origin answer service
+  K service = Kept counts origin reply.Done service
+
+  -- That is what the command leaves.
+  abbrev R : Service T → Type 0
+  R service = Kept counts origin answer service
+
+  -- The command did what it does, and it is answered.
+  pub ends : (told : Reply T) (mid new : Service T) → K mid → (answer ≡ told) × (new ≡ mid) → IsNext counts told → R new
+  ends told mid new k (said, came) next =
+      subst (λ (it : Reply T). Kept counts origin it new) (sym said)
+      (subst (λ (it : Service T). Kept counts origin told it) (sym came) (record {
+        name = k.name;
+        settings = k.settings;
+        publishers = adds-still origin.publishers mid.publishers (publisher_told told) k.publishers;
+        subscribers = adds-still origin.subscribers mid.subscribers (subscriber_told told) k.subscribers;
+        loans = adds-still origin.loans mid.loans (loan_told told) k.loans;
+        samples = adds-still origin.samples mid.samples (sample_told told) k.samples;
+        next = next;
+      }))
 
   pub publisher-turned : (number : ℕ) (publisher : Publisher T) (service : Service T) → K service → K
       (with_publisher number publisher service)
   publisher-turned number publisher service k = record {
     name = k.name;
     settings = k.settings;
-    publishers = λ one is. k.publishers one (sym (changed-has one number publisher service.publishers) ∙ is);
+    publishers = adds-changed origin.publishers service.publishers None k.publishers number publisher;
     subscribers = k.subscribers;
     loans = k.loans;
     samples = k.samples;
+    next = k.next;
   }
 
   subscriber-turned : (number : ℕ) (subscriber : Subscriber) (service : Service T) → K service
@@ -140,9 +107,10 @@ module _ {T : Type 0} (counts : Made) (origin : Service T) (answer : Reply T) wh
     name = k.name;
     settings = k.settings;
     publishers = k.publishers;
-    subscribers = λ one is. k.subscribers one (sym (changed-has one number subscriber service.subscribers) ∙ is);
+    subscribers = adds-changed origin.subscribers service.subscribers None k.subscribers number subscriber;
     loans = k.loans;
     samples = k.samples;
+    next = k.next;
   }
 
   box-turned : (publisher subscriber : ℕ) (box : Mailbox T) (service : Service T) → K service
@@ -154,6 +122,7 @@ module _ {T : Type 0} (counts : Made) (origin : Service T) (answer : Reply T) wh
     subscribers = k.subscribers;
     loans = k.loans;
     samples = k.samples;
+    next = k.next;
   }
 
   either : (b : Bool) (one other : Service T) → K one → K other → K (cond b one other)
@@ -182,6 +151,7 @@ module _ {T : Type 0} (counts : Made) (origin : Service T) (answer : Reply T) wh
     subscribers = k.subscribers;
     loans = k.loans;
     samples = k.samples;
+    next = k.next;
   }
 
   pub follows : (number : ℕ) (publisher : Publisher T) (old : Service T) (after : Publisher T) (new : Service T) → K old
@@ -195,8 +165,8 @@ module _ {T : Type 0} (counts : Made) (origin : Service T) (answer : Reply T) wh
 
   pub updates-first : (number : ℕ) (told : ConnectionFailure → Refusal) (Does : Publisher T → Service T → Reply T → Service T → Type 0)
       (publisher : Publisher T) (old new : Service T) → K old
-      → ((one : Publisher T) (mid : Service T) → K mid → Does one mid answer new → K new)
-      → publishing.UpdatesFirst number told Does publisher old answer new → K new
+      → ((one : Publisher T) (mid : Service T) → K mid → Does one mid answer new → R new)
+      → publishing.UpdatesFirst number told Does publisher old answer new → R new
   updates-first number told Does publisher old new k does h =
       elim (by-bool (publisher.seen == old.subscriber_list.changes) (Does publisher old answer new)
       ((after : Publisher T) × (mid : Service T) × publishing.Follows number publisher old after mid
@@ -208,16 +178,20 @@ module _ {T : Type 0} (counts : Made) (origin : Service T) (answer : Reply T) wh
     where
       followed : (after : Publisher T) (mid : Service T) → publishing.Follows number publisher old after mid
           → MatchResult (update_answer publisher.degradation old.subscriber_list.places after.connected)
-          (λ done. Does after mid answer new) (λ failure. IsRefused (told failure) mid answer new) → K new
+          (λ done. Does after mid answer new) (λ failure. IsRefused (told failure) mid answer new) → R new
       followed after mid came told_so =
           let on : K mid = follows number publisher old after mid k came in
           elim (by-result (update_answer publisher.degradation old.subscriber_list.places after.connected)
           (λ done. Does after mid answer new) (λ failure. IsRefused (told failure) mid answer new) told_so) [
             | inl r ↦ does after mid on r.2
-            | inr r ↦ subst K (sym r.2.1) on
+            | inr r ↦ ends (reply.Refused (told r.0)) mid new on r.2 tt
           ]
 
   -- ---- a send
+
+  next-of : (b : Bool) (one other : Reply T) → IsNext counts one → IsNext counts other → IsNext counts (cond b one other)
+  next-of true one other n m = n
+  next-of false one other n m = m
 
   offered-kept : (number : ℕ) (met : Option (Mailbox T)) (decision : BackpressureDecision) (subscriber : ℕ) (more : List ℕ)
       (goes_on : Send T → Service T → Send T × Service T) (send : Send T) (service : Service T)
@@ -240,22 +214,27 @@ module _ {T : Type 0} (counts : Made) (origin : Service T) (answer : Reply T) wh
       (λ next mid. delivered number publisher more next mid) k
 
   pub goes-on : (number : ℕ) (publisher : Publisher T) (send : Send T) (old new : Service T) → K old
-      → GoesOn number publisher send old answer new → K new
+      → GoesOn number publisher send old answer new → R new
   goes-on number publisher send old new k h =
       let after : Send T × Service T = deliver number publisher send.left send old in
-      subst K (sym h.1)
+      ends (cond (is_some (slice_get after.0.left 0)) reply.Blocked
+      (cond after.0.fails (reply.Refused (refusal.Send error.UnableToDeliver)) (reply.Delivered after.0.delivered)))
+      (with_publisher number (record publisher { blocked = cond (is_some (slice_get after.0.left 0)) (Some after.0) None }) after.1) new
       (publisher-turned number (record publisher { blocked = cond (is_some (slice_get after.0.left 0)) (Some after.0) None }) after.1
-      (delivered number publisher send.left send old k))
+      (delivered number publisher send.left send old k)) h
+      (next-of (is_some (slice_get after.0.left 0)) reply.Blocked
+      (cond after.0.fails (reply.Refused (refusal.Send error.UnableToDeliver)) (reply.Delivered after.0.delivered)) tt
+      (next-of after.0.fails (reply.Refused (refusal.Send error.UnableToDeliver)) (reply.Delivered after.0.delivered) tt tt))
 
   begins : (number : ℕ) (message : Message T) (publisher : Publisher T) (old new : Service T) → K old
-      → Begins number message publisher old answer new → K new
+      → Begins number message publisher old answer new → R new
   begins number message publisher old new k h =
       goes-on number (record publisher { history = newest old.settings.history_size (publisher.history ++ message ∷ []) })
       (record { message = message; left = those publisher.connected; retries = 0; elapsed = 0; delivered = 0; fails = false })
       old new k h
 
   pub sends : (number : ℕ) (message : Message T) (publisher : Publisher T) (old new : Service T) → K old
-      → Sends number message publisher old answer new → K new
+      → Sends number message publisher old answer new → R new
   sends number message publisher old new k h =
       elim (by-bool publisher.stands
       (publishing.UpdatesFirst number (λ failure. refusal.Send (error.ConnectionError failure)) (Begins number message) publisher old answer
@@ -263,39 +242,35 @@ module _ {T : Type 0} (counts : Made) (origin : Service T) (answer : Reply T) wh
       (IsRefused (refusal.Send error.ConnectionBrokenSinceSenderNoLongerExists) old answer new) h) [
         | inl w ↦ updates-first number (λ failure. refusal.Send (error.ConnectionError failure)) (Begins number message) publisher old new k
             (λ one mid on begun. begins number message one mid new on begun) w.1
-        | inr w ↦ subst K (sym w.1.1) k
+        | inr w ↦ ends (reply.Refused (refusal.Send error.ConnectionBrokenSinceSenderNoLongerExists)) old new k w.1 tt
       ]
 
   -- ---- loans
 
   pub lends-loan : (loan number count : ℕ) (value : Option T) (publisher : Publisher T) (old new : Service T) → K old
-      → loan ≡ counts.loans + 1 → LendsLoan loan number count value publisher old answer new → K new
-  lends-loan loan number count value publisher old new k next (None, after, lent, (told, came)) = subst K (sym came) (record {
-    name = k.name;
-    settings = k.settings;
-    publishers = λ one is. k.publishers one (sym (changed-has one number after old.publishers) ∙ is);
-    subscribers = k.subscribers;
-    loans = λ one is. elim (joined-has one old.loans ((loan, made) ∷ []) is) [
-      | inl was ↦ k.loans one was
-      | inr new_one ↦ inr (
-        told ∙ ap (λ (it : ℕ). reply.LoanMade it) (one-has one loan made new_one),
-        sym
-            (one-has one loan made new_one) ∙ next,
-      )
-    ];
-    samples = k.samples;
-  })
-    where
-      made : Loan T
-      made = record { publisher = number; number = publisher.next; values = replicate count value }
-  lends-loan loan number count value publisher old new k next (Some why, after, lent, (told, same)) = subst K (sym same) k
+      → loan ≡ counts.loans + 1 → LendsLoan loan number count value publisher old answer new → R new
+  lends-loan loan number count value publisher old new k next (None, after, lent, (told, came)) =
+      subst (λ (it : Reply T). Kept counts origin it new) (sym told)
+      (subst (λ (it : Service T). Kept counts origin (reply.LoanMade loan) it) (sym came) (record {
+        name = k.name;
+        settings = k.settings;
+        publishers = adds-changed origin.publishers old.publishers None k.publishers number after;
+        subscribers = k.subscribers;
+        loans = adds-joined origin.loans old.loans k.loans loan
+            (record { publisher = number; number = publisher.next; values = replicate count value });
+        samples = k.samples;
+        next = next;
+      }))
+  lends-loan loan number count value publisher old new k next (Some why, after, lent, refused) =
+      ends (reply.Refused (refusal.Loan why)) old new k refused tt
 
   pub puts : (number : ℕ) (values : List T) (publisher : Publisher T) (old new : Service T) → K old
-      → Puts number values publisher old answer new → K new
+      → Puts number values publisher old answer new → R new
   puts number values publisher old new k (None, after, lent, sent) =
       sends number (record { number = publisher.next; values = values }) after (with_publisher number after old) new
       (publisher-turned number after old k) sent
-  puts number values publisher old new k (Some why, after, lent, (told, same)) = subst K (sym same) k
+  puts number values publisher old new k (Some why, after, lent, refused) =
+      ends (reply.Refused (refusal.Send (error.LoanError why))) old new k refused tt
 
   loans-fewer : (number : ℕ) (service : Service T) → K service → K (record service { loans = removed number service.loans })
   loans-fewer number service k = record {
@@ -303,46 +278,50 @@ module _ {T : Type 0} (counts : Made) (origin : Service T) (answer : Reply T) wh
     settings = k.settings;
     publishers = k.publishers;
     subscribers = k.subscribers;
-    loans = λ one is. k.loans one (filter-has one (λ (entry : ℕ × Loan T). not (entry.0 == number)) service.loans is);
+    loans = adds-filtered origin.loans service.loans None k.loans (λ (entry : ℕ × Loan T). not (entry.0 == number));
     samples = k.samples;
+    next = k.next;
   }
 
-  pub drops : (number : ℕ) (old new : Service T) → K old → new ≡ record old { loans = removed number old.loans } → K new
-  drops number old new k came = subst K (sym came) (loans-fewer number old k)
+  pub drops : (number : ℕ) (old new : Service T) → K old
+      → (answer ≡ reply.Done) × (new ≡ record old { loans = removed number old.loans }) → R new
+  drops number old new k h = ends reply.Done (record old { loans = removed number old.loans }) new (loans-fewer number old k) h tt
 
-  pub sends-loan : (number : ℕ) (loan : Loan T) (old new : Service T) → K old → SendsLoan number loan old answer new → K new
+  pub sends-loan : (number : ℕ) (loan : Loan T) (old new : Service T) → K old → SendsLoan number loan old answer new → R new
   sends-loan number loan old new k h =
-      elim (by-option (at loan.publisher old.publishers) ⊥
+      elim (by-option (at loan.publisher old.publishers) (IsSkipped old answer new)
       (λ publisher. MatchBool (is_written loan && not (is_some publisher.blocked))
       (Sends loan.publisher (sent_as loan) publisher (record old { loans = removed number old.loans }) answer new)
       (IsSkipped old answer new)) h) [
-        | inl w ↦ absurd w.1
+        | inl w ↦ ends reply.Skipped old new k w.1 tt
         | inr w ↦ sent w.0 w.2
       ]
     where
       sent : (publisher : Publisher T) → MatchBool (is_written loan && not (is_some publisher.blocked))
           (Sends loan.publisher (sent_as loan) publisher (record old { loans = removed number old.loans }) answer new)
-          (IsSkipped old answer new) → K new
+          (IsSkipped old answer new) → R new
       sent publisher h =
           elim (by-bool (is_written loan && not (is_some publisher.blocked))
           (Sends loan.publisher (sent_as loan) publisher (record old { loans = removed number old.loans }) answer new)
           (IsSkipped old answer new) h) [
             | inl w ↦ sends loan.publisher (sent_as loan) publisher (record old { loans = removed number old.loans }) new
                 (loans-fewer number old k) w.1
-            | inr w ↦ subst K (sym w.1.1) k
+            | inr w ↦ ends reply.Skipped old new k w.1 tt
           ]
 
   pub writes : (number : ℕ) (loan : Loan T) (fit : Bool) (values : List (Option T)) (old new : Service T) → K old
-      → Writes number loan fit values old answer new → K new
-  writes number loan true values old new k h = subst K (sym h.1) (record {
-    name = k.name;
-    settings = k.settings;
-    publishers = k.publishers;
-    subscribers = k.subscribers;
-    loans = λ one is. k.loans one (sym (changed-has one number (record loan { values = values }) old.loans) ∙ is);
-    samples = k.samples;
-  })
-  writes number loan false values old new k h = subst K (sym h.1) k
+      → Writes number loan fit values old answer new → R new
+  writes number loan true values old new k h =
+      ends reply.Done (record old { loans = changed number (record loan { values = values }) old.loans }) new (record {
+        name = k.name;
+        settings = k.settings;
+        publishers = k.publishers;
+        subscribers = k.subscribers;
+        loans = adds-changed origin.loans old.loans None k.loans number (record loan { values = values });
+        samples = k.samples;
+        next = tt;
+      }) h tt
+  writes number loan false values old new k h = ends reply.Skipped old new k h tt
 
   -- ---- a subscriber
 
@@ -357,8 +336,8 @@ module _ {T : Type 0} (counts : Made) (origin : Service T) (answer : Reply T) wh
   pub subscriber-updates : (buffer number : ℕ) (told : ConnectionFailure → Refusal)
       (Does : Subscriber → Service T → Reply T → Service T → Type 0)
       (subscriber : Subscriber) (old new : Service T) → K old
-      → ((one : Subscriber) (mid : Service T) → K mid → Does one mid answer new → K new)
-      → subscribing.UpdatesFirst buffer number told Does subscriber old answer new → K new
+      → ((one : Subscriber) (mid : Service T) → K mid → Does one mid answer new → R new)
+      → subscribing.UpdatesFirst buffer number told Does subscriber old answer new → R new
   subscriber-updates buffer number told Does subscriber old new k does h =
       elim (by-bool ((subscriber.seen == old.publisher_list.changes) && not subscriber.again) (Does subscriber old answer new)
       ((after : Subscriber) × (mid : Service T) × subscribing.Follows buffer number subscriber old after mid
@@ -370,47 +349,43 @@ module _ {T : Type 0} (counts : Made) (origin : Service T) (answer : Reply T) wh
     where
       followed : (after : Subscriber) (mid : Service T) → subscribing.Follows buffer number subscriber old after mid
           → MatchResult (update_answer subscriber.degradation old.publisher_list.places after.connected)
-          (λ done. Does after mid answer new) (λ failure. IsRefused (told failure) mid answer new) → K new
+          (λ done. Does after mid answer new) (λ failure. IsRefused (told failure) mid answer new) → R new
       followed after mid came told_so =
           let on : K mid = subscriber-follows buffer number subscriber old after mid k came in
           elim (by-result (update_answer subscriber.degradation old.publisher_list.places after.connected)
           (λ done. Does after mid answer new) (λ failure. IsRefused (told failure) mid answer new) told_so) [
             | inl r ↦ does after mid on r.2
-            | inr r ↦ subst K (sym r.2.1) on
+            | inr r ↦ ends (reply.Refused (told r.0)) mid new on r.2 tt
           ]
 
   takes : (number sample publisher : ℕ) (old new : Service T) → K old → sample ≡ counts.samples + 1
-      → Takes number sample publisher old answer new → K new
+      → Takes number sample publisher old answer new → R new
   takes number sample publisher old new k next (message, values, first, same, told, came) =
       let one : Sample T = record { publisher = publisher; subscriber = number; message = message } in
-      let more : Service T = record old { samples = old.samples ++ (sample, one) ∷ [] } in
-      let on : K more = record {
+      subst (λ (it : Reply T). Kept counts origin it new) (sym told)
+      (subst (λ (it : Service T). Kept counts origin (reply.Received sample values) it) (sym came) (record {
         name = k.name;
         settings = k.settings;
         publishers = k.publishers;
         subscribers = k.subscribers;
         loans = k.loans;
-        samples = λ other is. elim (joined-has other old.samples ((sample, one) ∷ []) is) [
-          | inl was ↦ k.samples other was
-          | inr new_one ↦ inr (
-            values,
-            told ∙ ap (λ (it : ℕ). reply.Received it values) (one-has other sample one new_one),
-            sym (one-has other sample one new_one) ∙ next,
-          )
-        ];
-      } in
-      subst K (sym came) (box-turned publisher number (taken (mailbox publisher number old)) more on)
+        samples = adds-joined origin.samples old.samples k.samples sample one;
+        next = next;
+      }))
 
   pub receives : (number sample : ℕ) (subscriber : Subscriber) (old new : Service T) → K old → sample ≡ counts.samples + 1
-      → Receives number sample subscriber old answer new → K new
-  receives number sample subscriber old new k next (None, is, (told, came)) =
-      subst K (sym came) (subscriber-turned number (record subscriber { expired = lasting number old subscriber.expired }) old k)
+      → Receives number sample subscriber old answer new → R new
+  receives number sample subscriber old new k next (None, is, h) =
+      ends (cond (has_samples number subscriber old) (reply.Refused (refusal.Receive ExceedsMaxBorrows)) reply.NothingWaits)
+      (with_subscriber number (record subscriber { expired = lasting number old subscriber.expired }) old) new
+      (subscriber-turned number (record subscriber { expired = lasting number old subscriber.expired }) old k) h
+      (next-of (has_samples number subscriber old) (reply.Refused (refusal.Receive ExceedsMaxBorrows)) reply.NothingWaits tt tt)
   receives number sample subscriber old new k next (Some publisher, is, took) =
       takes number sample publisher (with_subscriber number (record subscriber { expired = lasting number old subscriber.expired }) old) new
       (subscriber-turned number (record subscriber { expired = lasting number old subscriber.expired }) old k) next took
 
-  pub releases : (number : ℕ) (sample : Sample T) (old new : Service T) → K old → Releases number sample old answer new → K new
-  releases number sample old new k (told, came) =
+  pub releases : (number : ℕ) (sample : Sample T) (old new : Service T) → K old → Releases number sample old answer new → R new
+  releases number sample old new k h =
       let fewer : Service T = record old { samples = removed number old.samples } in
       let on : K fewer = record {
         name = k.name;
@@ -418,12 +393,43 @@ module _ {T : Type 0} (counts : Made) (origin : Service T) (answer : Reply T) wh
         publishers = k.publishers;
         subscribers = k.subscribers;
         loans = k.loans;
-        samples = λ one is. k.samples one (filter-has one (λ (entry : ℕ × Sample T). not (entry.0 == number)) old.samples is);
+        samples = adds-filtered origin.samples old.samples None k.samples (λ (entry : ℕ × Sample T). not (entry.0 == number));
+        next = k.next;
       } in
-      subst K (sym came)
+      ends reply.Done (with_mailbox sample.publisher sample.subscriber
+      (given_back sample.message.number (mailbox sample.publisher sample.subscriber old)) fewer) new
       (box-turned sample.publisher sample.subscriber (given_back sample.message.number (mailbox sample.publisher sample.subscriber old))
-      fewer on)
+      fewer on) h tt
 
+  pub publisher-leaves : (number : ℕ) (one : Publisher T) (old new : Service T) → K old
+      → (answer ≡ reply.Done) × (new ≡ with_publisher number one (record old { publisher_list = left number old.publisher_list }))
+      → R new
+  publisher-leaves number one old new k h =
+      ends reply.Done (with_publisher number one (record old { publisher_list = left number old.publisher_list })) new (record {
+        name = k.name;
+        settings = k.settings;
+        publishers = adds-changed origin.publishers old.publishers None k.publishers number one;
+        subscribers = k.subscribers;
+        loans = k.loans;
+        samples = k.samples;
+        next = tt;
+      }) h tt
+
+  pub subscriber-leaves : (number : ℕ) (one : Subscriber) (old new : Service T) → K old
+      → (answer ≡ reply.Done) × (new ≡ with_subscriber number one (record old { subscriber_list = left number old.subscriber_list }))
+      → R new
+  subscriber-leaves number one old new k h =
+      ends reply.Done (with_subscriber number one (record old { subscriber_list = left number old.subscriber_list })) new (record {
+        name = k.name;
+        settings = k.settings;
+        publishers = k.publishers;
+        subscribers = adds-changed origin.subscribers old.subscribers None k.subscribers number one;
+        loans = k.loans;
+        samples = k.samples;
+        next = tt;
+      }) h tt
+
+module _ {T : Type 0} (counts : Made) (origin : Service T) (answer : Reply T) where
   -- ---- ports that come and go
 
   -- how a publisher comes, where a place is free
@@ -442,116 +448,82 @@ module _ {T : Type 0} (counts : Made) (origin : Service T) (answer : Reply T) wh
       × subscribing.Follows buffer number one (record old { subscribers = old.subscribers ++ (number, one) ∷ [] }) after mid
       × (answer ≡ reply.SubscriberMade number) × (new ≡ record mid { subscriber_list = registered place number mid.subscriber_list }))
 
-  pub publisher-arrives : (number : ℕ) (one : Publisher T) (old new : Service T) → K old → number ≡ counts.publishers + 1
-      → PublisherArrives number one old answer new → K new
+  pub publisher-arrives : (number : ℕ) (one : Publisher T) (old new : Service T) → Kept counts origin reply.Done old
+      → number ≡ counts.publishers + 1
+      → PublisherArrives number one old answer new → Kept counts origin answer new
   publisher-arrives number one old new k next h =
       elim (by-bool (nat_le (2 ^ 32) (worst_case old.settings one.max_loaned_samples) || nat_le (2 ^ 32) one.room)
       (IsRefused (refusal.Publisher publisher_error.UnableToCreateDataSegment) old answer new)
       (MatchBool (list_all is_some old.publisher_list.places)
       (IsRefused (refusal.Publisher publisher_error.ExceedsMaxSupportedPublishers) old answer new)
       (PublisherComes number one old new)) h) [
-        | inl w ↦ subst K (sym w.1.1) k
+        | inl w ↦
+            ends counts origin answer (reply.Refused (refusal.Publisher publisher_error.UnableToCreateDataSegment)) old new k w.1 tt
         | inr w ↦ elim (by-bool (list_all is_some old.publisher_list.places)
             (IsRefused (refusal.Publisher publisher_error.ExceedsMaxSupportedPublishers) old answer new)
             (PublisherComes number one old new) w.1) [
-              | inl v ↦ subst K (sym v.1.1) k
+              | inl v ↦
+                  ends counts origin answer (reply.Refused (refusal.Publisher publisher_error.ExceedsMaxSupportedPublishers)) old new
+                  k v.1 tt
               | inr v ↦ comes v.1
             ]
       ]
     where
-      comes : PublisherComes number one old new → K new
-      comes (inl same) = subst K (sym same.1) k
+      comes : PublisherComes number one old new → Kept counts origin answer new
+      comes (inl refused) =
+          ends counts origin answer (reply.Refused (refusal.Publisher publisher_error.UnableToCreateDataSegment)) old new k refused tt
       comes (inr (place, free, after, mid, came, told, is)) =
           let more : Service T = record old { publishers = old.publishers ++ (number, one) ∷ [] } in
-          let on : K more = record {
-            name = k.name;
-            settings = k.settings;
-            publishers = λ other is_there. elim (joined-has other old.publishers ((number, one) ∷ []) is_there) [
-              | inl was ↦ k.publishers other was
-              | inr new_one ↦ inr (
-                told ∙ ap (λ (it : ℕ). reply.PublisherMade it) (one-has other number one new_one),
-                sym (one-has other number one new_one) ∙ next,
-              )
-            ];
-            subscribers = k.subscribers;
-            loans = k.loans;
-            samples = k.samples;
-          } in
-          let end : K mid = follows number one more after mid on came in
-          subst K (sym is) (record {
-            name = end.name;
-            settings = end.settings;
-            publishers = end.publishers;
-            subscribers = end.subscribers;
-            loans = end.loans;
-            samples = end.samples;
-          })
+          let end : Kept counts more reply.Done mid = follows counts more answer number one more after mid (itself counts more) came in
+          subst (λ (it : Reply T). Kept counts origin it new) (sym told)
+          (subst (λ (it : Service T). Kept counts origin (reply.PublisherMade number) it) (sym is) (record {
+            name = end.name ∙ k.name;
+            settings = end.settings ∙ k.settings;
+            publishers = adds-on origin.publishers more.publishers mid.publishers (Some number) end.publishers
+                (adds-joined origin.publishers old.publishers k.publishers number one);
+            subscribers = adds-on origin.subscribers old.subscribers mid.subscribers None end.subscribers k.subscribers;
+            loans = adds-on origin.loans old.loans mid.loans None end.loans k.loans;
+            samples = adds-on origin.samples old.samples mid.samples None end.samples k.samples;
+            next = next;
+          }))
 
-  pub subscriber-arrives : (buffer number : ℕ) (one : Subscriber) (old new : Service T) → K old → number ≡ counts.subscribers + 1
-      → SubscriberArrives buffer number one old answer new → K new
+  pub subscriber-arrives : (buffer number : ℕ) (one : Subscriber) (old new : Service T) → Kept counts origin reply.Done old
+      → number ≡ counts.subscribers + 1
+      → SubscriberArrives buffer number one old answer new → Kept counts origin answer new
   subscriber-arrives buffer number one old new k next h =
       elim (by-bool (nat_lt old.settings.subscriber_max_buffer_size one.buffer_size)
       (IsRefused (refusal.Subscriber subscriber_error.BufferSizeExceedsMaxSupportedBufferSizeOfService) old answer new)
       (MatchBool (list_all is_some old.subscriber_list.places)
       (IsRefused (refusal.Subscriber subscriber_error.ExceedsMaxSupportedSubscribers) old answer new)
       (SubscriberComes buffer number one old new)) h) [
-        | inl w ↦ subst K (sym w.1.1) k
+        | inl w ↦
+            ends counts origin answer (reply.Refused (refusal.Subscriber subscriber_error.BufferSizeExceedsMaxSupportedBufferSizeOfService)) old new
+            k w.1 tt
         | inr w ↦ elim (by-bool (list_all is_some old.subscriber_list.places)
             (IsRefused (refusal.Subscriber subscriber_error.ExceedsMaxSupportedSubscribers) old answer new)
             (SubscriberComes buffer number one old new) w.1) [
-              | inl v ↦ subst K (sym v.1.1) k
+              | inl v ↦
+                  ends counts origin answer (reply.Refused (refusal.Subscriber subscriber_error.ExceedsMaxSupportedSubscribers)) old new
+                  k v.1 tt
               | inr v ↦ comes v.1
             ]
       ]
     where
-      comes : SubscriberComes buffer number one old new → K new
-      comes (inl same) = subst K (sym same.1) k
+      comes : SubscriberComes buffer number one old new → Kept counts origin answer new
+      comes (inl refused) =
+          ends counts origin answer (reply.Refused (refusal.Subscriber subscriber_error.OutOfMemory)) old new k refused tt
       comes (inr (place, free, after, mid, came, told, is)) =
           let more : Service T = record old { subscribers = old.subscribers ++ (number, one) ∷ [] } in
-          let on : K more = record {
-            name = k.name;
-            settings = k.settings;
-            publishers = k.publishers;
-            subscribers = λ other is_there. elim (joined-has other old.subscribers ((number, one) ∷ []) is_there) [
-              | inl was ↦ k.subscribers other was
-              | inr new_one ↦ inr (
-                told ∙ ap (λ (it : ℕ). reply.SubscriberMade it) (one-has other number one new_one),
-                sym (one-has other number one new_one) ∙ next,
-              )
-            ];
-            loans = k.loans;
-            samples = k.samples;
-          } in
-          let end : K mid = subscriber-follows buffer number one more after mid on came in
-          subst K (sym is) (record {
-            name = end.name;
-            settings = end.settings;
-            publishers = end.publishers;
-            subscribers = end.subscribers;
-            loans = end.loans;
-            samples = end.samples;
-          })
-
-  pub publisher-leaves : (number : ℕ) (one : Publisher T) (old new : Service T) → K old
-      → new ≡ with_publisher number one (record old { publisher_list = left number old.publisher_list })
-      → K new
-  publisher-leaves number one old new k came = subst K (sym came) (record {
-    name = k.name;
-    settings = k.settings;
-    publishers = λ other is. k.publishers other (sym (changed-has other number one old.publishers) ∙ is);
-    subscribers = k.subscribers;
-    loans = k.loans;
-    samples = k.samples;
-  })
-
-  pub subscriber-leaves : (number : ℕ) (one : Subscriber) (old new : Service T) → K old
-      → new ≡ with_subscriber number one (record old { subscriber_list = left number old.subscriber_list })
-      → K new
-  subscriber-leaves number one old new k came = subst K (sym came) (record {
-    name = k.name;
-    settings = k.settings;
-    publishers = k.publishers;
-    subscribers = λ other is. k.subscribers other (sym (changed-has other number one old.subscribers) ∙ is);
-    loans = k.loans;
-    samples = k.samples;
-  })
+          let end : Kept counts more reply.Done mid =
+          subscriber-follows counts more answer buffer number one more after mid (itself counts more) came in
+          subst (λ (it : Reply T). Kept counts origin it new) (sym told)
+          (subst (λ (it : Service T). Kept counts origin (reply.SubscriberMade number) it) (sym is) (record {
+            name = end.name ∙ k.name;
+            settings = end.settings ∙ k.settings;
+            publishers = adds-on origin.publishers old.publishers mid.publishers None end.publishers k.publishers;
+            subscribers = adds-on origin.subscribers more.subscribers mid.subscribers (Some number) end.subscribers
+                (adds-joined origin.subscribers old.subscribers k.subscribers number one);
+            loans = adds-on origin.loans old.loans mid.loans None end.loans k.loans;
+            samples = adds-on origin.samples old.samples mid.samples None end.samples k.samples;
+            next = next;
+          }))

@@ -13,11 +13,11 @@ use Rattle.iox_machine.specs.State.{State, Factory, new_state, with_phase, repla
 use Rattle.iox_machine.specs.Table.{at, removed}
 use Rattle.iox_machine.proofs.Agreed.{Settled, create-view, open-view, either-view, new-stands, step-stands, runs-stand}
 use Rattle.iox_machine.proofs.Cases.{same-some}
-use Rattle.iox_machine.proofs.Kept.{has}
+use Rattle.iox_machine.proofs.Counts.{has, one_if}
 use Rattle.iox_machine.proofs.Moving.{IsClosed, closed}
 use Rattle.iox_machine.proofs.Names.{at-off, service-at, and-true, name-itself}
 use Rattle.iox_machine.proofs.Ported.{IsBeside, ports-move}
-use Rattle.iox_machine.proofs.Shares.{more_of, one_if}
+use Rattle.iox_machine.proofs.Shares.{more_of}
 use Rattle.iox_machine.proofs.Standing.{Apart, removed-none, tally}
 use Rattle.iox_machine.proofs.Stands.{Stands, IsOpened, opened-so}
 use Rattle.iox_command.specs.NegotiateBase.DescribeBase.declared.message_type.MessageTypeDetails.{MessageTypeDetails}

@@ -21,6 +21,7 @@ mod OrderSends
 mod OrderCommands
 mod OrderLaws
 mod Swapped
+mod Counts
 mod Kept
 mod Calls
 mod Ported
@@ -36,3 +37,5 @@ mod Left
 mod Updated
 mod Own
 mod Alone
+mod Counted
+mod Going

@@ -144,11 +144,13 @@ module _ {T : Type 0} (p s : ℕ) (G : List ℕ → StaticConfig → Message T �
         (alike-goes p s G sent received old answer service after
         (alike-by p s one.publisher service after (λ e. eqb-false one.publisher p other (sym e))
         (by-sends-loan loan one service answer after did)))
-    | inl same ↦ elim (by-option (at one.publisher service.publishers) ⊥
+    | inl same ↦ elim (by-option (at one.publisher service.publishers) (IsSkipped service answer after)
         (λ publisher. MatchBool (is_written one && not (is_some publisher.blocked))
         (Sends one.publisher (sent_as one) publisher (record service { loans = removed loan service.loans }) answer after)
         (IsSkipped service answer after)) did) [
-          | inl w ↦ absurd w.1
+          | inl w ↦ quiet-goes old answer (begun_by p (command.Send loan) old answer) service after
+              (found ∙ chosen-silent (one.publisher == p) (has_begun answer) (Some (sent_as one)) (ap has_begun w.1.0))
+              (skip-goes p s G sent received old answer service after w.1)
           | inr w ↦ elim (by-bool (is_written one && not (is_some w.0.blocked))
               (Sends one.publisher (sent_as one) w.0 (record service { loans = removed loan service.loans }) answer after)
               (IsSkipped service answer after) w.2) [

@@ -20,7 +20,7 @@ use Rattle.iox_machine.specs.State.{State, Made, Factory, AtOne, is_service_of, 
 use Rattle.iox_machine.specs.SubscriberUpdate as subscribing
 use Rattle.iox_machine.specs.Table.{at, removed}
 use Rattle.iox_machine.proofs.Cases.{by-option, chosen, never-some}
-use Rattle.iox_machine.proofs.Kept.{Kept, itself, publisher-turned, updates-first, goes-on, lends-loan, puts, drops, sends-loan, writes, subscriber-updates, receives, releases, publisher-arrives, subscriber-arrives, publisher-leaves, subscriber-leaves}
+use Rattle.iox_machine.proofs.Kept.{Kept, IsNext, itself, ends, publisher-turned, updates-first, goes-on, lends-loan, puts, drops, sends-loan, writes, subscriber-updates, receives, releases, publisher-arrives, subscriber-arrives, publisher-leaves, subscriber-leaves}
 use Rattle.iox_machine.proofs.Moving.{at-one}
 use Rattle.iox_machine.proofs.Names.{service-at}
 use Rattle.iox_command.specs.DomainValues.declared.port_error.ReceiveError.TheVariants as receive_error
@@ -81,8 +81,9 @@ module _ {T : Type 0} where
   by-first asked found old so service one first is pattern name off =
       sym (ap (λ (o : Option (Service T)). option_map_or (is_of pattern name) o false) first) ∙ (sym (so pattern name) ∙ off)
 
-  pub stays : (made : Made) (service after : Service T) (answer : Reply T) → after ≡ service → Kept made service answer after
-  stays made service after answer same = subst (λ (it : Service T). Kept made service answer it) (sym same) (itself made service answer)
+  pub stays : (made : Made) (service after : Service T) (answer told : Reply T) → (answer ≡ told) × (after ≡ service) → IsNext made told
+      → Kept made service answer after
+  stays made service after answer told h next = ends made service answer told service after (itself made service) h next
 
   at-free : (asked : Command T) (number : ℕ) (Does : Publisher T → Service T → Reply T → Service T → Type 0) (old : State T)
       (answer : Reply T) (new : State T)
@@ -97,7 +98,7 @@ module _ {T : Type 0} where
       (λ one service after did. elim
       (by-option one.blocked (Does one service answer after) (λ send. IsSkipped service answer after) did) [
         | inl w ↦ does one service after w.1
-        | inr w ↦ stays old.made service after answer w.2.1
+        | inr w ↦ stays old.made service after answer reply.Skipped w.2 tt
       ]) h
 
   at-blocked : (asked : Command T) (number : ℕ) (Does : Publisher T → Send T → Service T → Reply T → Service T → Type 0) (old : State T)
@@ -114,7 +115,7 @@ module _ {T : Type 0} where
       (by-first asked (publisher_in number) old so)
       (λ one service after did. elim
       (by-option one.blocked (IsSkipped service answer after) (λ send. Does one send service answer after) did) [
-        | inl w ↦ stays old.made service after answer w.1.1
+        | inl w ↦ stays old.made service after answer reply.Skipped w.1 tt
         | inr w ↦ does one w.0 service after w.2
       ]) h
 
@@ -179,63 +180,64 @@ module _ {T : Type 0} where
         (new_publisher factory options service.settings) service) old answer new (λ pattern name. refl)
         (λ service after did. publisher-arrives old.made service answer (old.made.publishers + 1)
         (new_publisher factory options service.settings)
-        service after (itself old.made service answer) refl did) h
+        service after (itself old.made service) refl did) h
     ports-move (command.Subscriber factory options) old answer new is h =
         at-factory (command.Subscriber factory options) types IsDefault buffer factory
         (λ (service : Service T). SubscriberArrives buffer (old.made.subscribers + 1)
         (new_subscriber factory options service.settings) service) old answer new (λ pattern name. refl)
         (λ service after did. subscriber-arrives old.made service answer buffer (old.made.subscribers + 1)
-        (new_subscriber factory options service.settings) service after (itself old.made service answer) refl did) h
+        (new_subscriber factory options service.settings) service after (itself old.made service) refl did) h
     ports-move (command.Loan publisher count) old answer new is (value, default, h) =
         at-free (command.Loan publisher count) publisher (LendsLoan (old.made.loans + 1) publisher count (Some value)) old answer new
         (λ pattern name. refl)
         (λ one service after did. lends-loan old.made service answer (old.made.loans + 1) publisher count (Some value) one service after
-        (itself old.made service answer) refl did) h
+        (itself old.made service) refl did) h
     ports-move (command.LoanUninit publisher count) old answer new is h =
         at-free (command.LoanUninit publisher count) publisher (LendsLoan (old.made.loans + 1) publisher count None) old answer new
         (λ pattern name. refl)
         (λ one service after did. lends-loan old.made service answer (old.made.loans + 1) publisher count None one service after
-        (itself old.made service answer) refl did) h
+        (itself old.made service) refl did) h
     ports-move (command.Set loan place value) old answer new is h =
         moves (command.Set loan place value) (λ (service : Service T). at loan service.loans)
         (λ (one : Loan T). Writes loan one (is_written one && nat_lt place (length one.values))
         (set one.values place (Some value))) old answer new (by-first (command.Set loan place value)
         (λ (service : Service T). at loan service.loans) old (λ pattern name. refl))
         (λ one service after did. writes old.made service answer loan one (is_written one && nat_lt place (length one.values))
-        (set one.values place (Some value)) service after (itself old.made service answer) did) h
+        (set one.values place (Some value)) service after (itself old.made service) did) h
     ports-move (command.Fill loan values) old answer new is h =
         moves (command.Fill loan values) (λ (service : Service T). at loan service.loans)
         (λ (one : Loan T). Writes loan one (length values == length one.values) (map Some values)) old answer new
         (by-first (command.Fill loan values) (λ (service : Service T). at loan service.loans) old (λ pattern name. refl))
         (λ one service after did. writes old.made service answer loan one (length values == length one.values)
         (map Some values) service after
-        (itself old.made service answer) did) h
+        (itself old.made service) did) h
     ports-move (command.Drop loan) old answer new is h =
         moves (command.Drop loan) (λ (service : Service T). at loan service.loans)
         (λ (one : Loan T) (service : Service T) (answered : Reply T) (after : Service T). (answered ≡ reply.Done)
         × (after ≡ record service { loans = removed loan service.loans })) old answer new
         (by-first (command.Drop loan) (λ (service : Service T). at loan service.loans) old (λ pattern name. refl))
-        (λ one service after did. drops old.made service answer loan service after (itself old.made service answer) did.1) h
+        (λ one service after did. drops old.made service answer loan service after (itself old.made service) did) h
     ports-move (command.Send loan) old answer new is h =
         moves (command.Send loan) (λ (service : Service T). at loan service.loans) (SendsLoan loan) old answer new
         (by-first (command.Send loan) (λ (service : Service T). at loan service.loans) old (λ pattern name. refl))
-        (λ one service after did. sends-loan old.made service answer loan one service after (itself old.made service answer) did) h
+        (λ one service after did. sends-loan old.made service answer loan one service after (itself old.made service) did) h
     ports-move (command.Put publisher values) old answer new is h =
         at-free (command.Put publisher values) publisher (Puts publisher values) old answer new (λ pattern name. refl)
-        (λ one service after did. puts old.made service answer publisher values one service after (itself old.made service answer) did) h
+        (λ one service after did. puts old.made service answer publisher values one service after (itself old.made service) did) h
     ports-move (command.Retry publisher nanoseconds) old answer new is h =
         at-blocked (command.Retry publisher nanoseconds) publisher
         (λ (one : Publisher T) (send : Send T). GoesOn publisher one
         (record send { retries = send.retries + 1; elapsed = nanoseconds })) old answer new (λ pattern name. refl)
         (λ one send service after did. goes-on old.made service answer publisher one
-        (record send { retries = send.retries + 1; elapsed = nanoseconds }) service after (itself old.made service answer) did) h
+        (record send { retries = send.retries + 1; elapsed = nanoseconds }) service after (itself old.made service) did) h
     ports-move (command.GiveUp publisher) old answer new is h =
         at-blocked (command.GiveUp publisher) publisher
         (λ (one : Publisher T) (send : Send T) (service : Service T) (answered : Reply T) (after : Service T).
         (answered ≡ reply.Delivered send.delivered)
         × (after ≡ with_publisher publisher (record one { blocked = None }) service)) old answer new (λ pattern name. refl)
-        (λ one send service after did. subst (λ (it : Service T). Kept old.made service answer it) (sym did.1)
-        (publisher-turned old.made service answer publisher (record one { blocked = None }) service (itself old.made service answer))) h
+        (λ one send service after did. ends old.made service answer (reply.Delivered send.delivered)
+        (with_publisher publisher (record one { blocked = None }) service) after
+        (publisher-turned old.made service answer publisher (record one { blocked = None }) service (itself old.made service)) did tt) h
     ports-move (command.Receive subscriber) old answer new is h =
         moves (command.Receive subscriber) (subscriber_in subscriber)
         (subscribing.UpdatesFirst buffer subscriber (λ failure. refusal.Receive (receive_error.ConnectionFailure failure))
@@ -243,7 +245,7 @@ module _ {T : Type 0} where
         (by-first (command.Receive subscriber) (subscriber_in subscriber) old (λ pattern name. refl))
         (λ one service after did. subscriber-updates old.made service answer buffer subscriber
         (λ failure. refusal.Receive (receive_error.ConnectionFailure failure)) (Receives subscriber (old.made.samples + 1)) one service
-        after (itself old.made service answer)
+        after (itself old.made service)
         (λ next mid k took. receives old.made service answer subscriber (old.made.samples + 1) next mid after k refl took) did) h
     ports-move (command.Read sample) old answer new is h =
         moves (command.Read sample) (λ (service : Service T). at sample service.samples)
@@ -251,11 +253,11 @@ module _ {T : Type 0} where
         (vec_items values ≡ one.message.values)
         × (answered ≡ reply.Values values) × (after ≡ service)) old answer new
         (by-first (command.Read sample) (λ (service : Service T). at sample service.samples) old (λ pattern name. refl))
-        (λ one service after did. stays old.made service after answer did.3) h
+        (λ one service after did. stays old.made service after answer (reply.Values did.0) (did.2, did.3) tt) h
     ports-move (command.Release sample) old answer new is h =
         moves (command.Release sample) (λ (service : Service T). at sample service.samples) (Releases sample) old answer new
         (by-first (command.Release sample) (λ (service : Service T). at sample service.samples) old (λ pattern name. refl))
-        (λ one service after did. releases old.made service answer sample one service after (itself old.made service answer) did) h
+        (λ one service after did. releases old.made service answer sample one service after (itself old.made service) did) h
     ports-move (command.Update (port.Publisher number)) old answer new is h =
         at-free (command.Update (port.Publisher number)) number
         (publishing.UpdatesFirst number refusal.Connection
@@ -263,8 +265,8 @@ module _ {T : Type 0} where
         old answer new (λ pattern name. refl)
         (λ one service after did. updates-first old.made service answer number refusal.Connection
         (λ (it : Publisher T) (mid : Service T) (answered : Reply T) (end : Service T). (answered ≡ reply.Done) × (end ≡ mid)) one service
-        after (itself old.made service answer)
-        (λ it mid k done. subst (λ (end : Service T). Kept old.made service answer end) (sym done.1) k) did) h
+        after (itself old.made service)
+        (λ it mid k done. ends old.made service answer reply.Done mid after k done tt) did) h
     ports-move (command.Update (port.Subscriber number)) old answer new is h =
         moves (command.Update (port.Subscriber number)) (subscriber_in number)
         (subscribing.UpdatesFirst buffer number refusal.Connection
@@ -272,15 +274,15 @@ module _ {T : Type 0} where
         old answer new (by-first (command.Update (port.Subscriber number)) (subscriber_in number) old (λ pattern name. refl))
         (λ one service after did. subscriber-updates old.made service answer buffer number refusal.Connection
         (λ (it : Subscriber) (mid : Service T) (answered : Reply T) (end : Service T). (answered ≡ reply.Done) × (end ≡ mid)) one service
-        after (itself old.made service answer)
-        (λ it mid k done. subst (λ (end : Service T). Kept old.made service answer end) (sym done.1) k) did) h
+        after (itself old.made service)
+        (λ it mid k done. ends old.made service answer reply.Done mid after k done tt) did) h
     ports-move (command.Leave (port.Publisher number)) old answer new is h =
         at-free (command.Leave (port.Publisher number)) number
         (λ (one : Publisher T) (service : Service T) (answered : Reply T) (after : Service T). (answered ≡ reply.Done)
         × (after ≡ with_publisher number (record one { stands = false })
         (record service { publisher_list = left number service.publisher_list }))) old answer new (λ pattern name. refl)
         (λ one service after did. publisher-leaves old.made service answer number (record one { stands = false }) service after
-        (itself old.made service answer) did.1) h
+        (itself old.made service) did) h
     ports-move (command.Leave (port.Subscriber number)) old answer new is h =
         moves (command.Leave (port.Subscriber number)) (subscriber_in number)
         (λ (one : Subscriber) (service : Service T) (answered : Reply T) (after : Service T). (answered ≡ reply.Done)
@@ -288,7 +290,7 @@ module _ {T : Type 0} where
         (record service { subscriber_list = left number service.subscriber_list }))) old answer new
         (by-first (command.Leave (port.Subscriber number)) (subscriber_in number) old (λ pattern name. refl))
         (λ one service after did. subscriber-leaves old.made service answer number (record one { stands = false }) service after
-        (itself old.made service answer) did.1) h
+        (itself old.made service) did) h
     ports-move (command.Has subscriber) old answer new is h =
         moves (command.Has subscriber) (subscriber_in subscriber)
         (subscribing.UpdatesFirst buffer subscriber refusal.Connection
@@ -297,5 +299,5 @@ module _ {T : Type 0} where
         × (after ≡ service))) old answer new (by-first (command.Has subscriber) (subscriber_in subscriber) old (λ pattern name. refl))
         (λ one service after did. subscriber-updates old.made service answer buffer subscriber refusal.Connection
         (λ (it : Subscriber) (mid : Service T) (answered : Reply T) (end : Service T).
-        (answered ≡ reply.Has (has_samples subscriber it mid)) × (end ≡ mid)) one service after (itself old.made service answer)
-        (λ it mid k done. subst (λ (end : Service T). Kept old.made service answer end) (sym done.1) k) did) h
+        (answered ≡ reply.Has (has_samples subscriber it mid)) × (end ≡ mid)) one service after (itself old.made service)
+        (λ it mid k done. ends old.made service answer (reply.Has (has_samples subscriber it mid)) mid after k done tt) did) h

@@ -6,6 +6,7 @@ use Rattle.std.specs.Prelude.{◌==◌, nat_le, nat_lt}
 use Rattle.iox_machine.specs.Agreement.{Agreement, are_within_limits}
 use Rattle.iox_machine.specs.Asked.{settings_of}
 use Rattle.iox_machine.specs.Phase.{Node, Own, Foreign, Phase, Absent, BeingMade, Published, Emptied, same_pattern, same_node, is_in, entered, left, removed_by, closed_by, acted}
+use Rattle.iox_machine.proofs.Counts.{one_if}
 use Rattle.iox_machine.proofs.Phases.{chosen-phase}
 use Rattle.iox_command.specs.NegotiateBase.DescribeBase.declared.message_type.MessageTypeDetails.{MessageTypeDetails}
 use Rattle.iox_command.specs.NegotiateBase.DescribeBase.declared.pattern.MessagingPattern.{MessagingPattern}
@@ -29,10 +30,6 @@ Counts f (Absent lives) = (m : ℕ) → f m ≡ 0
 Counts f (BeingMade life by) = (m : ℕ) → f m ≡ 0
 Counts f (Published life agreed nodes) = Full nodes × ((m : ℕ) → share (Own m) nodes ≡ f m)
 Counts f (Emptied life agreed by) = (m : ℕ) → f m ≡ 0
-
--- one, if this is so
-abbrev pub one_if : Bool → ℕ
-one_if b = cond b 1 0
 
 node-is : (one other : Node) → same_node one other ≡ true → one ≡ other
 node-is (Own one) (Own other) e = ap Own (eqb-true one other e)

@@ -144,11 +144,11 @@ module _ {T : Type 0} where
 
   sends-loan-skips : (number : ℕ) (loan : Loan T) (old new : Service T) → SendsLoan number loan old skipped new → new ≡ old
   sends-loan-skips number loan old new h =
-      elim (by-option (at loan.publisher old.publishers) ⊥
+      elim (by-option (at loan.publisher old.publishers) (IsSkipped old skipped new)
       (λ publisher. MatchBool (is_written loan && not (is_some publisher.blocked))
       (Sends loan.publisher (sent_as loan) publisher (record old { loans = removed number old.loans }) skipped new)
       (IsSkipped old skipped new)) h) [
-        | inl w ↦ absurd w.1
+        | inl w ↦ w.1.1
         | inr w ↦ sent w.0 w.2
       ]
     where

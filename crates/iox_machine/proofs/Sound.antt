@@ -393,11 +393,11 @@ module _ {T : Type 0} (Good : ℕ → Message T → Type 0) (Fine : ℕ → Samp
       → Good loan.publisher (sent_as loan))
       → SendsLoan number loan old answer new → Sound new
   sends-loan number loan old answer new sound good h =
-      elim (by-option (at loan.publisher old.publishers) ⊥
+      elim (by-option (at loan.publisher old.publishers) (IsSkipped old answer new)
       (λ publisher. MatchBool (is_written loan && not (is_some publisher.blocked))
       (Sends loan.publisher (sent_as loan) publisher (record old { loans = removed number old.loans }) answer new)
       (IsSkipped old answer new)) h) [
-        | inl w ↦ absurd w.1
+        | inl w ↦ subst Sound (sym w.1.1) sound
         | inr w ↦ sent w.0 w.1 w.2
       ]
     where

@@ -12,10 +12,10 @@ use Rattle.iox_machine.specs.Service.{Service}
 use Rattle.iox_machine.specs.State.{Factory}
 use Rattle.iox_machine.specs.Table.{at, removed}
 use Rattle.iox_machine.proofs.Cases.{same-some, never-some}
-use Rattle.iox_machine.proofs.Kept.{has, joined-has, one-has, filter-has}
+use Rattle.iox_machine.proofs.Counts.{has, joined-has, one-has, filter-has, one_if}
 use Rattle.iox_machine.proofs.Lists.{all-weaker}
 use Rattle.iox_machine.proofs.Phases.{chosen-phase, left-by-phase, each-all, agreed-closed, agreed-acted}
-use Rattle.iox_machine.proofs.Shares.{Counts, one_if, more_of, counts-acted, counts-entered, counts-made, counts-closed}
+use Rattle.iox_machine.proofs.Shares.{Counts, more_of, counts-acted, counts-entered, counts-made, counts-closed}
 use Rattle.iox_command.specs.NegotiateBase.DescribeBase.declared.message_type.MessageTypeDetails.{MessageTypeDetails}
 use Rattle.iox_command.specs.NegotiateBase.DescribeBase.declared.pattern.MessagingPattern.{MessagingPattern}
 use Rattle.iox_command.specs.NegotiateBase.DescribeSettings.Agreement as described

@@ -13,12 +13,12 @@ use Rattle.iox_machine.specs.Service.{Service, new_service}
 use Rattle.iox_machine.specs.State.{State, Made, Factory, counted, with_phase, is_service_of, same_name, replaced}
 use Rattle.iox_machine.proofs.Beginning.{or-first, or-second}
 use Rattle.iox_machine.proofs.Cases.{same-some}
-use Rattle.iox_machine.proofs.Kept.{has}
+use Rattle.iox_machine.proofs.Counts.{has, one_if}
 use Rattle.iox_machine.proofs.Lists.{all-weaker, all-joined, all-filtered}
 use Rattle.iox_machine.proofs.Moving.{replaced-keeps}
 use Rattle.iox_machine.proofs.Names.{name-turned, and-true, phases-where, service-at}
 use Rattle.iox_machine.proofs.Ported.{IsBeside}
-use Rattle.iox_machine.proofs.Shares.{one_if}
+use Rattle.iox_machine.proofs.Shares.{}
 use Rattle.iox_machine.proofs.Standing.{both-false, tally, Apart, Linked, Fits, absurd-count}
 use Rattle.iox_command.specs.NegotiateBase.DescribeBase.declared.pattern.MessagingPattern.{MessagingPattern}
 use Rattle.iox_command.specs.NegotiateBase.DescribeBase.declared.pattern.MessagingPattern.TheVariants as messaging

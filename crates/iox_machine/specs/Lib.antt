@@ -26,3 +26,5 @@ pub mod MessageLaws
 pub mod AgreementLaws
 pub mod UpdateLaws
 pub mod IndependenceLaws
+pub mod NumberLaws
+pub mod GoingLaws

@@ -143,7 +143,7 @@ swapped_commands =
     ∷ command.Receive 1
     ∷ []
 
--- Of two messages that one is received first which was sent first, not which was lent first.
+-- A new machine may answer so: of two messages that one is received first which was sent first, not which was lent first.
 abbrev pub OrderIsOfSends : Type 0
 OrderIsOfSends = (buffer : ℕ) (first second : Vec ℕ) → vec_items first ≡ 1 ∷ [] → vec_items second ≡ 2 ∷ []
     → Answers number_types (λ value. value ≡ 0) buffer swapped_commands false

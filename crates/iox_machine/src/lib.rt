@@ -11,19 +11,22 @@
 
 ghost use Rattle.iox_machine.specs.AgreementLaws.{AgreementIsDescribed, AgreementStays, CreatesAsDescribed, LivesStartAnew};
 ghost use Rattle.iox_machine.specs.AgreementLaws.{OneAgreement, ServicesStartEmpty};
+ghost use Rattle.iox_machine.specs.GoingLaws.{EachIsAnswered};
 ghost use Rattle.iox_machine.specs.IndependenceLaws.{OthersAreLeft, ServicesAreAsIfAlone};
 ghost use Rattle.iox_machine.specs.Laws.{PutAtUnknownIsSkipped, OverflowDropsTheOldest};
 ghost use Rattle.iox_machine.specs.MessageLaws.{HeldIsRead, OrderIsOfSends, ReceivedInOrder, ReceivedWasSent};
+ghost use Rattle.iox_machine.specs.NumberLaws.{NumbersGoUp, NumbersNameOne};
 ghost use Rattle.iox_machine.specs.RunLaws.{MessagesWereSent, RefusedChangesNothing};
 ghost use Rattle.iox_machine.specs.RunLaws.{SamplesReadTheSame, SizesAreAgreed, SkippedChangesNothing};
 ghost use Rattle.iox_machine.specs.UpdateLaws.{PublisherIsUpdated, SubscriberIsUpdated};
 
-/// A new machine answers a put at any publisher by skipping it.
+/// A new machine answers a put at any publisher by skipping it, and in no other way.
 pub fn put_at_unknown_is_skipped()
     ensures { PutAtUnknownIsSkipped }
 {}
 
-/// The first of three messages is dropped where two may wait; the other two are received, and then nothing waits.
+/// A worked script: a new machine may answer it so that the first of three messages is dropped where two may wait, the other two are
+/// received, and then nothing waits.
 pub fn overflow_drops_the_oldest()
     ensures { OverflowDropsTheOldest }
 {}
@@ -55,6 +58,26 @@ pub fn refused_changes_nothing<T: Default>()
     ensures { RefusedChangesNothing T.is_default }
 {}
 
+/// Whatever stands, each command has an answer: the machine never stands still. Of a loan that is written there must be a default value,
+/// and what a receive or a read tells must fit in a vector.
+pub fn each_command_is_answered<T: Default>()
+    ensures { EachIsAnswered T.is_default }
+{}
+
+// ---- numbers
+
+/// In every run of a new machine the numbers that replies tell are 1, 2, 3 and so on, in this order: those of nodes by themselves, and so
+/// those of factories, publishers, subscribers, loans and samples. So no number of a kind is told twice.
+pub fn numbers_go_up<T: Default>()
+    ensures { NumbersGoUp T.is_default }
+{}
+
+/// In every run of a new machine no two factories go by one number, nor do two publishers, two subscribers, two loans that are out, or two
+/// samples that are held, be they of one service or of two. Each goes by a number that a reply told.
+pub fn numbers_name_one<T: Default>()
+    ensures { NumbersNameOne T.is_default }
+{}
+
 // ---- from whom a subscriber has its messages, in which order, and for how long
 
 /// What a subscriber receives are the values of a message of which the send began earlier in the run, by a publisher of the subscriber's
@@ -74,7 +97,8 @@ pub fn held_is_read<T: Default>()
     ensures { HeldIsRead T.is_default }
 {}
 
-/// Of two messages that one is received first which was sent first, though it was lent last.
+/// A worked script: a new machine may answer it so that of two messages that one is received first which was sent first, though it was
+/// lent last.
 pub fn order_is_of_sends()
     ensures { OrderIsOfSends }
 {}

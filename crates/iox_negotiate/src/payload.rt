@@ -1,6 +1,6 @@
 //! What messages carry: a type, or a slice of one.
-ghost use Rattle.std.specs.Prelude.{◌≡◌, codes};
-ghost use Rattle.iox_negotiate_base.specs.DescribeBase.Detail.{Detail, detail};
+ghost use Rattle.std.specs.Prelude.{◌≡◌, ◌*◌, ◌-◌, ◌^◌, codes, min, take};
+ghost use Rattle.iox_negotiate_base.specs.DescribeBase.Detail.{Detail, array_name, detail};
 ghost use Rattle.iox_negotiate_base.specs.DescribeBase.declared.type_detail.TypeVariant.TheVariants.{FixedSize, Dynamic};
 ghost use Rattle.iox_negotiate.specs.Types.{types_of, no_header, aligned};
 
@@ -158,6 +158,15 @@ impl Payload for char {
 
     fn type_detail() -> TypeDetail {
         <char as ZeroCopySend>::type_detail(TypeVariant::FixedSize)
+    }
+}
+
+/// An array as one value: its name is `[T; N]`, of which it has the first 255 bytes, and its size is that of all elements.
+impl<T: ZeroCopySend, const N: usize> Payload for [T; N] {
+    ghost detail = { detail FixedSize (take 255 (array_name T.name N)) (min (T.size * N) (2 ^ 64 - 1)) T.alignment };
+
+    fn type_detail() -> TypeDetail {
+        <[T; N] as ZeroCopySend>::type_detail(TypeVariant::FixedSize)
     }
 }
 

@@ -1,8 +1,9 @@
 -- What the steps of foreign nodes find in a table, and what they leave.
 use Rattle.std.specs.Prelude.{ℕ, ◌≡◌, ◌-◌, ◌^◌, ◌↔◌, Bool, true, false, not, ◌&&◌, Option, None, Some, is_some, Result, Ok, Err, nat_eq, IsTrue, if◌then◌else◌}
 use Rattle.std.specs.declared.alloc.AllocError.{AllocError}
+use Rattle.iox_negotiate_base.specs.DescribeBase.Hash.{service_hash_of}
 use Rattle.iox_negotiate_base.specs.DescribeBase.declared.hash.ServiceHash.{ServiceHash}
-use Rattle.iox_negotiate_base.specs.DescribeSettings.Agreement.{Agreement, max_nodes_of}
+use Rattle.iox_negotiate_base.specs.DescribeSettings.Agreement.{Agreement, max_nodes_of, pattern_of}
 use Rattle.iox_negotiate_base.specs.Describe.Line.{line}
 use Rattle.iox_negotiate_base.specs.Describe.Within.{IsWithinLimits}
 use Rattle.iox_negotiate_table.specs.declared.node.Node.TheVariants.{Foreign}
@@ -38,16 +39,18 @@ abbrev pub published_number : Option Entry → Option ℕ
 published_number (Some (Described number bytes)) = Some number
 published_number entry = None
 
--- the description is of this hash, and within the limits
+-- The description is within the limits, and of the service that lies under this hash: its pattern and its name have the hash, and it
+-- states no other.
 abbrev pub IsFor : ServiceHash → Agreement → Type 0
-IsFor hash agreed = IsWithinLimits agreed × (agreed.service_hash ≡ hash)
+IsFor hash agreed =
+    IsWithinLimits agreed × (agreed.service_hash ≡ hash) × (service_hash_of (pattern_of agreed.settings) agreed.name ≡ hash)
 
 -- the service stands, with this foreign node in it
 abbrev pub with_service : ServiceHash → ℕ → ℕ → Agreement → Contents → Contents
 with_service hash number node agreed table =
     with_entry hash (Described number (line agreed)) (with_new_segment hash number (Open (first_foreign node (max_nodes_of agreed.settings))) table)
 
--- where the node has the lock, its description is published, if it is one for this hash
+-- where the node has the lock, its description is published, if it is one of the service under this hash
 abbrev pub PublishesForeign : Option ℕ → ServiceHash → ℕ → Agreement → Contents → Result (Unit {0}) AllocError → Contents → Type 0
 PublishesForeign (Some number) hash node agreed old result new =
     (fits : Bool) × (IsTrue fits ↔ IsFor hash agreed) × DoneOrLacking fits (with_service hash number node agreed old) old result new

@@ -10,7 +10,7 @@ use crate::registry::Registry;
 use crate::segment::Segment;
 use crate::step::ForeignStep;
 use crate::table::Table;
-use iox_describe::{Description, ServiceHash, encode, is_within_limits};
+use iox_describe::{Description, ServiceHash, encode, is_within_limits, service_hash};
 use iox_negotiate_base::{LockAnswer, StoredDescription};
 use std::alloc::AllocError;
 
@@ -179,9 +179,12 @@ impl Table {
     }
 }
 
-// Whether the description is of this hash, and within the limits.
+// Whether the description is within the limits, and of the service that lies under this hash: a description that was read may
+// state the hash of another service than its own.
 fn is_for(hash: &ServiceHash, description: &Description) -> bool
     ensures { IsTrue result ↔ IsFor hash.now description.now }
 {
-    is_within_limits(description) && *description.service_hash() == *hash
+    is_within_limits(description)
+        && *description.service_hash() == *hash
+        && service_hash(description.pattern(), description.name()) == *hash
 }

@@ -9,8 +9,8 @@ pub enum ForeignStep {
     Lock { node: u64 },
     /// Where the node has the lock, it gives it back.
     GiveUp { node: u64 },
-    /// Where the node has the lock, and the description is of this hash and within the limits, it is published, and the
-    /// node is in.
+    /// Where the node has the lock, and the description is of the service under this hash, by its pattern and its name and as it
+    /// states itself, and within the limits, it is published, and the node is in.
     Publish { node: u64, description: Description },
     /// Where a service stands, the node is not in and there is room, it comes in.
     Register { node: u64 },

@@ -11,7 +11,7 @@ use Rattle.iox_line.specs.DomainValues.Actions.{decision_of}
 use Rattle.iox_hub_run.specs.HubBase.declared.hub.HubConfig.{HubConfig}
 use Rattle.iox_hub_run.specs.HubCommands.declared.handlers.FixedDegradation.{FixedDegradation}
 use Rattle.iox_hub_run.specs.HubCommands.declared.handlers.FixedHandlers.{FixedHandlers}
-use Rattle.iox_hub_run.specs.HubFactories.Asked.{types_of}
+use Rattle.iox_hub_run.specs.HubCommands.Asked.{types_of}
 use Rattle.iox_hub_run.specs.Numbers.{IsNew, numbers_used}
 use Rattle.iox_hub_run.specs.Steps.{Step}
 use Rattle.iox_hub_run.specs.declared.numbered_hub.NumberedHub.{NumberedHub}

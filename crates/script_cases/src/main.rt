@@ -9,16 +9,22 @@
 //! A last line `faults` has the lines before it said again, once for each read that may fail, and once for each write: a line is
 //! read at a time, and its reply is written. It is told how many of both ended so and left just the replies before them.
 //!
+//! A block whose title begins with `storage` has calls of builders in place of lines, each over a storage that gives the
+//! answers that follow it, whatever lies there: `create ps Absent Taken Made Published`. It is told what the call came to and
+//! in how many accesses, after `close` also what a close did; and `amiss` what answers were of no access, or lacking.
+//!
 //! Standard output is typed by hand from the formats, and standard input is its lines without their replies.
 #![tactic(auto)]
 
 mod faults;
+mod storages;
 
 use faults::left_by_faults;
 use iox_script::{HubConfig, Input, Output, serve};
 use std::alloc::{AllocError, Global};
 use std::io;
 use std::str::Lines;
+use storages::answered;
 
 /// How many connections of publishers that left a subscriber keeps, where the title doesn't say.
 const EXPIRED_CONNECTION_BUFFER: u32 = 128;
@@ -28,8 +34,21 @@ fn main(rt: HostRuntime) -> io::Result<()> {
     for block in text.split("\n\n") {
         let (title, lines) = block.split_once('\n').unwrap_or((block, ""));
         println!(rt; "{title}")?;
-        answer(&rt, expired(title), lines)?;
+        if title.starts_with("storage") {
+            answer_builders(&rt, lines)?;
+        } else {
+            answer(&rt, expired(title), lines)?;
+        }
         println!(rt; "")?;
+    }
+    Ok(())
+}
+
+// Prints each call of a builder with what it comes to over a storage that answers so.
+fn answer_builders(rt: &HostRuntime, lines: &str) -> io::Result<()> {
+    for line in lines.lines() {
+        let told = answered(rt.alloc(), line)?;
+        println!(rt; "{line} -> {told}")?;
     }
     Ok(())
 }

@@ -11,8 +11,9 @@ use std::alloc::{AllocError, Global};
 use std::marker::Model;
 use std::{fmt, slice};
 
-/// A vector of at most `CAPACITY` items. `new` takes all its memory. Of the other calls only `clone`, `try_clone` and the
-/// reading of its list take memory: that of the vector that they make, and what its items take.
+/// A vector of at most `CAPACITY` items. `new` takes all its memory. Of the other calls `clone`, `try_clone` and the
+/// reading of its list take memory: that of the vector that they make, and what its items take. `resize` and
+/// `extend_from_slice` take what clones of their items take.
 ///
 /// Contracts see it as the list of its items.
 ///

@@ -9,7 +9,8 @@ use crate::vector::VectorModificationError;
 
 /// At most `capacity` items in an order. Items that a call drops go one by one, the last first.
 ///
-/// Contracts see it as its `items` and its capacity, `room`, which no call changes. No call takes memory of its own; clones of items take theirs.
+/// Contracts see it as its `items` and its capacity, `room`, which no call changes. No call takes memory of its own; clones of
+/// items take theirs.
 ///
 /// Ported from `iceoryx2_bb_container::vector::Vector`.
 pub trait Vector<T: Drop> {

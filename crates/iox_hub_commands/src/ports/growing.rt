@@ -1,4 +1,5 @@
 //! Loans and samples that come where there may be no room for one more.
+ghost use Rattle.iox_domain.specs.Homes as homes;
 ghost use Rattle.std.specs.Prelude.{◌≡◌, ◌<◌, ◌+◌, ◌^◌, length, OnOk, OnErr};
 ghost use Rattle.iox_maps.specs.NumberTable.{value_at};
 ghost use Rattle.iox_hub_commands.specs.Calls.{ready};
@@ -7,14 +8,14 @@ ghost use Rattle.iox_hub_commands.specs.Numbering.{LendsNumbered, LendsWrittenNu
 ghost use Rattle.iox_hub_commands.specs.Tables.{SameNumbers, IsFull, lender};
 
 use crate::ports::made::Made;
-use iox_domain_home::Home;
+use iox_domain::Home;
 use iox_domain_values::{LoanError, ReceiveError};
 use iox_maps::by_number::Numbered;
 use std::alloc::{AllocError, Global};
 
 impl Made {
-    /// As `loan_uninit`, and room is made first for one more loan, if there is none. Fails only where an allocation fails for that; then nothing
-    /// has changed.
+    /// As `loan_uninit`, and room is made first for one more loan, if there is none. Fails only where an allocation fails for
+    /// that; then nothing has changed.
     pub fn loan_uninit_growing<T: Copy, U: Copy, H: Home<T, U>>(
         &mut self,
         alloc: Global,
@@ -23,14 +24,14 @@ impl Made {
         elements: u64,
     ) -> Result<Option<Result<u64, LoanError>>, AllocError>
         requires number { self.old.loans.next + 1 < 2 ^ 64 }
-        ensures { GrowsFirst (IsFull self.old.loans) (LendsNumbered H.ports_of H.with_ports elements (lender elements (value_at self.old.publishers publisher))) self.old home.old result self.new home.new }
+        ensures { GrowsFirst (IsFull self.old.loans) (LendsNumbered (homes.ports_of H.domain_of) (homes.with_ports H.changed) elements (lender elements (value_at self.old.publishers publisher))) self.old home.old result self.new home.new }
     {
         room_for_one(&mut self.loans)?;
         Ok(self.loan_uninit(alloc, home, publisher, elements))
     }
 
-    /// As `loan`, and room is made first for one more loan, if there is none. Fails only where an allocation fails for that; then nothing has
-    /// changed.
+    /// As `loan`, and room is made first for one more loan, if there is none. Fails only where an allocation fails for that; then
+    /// nothing has changed.
     pub fn loan_growing<T: Copy, U: Copy, H: Home<T, U>>(
         &mut self,
         alloc: Global,
@@ -40,14 +41,14 @@ impl Made {
         value: T,
     ) -> Result<Option<Result<u64, LoanError>>, AllocError>
         requires number { self.old.loans.next + 1 < 2 ^ 64 }
-        ensures { GrowsFirst (IsFull self.old.loans) (LendsWrittenNumbered H.ports_of H.with_ports elements value (ready H.ports_of (lender elements (value_at self.old.publishers publisher)) home.old)) self.old home.old result self.new home.new }
+        ensures { GrowsFirst (IsFull self.old.loans) (LendsWrittenNumbered (homes.ports_of H.domain_of) (homes.with_ports H.changed) elements value (ready (homes.ports_of H.domain_of) (lender elements (value_at self.old.publishers publisher)) home.old)) self.old home.old result self.new home.new }
     {
         room_for_one(&mut self.loans)?;
         Ok(self.loan(alloc, home, publisher, elements, value))
     }
 
-    /// As `receive`, and room is made first for one more sample, if there is none. Fails only where an allocation fails for that; then nothing has
-    /// changed, and what waits is there still.
+    /// As `receive`, and room is made first for one more sample, if there is none. Fails only where an allocation fails for that;
+    /// then nothing has changed, and what waits is there still.
     pub fn receive_growing<T: Copy, U: Copy, H: Home<T, U>>(
         &mut self,
         alloc: Global,
@@ -55,7 +56,7 @@ impl Made {
         subscriber: u64,
     ) -> Result<Option<Result<Option<u64>, ReceiveError>>, AllocError>
         requires number { self.old.samples.next + 1 < 2 ^ 64 }
-        ensures { GrowsFirst (IsFull self.old.samples) (ReceivesNumbered H.ports_of H.with_ports H.subscriber_degrades (value_at self.old.subscribers subscriber)) self.old home.old result self.new home.new }
+        ensures { GrowsFirst (IsFull self.old.samples) (ReceivesNumbered (homes.ports_of H.domain_of) (homes.with_ports H.changed) (homes.subscriber_degrades (λ kept. H.ForSubscribers.degrades kept) H.domain_of) (value_at self.old.subscribers subscriber)) self.old home.old result self.new home.new }
     {
         room_for_one(&mut self.samples)?;
         Ok(self.receive(alloc, home, subscriber))

@@ -1,6 +1,7 @@
 //! What is written into a loan; it is given up, or sent.
+ghost use Rattle.iox_domain.specs.Homes as homes;
 ghost use Rattle.std.specs.Prelude.{◌≡◌, is_some, if◌then◌else◌};
-ghost use Rattle.iox_delivery_slices.specs.DomainPorts.Lending.{gave_up_in};
+ghost use Rattle.iox_delivery.specs.Domain.Lending.{gave_up_in};
 ghost use Rattle.iox_maps.specs.NumberTable.{value_at};
 ghost use Rattle.iox_hub_commands.specs.Loans.{loan_under, changed_under, is_set, set_in, is_filled, filled_in, SendsUnder};
 ghost use Rattle.iox_hub_commands.specs.Numbering.{removed_if};
@@ -8,7 +9,7 @@ ghost use Rattle.iox_hub_commands.specs.Tables.{without_loan};
 
 use crate::ports::made::Made;
 use iox_delivery::lending;
-use iox_domain_home::Home;
+use iox_domain::{Home, calls};
 use iox_domain_publisher::Sent;
 use iox_domain_values::SendError;
 use std::alloc::Global;
@@ -23,13 +24,13 @@ impl Made {
         place: usize,
         value: T,
     ) -> bool
-        ensures answer { result ≡ is_set place (loan_under H.ports_of (value_at self.now.loans loan) home.old) }
-        ensures home { home.new ≡ (if result then changed_under H.ports_of H.with_ports (set_in place value) (value_at self.now.loans loan) home.old else home.old) }
+        ensures answer { result ≡ is_set place (loan_under (homes.ports_of H.domain_of) (value_at self.now.loans loan) home.old) }
+        ensures home { home.new ≡ (if result then changed_under (homes.ports_of H.domain_of) (homes.with_ports H.changed) (set_in place value) (value_at self.now.loans loan) home.old else home.old) }
     {
         let Some(made) = self.loans.get(loan).copied() else {
             return false;
         };
-        let Some(ports) = home.ports(made.port.domain) else {
+        let Some(ports) = calls::ports(home, made.port.domain) else {
             return false;
         };
         if !ports.is_written(made.port.number, made.slot)
@@ -37,7 +38,7 @@ impl Made {
         {
             return false;
         }
-        if let Some(ports) = home.ports_mut(made.port.domain) {
+        if let Some(ports) = calls::ports_mut(home, made.port.domain) {
             let _ = ports.write(made.port.number, made.slot, place, value);
         }
         true
@@ -51,13 +52,13 @@ impl Made {
         loan: u64,
         values: &[T],
     ) -> bool
-        ensures answer { result ≡ is_filled H.ports_of values.now (value_at self.now.loans loan) home.old }
-        ensures home { home.new ≡ changed_under H.ports_of H.with_ports (filled_in values.now) (value_at self.now.loans loan) home.old }
+        ensures answer { result ≡ is_filled (homes.ports_of H.domain_of) values.now (value_at self.now.loans loan) home.old }
+        ensures home { home.new ≡ changed_under (homes.ports_of H.domain_of) (homes.with_ports H.changed) (filled_in values.now) (value_at self.now.loans loan) home.old }
     {
         let Some(made) = self.loans.get(loan).copied() else {
             return false;
         };
-        match home.ports_mut(made.port.domain) {
+        match calls::ports_mut(home, made.port.domain) {
             Some(ports) => ports.write_from_slice(made.port.number, made.slot, values),
             None => false,
         }
@@ -66,8 +67,8 @@ impl Made {
     /// Gives a loan up, and its number is spent. Answers false, and nothing happens, where no loan goes by the number, or where its
     /// domain isn't here.
     pub fn drop_loan<T: Copy, U: Copy, H: Home<T, U>>(&mut self, home: &mut H, loan: u64) -> bool
-        ensures answer { result ≡ is_some (loan_under H.ports_of (value_at self.old.loans loan) home.old) }
-        ensures home { home.new ≡ (if result then changed_under H.ports_of H.with_ports gave_up_in (value_at self.old.loans loan) home.old else home.old) }
+        ensures answer { result ≡ is_some (loan_under (homes.ports_of H.domain_of) (value_at self.old.loans loan) home.old) }
+        ensures home { home.new ≡ (if result then changed_under (homes.ports_of H.domain_of) (homes.with_ports H.changed) gave_up_in (value_at self.old.loans loan) home.old else home.old) }
         ensures number { self.new ≡ removed_if result (without_loan loan) self.old }
     {
         let Some(made) = self.loans.get(loan).copied() else {
@@ -83,18 +84,18 @@ impl Made {
 
     /// Sends a loan, whose number is spent, also where the send waits or is refused. None, and nothing happens, where no loan goes by the
     /// number, where some value of it isn't written yet, where a send of its publisher waits, or where its domain isn't here. Refused as
-    /// `Home::send` refuses it.
+    /// `calls::send` refuses it.
     pub fn send<T: Copy, U: Copy, H: Home<T, U>>(
         &mut self,
         alloc: Global,
         home: &mut H,
         loan: u64,
     ) -> Option<Result<Sent, SendError>>
-        ensures home { SendsUnder H.ports_of H.with_ports H.publisher_degrades H.publisher_decides (value_at self.old.loans loan) home.old result home.new }
+        ensures home { SendsUnder (homes.ports_of H.domain_of) (homes.with_ports H.changed) (homes.publisher_degrades (λ kept. H.ForPublishers.degrades kept) H.domain_of) (homes.publisher_decides (λ kept. H.ForPublishers.decides kept) H.domain_of) (value_at self.old.loans loan) home.old result home.new }
         ensures number { self.new ≡ removed_if (is_some result) (without_loan loan) self.old }
     {
         let made = self.loans.get(loan).copied()?;
-        let sent = home.send(alloc, made.port.domain, made.port.number, made.slot)?;
+        let sent = calls::send(home, alloc, made.port.domain, made.port.number, made.slot)?;
         self.loans.remove(loan);
         Some(sent)
     }

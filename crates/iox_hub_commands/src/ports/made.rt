@@ -1,12 +1,13 @@
 //! The tables: which port, loan or sample goes by a number.
+ghost use Rattle.iox_domain.specs.Homes as homes;
 ghost use Rattle.std.specs.Prelude.{◌≡◌, true, false, IfSome};
-ghost use Rattle.iox_delivery_slices.specs.Delivery.Holding.{publisher_stands, publisher_blocked};
+ghost use Rattle.iox_delivery.specs.Holding.{publisher_stands, publisher_blocked};
 ghost use Rattle.iox_maps.specs.NumberTable.{value_at};
 ghost use Rattle.iox_hub_commands.specs.Calls.{ready};
 ghost use Rattle.iox_hub_commands.specs.Tables.{IsEmpty, port_under, lender};
 
 use iox_delivery::{PortId, publishing};
-use iox_domain_home::Home;
+use iox_domain::Home;
 use iox_domain_subscriber::Taken;
 use iox_maps::by_number::Numbered;
 use std::alloc::Global;
@@ -41,7 +42,7 @@ pub struct MadeSample {
 /// The ports, loans and samples that a run of commands made, each kind under numbers that are counted from 1. A number is spent when what
 /// goes by it ends: the port leaves, the loan is sent or given up, the sample is released.
 ///
-/// The calls of a port are asked of a home, which is handed in: it holds the domains. Each answers None, and nothing happens, where a
+/// Each call is handed a home, which holds the domains. Each answers None or false, and nothing happens, where a
 /// number stands for nothing. This port's own.
 #[derive(Drop)]
 pub struct Made {
@@ -108,9 +109,9 @@ impl Made {
         publisher: u64,
         elements: u64,
     ) -> Option<PortId>
-        ensures port { result ≡ ready H.ports_of (lender elements (value_at self.now.publishers publisher)) home.now }
-        ensures stands { IfSome result (λ port. publisher_stands port.number (H.ports_of port.domain home.now) ≡ true) }
-        ensures free { IfSome result (λ port. publisher_blocked port.number (H.ports_of port.domain home.now) ≡ false) }
+        ensures port { result ≡ ready (homes.ports_of H.domain_of) (lender elements (value_at self.now.publishers publisher)) home.now }
+        ensures stands { IfSome result (λ port. publisher_stands port.number (homes.ports_of H.domain_of port.domain home.now) ≡ true) }
+        ensures free { IfSome result (λ port. publisher_blocked port.number (homes.ports_of H.domain_of port.domain home.now) ≡ false) }
     {
         let port = self.lender(publisher, elements)?;
         if publishing::holds(port, home) && !publishing::is_blocked(port, home) {

@@ -1,4 +1,5 @@
 //! Publishers lend, put, wait, and leave.
+ghost use Rattle.iox_domain.specs.Homes as homes;
 ghost use Rattle.std.specs.Prelude.{◌≡◌, ◌<◌, ◌+◌, ◌^◌, length};
 ghost use Rattle.iox_maps.specs.NumberTable.{value_at};
 ghost use Rattle.iox_hub_commands.specs.Calls.{AtPort, AtPortIf, ready, Lends, Puts, Follows, Retries, GivesUp, PublisherGoes};
@@ -6,8 +7,8 @@ ghost use Rattle.iox_hub_commands.specs.Numbering.{LendsNumbered, LendsWrittenNu
 ghost use Rattle.iox_hub_commands.specs.Tables.{port_under, lender, without_publisher};
 
 use crate::ports::made::{Made, MadeLoan};
-use iox_delivery_slices::filling;
-use iox_domain_home::Home;
+use iox_delivery::slices::filling;
+use iox_domain::{Home, calls};
 use iox_domain_publisher::Sent;
 use iox_domain_values::{ConnectionFailure, LoanError, SendError};
 use std::alloc::Global;
@@ -17,7 +18,7 @@ impl Made {
     /// there must be room for one more loan.
     ///
     /// None, and nothing happens, where no publisher goes by the number, where its messages are single values and not one element is
-    /// asked for, where a send of it waits, or where its domain isn't here. Refused as `Home::loan` refuses it.
+    /// asked for, where a send of it waits, or where its domain isn't here. Refused as `calls::loan` refuses it.
     pub fn loan_uninit<T: Copy, U: Copy, H: Home<T, U>>(
         &mut self,
         alloc: Global,
@@ -27,18 +28,25 @@ impl Made {
     ) -> Option<Result<u64, LoanError>>
         requires room { length self.old.loans.entries < self.old.loans.room }
         requires number { self.old.loans.next + 1 < 2 ^ 64 }
-        ensures { LendsNumbered H.ports_of H.with_ports elements (lender elements (value_at self.old.publishers publisher)) self.old home.old result self.new home.new }
+        ensures { LendsNumbered (homes.ports_of H.domain_of) (homes.with_ports H.changed) elements (lender elements (value_at self.old.publishers publisher)) self.old home.old result self.new home.new }
     {
         let port = self.lender(publisher, elements)?;
-        let lent = home.loan(alloc, port.domain, port.number, elements as usize, elements)?;
+        let lent = calls::loan(
+            home,
+            alloc,
+            port.domain,
+            port.number,
+            elements as usize,
+            elements,
+        )?;
         match lent {
             Ok(slot) => Some(Ok(self.loans.insert_next(MadeLoan { port, slot }))),
             Err(error) => Some(Err(error)),
         }
     }
 
-    /// A publisher lends a slot for so many elements, each of which is written: this value. The answer is the loan's number, and the loan may
-    /// be sent at once. It takes no memory here: there must be room for one more loan.
+    /// A publisher lends a slot for so many elements, each of which is written: this value. The answer is the loan's number, and
+    /// the loan may be sent at once. It takes no memory here: there must be room for one more loan.
     ///
     /// None, and nothing happens, and refused as `loan_uninit` is: where no publisher goes by the number, where its messages are single
     /// values and not one element is asked for, where a send of it waits, or where its domain isn't here.
@@ -52,7 +60,7 @@ impl Made {
     ) -> Option<Result<u64, LoanError>>
         requires room { length self.old.loans.entries < self.old.loans.room }
         requires number { self.old.loans.next + 1 < 2 ^ 64 }
-        ensures { LendsWrittenNumbered H.ports_of H.with_ports elements value (ready H.ports_of (lender elements (value_at self.old.publishers publisher)) home.old) self.old home.old result self.new home.new }
+        ensures { LendsWrittenNumbered (homes.ports_of H.domain_of) (homes.with_ports H.changed) elements value (ready (homes.ports_of H.domain_of) (lender elements (value_at self.old.publishers publisher)) home.old) self.old home.old result self.new home.new }
     {
         let port = self.ready_lender(home, publisher, elements)?;
         match filling::loan_filled(port, alloc, home, elements as usize, value) {
@@ -61,11 +69,11 @@ impl Made {
         }
     }
 
-    /// A publisher lends as many values, writes them and sends them; the answer is what the send came to. No loan gets a number. A loan that is
-    /// refused is `SendError::LoanError`, and nothing is sent.
+    /// A publisher lends as many values, writes them and sends them; the answer is what the send came to. No loan gets a number.
+    /// A loan that is refused is `SendError::LoanError`, and nothing is sent.
     ///
     /// None, and nothing happens, where no publisher goes by the number, where its messages are single values and this isn't one, where a
-    /// send of it waits, or where its domain isn't here. Refused as `Home::send` refuses it.
+    /// send of it waits, or where its domain isn't here. Refused as `calls::send` refuses it.
     pub fn put<T: Copy, U: Copy, H: Home<T, U>>(
         &self,
         alloc: Global,
@@ -73,38 +81,38 @@ impl Made {
         publisher: u64,
         values: &[T],
     ) -> Option<Result<Sent, SendError>>
-        ensures { AtPort (Puts H.ports_of H.with_ports H.publisher_degrades H.publisher_decides values.now) (ready H.ports_of (lender (length values.now) (value_at self.now.publishers publisher)) home.old) home.old result home.new }
+        ensures { AtPort (Puts (homes.ports_of H.domain_of) (homes.with_ports H.changed) (homes.publisher_degrades (λ kept. H.ForPublishers.degrades kept) H.domain_of) (homes.publisher_decides (λ kept. H.ForPublishers.decides kept) H.domain_of) values.now) (ready (homes.ports_of H.domain_of) (lender (length values.now) (value_at self.now.publishers publisher)) home.old) home.old result home.new }
     {
         let port = self.ready_lender(home, publisher, values.len() as u64)?;
         Some(filling::send_values(port, alloc, home, values))
     }
 
     /// A publisher follows the list of subscribers. None, and nothing happens, where no publisher goes by the number, where a send of it
-    /// waits, or where its domain isn't here. Refused as `Home::update_publisher` refuses it.
+    /// waits, or where its domain isn't here. Refused as `calls::update_publisher` refuses it.
     pub fn update_publisher<T: Copy, U: Copy, H: Home<T, U>>(
         &self,
         alloc: Global,
         home: &mut H,
         publisher: u64,
     ) -> Option<Result<(), ConnectionFailure>>
-        ensures { AtPort (Follows H.ports_of H.with_ports H.publisher_degrades) (port_under (value_at self.now.publishers publisher)) home.old result home.new }
+        ensures { AtPort (Follows (homes.ports_of H.domain_of) (homes.with_ports H.changed) (homes.publisher_degrades (λ kept. H.ForPublishers.degrades kept) H.domain_of)) (port_under (value_at self.now.publishers publisher)) home.old result home.new }
     {
         let port = self.publisher(publisher)?;
-        home.update_publisher(alloc, port.domain, port.number)
+        calls::update_publisher(home, alloc, port.domain, port.number)
     }
 
     /// The send of a publisher that waits is tried again, after so many nanoseconds. None, and nothing happens, where no publisher goes by
-    /// the number, where no send of it waits, or where its domain isn't here. Refused as `Home::retry` refuses it.
+    /// the number, where no send of it waits, or where its domain isn't here. Refused as `calls::retry` refuses it.
     pub fn retry<T: Copy, U: Copy, H: Home<T, U>>(
         &self,
         home: &mut H,
         publisher: u64,
         elapsed: u64,
     ) -> Option<Result<Sent, SendError>>
-        ensures { AtPort (Retries H.ports_of H.with_ports H.publisher_decides elapsed) (port_under (value_at self.now.publishers publisher)) home.old result home.new }
+        ensures { AtPort (Retries (homes.ports_of H.domain_of) (homes.with_ports H.changed) (homes.publisher_decides (λ kept. H.ForPublishers.decides kept) H.domain_of) elapsed) (port_under (value_at self.now.publishers publisher)) home.old result home.new }
     {
         let port = self.publisher(publisher)?;
-        home.retry(port.domain, port.number, elapsed)
+        calls::retry(home, port.domain, port.number, elapsed)
     }
 
     /// The send of a publisher that waits ends; the answer is how many connections took its message. None, and nothing happens, where no
@@ -114,10 +122,10 @@ impl Made {
         home: &mut H,
         publisher: u64,
     ) -> Option<usize>
-        ensures { AtPort (GivesUp H.ports_of H.with_ports) (port_under (value_at self.now.publishers publisher)) home.old result home.new }
+        ensures { AtPort (GivesUp (homes.ports_of H.domain_of) (homes.with_ports H.changed)) (port_under (value_at self.now.publishers publisher)) home.old result home.new }
     {
         let port = self.publisher(publisher)?;
-        home.ports_mut(port.domain)?.give_up(port.number)
+        calls::ports_mut(home, port.domain)?.give_up(port.number)
     }
 
     /// A publisher leaves, and its number is spent. Answers false, and nothing happens, where no publisher goes by the number, where a
@@ -127,13 +135,13 @@ impl Made {
         home: &mut H,
         publisher: u64,
     ) -> bool
-        ensures home { AtPortIf (PublisherGoes H.ports_of H.with_ports H.without_publisher) (port_under (value_at self.old.publishers publisher)) home.old result home.new }
+        ensures home { AtPortIf (PublisherGoes (homes.ports_of H.domain_of) (homes.with_ports H.changed) (homes.without_publisher H.changed)) (port_under (value_at self.old.publishers publisher)) home.old result home.new }
         ensures number { self.new ≡ removed_if result (without_publisher publisher) self.old }
     {
         let Some(port) = self.publisher(publisher) else {
             return false;
         };
-        if !home.leave_publisher(port.domain, port.number) {
+        if !calls::leave_publisher(home, port.domain, port.number) {
             return false;
         }
         self.publishers.remove(publisher);

@@ -1,4 +1,5 @@
 //! A sample is read, and released.
+ghost use Rattle.iox_domain.specs.Homes as homes;
 ghost use Rattle.std.specs.Prelude.{◌≡◌, option_copied};
 ghost use Rattle.iox_maps.specs.NumberTable.{value_at};
 ghost use Rattle.iox_hub_commands.specs.Numbering.{removed_if};
@@ -7,7 +8,7 @@ ghost use Rattle.iox_hub_commands.specs.Tables.{without_sample};
 
 use crate::ports::made::Made;
 use iox_delivery::subscribing;
-use iox_domain_home::Home;
+use iox_domain::{Home, calls};
 
 impl Made {
     /// The values of a sample that is held. None where no sample goes by the number, or where its domain isn't here.
@@ -19,10 +20,10 @@ impl Made {
     where
         T: 'a,
         U: 'a,
-        ensures { option_copied result ≡ values_under H.ports_of (value_at self.now.samples sample) home.now }
+        ensures { option_copied result ≡ values_under (homes.ports_of H.domain_of) (value_at self.now.samples sample) home.now }
     {
         let held = self.samples.get(sample).copied()?;
-        match home.ports(held.port.domain) {
+        match calls::ports(home, held.port.domain) {
             Some(ports) => ports.payload(held.taken),
             None => None,
         }
@@ -31,8 +32,8 @@ impl Made {
     /// A sample is released, and its number is spent. Answers false, and nothing happens, where no sample goes by the number, or where
     /// its domain isn't here.
     pub fn release<T: Copy, U: Copy, H: Home<T, U>>(&mut self, home: &mut H, sample: u64) -> bool
-        ensures answer { result ≡ is_held H.ports_of (value_at self.old.samples sample) home.old }
-        ensures home { ReleasesUnder H.ports_of H.with_ports (value_at self.old.samples sample) home.old result home.new }
+        ensures answer { result ≡ is_held (homes.ports_of H.domain_of) (value_at self.old.samples sample) home.old }
+        ensures home { ReleasesUnder (homes.ports_of H.domain_of) (homes.with_ports H.changed) (value_at self.old.samples sample) home.old result home.new }
         ensures number { self.new ≡ removed_if result (without_sample sample) self.old }
     {
         let Some(held) = self.samples.get(sample).copied() else {

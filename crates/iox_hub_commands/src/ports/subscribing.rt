@@ -1,4 +1,5 @@
 //! Subscribers follow, receive, and leave.
+ghost use Rattle.iox_domain.specs.Homes as homes;
 ghost use Rattle.std.specs.Prelude.{◌≡◌, ◌<◌, ◌+◌, ◌^◌, length};
 ghost use Rattle.iox_maps.specs.NumberTable.{value_at};
 ghost use Rattle.iox_hub_commands.specs.Calls.{AtPort, AtPortIf, FollowsPublishers, Tells, SubscriberGoes};
@@ -6,43 +7,43 @@ ghost use Rattle.iox_hub_commands.specs.Numbering.{ReceivesNumbered, removed_if}
 ghost use Rattle.iox_hub_commands.specs.Tables.{without_subscriber};
 
 use crate::ports::made::{Made, MadeSample};
-use iox_domain_home::Home;
+use iox_domain::{Home, calls};
 use iox_domain_values::{ConnectionFailure, ReceiveError};
 use std::alloc::Global;
 
 impl Made {
     /// A subscriber follows the list of publishers. None, and nothing happens, where no subscriber goes by the number, or where its
-    /// domain isn't here. Refused as `Home::update_subscriber` refuses it.
+    /// domain isn't here. Refused as `calls::update_subscriber` refuses it.
     pub fn update_subscriber<T: Copy, U: Copy, H: Home<T, U>>(
         &self,
         alloc: Global,
         home: &mut H,
         subscriber: u64,
     ) -> Option<Result<(), ConnectionFailure>>
-        ensures { AtPort (FollowsPublishers H.ports_of H.with_ports H.subscriber_degrades) (value_at self.now.subscribers subscriber) home.old result home.new }
+        ensures { AtPort (FollowsPublishers (homes.ports_of H.domain_of) (homes.with_ports H.changed) (homes.subscriber_degrades (λ kept. H.ForSubscribers.degrades kept) H.domain_of)) (value_at self.now.subscribers subscriber) home.old result home.new }
     {
         let port = self.subscriber(subscriber)?;
-        home.update_subscriber(alloc, port.domain, port.number)
+        calls::update_subscriber(home, alloc, port.domain, port.number)
     }
 
     /// Whether some connection of a subscriber has data, after an update. None, and nothing happens, where no subscriber goes by the
-    /// number, or where its domain isn't here. Refused as `Home::has_samples` refuses it.
+    /// number, or where its domain isn't here. Refused as `calls::has_samples` refuses it.
     pub fn has_samples<T: Copy, U: Copy, H: Home<T, U>>(
         &self,
         alloc: Global,
         home: &mut H,
         subscriber: u64,
     ) -> Option<Result<bool, ConnectionFailure>>
-        ensures { AtPort (Tells H.ports_of H.with_ports H.subscriber_degrades) (value_at self.now.subscribers subscriber) home.old result home.new }
+        ensures { AtPort (Tells (homes.ports_of H.domain_of) (homes.with_ports H.changed) (homes.subscriber_degrades (λ kept. H.ForSubscribers.degrades kept) H.domain_of)) (value_at self.now.subscribers subscriber) home.old result home.new }
     {
         let port = self.subscriber(subscriber)?;
-        home.has_samples(alloc, port.domain, port.number)
+        calls::has_samples(home, alloc, port.domain, port.number)
     }
 
     /// A subscriber receives, after an update; the answer is the number of the sample that came, if one came. It takes no memory here:
     /// there must be room for one more sample.
     ///
-    /// None, and nothing happens, where no subscriber goes by the number, or where its domain isn't here. Refused as `Home::receive`
+    /// None, and nothing happens, where no subscriber goes by the number, or where its domain isn't here. Refused as `calls::receive`
     /// refuses it.
     pub fn receive<T: Copy, U: Copy, H: Home<T, U>>(
         &mut self,
@@ -52,10 +53,10 @@ impl Made {
     ) -> Option<Result<Option<u64>, ReceiveError>>
         requires room { length self.old.samples.entries < self.old.samples.room }
         requires number { self.old.samples.next + 1 < 2 ^ 64 }
-        ensures { ReceivesNumbered H.ports_of H.with_ports H.subscriber_degrades (value_at self.old.subscribers subscriber) self.old home.old result self.new home.new }
+        ensures { ReceivesNumbered (homes.ports_of H.domain_of) (homes.with_ports H.changed) (homes.subscriber_degrades (λ kept. H.ForSubscribers.degrades kept) H.domain_of) (value_at self.old.subscribers subscriber) self.old home.old result self.new home.new }
     {
         let port = self.subscriber(subscriber)?;
-        match home.receive(alloc, port.domain, port.number)? {
+        match calls::receive(home, alloc, port.domain, port.number)? {
             Ok(Some(taken)) => Some(Ok(Some(self.samples.insert_next(MadeSample { port, taken })))),
             Ok(None) => Some(Ok(None)),
             Err(error) => Some(Err(error)),
@@ -69,13 +70,13 @@ impl Made {
         home: &mut H,
         subscriber: u64,
     ) -> bool
-        ensures home { AtPortIf (SubscriberGoes H.ports_of H.with_ports H.without_subscriber) (value_at self.old.subscribers subscriber) home.old result home.new }
+        ensures home { AtPortIf (SubscriberGoes (homes.ports_of H.domain_of) (homes.with_ports H.changed) (homes.without_subscriber H.changed)) (value_at self.old.subscribers subscriber) home.old result home.new }
         ensures number { self.new ≡ removed_if result (without_subscriber subscriber) self.old }
     {
         let Some(port) = self.subscriber(subscriber) else {
             return false;
         };
-        if !home.leave_subscriber(port.domain, port.number) {
+        if !calls::leave_subscriber(home, port.domain, port.number) {
             return false;
         }
         self.subscribers.remove(subscriber);

@@ -8,9 +8,10 @@ use crate::threads::threads::{DomainBoard, DomainThreads};
 use iox_domain::Domain;
 use iox_lanes_threads::{Board, EndError, LanePublisher, LaneSubscriber, LaneThreads};
 
-/// Ends all ports of a domain's board: the domain has the same ports again, and no messages. It is as it was when its lanes began, but nothing waits at a connection
-/// of its publishers, and their histories are empty; loans and samples that were still out are void. It takes no memory. All come back as they were where a port is
-/// missing or is another board's (`NotAllPorts`). This port's own.
+/// Ends all ports of a domain's board: the domain has the same ports again, and no messages. It is as it was when its lanes
+/// began, but nothing waits at a connection of its publishers, and their histories are empty; loans and samples that were still
+/// out are void. It takes no memory. All come back as they were where a port is missing or is another board's (`NotAllPorts`).
+/// This port's own.
 pub fn end<T: Copy, U: Copy, B, D>(
     board: DomainBoard<T, U, B, D>,
     publishers: Vec<LanePublisher>,
@@ -26,7 +27,7 @@ pub fn end<T: Copy, U: Copy, B, D>(
     } = board;
     match iox_lanes_threads::end(board, publishers, subscribers) {
         Ok(_) => {
-            forget_all(&mut domain.ports.publishers, &numbers);
+            forget_all(&mut domain.state.ports.publishers, &numbers);
             Ok(domain)
         }
         Err((error, threads)) => {

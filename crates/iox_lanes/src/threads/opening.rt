@@ -11,11 +11,13 @@ use iox_lanes_threads::{LaneThreads, OpenError};
 use iox_queues_base::Words;
 use std::alloc::Global;
 
-/// Threads take over from the lanes of a domain, as `open_threads` of `iox_lanes_threads` has it, and the board keeps the domain as it was when the lanes began.
+/// Threads take over from the lanes of a domain, as `open_threads` of `iox_lanes_threads` has it, and the board keeps the domain
+/// as it was when the lanes began.
 ///
-/// The board has this number, by which it knows its ports: whoever opens two gives them two. The lanes come back as they were where a party is inside a call
-/// (`PartyInCall`), a loan or a sample is out (`SamplesOut`), more than 2^63 steps were made (`TooManySteps`), or an allocation fails (`OutOfMemory`), in this order.
-/// The ports take no memory from here on. This port's own.
+/// The board has this number, by which it knows its ports: whoever opens two gives them two. The lanes come back as they were
+/// where a party is inside a call (`PartyInCall`), a loan or a sample is out (`SamplesOut`), more than 2^63 steps were made
+/// (`TooManySteps`), or an allocation fails (`OutOfMemory`), in this order. The ports take no memory from here on. This port's
+/// own.
 pub fn open_threads<T: Words, U: Words>(
     alloc: Global,
     board: u64,

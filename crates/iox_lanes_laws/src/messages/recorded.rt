@@ -54,18 +54,15 @@ impl RecordedLanes {
         }
     }
 
-    /// Makes the entries one after the other, leaves out those that don't fit, and stops where an allocation fails. Returns how many were made.
+    /// Makes the entries one after the other, and leaves out those that don't fit or find no memory for what they record; these
+    /// change nothing. Returns how many were made, so how many went or finished.
     pub fn run(&mut self, schedule: &[Entry]) -> usize
         ensures { RecordsRun self.old schedule.now result self.new }
     {
         let mut made = 0;
         let mut rest = schedule;
         while let Some((entry, tail)) = rest.split_first() {
-            let stepped = self.step(entry.party, &entry.step);
-            if stepped.is_stopped() {
-                return made;
-            }
-            made += stepped.count();
+            made += self.step(entry.party, &entry.step).count();
             rest = tail;
         }
         made

@@ -10,7 +10,8 @@ ghost use Rattle.iox_lanes_opening.specs.Restoring.{IsQuiet};
 use iox_domain_publisher::messages::Sender;
 use iox_domain_slots::Stage;
 
-/// Whether nothing of a publisher is out: it sends nothing, lends nothing, and nothing is borrowed of its connections; and whether it has room for a value in each slot.
+/// Whether nothing of a publisher is out: it sends nothing, lends nothing, and nothing is borrowed of its connections; and
+/// whether it has room for a value in each slot.
 pub fn is_rested<T: Copy, U: Copy>(sender: &Sender<T, U>) -> bool
     ensures rested { OnTrue result (IsRested sender.now) }
     ensures not { result ≡ false → IsRested sender.now → ⊥ }

@@ -12,10 +12,12 @@ use iox_domain_publisher::messages::Sender;
 use iox_lanes_machine::Lanes;
 use iox_queues_base::Words;
 
-/// A publisher of a domain gets all that lanes leave of it, in place of what waited at its connections and of its history: what waits at each connection of the
-/// lanes waits at the one of its index, and the slots of the lanes' history are its history, each message in its slot. The first connection of the lanes is `from`, and
-/// `indices` are those of the domain's; the slots begin at `first` in the lanes. Answers false where the publisher sends or lends something, where something is
-/// borrowed of a connection, or where a slot has no room for a value; then nothing has changed. `one` has room for one value, which is taken there; no memory is.
+/// A publisher of a domain gets all that lanes leave of it, in place of what waited at its connections and of its history: what
+/// waits at each connection of the lanes waits at the one of its index, and the slots of the lanes' history are its history, each
+/// message in its slot. The first connection of the lanes is `from`, and `indices` are those of the domain's; the slots begin at
+/// `first` in the lanes. Answers false where the publisher sends or lends something, where something is borrowed of a connection,
+/// or where a slot has no room for a value; then nothing has changed. `one` has room for one value, which is taken there; no
+/// memory is.
 pub fn restore<T: Words, U: Words>(
     lanes: &Lanes,
     from: u64,

@@ -15,8 +15,8 @@ use iox_lanes_base::words::WordTable;
 use iox_lanes_machine::Lanes;
 use iox_queues_base::Words;
 
-// The message that lies in a slot of the lanes is sent again, in the same slot of the publisher, whose slots begin at `first` in the lanes. `one` has room for one
-// value, which is taken there.
+// The message that lies in a slot of the lanes is sent again, in the same slot of the publisher, whose slots begin at `first` in
+// the lanes. `one` has room for one value, which is taken there.
 fn begin<T: Words, U: Words>(
     table: &WordTable,
     first: u64,
@@ -135,8 +135,9 @@ fn put_own<T: Words, U: Words>(
     }
 }
 
-/// What waits at a connection of lanes waits at the connection of an index of a publisher, at which nothing waits yet, in the same slots of the publisher: these
-/// begin at `first` in the lanes. `one` has room for one value, which is taken there; no memory is.
+/// What waits at a connection of lanes waits at the connection of an index of a publisher, at which nothing waits yet, in the
+/// same slots of the publisher: these begin at `first` in the lanes. `one` has room for one value, which is taken there; no
+/// memory is.
 pub fn restore_waiting<T: Words, U: Words>(
     lanes: &Lanes,
     connection: u64,
@@ -185,8 +186,8 @@ fn remember_own<T: Words, U: Words>(
     }
 }
 
-/// These slots of the lanes, the oldest first, are the history of a publisher whose history is empty, in the same slots of the publisher: these begin at `first` in
-/// the lanes. `one` has room for one value, which is taken there; no memory is.
+/// These slots of the lanes, the oldest first, are the history of a publisher whose history is empty, in the same slots of the
+/// publisher: these begin at `first` in the lanes. `one` has room for one value, which is taken there; no memory is.
 pub fn restore_history<T: Words, U: Words>(
     table: &WordTable,
     history: &[u64],

@@ -19,10 +19,10 @@ pub fn has_handlers<T: Copy, U: Copy>(domain: &Domain<T, U>) -> bool
 }
 
 fn has_publisher_handlers<T: Copy, U: Copy>(domain: &Domain<T, U>) -> bool
-    ensures { result ≡ list_any (λ entry. has_object (kept_under entry.0 domain.now.publisher_handlers)) domain.now.ports.publishers }
+    ensures { result ≡ list_any (λ entry. has_object (kept_under entry.0 domain.now.state.publisher_handlers)) domain.now.state.ports.publishers }
 {
-    for (number, _port) in domain.ports.publishers.iter() {
-        if has_object(domain.publisher_handlers.get(*number)) {
+    for (number, _port) in domain.state.ports.publishers.iter() {
+        if has_object(domain.state.publisher_handlers.get(*number)) {
             return true;
         }
     }
@@ -30,10 +30,10 @@ fn has_publisher_handlers<T: Copy, U: Copy>(domain: &Domain<T, U>) -> bool
 }
 
 fn has_subscriber_handlers<T: Copy, U: Copy>(domain: &Domain<T, U>) -> bool
-    ensures { result ≡ list_any (λ entry. is_kept_object (kept_under entry.0 domain.now.subscriber_handlers)) domain.now.ports.subscribers }
+    ensures { result ≡ list_any (λ entry. is_kept_object (kept_under entry.0 domain.now.state.subscriber_handlers)) domain.now.state.ports.subscribers }
 {
-    for (number, _port) in domain.ports.subscribers.iter() {
-        if is_kept_object(domain.subscriber_handlers.get(*number)) {
+    for (number, _port) in domain.state.ports.subscribers.iter() {
+        if is_kept_object(domain.state.subscriber_handlers.get(*number)) {
             return true;
         }
     }
@@ -81,14 +81,14 @@ fn is_kept_object(handler: Option<&DegradationHandler>) -> bool
 pub fn is_retrying<T: Copy, U: Copy>(domain: &Domain<T, U>) -> bool
     ensures { result ≡ is_retrying domain.now }
 {
-    !domain.ports.sizes.enable_safe_overflow && has_retrying(domain)
+    !domain.state.ports.sizes.enable_safe_overflow && has_retrying(domain)
 }
 
 fn has_retrying<T: Copy, U: Copy>(domain: &Domain<T, U>) -> bool
-    ensures { result ≡ list_any (retries domain.now.publisher_handlers) domain.now.ports.publishers }
+    ensures { result ≡ list_any (retries domain.now.state.publisher_handlers) domain.now.state.ports.publishers }
 {
-    for (number, port) in domain.ports.publishers.iter() {
-        if retries(&domain.publisher_handlers, *number, port) {
+    for (number, port) in domain.state.ports.publishers.iter() {
+        if retries(&domain.state.publisher_handlers, *number, port) {
             return true;
         }
     }

@@ -8,7 +8,7 @@ use crate::refusals::lingering::is_lingering;
 use crate::refusals::slices::has_slices;
 use crate::refusals::up_to_date::is_up_to_date;
 use iox_domain::Domain;
-use iox_domain_ports::ServicePorts;
+use iox_domain::ports::ServicePorts;
 use iox_domain_values::AllocationStrategy;
 
 /// Why a domain can't become lanes, where memory is ample: the first of these reasons that applies, and None where none does.
@@ -22,13 +22,13 @@ use iox_domain_values::AllocationStrategy;
 pub fn refusal<T: Copy, U: Copy>(domain: &Domain<T, U>) -> Option<IntoLanesError>
     ensures { result ≡ first_reason domain.now }
 {
-    if is_blocked(&domain.ports) {
+    if is_blocked(&domain.state.ports) {
         return Some(IntoLanesError::Blocked);
     }
-    if !is_up_to_date(&domain.ports) {
+    if !is_up_to_date(&domain.state.ports) {
         return Some(IntoLanesError::ConnectionsNotUpToDate);
     }
-    if has_growing(&domain.ports) {
+    if has_growing(&domain.state.ports) {
         return Some(IntoLanesError::NotStatic);
     }
     if has_handlers(domain) {
@@ -37,7 +37,7 @@ pub fn refusal<T: Copy, U: Copy>(domain: &Domain<T, U>) -> Option<IntoLanesError
     if is_retrying(domain) {
         return Some(IntoLanesError::Retrying);
     }
-    if is_lingering(&domain.ports) {
+    if is_lingering(&domain.state.ports) {
         return Some(IntoLanesError::Lingering);
     }
     if has_slices(domain) {

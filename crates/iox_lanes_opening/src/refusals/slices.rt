@@ -1,7 +1,7 @@
 //! What isn't one value.
 ghost use Rattle.std.specs.Prelude.{◌≡◌, ◌<◌, true, length, slice_get};
 ghost use Rattle.std.specs.List.{list_any};
-ghost use Rattle.iox_domain.specs.DomainPorts.DomainSlots.Uses.{is_there};
+ghost use Rattle.iox_domain.specs.DomainSlots.Uses.{is_there};
 ghost use Rattle.iox_domain.specs.DomainPublisher.Ports.{connection_of};
 ghost use Rattle.iox_lanes_opening.specs.Slices.{is_dynamic, is_slice, is_slice_in, slice_waits, keeps_slice, deals_in_slices, has_slices};
 
@@ -27,9 +27,9 @@ fn is_dynamic(variant: TypeVariant) -> bool
 }
 
 fn has_slice_dealer<T: Copy, U: Copy>(domain: &Domain<T, U>) -> bool
-    ensures { result ≡ list_any (λ entry. deals_in_slices entry.1) domain.now.ports.publishers }
+    ensures { result ≡ list_any (λ entry. deals_in_slices entry.1) domain.now.state.ports.publishers }
 {
-    for (_number, port) in domain.ports.publishers.iter() {
+    for (_number, port) in domain.state.ports.publishers.iter() {
         if deals_in_slices(port) {
             return true;
         }

@@ -4,7 +4,7 @@ ghost use Rattle.iox_domain.specs.DomainPublisher.Ports.{is_live};
 ghost use Rattle.iox_lanes_opening.specs.Listed.{holds_at, of_each_listed};
 ghost use Rattle.iox_lanes_opening.specs.UpToDate.{is_reader, is_read_by, reads_from, is_joined_to, is_connected, is_current_publisher, is_current_subscriber, is_up_to_date};
 
-use iox_domain_ports::ServicePorts;
+use iox_domain::ports::ServicePorts;
 use iox_domain_publisher::{Member, PublisherPort, Stage};
 use iox_domain_subscriber::{PublisherEntry, SubscriberEntry, SubscriberPort};
 

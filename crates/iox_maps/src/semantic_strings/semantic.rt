@@ -281,6 +281,18 @@ impl<R: Rules<CAPACITY>, const CAPACITY: usize> Semantic<R, CAPACITY> {
     }
 }
 
+/// As `new`, of the bytes of the text.
+impl<R: Rules<CAPACITY>, const CAPACITY: usize> TryFrom<&str> for Semantic<R, CAPACITY> {
+    type Error = SemanticStringError;
+
+    ghost try_from_gives = { λ text r. AnswersContent CAPACITY R.refuses_content R.refuses_characters text.now r
+        × IfOk r (λ made. made ≡ text.now) };
+
+    fn try_from(text: &str) -> Result<Self, SemanticStringError> {
+        Semantic::new(text.as_bytes())
+    }
+}
+
 fn is_refused<R: Rules<CAPACITY>, const CAPACITY: usize>(content: &StaticString<CAPACITY>) -> bool
     ensures accepted { OnFalse result (IsAccepted R.refuses_content R.refuses_characters content.now) }
     ensures refused { OnTrue result (¬ IsAccepted R.refuses_content R.refuses_characters content.now) }

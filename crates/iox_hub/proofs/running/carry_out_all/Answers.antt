@@ -3,7 +3,7 @@ use Rattle.std.specs.Vec.Iter.{into_iter_items}
 use Rattle.std.proofs.lemmas.List.{length-append}
 use Rattle.iox_hub_run.specs.HubCommands.DescribeBase.Detail.{detail}
 use Rattle.iox_hub_run.specs.HubCommands.DescribeBase.declared.type_detail.TypeVariant.TheVariants.{FixedSize}
-use Rattle.iox_hub_run.specs.HubFactories.Asked.{types_of}
+use Rattle.iox_hub_run.specs.HubCommands.Asked.{types_of}
 use Rattle.iox_hub_run.proofs.PortRooms.{keeps_on}
 use Rattle.iox_hub_run.proofs.Rooms.{at_seam}
 use Rattle.iox_hub_run.proofs.RunLemmas.{runs_more}

@@ -3,7 +3,7 @@ use Rattle.std.specs.Vec.Iter.{into_iter_items, into_iter_len}
 use Rattle.iox_hub_run.specs.Grown.{GrowsOn}
 use Rattle.iox_hub_run.specs.HubCommands.DescribeBase.Detail.{detail}
 use Rattle.iox_hub_run.specs.HubCommands.DescribeBase.declared.type_detail.TypeVariant.TheVariants.{FixedSize}
-use Rattle.iox_hub_run.specs.HubFactories.Asked.{types_of}
+use Rattle.iox_hub_run.specs.HubCommands.Asked.{types_of}
 use Rattle.iox_hub_run.specs.Numbers.{numbers_used}
 use Rattle.iox_hub_run.specs.PortRoom.{KeepsRoom}
 use Rattle.iox_hub_run.specs.Room.{FitsAll}

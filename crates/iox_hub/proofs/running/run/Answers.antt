@@ -3,7 +3,7 @@ use Rattle.iox_hub_run.specs.Agreements.{AreOfOneAgreement}
 use Rattle.iox_hub_run.specs.Grown.{GrowsOn}
 use Rattle.iox_hub_run.specs.HubCommands.DescribeBase.Detail.{detail}
 use Rattle.iox_hub_run.specs.HubCommands.DescribeBase.declared.type_detail.TypeVariant.TheVariants.{FixedSize}
-use Rattle.iox_hub_run.specs.HubFactories.Asked.{types_of}
+use Rattle.iox_hub_run.specs.HubCommands.Asked.{types_of}
 use Rattle.iox_hub_run.proofs.AsAgreed.{are_as_agreed}
 use Rattle.iox_hub_run.proofs.Rooms.{roomier_goes_on}
 use Rattle.iox_hub_run.proofs.StepChanges.{numbers_on_and_on}

@@ -1,5 +1,6 @@
 use Rattle.std.proofs.Common.{le_refl, refl, true}
-use Rattle.iox_hub_commands.specs.DomainHome.Steps.{why_no_publisher}
+use Rattle.iox_domain.specs.Homes as homes
+use Rattle.iox_hub_commands.specs.Domain.Steps.{why_no_publisher}
 use Rattle.iox_hub_commands.specs.Making.{with_publisher}
 use Rattle.iox_hub_commands.specs.Naming.{publisher_config}
 use Rattle.iox_hub_commands.proofs.Refused.{refused}
@@ -13,8 +14,8 @@ returns g c = λ made handlers. (
   (
     made,
     ((refl, refl, le_refl _), (refl, refl, le_refl _), (refl, refl, le_refl _), (refl, refl, le_refl _)),
-    refused (λ after. g.H.Home.with_ports c.args.domain after c.args.home.now) (λ number held. g.H.MakesPorts.with_publisher c.args.domain number handlers held) _
-        (λ ports. why_no_publisher (publisher_config c.args.owner c.args.options.now) ports) (g.H.Home.ports_of c.args.domain c.args.home.now) (with_publisher c.args.domain true) made c.args.home.now c.why_no_publisher.result made.publishers.next
+    refused (λ after. homes.with_ports g.H.Home.changed c.args.domain after c.args.home.now) (λ number held. homes.with_publisher g.H.Home.changed c.args.domain number handlers held) _
+        (λ ports. why_no_publisher (publisher_config c.args.owner c.args.options.now) ports) (homes.ports_of g.H.Home.domain_of c.args.domain c.args.home.now) (with_publisher c.args.domain true) made c.args.home.now c.why_no_publisher.result made.publishers.next
         (rw c.publisher_config-config.ensures at c.why_no_publisher.ensures),
   ),
   c.publisher_reply.ensures,

@@ -1,6 +1,6 @@
 use Rattle.iox_hub_laws.specs.HubCommands.DescribeBase.Detail.{detail}
 use Rattle.iox_hub_laws.specs.HubCommands.DescribeBase.declared.type_detail.TypeVariant.TheVariants.{FixedSize}
-use Rattle.iox_hub_laws.specs.HubFactories.Asked.{types_of}
+use Rattle.iox_hub_laws.specs.HubCommands.Asked.{types_of}
 use Rattle.iox_hub_laws.proofs.Beginning.{domains_start_empty, lives_begin_anew, nothing_ahead}
 use Rattle.iox_hub_laws.proofs.alone.a_life_starts_with_nothing.Goals as goal
 

@@ -1,6 +1,6 @@
 use Rattle.iox_hub_laws.specs.HubCommands.DescribeBase.Detail.{detail}
 use Rattle.iox_hub_laws.specs.HubCommands.DescribeBase.declared.type_detail.TypeVariant.TheVariants.{FixedSize}
-use Rattle.iox_hub_laws.specs.HubFactories.Asked.{types_of}
+use Rattle.iox_hub_laws.specs.HubCommands.Asked.{types_of}
 use Rattle.iox_hub_laws.proofs.AloneRuns.{is_as_if_alone}
 use Rattle.iox_hub_laws.proofs.Telling.{each_run_can_be_told}
 use Rattle.iox_hub_laws.proofs.alone.a_service_is_as_if_alone.Goals as goal

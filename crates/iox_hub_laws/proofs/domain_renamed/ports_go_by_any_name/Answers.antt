@@ -1,4 +1,4 @@
-use Rattle.iox_domain_laws.specs.DomainValues.declared.degradation.DegradationCause.TheVariants.{FailedToEstablishConnection}
+use Rattle.iox_domain.specs.DomainValues.declared.degradation.DegradationCause.TheVariants.{FailedToEstablishConnection}
 use Rattle.iox_hub_laws.proofs.Calls.{calls_go_by_any_name, reads_alike}
 use Rattle.iox_hub_laws.proofs.domain_renamed.ports_go_by_any_name.Goals as goal
 

@@ -1,6 +1,6 @@
 use Rattle.iox_hub_commands.specs.DescribeBase.Detail.{detail}
 use Rattle.iox_hub_commands.specs.DescribeBase.declared.type_detail.TypeVariant.TheVariants.{FixedSize}
-use Rattle.iox_hub_factories.specs.Asked.{types_of}
+use Rattle.iox_hub_commands.specs.Asked.{types_of}
 use Rattle.iox_hub_laws.proofs.Beside.{left_is_found, leaves_others, runs_leave_others}
 use Rattle.iox_hub_laws.proofs.independence.services_are_beside_one_another.Goals as goal
 

@@ -1,6 +1,6 @@
 use Rattle.iox_hub_laws.specs.HubCommands.DescribeBase.Detail.{detail}
 use Rattle.iox_hub_laws.specs.HubCommands.DescribeBase.declared.type_detail.TypeVariant.TheVariants.{FixedSize}
-use Rattle.iox_hub_laws.specs.HubFactories.Asked.{types_of}
+use Rattle.iox_hub_laws.specs.HubCommands.Asked.{types_of}
 use Rattle.iox_hub_laws.proofs.Closing.{close_answers_alike}
 use Rattle.iox_hub_laws.proofs.Foreign.{foreign_answers_alike}
 use Rattle.iox_hub_laws.proofs.Opening.{opens_answer_alike}

@@ -1,7 +1,7 @@
 use Rattle.iox_hub_laws.proofs.Commands.{each_goes_by_other_numbers}
 use Rattle.iox_hub_laws.specs.HubCommands.DescribeBase.Detail.{detail}
 use Rattle.iox_hub_laws.specs.HubCommands.DescribeBase.declared.type_detail.TypeVariant.TheVariants.{FixedSize}
-use Rattle.iox_hub_laws.specs.HubFactories.Asked.{types_of}
+use Rattle.iox_hub_laws.specs.HubCommands.Asked.{types_of}
 use Rattle.iox_hub_laws.proofs.RenamedSteps.{goes_by_any_number, run_goes_by_any_number}
 use Rattle.iox_hub_laws.proofs.renamed.commands_go_by_any_number.Goals as goal
 

@@ -1,6 +1,6 @@
 use Rattle.iox_hub_laws.specs.HubCommands.DescribeBase.Detail.{detail}
 use Rattle.iox_hub_laws.specs.HubCommands.DescribeBase.declared.type_detail.TypeVariant.TheVariants.{FixedSize}
-use Rattle.iox_hub_laws.specs.HubFactories.Asked.{types_of}
+use Rattle.iox_hub_laws.specs.HubCommands.Asked.{types_of}
 use Rattle.iox_hub_laws.proofs.RenamedRuns.{each_service_is_alone_by_fixed_actions}
 use Rattle.iox_hub_laws.proofs.renamed.fixed_actions_look_at_no_service.Goals as goal
 

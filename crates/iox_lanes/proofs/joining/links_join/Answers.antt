@@ -7,4 +7,4 @@ pub returns : goal.returns
 returns g c = λ k below. c.loop-publisher.invariant k (omega (arith, below, c.loop-publisher-test.false))
 
 pub loop-publisher-preserved : goal.loop-publisher-preserved
-loop-publisher-preserved g c = below_more (λ k. ((s : ℕ) → s < length c.args.opened.now.subscribers.items → LinkJoins c.args.domain.now.ports.publishers c.args.opened.now.lanes c.args.opened.now.publishers.items (length c.args.opened.now.subscribers.items) c.args.opened.now.connections.items k s)) c.loop-publisher.publisher c.loop-publisher.invariant c.if-not-links_of_join.ensures
+loop-publisher-preserved g c = below_more (λ k. ((s : ℕ) → s < length c.args.opened.now.subscribers.items → LinkJoins c.args.domain.now.state.ports.publishers c.args.opened.now.lanes c.args.opened.now.publishers.items (length c.args.opened.now.subscribers.items) c.args.opened.now.connections.items k s)) c.loop-publisher.publisher c.loop-publisher.invariant c.if-not-links_of_join.ensures

@@ -7,4 +7,4 @@ pub returns : goal.returns
 returns g c = λ k below. c.loop-subscriber.invariant k (omega (arith, below, c.loop-subscriber-test.false))
 
 pub loop-subscriber-preserved : goal.loop-subscriber-preserved
-loop-subscriber-preserved g c = below_more (λ k. LinkJoins c.args.domain.now.ports.publishers c.args.opened.now.lanes c.args.opened.now.publishers.items (length c.args.opened.now.subscribers.items) c.args.opened.now.connections.items c.args.publisher k) c.loop-subscriber.subscriber c.loop-subscriber.invariant c.if-not-link_joins.ensures
+loop-subscriber-preserved g c = below_more (λ k. LinkJoins c.args.domain.now.state.ports.publishers c.args.opened.now.lanes c.args.opened.now.publishers.items (length c.args.opened.now.subscribers.items) c.args.opened.now.connections.items c.args.publisher k) c.loop-subscriber.subscriber c.loop-subscriber.invariant c.if-not-link_joins.ensures

@@ -7,4 +7,4 @@ pub returns : goal.returns
 returns g c = λ k below. c.loop-place.invariant k (omega (arith, below, c.loop-place-test.false))
 
 pub loop-place-preserved : goal.loop-place-preserved
-loop-place-preserved g c = below_more (λ k. SenderJoins c.args.domain.now.ports.publishers c.args.opened.now.lanes c.args.opened.now.publishers.items k) c.loop-place.place c.loop-place.invariant c.if-not-sender_joins.ensures
+loop-place-preserved g c = below_more (λ k. SenderJoins c.args.domain.now.state.ports.publishers c.args.opened.now.lanes c.args.opened.now.publishers.items k) c.loop-place.place c.loop-place.invariant c.if-not-sender_joins.ensures

@@ -3,7 +3,7 @@ use Rattle.std.specs.Vec.Iter.{into_iter_items}
 use Rattle.std.proofs.lemmas.List.{length-append}
 use Rattle.iox_hub_commands.specs.DescribeBase.Detail.{detail}
 use Rattle.iox_hub_commands.specs.DescribeBase.declared.type_detail.TypeVariant.TheVariants.{FixedSize}
-use Rattle.iox_hub_factories.specs.Asked.{types_of}
+use Rattle.iox_hub_commands.specs.Asked.{types_of}
 use Rattle.iox_hub_run.specs.Steps.{Step}
 use Rattle.iox_hub_run.specs.Room.{loans_in, samples_in, FitsAll}
 use Rattle.iox_hub_run.proofs.PortRooms.{keeps_on}

@@ -1,6 +1,6 @@
 use Rattle.std.proofs.Common.{arith}
 use Rattle.std.proofs.lemmas.Result.{on_ok_weaker}
-use Rattle.iox_hub_factories.specs.HubServices.Room.{samples_left_in, samples_at_most_in}
+use Rattle.iox_hub_commands.specs.HubServices.Room.{samples_left_in, samples_at_most_in}
 use Rattle.iox_hub_run.proofs.PortRooms.{few_samples, small_fits}
 use Rattle.iox_hub_run.proofs.numbered_hub.NumberedHub.room_for_samples.Goals as goal
 

@@ -1,6 +1,6 @@
 use Rattle.iox_hub_commands.specs.DescribeBase.Detail.{detail}
 use Rattle.iox_hub_commands.specs.DescribeBase.declared.type_detail.TypeVariant.TheVariants.{FixedSize}
-use Rattle.iox_hub_factories.specs.Asked.{types_of}
+use Rattle.iox_hub_commands.specs.Asked.{types_of}
 use Rattle.iox_hub_run.proofs.AsAgreed.{are_as_agreed}
 use Rattle.iox_hub_run.proofs.PortRooms.{step_room, lacks_in_room, no_port}
 use Rattle.iox_hub_run.proofs.StepChanges.{step_changes, changes_count}

@@ -1,4 +1,4 @@
-use Rattle.iox_domain.specs.DomainPorts.DomainSlots.Uses.{nobody}
+use Rattle.iox_domain.specs.DomainSlots.Uses.{nobody}
 use Rattle.iox_lanes_opening.specs.Lingering.{connection_lingers}
 use Rattle.iox_lanes_opening.proofs.Going.{NoneBelow}
 use Rattle.iox_lanes_opening.proofs.refusals.lingering.has_lingering_connection.Given as goal

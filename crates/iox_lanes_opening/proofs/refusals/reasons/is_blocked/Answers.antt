@@ -1,5 +1,5 @@
 use Rattle.std.proofs.Common.{sym, ap, ◌∙◌}
-use Rattle.iox_domain.specs.DomainPorts.Publishing.{is_blocked}
+use Rattle.iox_domain.specs.PortsPublishing.{is_blocked}
 use Rattle.iox_lanes_opening.proofs.Going.{any_here, any_later, any_over}
 use Rattle.iox_lanes_opening.proofs.refusals.reasons.is_blocked.Goals as goal
 

@@ -1,6 +1,6 @@
 use Rattle.std.proofs.Common.{◌≡◌}
 use Rattle.std.specs.List.{list_any}
-use Rattle.iox_domain.specs.DomainPorts.Publishing.{is_blocked}
+use Rattle.iox_domain.specs.PortsPublishing.{is_blocked}
 use Rattle.iox_lanes_opening.proofs.refusals.reasons.is_blocked.Given as goal
 
 abbrev pub invariant-loop-number : goal.invariant-loop-number

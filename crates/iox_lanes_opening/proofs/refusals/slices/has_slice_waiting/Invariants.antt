@@ -1,4 +1,4 @@
-use Rattle.iox_domain.specs.DomainPorts.DomainSlots.Uses.{nobody}
+use Rattle.iox_domain.specs.DomainSlots.Uses.{nobody}
 use Rattle.iox_lanes_opening.specs.Slices.{slice_waits}
 use Rattle.iox_lanes_opening.proofs.Going.{NoneBelow}
 use Rattle.iox_lanes_opening.proofs.refusals.slices.has_slice_waiting.Given as goal

@@ -2,27 +2,18 @@ use Rattle.std.proofs.Common.{rules, arith, ℕ, ◌≡◌, ◌+◌, ◌≤◌, 
 use Rattle.iox_lanes_machine.specs.LanesParties.declared.call.Entry.{Entry}
 use Rattle.iox_lanes_machine.proofs.Runs.{counts_one, none_left}
 use Rattle.iox_lanes_laws.specs.Recorded.{RecordsRun}
-use Rattle.iox_lanes_laws.proofs.Records.{run_more, run_stops}
+use Rattle.iox_lanes_laws.proofs.Records.{run_more}
 use Rattle.iox_lanes_laws.proofs.messages.recorded.RecordedLanes.run.Goals as goal
-
-pub returns-then-is_stopped : goal.returns-then-is_stopped
-returns-then-is_stopped c =
-    let is : c.loop-entry.rest.now ≡ c.in-Some.entry.now ∷ c.in-Some.tail.now = search rules in
-    let e : c.loop-entry.made + 0 ≡ c.loop-entry.made = omega arith in
-    subst (λ (i : ℕ). RecordsRun c.args.self.now c.args.schedule.now i c.step-stepped.new.self) e
-    ((c.loop-entry.invariant.0) c.step-stepped.new.self 0
-    (subst (λ (xs : List Entry). RecordsRun c.loop-entry.self xs 0 c.step-stepped.new.self) (sym is)
-    (run_stops c.loop-entry.self c.in-Some.entry.now c.in-Some.tail.now c.step-stepped.result c.step-stepped.new.self c.step-stepped.ensures (sym c.is_stopped.ensures ∙ c.if-is_stopped.true))))
 
 pub loop-entry-preserved : goal.loop-entry-preserved
 loop-entry-preserved c =
     let is : c.loop-entry.rest.now ≡ c.in-Some.entry.now ∷ c.in-Some.tail.now = search rules in
     let longer : length c.loop-entry.rest.now ≡ length c.in-Some.tail.now + 1 = ap (λ (xs : List Entry). length xs) is ∙ omega arith in
-    let one : c.count-made.result ≤ 1 = counts_one c.step-stepped.result c.count-made.result c.count-made.ensures in (
+    let one : c.count-made.result ≤ 1 = counts_one c.step.result c.count-made.result c.count-made.ensures in (
       λ n k runs. subst (λ (i : ℕ). RecordsRun c.args.self.now c.args.schedule.now i n) (omega arith)
           ((c.loop-entry.invariant.0) n (c.count-made.result + k)
           (subst (λ (xs : List Entry). RecordsRun c.loop-entry.self xs (c.count-made.result + k) n) (sym is)
-          (run_more c.loop-entry.self c.in-Some.entry.now c.in-Some.tail.now c.step-stepped.result c.step-stepped.new.self n k (c.count-made.result + k) c.step-stepped.ensures (sym c.is_stopped.ensures ∙ c.if-is_stopped.false) (ap (λ (x : ℕ). x + k) c.count-made.ensures) runs))),
+          (run_more c.loop-entry.self c.in-Some.entry.now c.in-Some.tail.now c.step.result c.step.new.self n k (c.count-made.result + k) c.step.ensures (ap (λ (x : ℕ). x + k) c.count-made.ensures) runs))),
       omega (arith, c.loop-entry.invariant.1),
     )
 

@@ -1,0 +1,32 @@
+//! The ports of a service of slices as values, as those of single values are in the root.
+//!
+//! - [`publisher`]: a publisher of slices.
+//! - [`sample_mut_uninit`]: a slice that is lent to be written.
+//! - [`sample_mut`]: a slice that is lent and written.
+//! - [`subscriber`]: a subscriber of slices.
+//! - [`sample`]: a slice that was received.
+//! - [`filling`]: slices that are lent and written at once, by port.
+//!
+//! No port, loan or sample may be let go: it is spent by the call that ends it.
+//!
+//! First calls, of a publisher:
+//!
+//! ```
+//! let loan = publisher.loan_slice_uninit(alloc, home, 4).ok()?;
+//! let sample = loan.write_from_slice(home, &[1, 2, 3, 4]);
+//! let may = sample.holds(home);
+//! sample.drop_with(home);
+//! ```
+
+pub mod filling;
+pub mod publisher;
+pub mod sample;
+pub mod sample_mut;
+pub mod sample_mut_uninit;
+pub mod subscriber;
+
+pub use publisher::Publisher;
+pub use sample::Sample;
+pub use sample_mut::SampleMut;
+pub use sample_mut_uninit::SampleMutUninit;
+pub use subscriber::Subscriber;

@@ -1,0 +1,180 @@
+//! A subscriber of slices.
+ghost use Rattle.iox_domain.specs.Homes as homes;
+ghost use Rattle.std.specs.Prelude.{◌≡◌, true};
+ghost use Rattle.iox_delivery.specs.Holding.{subscriber_stands};
+ghost use Rattle.iox_delivery.specs.Subscribing.{FollowsPublishers, TellsSamples, SubscriberGoes, EndsSubscriber};
+ghost use Rattle.iox_delivery.specs.Slices.{ReceivesSlice};
+
+use crate::slices::sample::Sample;
+use crate::{PortId, subscribing};
+use iox_domain::settings::CustomPayloadMarker;
+use iox_domain::{DomainId, Home};
+use iox_domain_values::{ConnectionFailure, ReceiveError};
+use std::alloc::Global;
+use std::marker::PhantomData;
+
+/// A subscriber of slices. It stands until it leaves.
+///
+/// Ported from `iceoryx2::port::subscriber::Subscriber`.
+pub struct Subscriber<T, U> {
+    port: PortId,
+    buffer_size: usize,
+    of: PhantomData<(T, U)>,
+}
+
+impl<T: Copy, U: Copy> Subscriber<T, U> {
+    /// The subscriber that was made under a number, as a value. It is to be had once.
+    ///
+    /// This port's own: what makes ports by number hands them out so.
+    /// Example: `let subscriber = Subscriber::of_port(port, 4);`
+    pub fn of_port(port: PortId, buffer_size: usize) -> Self
+        ensures port { result.port ≡ port }
+        ensures buffer_size { result.buffer_size ≡ buffer_size }
+    {
+        Subscriber {
+            port,
+            buffer_size,
+            of: PhantomData,
+        }
+    }
+
+    /// Its number in its domain.
+    ///
+    /// Ported from `iceoryx2::port::subscriber::Subscriber::id`, with a number of 64 bits.
+    /// Example: `let number = subscriber.id();`
+    pub fn id(&self) -> u64
+        ensures { result ≡ self.now.port.number }
+    {
+        self.port.number
+    }
+
+    /// The id of its domain.
+    /// Example: `let domain = subscriber.domain();`
+    pub fn domain(&self) -> DomainId
+        ensures { result ≡ self.now.port.domain }
+    {
+        self.port.domain
+    }
+
+    /// How many messages of one publisher may wait for it.
+    ///
+    /// Ported from `iceoryx2::port::subscriber::Subscriber::buffer_size`.
+    /// Example: `let most = subscriber.buffer_size();`
+    pub fn buffer_size(&self) -> usize
+        ensures { result ≡ self.now.buffer_size }
+    {
+        self.buffer_size
+    }
+
+    /// Whether it stands in this home: the condition of its calls.
+    /// Example: `let is_there = subscriber.holds(home);`
+    pub fn holds<H: Home<T, U>>(&self, home: &H) -> bool
+        ensures { result ≡ subscriber_stands self.now.port.number (homes.ports_of H.domain_of self.now.port.domain home.now) }
+    {
+        subscribing::holds(self.port, home)
+    }
+
+    /// Whether some connection of it has data, after it followed the publishers: it fails where that does.
+    ///
+    /// Ported from `iceoryx2::port::subscriber::Subscriber::has_samples`.
+    /// Example: `let has = subscriber.has_samples(alloc, home)?;`
+    pub fn has_samples<H: Home<T, U>>(
+        &self,
+        alloc: Global,
+        home: &mut H,
+    ) -> Result<bool, ConnectionFailure>
+        requires { subscriber_stands self.now.port.number (homes.ports_of H.domain_of self.now.port.domain home.old) ≡ true }
+        ensures { TellsSamples (homes.ports_of H.domain_of) (homes.with_ports H.changed) (homes.subscriber_degrades (λ kept. H.ForSubscribers.degrades kept) H.domain_of) self.now.port home.old result home.new }
+    {
+        subscribing::has_samples(self.port, alloc, home)
+    }
+
+    /// Receives the next message, if one waits: `ServicePorts::receive` says which, and when it is refused. It is held until it
+    /// is released.
+    ///
+    /// Ported from `iceoryx2::port::subscriber::Subscriber::receive`.
+    /// Example: `let sample = subscriber.receive(alloc, home)?;`
+    pub fn receive<H: Home<T, U>>(
+        &self,
+        alloc: Global,
+        home: &mut H,
+    ) -> Result<Option<Sample<T, U>>, ReceiveError>
+        requires { subscriber_stands self.now.port.number (homes.ports_of H.domain_of self.now.port.domain home.old) ≡ true }
+        ensures { ReceivesSlice (homes.ports_of H.domain_of) (homes.with_ports H.changed) (homes.subscriber_degrades (λ kept. H.ForSubscribers.degrades kept) H.domain_of) self.now.port home.old result home.new }
+    {
+        match subscribing::take(self.port, alloc, home)? {
+            Some(taken) => Ok(Some(Sample::of_taken(self.port, taken))),
+            None => Ok(None),
+        }
+    }
+
+    /// Follows the publishers that came and left: `ServicePorts::update_subscriber` says what that does. It fails as a handler says where a
+    /// connection isn't made.
+    ///
+    /// Ported from `iceoryx2::port::update_connections::UpdateConnections`.
+    /// Example: `subscriber.update_connections(alloc, home)?;`
+    pub fn update_connections<H: Home<T, U>>(
+        &self,
+        alloc: Global,
+        home: &mut H,
+    ) -> Result<(), ConnectionFailure>
+        requires { subscriber_stands self.now.port.number (homes.ports_of H.domain_of self.now.port.domain home.old) ≡ true }
+        ensures { FollowsPublishers (homes.ports_of H.domain_of) (homes.with_ports H.changed) (homes.subscriber_degrades (λ kept. H.ForSubscribers.degrades kept) H.domain_of) self.now.port home.old result home.new }
+    {
+        subscribing::update(self.port, alloc, home)
+    }
+
+    /// Its port, of which `of_port` makes a value again. The subscriber stays.
+    ///
+    /// This port's own.
+    /// Example: `let port = subscriber.into_port();`
+    pub fn into_port(self) -> PortId
+        ensures { result ≡ self.port }
+    {
+        let Subscriber {
+            port,
+            buffer_size: _,
+            of: _,
+        } = self;
+        port
+    }
+
+    /// Lets it go: it leaves as by `leave`, if it exists; else nothing happens. Whether it left is the answer.
+    ///
+    /// Ported from dropping an `iceoryx2::port::subscriber::Subscriber`.
+    /// Example: `let has_left = subscriber.drop_with(home);`
+    pub fn drop_with<H: Home<T, U>>(self, home: &mut H) -> bool
+        ensures ends { EndsSubscriber (homes.ports_of H.domain_of) (homes.with_ports H.changed) (homes.without_subscriber H.changed) self.port home.old result home.new }
+        ensures left { result ≡ subscriber_stands self.port.number (homes.ports_of H.domain_of self.port.domain home.old) }
+    {
+        subscribing::drop_port(self.into_port(), home)
+    }
+
+    /// Leaves: the samples that it holds stay to be read and released. Its handler is dropped.
+    ///
+    /// Ported from dropping an `iceoryx2::port::subscriber::Subscriber`.
+    /// Example: `subscriber.leave(home);`
+    pub fn leave<H: Home<T, U>>(self, home: &mut H)
+        requires { subscriber_stands self.port.number (homes.ports_of H.domain_of self.port.domain home.old) ≡ true }
+        ensures { SubscriberGoes (homes.ports_of H.domain_of) (homes.with_ports H.changed) (homes.without_subscriber H.changed) self.port home.old home.new }
+    {
+        subscribing::leave(self.into_port(), home);
+    }
+}
+
+impl<U: Copy> Subscriber<CustomPayloadMarker, U> {
+    /// Receives the next message of a payload that only the description says, as `receive` does: all bytes of its elements.
+    ///
+    /// Ported from `iceoryx2::port::subscriber::Subscriber::receive_custom_payload`, which is unsafe.
+    /// Example: `let sample = subscriber.receive_custom_payload(alloc, home)?;`
+    pub fn receive_custom_payload<H: Home<CustomPayloadMarker, U>>(
+        &self,
+        alloc: Global,
+        home: &mut H,
+    ) -> Result<Option<Sample<CustomPayloadMarker, U>>, ReceiveError>
+        requires { subscriber_stands self.now.port.number (homes.ports_of H.domain_of self.now.port.domain home.old) ≡ true }
+        ensures { ReceivesSlice (homes.ports_of H.domain_of) (homes.with_ports H.changed) (homes.subscriber_degrades (λ kept. H.ForSubscribers.degrades kept) H.domain_of) self.now.port home.old result home.new }
+    {
+        self.receive(alloc, home)
+    }
+}

@@ -1,0 +1,10 @@
+use Rattle.std.proofs.Common.{rules}
+use Rattle.iox_domain.specs.Steps.{TellsBy}
+use Rattle.iox_domain.specs.Handling.{kept_degrades}
+use Rattle.iox_domain.specs.States.{subscriber_handler_in}
+use Rattle.iox_domain.proofs.Homely.{at_here}
+use Rattle.iox_domain.proofs.calls.has_samples.Goals as goal
+
+pub returns : goal.returns
+returns g c =
+    at_here g.H.Home.domain_of g.H.Home.changed g.met.H.Home.alike c.args.id (λ found. TellsBy (kept_degrades (λ kept. g.H.ForSubscribers.Degrades.degrades kept) (subscriber_handler_in c.args.number found)) c.args.number) c.args.home.now c.in_ok-domain.domain.now c.has_samples.new.self c.has_samples.result (search (rules, c.in_ok-domain.ensures.value)) c.has_samples.ensures.has c.has_samples.ensures.rest

@@ -1,0 +1,106 @@
+-- What each call adds to what lives, and takes from it.
+use Rattle.std.specs.Prelude.{ℕ, ◌+◌, ◌^◌, ◌<◌, ◌≡◌, Bool, true, is_some, Option, None, Some, Result, Ok, Err}
+use Rattle.iox_domain.specs.DomainValues.declared.backpressure.BackpressureDecision.{BackpressureDecision}
+use Rattle.iox_domain.specs.DomainValues.declared.backpressure.BackpressureInfo.{BackpressureInfo}
+use Rattle.iox_domain.specs.DomainValues.declared.connection_failure.ConnectionFailure.{ConnectionFailure}
+use Rattle.iox_domain.specs.DomainValues.declared.create_error.SubscriberCreateError.{SubscriberCreateError}
+use Rattle.iox_domain.specs.DomainValues.declared.degradation.DegradationAction.{DegradationAction}
+use Rattle.iox_domain.specs.DomainValues.declared.degradation.DegradationInfo.{DegradationInfo}
+use Rattle.iox_domain.specs.DomainValues.declared.port_error.LoanError.{LoanError}
+use Rattle.iox_domain.specs.DomainValues.declared.port_error.ReceiveError.{ReceiveError}
+use Rattle.iox_domain.specs.DomainValues.declared.port_error.SendError.{SendError}
+use Rattle.iox_domain.specs.DomainValues.declared.port_owner.PortOwner.{PortOwner}
+use Rattle.iox_domain.specs.DomainPublisher.Messages.{Loan}
+use Rattle.iox_domain.specs.DomainPublisher.Writing.{place_of}
+use Rattle.iox_domain.specs.DomainPublisher.declared.meeting.Sent.{Sent}
+use Rattle.iox_domain.specs.DomainPublisher.declared.meeting.Sent.TheVariants as sent
+use Rattle.iox_domain.specs.DomainPublisher.declared.publisher_port.PublisherPort.{PublisherPort}
+use Rattle.iox_domain.specs.DomainSubscriber.Living.{counted}
+use Rattle.iox_domain.specs.DomainSubscriber.Publishers.{port_of}
+use Rattle.iox_domain.specs.DomainSubscriber.declared.attached.Taken.{Taken}
+use Rattle.iox_domain.specs.DomainSubscriber.declared.subscriber_port.SubscriberPort.{SubscriberPort}
+use Rattle.iox_domain.specs.Lending.{LoansOne, written_in, gave_up_in}
+use Rattle.iox_domain.specs.Living.{living}
+use Rattle.iox_domain.specs.Making.{CreatesPublisher, CreatesSubscriber}
+use Rattle.iox_domain.specs.Ports.{AtPublisher, AtSubscriber}
+use Rattle.iox_domain.specs.PortsPublishing.{UpdatesOne, SendsOne, RetriesOne, GivesUpOne, LeavesAt}
+use Rattle.iox_domain.specs.Subscribers.{subscriber_of}
+use Rattle.iox_domain.specs.PortsSubscribing.{HasSamplesOne, ReceivesOne, Releases}
+use Rattle.iox_domain.specs.PortsSubscribing as subscribing
+use Rattle.iox_domain.specs.declared.ports.making.PublisherConfig.{PublisherConfig}
+use Rattle.iox_domain.specs.declared.ports.service_ports.ServicePorts.{ServicePorts}
+
+-- as much lives of each owner, and of all, as before
+abbrev pub AsMuchLives : {T U : Type 0} → ServicePorts T U → ServicePorts T U → Type 0
+AsMuchLives old new = (owner : Option ℕ) → living owner new ≡ living owner old
+
+-- one more lives of an owner, and of all; of each other owner as much as before
+abbrev pub OneMoreLives : {T U : Type 0} → ℕ → ServicePorts T U → ServicePorts T U → Type 0
+OneMoreLives number old new = (owner : Option ℕ) → living owner new ≡ living owner old + counted owner number 1
+
+-- one less lives of an owner, and of all; of each other owner as much as before
+abbrev pub OneLessLives : {T U : Type 0} → ℕ → ServicePorts T U → ServicePorts T U → Type 0
+OneLessLives number old new = (owner : Option ℕ) → living owner new + counted owner number 1 ≡ living owner old
+
+-- a loan that is made is one more
+abbrev pub LoanAdds : {T U : Type 0} → ℕ → Option (Result ℕ LoanError) → ServicePorts T U → ServicePorts T U → Type 0
+LoanAdds number None old new = AsMuchLives old new
+LoanAdds number (Some (Err error)) old new = AsMuchLives old new
+LoanAdds number (Some (Ok slot)) old new = OneMoreLives number old new
+
+-- a send that ended is one less, that of its loan; while it waits it counts as the loan did
+abbrev pub SendTakes : {T U : Type 0} → ℕ → Option (Result Sent SendError) → ServicePorts T U → ServicePorts T U → Type 0
+SendTakes number None old new = AsMuchLives old new
+SendTakes number (Some (Ok sent.Blocked)) old new = AsMuchLives old new
+SendTakes number (Some (Ok (sent.Delivered connections))) old new = OneLessLives number old new
+SendTakes number (Some (Err error)) old new = OneLessLives number old new
+
+-- a send that is given up is one less
+abbrev pub GivingUpTakes : {T U : Type 0} → ℕ → Option ℕ → ServicePorts T U → ServicePorts T U → Type 0
+GivingUpTakes number None old new = AsMuchLives old new
+GivingUpTakes number (Some delivered) old new = OneLessLives number old new
+
+-- What each call at a publisher adds to what lives of its owner, and takes from it.
+pub record PublisherSteps (T U : Type 0) (may_degrade : DegradationInfo → DegradationAction → Type 0) (may : BackpressureInfo → BackpressureDecision → Type 0) : Type 0 where
+  pub loan : (number values elements : ℕ) (port : PublisherPort T U) (old new : ServicePorts T U) (answer : Option (Result ℕ LoanError)) → port_of number old.publishers ≡ Some port
+      → AtPublisher number (LoansOne values elements) (Some port) old answer new → LoanAdds port.owner.number answer old new
+  pub write : (number slot : ℕ) (test : PublisherPort T U → Bool) (change : Loan T U → Loan T U) (old : ServicePorts T U) → AsMuchLives old (written_in number test slot change old)
+  pub drop : (number slot : ℕ) (port : PublisherPort T U) (old : ServicePorts T U) → port_of number old.publishers ≡ Some port → is_some (place_of slot port) ≡ true
+      → OneLessLives port.owner.number old (gave_up_in number slot old)
+  pub update : (number : ℕ) (port : PublisherPort T U) (old new : ServicePorts T U) (answer : Option (Result (Unit {0}) ConnectionFailure)) → port_of number old.publishers ≡ Some port
+      → AtPublisher number (UpdatesOne may_degrade old.subscriber_list) (Some port) old answer new → AsMuchLives old new
+  pub send : (number slot : ℕ) (port : PublisherPort T U) (old new : ServicePorts T U) (answer : Option (Result Sent SendError)) → port_of number old.publishers ≡ Some port
+      → AtPublisher number (SendsOne may_degrade may old.subscriber_list slot) (Some port) old answer new → SendTakes port.owner.number answer old new
+  pub retry : (number elapsed : ℕ) (port : PublisherPort T U) (old new : ServicePorts T U) (answer : Option (Result Sent SendError)) → port_of number old.publishers ≡ Some port
+      → AtPublisher number (RetriesOne may elapsed) (Some port) old answer new → SendTakes port.owner.number answer old new
+  pub give_up : (number : ℕ) (port : PublisherPort T U) (old new : ServicePorts T U) (answer : Option ℕ) → port_of number old.publishers ≡ Some port
+      → AtPublisher number GivesUpOne (Some port) old answer new → GivingUpTakes port.owner.number answer old new
+  pub leave : (number : ℕ) (port : PublisherPort T U) (old new : ServicePorts T U) → port_of number old.publishers ≡ Some port
+      → LeavesAt number (Some port) old true new → OneLessLives port.owner.number old new
+
+-- a sample that came is one more
+abbrev pub ReceivingAdds : {T U : Type 0} → ℕ → Option (Result (Option Taken) ReceiveError) → ServicePorts T U → ServicePorts T U → Type 0
+ReceivingAdds number None old new = AsMuchLives old new
+ReceivingAdds number (Some (Err error)) old new = AsMuchLives old new
+ReceivingAdds number (Some (Ok None)) old new = AsMuchLives old new
+ReceivingAdds number (Some (Ok (Some taken))) old new = OneMoreLives number old new
+
+-- What each call at a subscriber adds to what lives of its owner, and takes from it. What is held is counted up to 2^64 - 1.
+pub record SubscriberSteps (T U : Type 0) (may : DegradationInfo → DegradationAction → Type 0) : Type 0 where
+  pub update : (number : ℕ) (port : SubscriberPort) (old new : ServicePorts T U) (answer : Option (Result (Unit {0}) ConnectionFailure)) → subscriber_of number old.subscribers ≡ Some port
+      → AtSubscriber number (subscribing.UpdatesOne may old.publisher_list) (Some port) old answer new → AsMuchLives old new
+  pub has_samples : (number : ℕ) (port : SubscriberPort) (old new : ServicePorts T U) (answer : Option (Result Bool ConnectionFailure)) → subscriber_of number old.subscribers ≡ Some port
+      → AtSubscriber number (HasSamplesOne may old.publisher_list) (Some port) old answer new → AsMuchLives old new
+  pub receive : (number : ℕ) (port : SubscriberPort) (old new : ServicePorts T U) (answer : Option (Result (Option Taken) ReceiveError)) → subscriber_of number old.subscribers ≡ Some port
+      → port.held + 1 < 2 ^ 64 → AtSubscriber number (ReceivesOne may old.publisher_list) (Some port) old answer new → ReceivingAdds port.owner.number answer old new
+  pub release : (number : ℕ) (sample : Taken) (port : SubscriberPort) (old new : ServicePorts T U) → subscriber_of number old.subscribers ≡ Some port → 0 < port.held
+      → Releases number sample old true new → OneLessLives port.owner.number old new
+  pub leave : (number : ℕ) (port : SubscriberPort) (old new : ServicePorts T U) → subscriber_of number old.subscribers ≡ Some port
+      → subscribing.LeavesAt number (Some port) old true new → OneLessLives port.owner.number old new
+
+-- A port that comes, under a number that is new, is one more.
+pub record CreatingSteps (T U : Type 0) (overrides : ℕ → ℕ → Type 0) (may : DegradationInfo → DegradationAction → Type 0) : Type 0 where
+  pub publisher : (config : PublisherConfig) (user_header : U) (needed place : Option ℕ) (number : ℕ) (old new : ServicePorts T U) → port_of old.next_port old.publishers ≡ None
+      → CreatesPublisher overrides may config user_header needed place old (Ok number) new → OneMoreLives config.owner.number old new
+  pub subscriber : (owner : PortOwner) (buffer_size : Result ℕ SubscriberCreateError) (place : Option ℕ) (number : ℕ) (old new : ServicePorts T U) → subscriber_of old.next_port old.subscribers ≡ None
+      → CreatesSubscriber may owner buffer_size place old (Ok number) new → OneMoreLives owner.number old new

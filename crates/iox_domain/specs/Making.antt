@@ -1,0 +1,144 @@
+-- A publisher and a subscriber come.
+use Rattle.std.specs.Prelude.{ℕ, ◌≡◌, ◌+◌, ◌^◌, max, nat_lt, List, Option, None, Some, Result, Ok, Err, if◌then◌else◌}
+use Rattle.std.specs.declared.alloc.AllocError.{AllocError}
+use Rattle.iox_domain_subscriber.specs.IndexBase.declared.container.Member.{Member}
+use Rattle.iox_domain_subscriber.specs.DomainValues.OverrideAnswers.{places}
+use Rattle.iox_domain_subscriber.specs.DomainValues.Sizes.{worst_case, within}
+use Rattle.iox_domain_subscriber.specs.DomainValues.declared.connection_failure.ConnectionFailure.{ConnectionFailure}
+use Rattle.iox_domain_subscriber.specs.DomainValues.declared.create_error.PublisherCreateError.{PublisherCreateError}
+use Rattle.iox_domain_subscriber.specs.DomainValues.declared.create_error.PublisherCreateError.TheVariants as publishing
+use Rattle.iox_domain_subscriber.specs.DomainValues.declared.create_error.SubscriberCreateError.{SubscriberCreateError}
+use Rattle.iox_domain_subscriber.specs.DomainValues.declared.create_error.SubscriberCreateError.TheVariants as subscribing
+use Rattle.iox_domain_subscriber.specs.DomainValues.declared.data_segment.AllocationStrategy.{AllocationStrategy}
+use Rattle.iox_domain_subscriber.specs.DomainValues.declared.data_segment.AllocationStrategy.TheVariants as allocation
+use Rattle.iox_domain_subscriber.specs.DomainValues.declared.degradation.DegradationAction.{DegradationAction}
+use Rattle.iox_domain_subscriber.specs.DomainValues.declared.degradation.DegradationInfo.{DegradationInfo}
+use Rattle.iox_domain_subscriber.specs.DomainValues.declared.port_owner.PortIdentity.{PortIdentity}
+use Rattle.iox_domain_subscriber.specs.DomainValues.declared.port_owner.PortOwner.{PortOwner}
+use Rattle.iox_domain_subscriber.specs.DomainPublisher.declared.messages.sender_config.SenderConfig.{SenderConfig}
+use Rattle.iox_domain_subscriber.specs.DomainPublisher.Leaving.{new_port}
+use Rattle.iox_domain_subscriber.specs.DomainPublisher.Updating as publisher
+use Rattle.iox_domain_subscriber.specs.DomainPublisher.declared.publisher_port.PublisherPort.{PublisherPort}
+use Rattle.iox_domain_subscriber.specs.DomainPublisher.declared.subscriber_entry.SubscriberEntry.{SubscriberEntry}
+use Rattle.iox_domain_subscriber.specs.Publishers.{added}
+use Rattle.iox_domain_subscriber.specs.Arriving.{new_subscriber}
+use Rattle.iox_domain_subscriber.specs.Updating as subscriber
+use Rattle.iox_domain_subscriber.specs.declared.publisher_entry.PublisherEntry.{PublisherEntry}
+use Rattle.iox_domain_subscriber.specs.declared.subscriber_port.SubscriberPort.{SubscriberPort}
+use Rattle.iox_domain.specs.Ports.{with_both}
+use Rattle.iox_domain.specs.Rolls.{IsListOf, free_place, entered}
+use Rattle.iox_domain.specs.Subscribers.{subscriber_added}
+use Rattle.iox_domain.specs.declared.ports.making.PublisherConfig.{PublisherConfig}
+use Rattle.iox_domain.specs.declared.ports.service_ports.ServicePorts.{ServicePorts}
+
+-- how many slots a publisher needs in the worst case; none are enough for 2^32 or more, or for so many values in one
+abbrev pub slots_needed : {T U : Type 0} → PublisherConfig → ServicePorts T U → Option ℕ
+slots_needed config ports = if nat_lt config.values (2 ^ 32) then within (worst_case ports.sizes config.max_loaned_samples) else None
+
+-- a place, if a port may get the next number: ports are counted up to 2^64 - 2
+abbrev pub numbered : {T U : Type 0} → Option ℕ → ServicePorts T U → Option ℕ
+numbered place ports = if nat_lt (ports.next_port + 1) (2 ^ 64) then place else None
+
+-- the place that the next publisher gets
+abbrev pub publisher_place : {T U : Type 0} → ServicePorts T U → Option ℕ
+publisher_place ports = numbered (free_place ports.publisher_list) ports
+
+-- the place that the next subscriber gets
+abbrev pub subscriber_place : {T U : Type 0} → ServicePorts T U → Option ℕ
+subscriber_place ports = numbered (free_place ports.subscriber_list) ports
+
+-- how many segments a publisher may have
+abbrev pub segments_of : AllocationStrategy → ℕ
+segments_of allocation.Static = 1
+segments_of allocation.BestFit = 255
+segments_of allocation.PowerOfTwo = 255
+
+-- how many messages a publisher and its connections may have
+abbrev pub sender_config : {T U : Type 0} → PublisherConfig → ℕ → ServicePorts T U → SenderConfig
+sender_config config slots ports = record {
+  overflows = ports.sizes.enable_safe_overflow;
+  slots = slots;
+  most_segments = segments_of config.allocation;
+  room = config.values;
+  most_loans = config.max_loaned_samples;
+  history = ports.sizes.history_size;
+  most_waiting = ports.sizes.subscriber_max_buffer_size;
+  most_borrowed = ports.sizes.subscriber_max_borrowed_samples;
+}
+
+-- which port comes next
+abbrev pub identity_of : {T U : Type 0} → PortOwner → ℕ → ServicePorts T U → PortIdentity
+identity_of owner place ports = record { service = ports.service; number = ports.next_port; owner = owner; place = place }
+
+-- A publisher comes at a place, with so many slots, as one that followed the list of subscribers; without memory nothing changes.
+abbrev pub AddsPublisher : {T U : Type 0} → (DegradationInfo → DegradationAction → Type 0) → PublisherConfig → U → ℕ → ℕ → ServicePorts T U → Result ℕ AllocError → ServicePorts T U → Type 0
+AddsPublisher may config user_header place slots old (Err error) new = new ≡ old
+AddsPublisher {T} {U} may config user_header place slots old (Ok number) new =
+    (listed : List (Option (Member SubscriberEntry))) × IsListOf listed old.subscriber_list × (outcome : Result (Unit {0}) ConnectionFailure) × (port : PublisherPort T U)
+    × publisher.Updates may listed old.subscriber_list.changes (new_port (identity_of config.owner place old) old.sizes.max_subscribers config.allocation config.unit (sender_config config slots old) user_header) outcome port
+    × (number ≡ old.next_port)
+    × (new ≡ record old {
+      next_port = old.next_port + 1;
+      publisher_list = entered place (record { publisher = old.next_port }) old.publisher_list;
+      publishers = added old.next_port port old.publishers;
+    })
+
+-- what is answered of a publisher that came, or didn't for want of memory
+abbrev pub publisher_answer : Result ℕ AllocError → Result ℕ PublisherCreateError
+publisher_answer (Ok number) = Ok number
+publisher_answer (Err error) = Err publishing.UnableToCreateDataSegment
+
+-- why a publisher isn't made that needs so many slots and gets this place: for want of memory, where there are such
+abbrev pub publisher_refusal : Option ℕ → Option ℕ → PublisherCreateError
+publisher_refusal None place = publishing.UnableToCreateDataSegment
+publisher_refusal (Some needed) None = publishing.ExceedsMaxSupportedPublishers
+publisher_refusal (Some needed) (Some place) = publishing.UnableToCreateDataSegment
+
+-- A publisher is made where it needs so many slots, and a place is free; it gets as many as an answer comes to that is allowed.
+abbrev pub CreatesPublisher : {T U : Type 0} → (ℕ → ℕ → Type 0) → (DegradationInfo → DegradationAction → Type 0) → PublisherConfig → U → Option ℕ → Option ℕ → ServicePorts T U → Result ℕ PublisherCreateError → ServicePorts T U → Type 0
+CreatesPublisher overrides may config user_header None place old answer new = (answer ≡ Err publishing.UnableToCreateDataSegment) × (new ≡ old)
+CreatesPublisher overrides may config user_header (Some needed) None old answer new = (answer ≡ Err publishing.ExceedsMaxSupportedPublishers) × (new ≡ old)
+CreatesPublisher overrides may config user_header (Some needed) (Some place) old answer new =
+    (slots : ℕ) × overrides (max needed 1) slots × (outcome : Result ℕ AllocError)
+    × AddsPublisher may config user_header place (places (max needed 1) slots) old outcome new × (answer ≡ publisher_answer outcome)
+
+-- the subscriber of a number follows the list of publishers, if there is one
+abbrev pub FollowsFirst : {T U : Type 0} → (DegradationInfo → DegradationAction → Type 0) → ℕ → Option SubscriberPort → ServicePorts T U → ServicePorts T U → Type 0
+FollowsFirst may number None old new = new ≡ old
+FollowsFirst {T} {U} may number (Some port) old new =
+    (listed : List (Option (Member PublisherEntry))) × IsListOf listed old.publisher_list × (outcome : Result (Unit {0}) ConnectionFailure)
+    × (after : SubscriberPort) × (publishers_after : List (ℕ × PublisherPort T U))
+    × subscriber.Updates may listed old.publisher_list.changes port old.publishers outcome after publishers_after × (new ≡ with_both number after publishers_after old)
+
+-- a subscriber comes under the next number
+abbrev pub with_new : {T U : Type 0} → SubscriberPort → ServicePorts T U → ServicePorts T U
+with_new port ports = record ports { subscribers = subscriber_added ports.next_port port ports.subscribers }
+
+-- A subscriber comes at a place, and follows the list of publishers; without memory nothing changes.
+abbrev pub AddsSubscriber : {T U : Type 0} → (DegradationInfo → DegradationAction → Type 0) → PortOwner → ℕ → ℕ → ServicePorts T U → Result ℕ AllocError → ServicePorts T U → Type 0
+AddsSubscriber may owner place buffer_size old (Err error) new = new ≡ old
+AddsSubscriber {T} {U} may owner place buffer_size old (Ok number) new =
+    (between : ServicePorts T U)
+    × FollowsFirst may old.next_port (Some (new_subscriber (identity_of owner place old) buffer_size old.sizes.max_publishers old.sizes.expired_connections))
+    (with_new (new_subscriber (identity_of owner place old) buffer_size old.sizes.max_publishers old.sizes.expired_connections) old) between
+    × (number ≡ old.next_port)
+    × (new ≡ record between { next_port = old.next_port + 1; subscriber_list = entered place (record { subscriber = old.next_port; buffer_size = buffer_size }) old.subscriber_list })
+
+-- what is answered of a subscriber that came, or didn't for want of memory
+abbrev pub subscriber_answer : Result ℕ AllocError → Result ℕ SubscriberCreateError
+subscriber_answer (Ok number) = Ok number
+subscriber_answer (Err error) = Err subscribing.OutOfMemory
+
+-- why a subscriber isn't made for whom so many messages may wait, or that is refused for it, and that gets this place: for want of memory, where
+-- there are such
+abbrev pub subscriber_refusal : Result ℕ SubscriberCreateError → Option ℕ → SubscriberCreateError
+subscriber_refusal (Err refusal) place = refusal
+subscriber_refusal (Ok buffer_size) None = subscribing.ExceedsMaxSupportedSubscribers
+subscriber_refusal (Ok buffer_size) (Some place) = subscribing.OutOfMemory
+
+-- A subscriber is made where as many messages may wait for it as it names, and a place is free.
+abbrev pub CreatesSubscriber : {T U : Type 0} → (DegradationInfo → DegradationAction → Type 0) → PortOwner → Result ℕ SubscriberCreateError → Option ℕ → ServicePorts T U → Result ℕ SubscriberCreateError → ServicePorts T U → Type 0
+CreatesSubscriber may owner (Err refusal) place old answer new = (answer ≡ Err refusal) × (new ≡ old)
+CreatesSubscriber may owner (Ok buffer_size) None old answer new = (answer ≡ Err subscribing.ExceedsMaxSupportedSubscribers) × (new ≡ old)
+CreatesSubscriber may owner (Ok buffer_size) (Some place) old answer new =
+    (outcome : Result ℕ AllocError) × AddsSubscriber may owner place buffer_size old outcome new × (answer ≡ subscriber_answer outcome)

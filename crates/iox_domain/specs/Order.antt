@@ -1,0 +1,106 @@
+-- In which order a connection gives what its publisher sends.
+use Rattle.std.specs.Prelude.{ℕ, ◌≡◌, ◌==◌, ◌&&◌, ◌⊎◌, Bool, true, false, List, [], ◌∷◌, ◌++◌, take, if◌then◌else◌, get_or, Option, None, Some, Result, Ok, Err}
+use Rattle.iox_domain.specs.DomainValues.declared.backpressure.BackpressureDecision.{BackpressureDecision}
+use Rattle.iox_domain.specs.DomainValues.declared.backpressure.BackpressureInfo.{BackpressureInfo}
+use Rattle.iox_domain.specs.DomainValues.declared.degradation.DegradationAction.{DegradationAction}
+use Rattle.iox_domain.specs.DomainValues.declared.degradation.DegradationInfo.{DegradationInfo}
+use Rattle.iox_domain.specs.DomainValues.declared.port_error.ReceiveError.{ReceiveError}
+use Rattle.iox_domain.specs.DomainValues.declared.port_error.SendError.{SendError}
+use Rattle.iox_domain.specs.DomainValues.declared.port_error.SendError.TheVariants as sending
+use Rattle.iox_domain.specs.DomainValues.declared.service_sizes.ServiceSizes.{ServiceSizes}
+use Rattle.iox_domain.specs.DomainPublisher.Messages.{Message, Loan, sent_as}
+use Rattle.iox_domain.specs.DomainPublisher.Places.{leads_to}
+use Rattle.iox_domain.specs.DomainPublisher.Ports.{is_live}
+use Rattle.iox_domain.specs.DomainPublisher.declared.meeting.Sent.{Sent}
+use Rattle.iox_domain.specs.DomainPublisher.declared.publisher_port.PublisherPort.{PublisherPort}
+use Rattle.iox_domain.specs.DomainSubscriber.Publishers.{port_of, connection_in}
+use Rattle.iox_domain.specs.DomainSubscriber.declared.attached.Taken.{Taken}
+use Rattle.iox_domain.specs.Calls.{PortCall, Sends, Receives, Happens}
+use Rattle.iox_domain.specs.Lending.{loan_in}
+use Rattle.iox_domain.specs.Ports.{no_ports}
+use Rattle.iox_domain.specs.declared.ports.service_ports.ServicePorts.{ServicePorts}
+
+-- One list is part of another, in order: all that it has stands there too, each in a place of its own and in the same order.
+abbrev pub IsPartOf : {X : Type 0} → List X → List X → Type 0
+IsPartOf [] ys = Unit {0}
+IsPartOf (x ∷ xs) [] = ⊥
+IsPartOf (x ∷ xs) (y ∷ ys) = ((x ≡ y) × IsPartOf xs ys) ⊎ IsPartOf (x ∷ xs) ys
+
+-- whether the connection of an index goes on and leads to a subscriber
+abbrev pub leads_at : {T U : Type 0} → ℕ → ℕ → PublisherPort T U → Bool
+leads_at index subscriber port = is_live index port && leads_to subscriber (get_or port.readers index None)
+
+-- the same of a publisher that there may be
+abbrev pub leads_at_port : {T U : Type 0} → ℕ → ℕ → Option (PublisherPort T U) → Bool
+leads_at_port index subscriber None = false
+leads_at_port index subscriber (Some port) = leads_at index subscriber port
+
+-- the same of the publisher of a number
+abbrev pub leads_in : {T U : Type 0} → ℕ → ℕ → ℕ → ServicePorts T U → Bool
+leads_in publisher index subscriber ports = leads_at_port index subscriber (port_of publisher ports.publishers)
+
+-- whether a send began, which is all but one that is refused: the message went to the connections
+abbrev pub has_begun : Option (Result Sent SendError) → Bool
+has_begun None = false
+has_begun (Some (Ok done)) = true
+has_begun (Some (Err sending.UnableToDeliver)) = true
+has_begun (Some (Err error)) = false
+
+-- the message that a loan becomes
+abbrev pub message_of : {T U : Type 0} → Option (Loan T U) → List (Message T U)
+message_of None = []
+message_of (Some loan) = sent_as loan ∷ []
+
+-- what a call makes a publisher send: the message of the loan in the slot that is sent
+abbrev pub sent_by : {T U : Type 0} → ℕ → PortCall T U → ServicePorts T U → List (Message T U)
+sent_by publisher (Sends number slot answer) old = if (publisher == number) && has_begun answer then message_of (loan_in number slot old) else []
+sent_by publisher call old = []
+
+-- whether the answer of a receive names a connection
+abbrev pub is_named : ℕ → ℕ → Option (Result (Option Taken) ReceiveError) → Bool
+is_named publisher index (Some (Ok (Some taken))) = (publisher == taken.publisher) && (index == taken.index)
+is_named publisher index answer = false
+
+-- what a call takes from a connection: the oldest that waits there, if the answer names the connection
+abbrev pub taken_by : {T U : Type 0} → ℕ → ℕ → PortCall T U → ServicePorts T U → List (Message T U)
+taken_by publisher index (Receives subscriber answer) old =
+    if is_named publisher index answer then take 1 (connection_in publisher index old.publishers).waiting else []
+taken_by publisher index call old = []
+
+-- What a publisher sent so far, and what was taken so far from one of its connections since that was made, each the oldest first.
+pub record Account (T U : Type 0) : Type 0 where
+  pub sent : List (Message T U)
+  pub taken : List (Message T U)
+
+-- the account of the connection of an index that leads to a subscriber, after one call more; before it is made nothing is taken from it
+abbrev pub account_on : {T U : Type 0} → ℕ → ℕ → ℕ → PortCall T U → ServicePorts T U → Account T U → Account T U
+account_on publisher index subscriber call old account = record {
+  sent = account.sent ++ sent_by publisher call old;
+  taken = if leads_in publisher index subscriber old then account.taken ++ taken_by publisher index call old else [];
+}
+
+-- the account after calls, each with the ports after it
+abbrev pub account_after : {T U : Type 0} → ℕ → ℕ → ℕ → List (PortCall T U × ServicePorts T U) → ServicePorts T U → Account T U → Account T U
+account_after publisher index subscriber [] old account = account
+account_after publisher index subscriber ((call, next) ∷ calls) old account =
+    account_after publisher index subscriber calls next (account_on publisher index subscriber call old account)
+
+-- Calls happen one after the other, each with the ports after it.
+abbrev pub Happen : {T U : Type 0} → (ℕ → ℕ → Type 0) → (DegradationInfo → DegradationAction → Type 0) → (BackpressureInfo → BackpressureDecision → Type 0) → List (PortCall T U × ServicePorts T U) → ServicePorts T U → ServicePorts T U → Type 0
+Happen overrides may decide [] old new = new ≡ old
+Happen overrides may decide ((call, next) ∷ calls) old new = Happens overrides may decide call old next × Happen overrides may decide calls next new
+
+-- nothing was sent, and nothing taken
+abbrev pub nothing_yet : {T U : Type 0} → Account T U
+nothing_yet = record { sent = []; taken = [] }
+
+-- Of any calls from a new service on: what was taken from a connection since it was made, and then what waits there, is part of what its publisher
+-- sent, in the order of sending and each at most once. And what a receive takes is one message, whose slot its answer names.
+pub record InOrder (T U : Type 0) (overrides : ℕ → ℕ → Type 0) (may : DegradationInfo → DegradationAction → Type 0) (decide : BackpressureInfo → BackpressureDecision → Type 0) : Type 0 where
+  pub order : (service : ℕ) (sizes : ServiceSizes) (calls : List (PortCall T U × ServicePorts T U)) (new : ServicePorts T U) (publisher index subscriber : ℕ)
+      → Happen overrides may decide calls (no_ports service sizes) new → leads_in publisher index subscriber new ≡ true
+      → IsPartOf ((account_after publisher index subscriber calls (no_ports service sizes) nothing_yet).taken ++ (connection_in publisher index new.publishers).waiting)
+      (account_after publisher index subscriber calls (no_ports service sizes) nothing_yet).sent
+  pub names : (service : ℕ) (sizes : ServiceSizes) (calls : List (PortCall T U × ServicePorts T U)) (old new : ServicePorts T U) (subscriber : ℕ) (taken : Taken)
+      → Happen overrides may decide calls (no_ports service sizes) old → Happens overrides may decide (Receives subscriber (Some (Ok (Some taken)))) old new
+      → (message : Message T U) × (taken_by taken.publisher taken.index (Receives subscriber (Some (Ok (Some taken)))) old ≡ message ∷ []) × (taken.slot ≡ message.slot)

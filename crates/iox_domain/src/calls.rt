@@ -1,0 +1,246 @@
+//! The calls of ports at the home of their domain: each is one look-up, and then the call of what the domain lends.
+ghost use Rattle.std.specs.Prelude.{◌≡◌, option_copied};
+ghost use Rattle.std.specs.Borrow.{sem, LendsIf};
+ghost use Rattle.std.specs.Option.{option_copied_mut};
+ghost use Rattle.iox_domain.specs.DomainValues.declared.degradation.DegradationCause.TheVariants.{FailedToEstablishConnection};
+ghost use Rattle.iox_domain.specs.contracts.ports.service_ports.ServicePorts as service_ports;
+ghost use Rattle.iox_domain.specs.AtHomes.{AtDomain, LeavesDomain, MakesAt};
+ghost use Rattle.iox_domain.specs.Steps.{LoansBy, UpdatesBy, SendsBy, RetriesBy, PublisherLeaves, FollowsBy, TellsBy, ReceivesBy, SubscriberLeaves, PublisherComes, SubscriberComes, why_no_publisher, why_no_subscriber};
+ghost use Rattle.iox_domain.specs.Homes.{ports_of, with_ports, with_publisher, with_subscriber, without_publisher, without_subscriber, publisher_degrades, publisher_decides, subscriber_degrades};
+
+use crate::domain_id::DomainId;
+use crate::home::Home;
+use crate::ports::{PublisherConfig, ServicePorts, SubscriberConfig};
+use iox_domain_publisher::Sent;
+use iox_domain_subscriber::Taken;
+use iox_domain_values::{
+    ConnectionFailure, LoanError, Overrides, PublisherCreateError, ReceiveError, SendError,
+    SubscriberCreateError,
+};
+use std::alloc::Global;
+
+/// The ports of the domain of an id, if it is here.
+///
+/// This port's own.
+pub fn ports<'a, T: Copy, U: Copy, H: Home<T, U>>(
+    home: &'a H,
+    id: DomainId,
+) -> Option<&'a ServicePorts<T, U>>
+where
+    T: 'a,
+    U: 'a,
+    ensures { option_copied result ≡ ports_of H.domain_of id home.now }
+{
+    match home.domain(id) {
+        Some(domain) => Some(&domain.ports),
+        None => None,
+    }
+}
+
+/// The ports of the domain of an id, if it is here, to be changed in their place.
+///
+/// This port's own.
+pub fn ports_mut<'a, T: Copy, U: Copy, H: Home<T, U>>(
+    home: &'a mut H,
+    id: DomainId,
+) -> Option<&'a mut ServicePorts<T, U>>
+where
+    T: 'a,
+    U: 'a,
+    ensures* writes_back { sem 𝓛 (LendsIf H.row (service_ports.the_row T.row U.row) home.entry result (λ last. with_ports H.changed id last home.old) home.old) }
+    ensures value { option_copied_mut result ≡ ports_of H.domain_of id home.old }
+{
+    match home.domain_mut(id) {
+        Some(domain) => Some(&mut domain.ports),
+        None => None,
+    }
+}
+
+/// A publisher lends a slot for so many values and elements: `ServicePorts::loan` says what that does. None, and nothing happens, also
+/// where the domain isn't here.
+///
+/// Ported from `iceoryx2::port::publisher::Publisher::loan_slice_uninit`.
+pub fn loan<T: Copy, U: Copy, H: Home<T, U>>(
+    home: &mut H,
+    alloc: Global,
+    id: DomainId,
+    number: u64,
+    values: usize,
+    elements: u64,
+) -> Option<Result<usize, LoanError>>
+    ensures { AtDomain (λ after. with_ports H.changed id after home.old) (LoansBy number values elements) (ports_of H.domain_of id home.old) home.old result home.new }
+{
+    let domain = home.domain_mut(id)?;
+    domain.loan(alloc, number, values, elements)
+}
+
+/// A publisher follows the list of subscribers: `ServicePorts::update_publisher` says what that does. None, and nothing happens, also
+/// where the domain isn't here.
+///
+/// Ported from `iceoryx2::port::publisher::Publisher::update_connections`.
+pub fn update_publisher<T: Copy, U: Copy, H: Home<T, U>>(
+    home: &mut H,
+    alloc: Global,
+    id: DomainId,
+    number: u64,
+) -> Option<Result<(), ConnectionFailure>>
+    ensures { AtDomain (λ after. with_ports H.changed id after home.old) (UpdatesBy (publisher_degrades (λ kept. H.ForPublishers.degrades kept) H.domain_of id number home.old) number) (ports_of H.domain_of id home.old) home.old result home.new }
+{
+    let domain = home.domain_mut(id)?;
+    domain.update_publisher(alloc, number)
+}
+
+/// A publisher sends the written loan in a slot: `ServicePorts::send` says what that does. None, and nothing happens, also where the
+/// domain isn't here.
+///
+/// Ported from `iceoryx2::sample_mut::SampleMut::send`.
+pub fn send<T: Copy, U: Copy, H: Home<T, U>>(
+    home: &mut H,
+    alloc: Global,
+    id: DomainId,
+    number: u64,
+    slot: usize,
+) -> Option<Result<Sent, SendError>>
+    ensures { AtDomain (λ after. with_ports H.changed id after home.old) (SendsBy (publisher_degrades (λ kept. H.ForPublishers.degrades kept) H.domain_of id number home.old) (publisher_decides (λ kept. H.ForPublishers.decides kept) H.domain_of id number home.old) number slot) (ports_of H.domain_of id home.old) home.old result home.new }
+{
+    let domain = home.domain_mut(id)?;
+    domain.send(alloc, number, slot)
+}
+
+/// The send of a publisher that waits is tried again, after so many nanoseconds: `ServicePorts::retry` says what that does. None, and
+/// nothing happens, also where the domain isn't here.
+///
+/// This port's own: `iceoryx2::port::publisher::Publisher::send` waits itself.
+pub fn retry<T: Copy, U: Copy, H: Home<T, U>>(
+    home: &mut H,
+    id: DomainId,
+    number: u64,
+    elapsed: u64,
+) -> Option<Result<Sent, SendError>>
+    ensures { AtDomain (λ after. with_ports H.changed id after home.old) (RetriesBy (publisher_decides (λ kept. H.ForPublishers.decides kept) H.domain_of id number home.old) number elapsed) (ports_of H.domain_of id home.old) home.old result home.new }
+{
+    let domain = home.domain_mut(id)?;
+    domain.retry(number, elapsed)
+}
+
+/// A publisher leaves: `ServicePorts::leave_publisher` says what that does. Who decided for it is dropped. Answers false, and nothing
+/// happens, also where the domain isn't here.
+///
+/// Ported from dropping an `iceoryx2::port::publisher::Publisher`.
+pub fn leave_publisher<T: Copy, U: Copy, H: Home<T, U>>(
+    home: &mut H,
+    id: DomainId,
+    number: u64,
+) -> bool
+    ensures { LeavesDomain (λ after. with_ports H.changed id after home.old) (without_publisher H.changed id number) (PublisherLeaves number) (ports_of H.domain_of id home.old) home.old result home.new }
+{
+    let Some(domain) = home.domain_mut(id) else {
+        return false;
+    };
+    domain.leave_publisher(number)
+}
+
+/// A subscriber follows the list of publishers: `ServicePorts::update_subscriber` says what that does. None, and nothing happens,
+/// also where the domain isn't here.
+///
+/// Ported from `iceoryx2::port::subscriber::Subscriber::update_connections`.
+pub fn update_subscriber<T: Copy, U: Copy, H: Home<T, U>>(
+    home: &mut H,
+    alloc: Global,
+    id: DomainId,
+    number: u64,
+) -> Option<Result<(), ConnectionFailure>>
+    ensures { AtDomain (λ after. with_ports H.changed id after home.old) (FollowsBy (subscriber_degrades (λ kept. H.ForSubscribers.degrades kept) H.domain_of id number home.old) number) (ports_of H.domain_of id home.old) home.old result home.new }
+{
+    let domain = home.domain_mut(id)?;
+    domain.update_subscriber(alloc, number)
+}
+
+/// Whether some connection of a subscriber has data: `ServicePorts::has_samples` says what that does. None, and nothing happens, also
+/// where the domain isn't here.
+///
+/// Ported from `iceoryx2::port::subscriber::Subscriber::has_samples`.
+pub fn has_samples<T: Copy, U: Copy, H: Home<T, U>>(
+    home: &mut H,
+    alloc: Global,
+    id: DomainId,
+    number: u64,
+) -> Option<Result<bool, ConnectionFailure>>
+    ensures { AtDomain (λ after. with_ports H.changed id after home.old) (TellsBy (subscriber_degrades (λ kept. H.ForSubscribers.degrades kept) H.domain_of id number home.old) number) (ports_of H.domain_of id home.old) home.old result home.new }
+{
+    let domain = home.domain_mut(id)?;
+    domain.has_samples(alloc, number)
+}
+
+/// A subscriber receives: `ServicePorts::receive` says what that does. None, and nothing happens, also where the domain isn't here.
+///
+/// Ported from `iceoryx2::port::subscriber::Subscriber::receive`.
+pub fn receive<T: Copy, U: Copy, H: Home<T, U>>(
+    home: &mut H,
+    alloc: Global,
+    id: DomainId,
+    number: u64,
+) -> Option<Result<Option<Taken>, ReceiveError>>
+    ensures { AtDomain (λ after. with_ports H.changed id after home.old) (ReceivesBy (subscriber_degrades (λ kept. H.ForSubscribers.degrades kept) H.domain_of id number home.old) number) (ports_of H.domain_of id home.old) home.old result home.new }
+{
+    let domain = home.domain_mut(id)?;
+    domain.receive(alloc, number)
+}
+
+/// A subscriber leaves: `ServicePorts::leave_subscriber` says what that does. Who decided for it is dropped. Answers false, and
+/// nothing happens, also where the domain isn't here.
+///
+/// Ported from dropping an `iceoryx2::port::subscriber::Subscriber`.
+pub fn leave_subscriber<T: Copy, U: Copy, H: Home<T, U>>(
+    home: &mut H,
+    id: DomainId,
+    number: u64,
+) -> bool
+    ensures { LeavesDomain (λ after. with_ports H.changed id after home.old) (without_subscriber H.changed id number) (SubscriberLeaves number) (ports_of H.domain_of id home.old) home.old result home.new }
+{
+    let Some(domain) = home.domain_mut(id) else {
+        return false;
+    };
+    domain.leave_subscriber(number)
+}
+
+/// A publisher comes, and its number is the answer: `ServicePorts::create_publisher` says what it gets, and when it is refused. Who
+/// decides for it is kept until it leaves; a loan has this user header at first. None, and nothing happens, where the domain isn't
+/// here.
+///
+/// Ported from `iceoryx2::service::port_factory::publisher::PortFactoryPublisher::create`.
+pub fn create_publisher<T: Copy, U: Copy, O: Overrides, H: Home<T, U>>(
+    home: &mut H,
+    alloc: Global,
+    id: DomainId,
+    config: PublisherConfig,
+    user_header: U,
+    overriding: &O,
+    handlers: H::ForPublishers,
+) -> Option<Result<u64, PublisherCreateError>>
+    ensures { MakesAt (λ after. with_ports H.changed id after home.old) (λ number. with_publisher H.changed id number handlers)
+        (PublisherComes (O.overrides overriding.now) (H.ForPublishers.degrades handlers FailedToEstablishConnection) config user_header) (why_no_publisher config)
+        (ports_of H.domain_of id home.old) home.old result home.new }
+{
+    let domain = home.domain_mut(id)?;
+    Some(domain.create_publisher(alloc, config, user_header, overriding, handlers))
+}
+
+/// A subscriber comes, and its number is the answer: `ServicePorts::create_subscriber` says what it gets, and when it is refused. Who
+/// decides for it is kept until it leaves. None, and nothing happens, where the domain isn't here.
+///
+/// Ported from `iceoryx2::service::port_factory::subscriber::PortFactorySubscriber::create`.
+pub fn create_subscriber<T: Copy, U: Copy, H: Home<T, U>>(
+    home: &mut H,
+    alloc: Global,
+    id: DomainId,
+    config: SubscriberConfig,
+    handler: H::ForSubscribers,
+) -> Option<Result<u64, SubscriberCreateError>>
+    ensures { MakesAt (λ after. with_ports H.changed id after home.old) (λ number. with_subscriber H.changed id number handler)
+        (SubscriberComes (H.ForSubscribers.degrades handler FailedToEstablishConnection) config) (why_no_subscriber config)
+        (ports_of H.domain_of id home.old) home.old result home.new }
+{
+    let domain = home.domain_mut(id)?;
+    Some(domain.create_subscriber(alloc, config, handler))
+}

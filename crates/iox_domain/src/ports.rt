@@ -1,0 +1,38 @@
+//! The ports of one service by their numbers: who is listed, whose connections there are, and what each call of a port does to them.
+//!
+//! - [`roll`]: the list of the ports of one kind.
+//! - [`subscribers`]: the subscribers of a service, by number.
+//! - [`service_ports`]: the ports of a service.
+//! - [`making`]: a publisher and a subscriber come.
+//! - [`lending`]: a publisher lends a slot, what is to be sent is written there, and a loan is given up.
+//! - [`publishing`]: a publisher follows the subscribers, sends and leaves.
+//! - [`subscribing`]: a subscriber follows the publishers, receives, releases and leaves.
+//! - [`reading`]: what is read of a sample.
+//! - [`living`]: how much lives.
+//!
+//! First calls, of a publisher:
+//!
+//! ```
+//! if let Some(Ok(slot)) = ports.loan(alloc, number, 1, 1, blank) {
+//!     ports.write_payload(number, slot, value);
+//!     let sent = ports.send(alloc, number, slot, handlers);
+//!     return sent;
+//! }
+//! None
+//! ```
+
+pub mod lending;
+pub mod living;
+pub mod making;
+pub mod publishing;
+pub mod reading;
+pub mod roll;
+pub mod service_ports;
+pub mod subscribers;
+pub mod subscribing;
+
+pub use iox_domain_subscriber::{Sent, Taken};
+pub use making::{PublisherConfig, SubscriberConfig};
+pub use roll::Roll;
+pub use service_ports::ServicePorts;
+pub use subscribers::Subscribers;

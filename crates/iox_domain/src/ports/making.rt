@@ -1,0 +1,287 @@
+//! A publisher and a subscriber come.
+ghost use Rattle.std.specs.Prelude.{◌≡◌, ◌+◌, ◌<◌, ◌^◌, Some, IfSome};
+ghost use Rattle.iox_domain_subscriber.specs.DomainValues.declared.degradation.DegradationCause.TheVariants as cause;
+ghost use Rattle.iox_domain_subscriber.specs.DomainValues.Sizes.{buffer_of};
+ghost use Rattle.iox_domain.specs.Subscribers.{subscriber_of};
+ghost use Rattle.iox_domain.specs.Making.{slots_needed, publisher_place, subscriber_place, publisher_refusal, subscriber_refusal, segments_of, sender_config, identity_of, AddsPublisher, CreatesPublisher, FollowsFirst, AddsSubscriber, CreatesSubscriber};
+
+use crate::ports::service_ports::ServicePorts;
+use iox_domain_subscriber::{
+    PublisherEntry, PublisherPort, SenderConfig, SubscriberEntry, SubscriberPort,
+};
+use iox_domain_values::{
+    AllocationStrategy, Degrades, Overrides, PortIdentity, PortOwner, PublisherCreateError,
+    SubscriberCreateError, number_of_places,
+};
+use std::alloc::{AllocError, Global};
+
+/// What a publisher is made with.
+#[derive(Clone, Copy, Debug, PartialEq, Eq)]
+pub struct PublisherConfig {
+    /// Who it belongs to.
+    pub owner: PortOwner,
+    /// How many loans may be out.
+    pub max_loaned_samples: usize,
+    /// How many values are in a slot at first: 1 where a message is a single value.
+    pub values: usize,
+    /// How many values an element has: 1, but where the values are the bytes of a payload that only the description says.
+    pub unit: usize,
+    /// What a loan of more values does.
+    pub allocation: AllocationStrategy,
+}
+
+/// What a subscriber is made with.
+#[derive(Clone, Copy, Debug, PartialEq, Eq)]
+pub struct SubscriberConfig {
+    /// Who it belongs to.
+    pub owner: PortOwner,
+    /// How many messages may wait at a connection: 0 is 1, and as many as the service allows where none is named.
+    pub buffer_size: Option<usize>,
+}
+
+impl<T: Copy, U: Copy> ServicePorts<T, U> {
+    /// A publisher comes, and its number is the answer. It gets as many slots as it needs in the worst case, or fewer as `overriding`
+    /// answers; `blank` fills them, and a loan has this user header at first. It is connected to the subscribers that are listed; where
+    /// a connection isn't made `handler` is asked, and it comes nevertheless.
+    ///
+    /// Refused with `UnableToCreateDataSegment` if the slots of the worst case or `values` are 2^32 or more; else with
+    /// `ExceedsMaxSupportedPublishers` if no place is free; else with `UnableToCreateDataSegment` where an allocation fails. Then
+    /// nothing has changed.
+    ///
+    /// Ported from `iceoryx2::service::port_factory::publisher::PortFactoryPublisher::create`.
+    pub fn create_publisher<O: Overrides, D: Degrades>(
+        &mut self,
+        alloc: Global,
+        config: PublisherConfig,
+        blank: T,
+        user_header: U,
+        overriding: &O,
+        handler: &D,
+    ) -> Result<u64, PublisherCreateError>
+        ensures { CreatesPublisher (O.overrides overriding.now)
+            (D.degrades handler.now cause.FailedToEstablishConnection)
+            config user_header (slots_needed config self.old) (publisher_place self.old) self.old result self.new }
+    {
+        let Some(needed) = self.slots_needed(&config) else {
+            return Err(PublisherCreateError::UnableToCreateDataSegment);
+        };
+        let Some(place) = self.publisher_place() else {
+            return Err(PublisherCreateError::ExceedsMaxSupportedPublishers);
+        };
+        let slots = number_of_places(overriding, needed.max(1));
+        match self.add_publisher(alloc, config, place, slots, blank, user_header, handler) {
+            Ok(number) => Ok(number),
+            Err(_) => Err(PublisherCreateError::UnableToCreateDataSegment),
+        }
+    }
+
+    /// Why a publisher of this config isn't made, if it isn't: where an allocation fails where nothing else forbids it.
+    pub fn publisher_refusal(&self, config: &PublisherConfig) -> PublisherCreateError
+        ensures { result ≡ publisher_refusal (slots_needed config.now self.now) (publisher_place self.now) }
+    {
+        if self.slots_needed(config).is_some() && self.publisher_place().is_none() {
+            PublisherCreateError::ExceedsMaxSupportedPublishers
+        } else {
+            PublisherCreateError::UnableToCreateDataSegment
+        }
+    }
+
+    // How many slots a publisher needs, unless they or the values of one are 2^32 or more.
+    fn slots_needed(&self, config: &PublisherConfig) -> Option<usize>
+        ensures slots { result ≡ slots_needed config.now self.now }
+        ensures loans { IfSome result (λ _. config.now.max_loaned_samples < 2 ^ 32) }
+    {
+        if config.values >= 0x1_0000_0000 {
+            return None;
+        }
+        self.sizes.worst_case(config.max_loaned_samples)
+    }
+
+    // The place that the next publisher gets, if there is one, and a number for it.
+    fn publisher_place(&self) -> Option<usize>
+        ensures place { result ≡ publisher_place self.now }
+        ensures number { IfSome result (λ _. self.now.next_port + 1 < 2 ^ 64) }
+    {
+        if self.next_port == u64::MAX {
+            return None;
+        }
+        self.publisher_list.free_place()
+    }
+
+    // A publisher comes at the place that is free.
+    fn add_publisher<D: Degrades>(
+        &mut self,
+        alloc: Global,
+        config: PublisherConfig,
+        place: usize,
+        slots: usize,
+        blank: T,
+        user_header: U,
+        handler: &D,
+    ) -> Result<u64, AllocError>
+        requires loans { config.max_loaned_samples < 2 ^ 32 }
+        requires place { publisher_place self.old ≡ Some place }
+        requires number { self.old.next_port + 1 < 2 ^ 64 }
+        ensures { AddsPublisher (D.degrades handler.now cause.FailedToEstablishConnection)
+            config user_header place slots self.old result self.new }
+    {
+        let number = self.next_port;
+        let mut port = PublisherPort::new(
+            alloc,
+            self.identity(config.owner, place),
+            self.sizes.max_subscribers as usize,
+            config.allocation,
+            config.unit,
+            self.sender_config(&config, slots),
+            blank,
+            user_header,
+        )?;
+        let listed = self.subscriber_list.listed();
+        let changes = self.subscriber_list.changes();
+        // It comes also where it isn't connected.
+        let _ = port.update(alloc, listed, changes, handler);
+        self.publishers.insert(number, port)?;
+        let _ = self
+            .publisher_list
+            .enter(PublisherEntry { publisher: number });
+        self.next_port = number + 1;
+        Ok(number)
+    }
+
+    // Which port comes next.
+    fn identity(&self, owner: PortOwner, place: usize) -> PortIdentity
+        ensures { result ≡ identity_of owner place self.now }
+    {
+        PortIdentity {
+            service: self.service,
+            number: self.next_port,
+            owner,
+            place,
+        }
+    }
+
+    // How many messages a publisher and its connections may have.
+    fn sender_config(&self, config: &PublisherConfig, slots: usize) -> SenderConfig
+        ensures config { result ≡ sender_config config.now slots self.now }
+        ensures history { result.history < 2 ^ 32 }
+        ensures waiting { result.most_waiting < 2 ^ 32 }
+        ensures borrowed { result.most_borrowed < 2 ^ 32 }
+    {
+        SenderConfig {
+            overflows: self.sizes.enable_safe_overflow,
+            slots,
+            most_segments: segments_of(config.allocation),
+            room: config.values,
+            most_loans: config.max_loaned_samples,
+            history: self.sizes.history_size as usize,
+            most_waiting: self.sizes.subscriber_max_buffer_size as usize,
+            most_borrowed: self.sizes.subscriber_max_borrowed_samples as usize,
+        }
+    }
+
+    /// A subscriber comes, and its number is the answer. It is connected to the publishers that are listed; where a connection isn't made
+    /// `handler` is asked, and it comes nevertheless.
+    ///
+    /// Refused with `BufferSizeExceedsMaxSupportedBufferSizeOfService` if more messages are to wait than the service allows; else with
+    /// `ExceedsMaxSupportedSubscribers` if no place is free; else with `OutOfMemory` where an allocation fails. Then nothing has changed.
+    ///
+    /// Ported from `iceoryx2::service::port_factory::subscriber::PortFactorySubscriber::create`.
+    pub fn create_subscriber<D: Degrades>(
+        &mut self,
+        alloc: Global,
+        config: SubscriberConfig,
+        handler: &D,
+    ) -> Result<u64, SubscriberCreateError>
+        ensures { CreatesSubscriber (D.degrades handler.now cause.FailedToEstablishConnection)
+            config.owner (buffer_of config.buffer_size self.old.sizes) (subscriber_place self.old) self.old result self.new }
+    {
+        let buffer_size = self.sizes.buffer_size(config.buffer_size)?;
+        let Some(place) = self.subscriber_place() else {
+            return Err(SubscriberCreateError::ExceedsMaxSupportedSubscribers);
+        };
+        match self.add_subscriber(alloc, config.owner, place, buffer_size, handler) {
+            Ok(number) => Ok(number),
+            Err(_) => Err(SubscriberCreateError::OutOfMemory),
+        }
+    }
+
+    /// Why a subscriber that asks for such a buffer isn't made, if it isn't: where an allocation fails where nothing else forbids it.
+    pub fn subscriber_refusal(&self, buffer_size: Option<usize>) -> SubscriberCreateError
+        ensures { result ≡ subscriber_refusal (buffer_of buffer_size self.now.sizes) (subscriber_place self.now) }
+    {
+        match self.sizes.buffer_size(buffer_size) {
+            Err(refusal) => refusal,
+            Ok(_) if self.subscriber_place().is_none() =>
+                SubscriberCreateError::ExceedsMaxSupportedSubscribers,
+            Ok(_) => SubscriberCreateError::OutOfMemory,
+        }
+    }
+
+    // The place that the next subscriber gets, if there is one, and a number for it.
+    fn subscriber_place(&self) -> Option<usize>
+        ensures place { result ≡ subscriber_place self.now }
+        ensures number { IfSome result (λ _. self.now.next_port + 1 < 2 ^ 64) }
+    {
+        if self.next_port == u64::MAX {
+            return None;
+        }
+        self.subscriber_list.free_place()
+    }
+
+    // A subscriber comes at the place that is free.
+    fn add_subscriber<D: Degrades>(
+        &mut self,
+        alloc: Global,
+        owner: PortOwner,
+        place: usize,
+        buffer_size: usize,
+        handler: &D,
+    ) -> Result<u64, AllocError>
+        requires place { subscriber_place self.old ≡ Some place }
+        requires number { self.old.next_port + 1 < 2 ^ 64 }
+        ensures { AddsSubscriber (D.degrades handler.now cause.FailedToEstablishConnection)
+            owner place buffer_size self.old result self.new }
+    {
+        let number = self.next_port;
+        let port = SubscriberPort::new(
+            alloc,
+            self.identity(owner, place),
+            buffer_size,
+            self.sizes.max_publishers as usize,
+            self.sizes.expired_connections as usize,
+        )?;
+        self.subscribers.insert(number, port)?;
+        self.follow_first(alloc, number, handler);
+        let entry = SubscriberEntry {
+            subscriber: number,
+            buffer_size,
+        };
+        let _ = self.subscriber_list.enter(entry);
+        self.next_port = number + 1;
+        Ok(number)
+    }
+
+    // A subscriber follows the list of publishers for the first time. It comes also where it isn't connected.
+    fn follow_first<D: Degrades>(&mut self, alloc: Global, number: u64, handler: &D)
+        ensures { FollowsFirst (D.degrades handler.now cause.FailedToEstablishConnection)
+            number (subscriber_of number self.old.subscribers) self.old self.new }
+    {
+        let Some(port) = self.subscribers.get_mut(number) else {
+            return;
+        };
+        let listed = self.publisher_list.listed();
+        let changes = self.publisher_list.changes();
+        let _ = port.update(alloc, listed, changes, handler, &mut self.publishers);
+    }
+}
+
+// How many segments a publisher may have.
+fn segments_of(allocation: AllocationStrategy) -> usize
+    ensures segments { result ≡ segments_of allocation }
+    ensures some { 0 < result }
+{
+    match allocation {
+        AllocationStrategy::Static => 1,
+        AllocationStrategy::BestFit | AllocationStrategy::PowerOfTwo => 255,
+    }
+}

@@ -1,0 +1,100 @@
+//! The list of the ports of one kind.
+ghost use Rattle.std.specs.Prelude.{◌≡◌, ◌≤◌, length, replicate, IfOk, IfSome, IfNone};
+ghost use Rattle.iox_domain_subscriber.specs.IndexBase.Places.{padded};
+ghost use Rattle.iox_domain.specs.Rolls.{new_roll, free_place, entered, left};
+
+use iox_index_base::{Container, Member, OwnerId, ReleaseMode};
+use std::alloc::{AllocError, Global};
+use std::marker::Model;
+
+/// The list of the ports of one kind: who is at each place, and how often that changed so far. A new port takes the lowest free place.
+///
+/// A place takes memory once it had a port, or one behind it.
+///
+/// Ported from `iceoryx2::service::dynamic_config::publish_subscribe::DynamicConfig`, of which it is one of the two lists.
+#[derive(Drop)]
+pub struct Roll<V: Copy> {
+    container: Container<V>,
+    owner: OwnerId,
+}
+
+impl<V: Copy> Model for Roll<V> {
+    ghost use Rattle.std.specs.Prelude.{◌≡◌, false};
+    ghost use Rattle.iox_domain.specs.Rolls.{RollState};
+
+    ghost Value = { RollState V };
+
+    ghost view = { λ r. record { places = r.container.members; changes = r.container.changes } };
+
+    ghost invariant = { λ r. (r.container.locked ≡ false) × (r.owner ≡ 1) };
+}
+
+impl<V: Copy> Roll<V> {
+    /// A list of so many places that lists nobody. It fails only where an allocation fails.
+    pub fn new(alloc: Global, places: usize) -> Result<Roll<V>, AllocError>
+        ensures { IfOk result (λ roll. roll ≡ new_roll places) }
+    {
+        // A container knows whose its members are, so that those of a process that died can be taken away: here nobody dies.
+        let Ok(owner) = OwnerId::new(1) else {
+            return Err(AllocError);
+        };
+        Ok(Roll {
+            container: Container::new(alloc, 0, places)?,
+            owner,
+        })
+    }
+
+    /// The place that the next port gets: the lowest free one. None where each is taken, and once the list changed 2^64 - 1 times.
+    pub fn free_place(&self) -> Option<usize>
+        ensures { result ≡ free_place self.now }
+    {
+        if !self.container.has_room() {
+            return None;
+        }
+        self.container.lowest_free()
+    }
+
+    /// Lists a port at the place that comes next, and answers that place; None, and nothing happens, where there is none.
+    pub fn enter(&mut self, port: V) -> Option<usize>
+        ensures place { result ≡ free_place self.old }
+        ensures listed { IfSome result (λ place. self.new ≡ entered place port self.old) }
+        ensures full { IfNone result (self.new ≡ self.old) }
+    {
+        if !self.container.has_room() {
+            return None;
+        }
+        match self.container.add(port, self.owner) {
+            Ok(handle) => Some(handle.index()),
+            Err(_) => None,
+        }
+    }
+
+    /// The port at a place isn't listed any longer. Nothing happens where there is none, and once the list changed 2^64 - 1 times.
+    pub fn leave(&mut self, place: usize)
+        ensures { self.new ≡ left place self.old }
+    {
+        if !self.container.has_room() {
+            return;
+        }
+        let Some(handle) = self.container.handle(place) else {
+            return;
+        };
+        // It is the handle of a member that is in.
+        let _ = self.container.remove(handle, ReleaseMode::Default);
+    }
+
+    /// Who is listed, by place, up to the last place that ever listed somebody.
+    pub fn listed(&self) -> &[Option<Member<V>>]
+        ensures whole { padded (length self.now.places) result.now ≡ self.now.places }
+        ensures bound { length result.now ≤ length self.now.places }
+    {
+        self.container.places()
+    }
+
+    /// How often the list changed so far.
+    pub fn changes(&self) -> u64
+        ensures { result ≡ self.now.changes }
+    {
+        self.container.changes()
+    }
+}

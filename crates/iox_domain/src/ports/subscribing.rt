@@ -1,0 +1,212 @@
+//! A subscriber follows the publishers, receives, releases and leaves.
+ghost use Rattle.std.specs.Prelude.{◌≡◌, None};
+ghost use Rattle.iox_domain_subscriber.specs.DomainValues.declared.degradation.DegradationCause.TheVariants as cause;
+ghost use Rattle.iox_domain.specs.Ports.{AtSubscriber};
+ghost use Rattle.iox_domain.specs.Subscribers.{subscriber_of};
+ghost use Rattle.iox_domain.specs.PortsSubscribing.{UpdatesOne, HasSamplesOne, ReceivesOne, LeavesOne, LeavesAt, counted_by, let_go, Releases};
+
+use crate::ports::roll::Roll;
+use crate::ports::service_ports::ServicePorts;
+use iox_domain_subscriber::{PublisherEntry, Publishers, SubscriberPort, Taken};
+use iox_domain_values::{ConnectionFailure, Degrades, ReceiveError};
+use std::alloc::Global;
+
+impl<T: Copy, U: Copy> ServicePorts<T, U> {
+    /// The subscriber follows the list of publishers: `SubscriberPort::update` says what that does and when it fails. None, and nothing
+    /// happens, where the number is none of a subscriber that exists.
+    ///
+    /// Ported from `iceoryx2::port::subscriber::Subscriber::update_connections`.
+    pub fn update_subscriber<D: Degrades>(
+        &mut self,
+        alloc: Global,
+        number: u64,
+        handler: &D,
+    ) -> Option<Result<(), ConnectionFailure>>
+        ensures { AtSubscriber number (UpdatesOne (D.degrades handler.now cause.FailedToEstablishConnection) self.old.publisher_list) (subscriber_of number self.old.subscribers) self.old result self.new }
+    {
+        let port = self.subscribers.get_mut(number)?;
+        update_one(
+            port,
+            alloc,
+            &self.publisher_list,
+            handler,
+            &mut self.publishers,
+        )
+    }
+
+    /// Whether some connection of the subscriber has data, after it followed the list of publishers: `SubscriberPort::has_samples` says
+    /// when it fails. None, and nothing happens, where the number is none of a subscriber that exists.
+    ///
+    /// Ported from `iceoryx2::port::subscriber::Subscriber::has_samples`.
+    pub fn has_samples<D: Degrades>(
+        &mut self,
+        alloc: Global,
+        number: u64,
+        handler: &D,
+    ) -> Option<Result<bool, ConnectionFailure>>
+        ensures { AtSubscriber number (HasSamplesOne (D.degrades handler.now cause.FailedToEstablishConnection) self.old.publisher_list) (subscriber_of number self.old.subscribers) self.old result self.new }
+    {
+        let port = self.subscribers.get_mut(number)?;
+        has_samples_one(
+            port,
+            alloc,
+            &self.publisher_list,
+            handler,
+            &mut self.publishers,
+        )
+    }
+
+    /// The subscriber receives: `SubscriberPort::receive` says which message comes, and when it is refused. A message that came is held
+    /// until it is released. None, and nothing happens, where the number is none of a subscriber that exists.
+    ///
+    /// Ported from `iceoryx2::port::subscriber::Subscriber::receive`.
+    pub fn receive<D: Degrades>(
+        &mut self,
+        alloc: Global,
+        number: u64,
+        handler: &D,
+    ) -> Option<Result<Option<Taken>, ReceiveError>>
+        ensures { AtSubscriber number (ReceivesOne (D.degrades handler.now cause.FailedToEstablishConnection) self.old.publisher_list) (subscriber_of number self.old.subscribers) self.old result self.new }
+    {
+        let port = self.subscribers.get_mut(number)?;
+        receive_one(
+            port,
+            alloc,
+            &self.publisher_list,
+            handler,
+            &mut self.publishers,
+        )
+    }
+
+    /// Releases a sample that the subscriber holds, also one that left. Its publisher is gone if it left and nothing else of it is in
+    /// use, and so is a subscriber that left and held just this sample. Answers false, and nothing happens, where the number is none of
+    /// a subscriber, where another subscriber received the sample, and where no such sample is borrowed.
+    ///
+    /// Ported from dropping an `iceoryx2::sample::Sample`.
+    pub fn release(&mut self, number: u64, sample: Taken) -> bool
+        ensures { Releases number sample self.old result self.new }
+    {
+        if sample.subscriber != number || self.subscribers.get(number).is_none() {
+            return false;
+        }
+        if !self
+            .publishers
+            .give_back(sample.publisher, sample.index, sample.slot)
+        {
+            return false;
+        }
+        self.let_go(number);
+        true
+    }
+
+    // The subscriber holds one sample less.
+    fn let_go(&mut self, number: u64)
+        ensures { self.new ≡ let_go number self.old }
+    {
+        if let Some(port) = self.subscribers.get_mut(number) {
+            port.held = port.held.saturating_sub(1);
+        }
+        self.subscribers.settle(number);
+    }
+
+    /// The subscriber leaves: it is listed no longer and receives no more. The samples that it holds stay to be read and released; what
+    /// waits for it is lost as its publishers find out. Answers false, and nothing happens, where the number is none of a subscriber
+    /// that exists.
+    ///
+    /// Ported from dropping an `iceoryx2::port::subscriber::Subscriber`.
+    pub fn leave_subscriber(&mut self, number: u64) -> bool
+        ensures { LeavesAt number (subscriber_of number self.old.subscribers) self.old result self.new }
+    {
+        let Some(port) = self.subscribers.get_mut(number) else {
+            return false;
+        };
+        let Some(place) = leave_one(port, &mut self.publishers) else {
+            return false;
+        };
+        self.subscribers.settle(number);
+        self.subscriber_list.leave(place);
+        true
+    }
+}
+
+// A subscriber follows the list of publishers.
+fn update_one<T: Copy, U: Copy, D: Degrades>(
+    port: &mut SubscriberPort,
+    alloc: Global,
+    list: &Roll<PublisherEntry>,
+    handler: &D,
+    publishers: &mut Publishers<T, U>,
+) -> Option<Result<(), ConnectionFailure>>
+    ensures updates { UpdatesOne (D.degrades handler.now cause.FailedToEstablishConnection) list.now port.old publishers.old result port.new publishers.new }
+    ensures port_stays { result ≡ None → port.new ≡ port.old }
+    ensures publishers_stay { result ≡ None → publishers.new ≡ publishers.old }
+{
+    if !port.stands {
+        return None;
+    }
+    Some(port.update(alloc, list.listed(), list.changes(), handler, publishers))
+}
+
+// Whether some connection of a subscriber has data.
+fn has_samples_one<T: Copy, U: Copy, D: Degrades>(
+    port: &mut SubscriberPort,
+    alloc: Global,
+    list: &Roll<PublisherEntry>,
+    handler: &D,
+    publishers: &mut Publishers<T, U>,
+) -> Option<Result<bool, ConnectionFailure>>
+    ensures has { HasSamplesOne (D.degrades handler.now cause.FailedToEstablishConnection) list.now port.old publishers.old result port.new publishers.new }
+    ensures port_stays { result ≡ None → port.new ≡ port.old }
+    ensures publishers_stay { result ≡ None → publishers.new ≡ publishers.old }
+{
+    if !port.stands {
+        return None;
+    }
+    Some(port.has_samples(alloc, list.listed(), list.changes(), handler, publishers))
+}
+
+// A subscriber receives, and counts what it holds.
+fn receive_one<T: Copy, U: Copy, D: Degrades>(
+    port: &mut SubscriberPort,
+    alloc: Global,
+    list: &Roll<PublisherEntry>,
+    handler: &D,
+    publishers: &mut Publishers<T, U>,
+) -> Option<Result<Option<Taken>, ReceiveError>>
+    ensures receives { ReceivesOne (D.degrades handler.now cause.FailedToEstablishConnection) list.now port.old publishers.old result port.new publishers.new }
+    ensures port_stays { result ≡ None → port.new ≡ port.old }
+    ensures publishers_stay { result ≡ None → publishers.new ≡ publishers.old }
+{
+    if !port.stands {
+        return None;
+    }
+    let outcome = port.receive(alloc, list.listed(), list.changes(), handler, publishers);
+    count(port, &outcome);
+    Some(outcome)
+}
+
+// A subscriber holds one sample more, if one came.
+fn count(port: &mut SubscriberPort, outcome: &Result<Option<Taken>, ReceiveError>)
+    ensures { port.new ≡ counted_by outcome.now port.old }
+{
+    if let Ok(Some(_)) = outcome {
+        port.held = port.held.saturating_add(1);
+    }
+}
+
+// A subscriber leaves, if it stands; answers the place where it was listed.
+fn leave_one<T: Copy, U: Copy>(
+    port: &mut SubscriberPort,
+    publishers: &mut Publishers<T, U>,
+) -> Option<usize>
+    ensures leaves { LeavesOne port.old publishers.old result port.new publishers.new }
+    ensures port_stays { result ≡ None → port.new ≡ port.old }
+    ensures publishers_stay { result ≡ None → publishers.new ≡ publishers.old }
+{
+    if !port.stands {
+        return None;
+    }
+    let place = port.place;
+    port.leave(publishers);
+    Some(place)
+}

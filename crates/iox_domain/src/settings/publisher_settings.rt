@@ -1,0 +1,70 @@
+//! What a publisher is made with.
+ghost use Rattle.std.specs.Prelude.{◌≡◌};
+ghost use Rattle.iox_domain.specs.PortSettings.{publisher_defaults};
+
+use iox_domain_values::{AllocationStrategy, BackpressureStrategy};
+
+/// What a publisher is made with, beside its handlers.
+///
+/// Ported from `iceoryx2::service::port_factory::publisher::LocalPublisherConfig`.
+#[derive(Clone, Copy, Debug, PartialEq, Eq)]
+pub struct PublisherSettings {
+    /// How many loans may be out at once.
+    pub max_loaned_samples: usize,
+    /// What is done at a full mailbox where the service doesn't overflow and no handler decides.
+    pub strategy: BackpressureStrategy,
+    /// How many values a loan may have at first.
+    pub initial_max_slice_len: usize,
+    /// What a loan of a longer slice does.
+    pub allocation: AllocationStrategy,
+}
+
+/// Two loans, sends that wait for room, slices of one value, and a room that doesn't grow.
+impl Default for PublisherSettings {
+    ghost is_default = { λ made. made ≡ publisher_defaults };
+
+    fn default() -> Self {
+        PublisherSettings {
+            max_loaned_samples: 2,
+            strategy: BackpressureStrategy::default(),
+            initial_max_slice_len: 1,
+            allocation: AllocationStrategy::default(),
+        }
+    }
+}
+
+impl PublisherSettings {
+    /// Names how many loans may be out at once.
+    ///
+    /// Ported from `iceoryx2::service::port_factory::publisher::PortFactoryPublisher::max_loaned_samples`, as the others here.
+    pub fn max_loaned_samples(mut self, value: usize) -> Self
+        ensures { result ≡ record self { max_loaned_samples = value } }
+    {
+        self.max_loaned_samples = value;
+        self
+    }
+
+    /// Names what is done at a full mailbox where the service doesn't overflow and no handler decides.
+    pub fn backpressure_strategy(mut self, value: BackpressureStrategy) -> Self
+        ensures { result ≡ record self { strategy = value } }
+    {
+        self.strategy = value;
+        self
+    }
+
+    /// Names how many values a loan may have at first.
+    pub fn initial_max_slice_len(mut self, value: usize) -> Self
+        ensures { result ≡ record self { initial_max_slice_len = value } }
+    {
+        self.initial_max_slice_len = value;
+        self
+    }
+
+    /// Names what a loan of a longer slice does.
+    pub fn allocation_strategy(mut self, value: AllocationStrategy) -> Self
+        ensures { result ≡ record self { allocation = value } }
+    {
+        self.allocation = value;
+        self
+    }
+}

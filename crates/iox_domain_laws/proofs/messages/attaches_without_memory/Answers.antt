@@ -1,5 +1,0 @@
-use Rattle.iox_domain_laws.proofs.Attaching.{attaches_without_memory}
-use Rattle.iox_domain_laws.proofs.messages.attaches_without_memory.Goals as goal
-
-pub returns : goal.returns
-returns g c = attaches_without_memory _

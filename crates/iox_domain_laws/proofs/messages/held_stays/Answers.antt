@@ -1,5 +1,0 @@
-use Rattle.iox_domain_laws.proofs.Held.{held_stays}
-use Rattle.iox_domain_laws.proofs.messages.held_stays.Goals as goal
-
-pub returns : goal.returns
-returns g c = held_stays _ _ _

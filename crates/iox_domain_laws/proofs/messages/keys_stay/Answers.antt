@@ -1,5 +1,0 @@
-use Rattle.iox_domain_laws.proofs.Keyed.{keys_stay}
-use Rattle.iox_domain_laws.proofs.messages.keys_stay.Goals as goal
-
-pub returns : goal.returns
-returns g c = keys_stay _ _ _

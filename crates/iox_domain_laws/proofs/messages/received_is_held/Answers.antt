@@ -1,5 +1,0 @@
-use Rattle.iox_domain_laws.proofs.TakenHeld.{received_is_held}
-use Rattle.iox_domain_laws.proofs.messages.received_is_held.Goals as goal
-
-pub returns : goal.returns
-returns g c = received_is_held _

@@ -1,5 +1,0 @@
-use Rattle.iox_domain_laws.proofs.Waiting.{send_waits}
-use Rattle.iox_domain_laws.proofs.messages.send_waits.Goals as goal
-
-pub returns : goal.returns
-returns g c = send_waits _ _ _

@@ -1,5 +1,0 @@
-use Rattle.iox_domain_laws.proofs.GivenOut.{numbers_stay}
-use Rattle.iox_domain_laws.proofs.numbering.numbers_stay.Goals as goal
-
-pub returns : goal.returns
-returns g c = numbers_stay _ _ _

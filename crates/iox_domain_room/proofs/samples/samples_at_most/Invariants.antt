@@ -1,6 +1,0 @@
-use Rattle.std.proofs.Common.{◌≡◌, ◌+◌, ◌-◌, ◌^◌, ◌≤◌, min}
-use Rattle.iox_domain_room.proofs.Bounds.{most_among}
-use Rattle.iox_domain_room.proofs.samples.samples_at_most.Given as goal
-
-abbrev pub invariant-loop-number : goal.invariant-loop-number
-invariant-loop-number g l = (l.count ≤ 2 ^ 64 - 1) × (min (l.count + most_among l.ports.sizes.subscriber_max_borrowed_samples l._number-iterator) (2 ^ 64 - 1) ≡ min (most_among l.ports.sizes.subscriber_max_borrowed_samples l.ports.subscribers) (2 ^ 64 - 1))

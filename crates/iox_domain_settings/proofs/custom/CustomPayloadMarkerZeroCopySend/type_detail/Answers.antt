@@ -1,6 +1,0 @@
-use Rattle.std.proofs.Common.{codes, arith, refl}
-use Rattle.iox_domain_settings.proofs.Names.{are_bytes}
-use Rattle.iox_domain_settings.proofs.custom.CustomPayloadMarkerZeroCopySend.type_detail.Goals as goal
-
-pub unwrap-requires : goal.unwrap-requires
-unwrap-requires c = c.new.ensures.accepted.1 ((omega arith, omega arith, are_bytes (codes "CustomPayloadMarker") refl), omega arith)

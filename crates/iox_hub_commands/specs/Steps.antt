@@ -1,0 +1,42 @@
+-- The steps of foreign nodes that a command names.
+use Rattle.std.specs.Prelude.{ℕ, zero, suc, ◌+◌, List, [], ◌∷◌, map, min, max, nat_eq}
+use Rattle.std.specs.List.{filter}
+use Rattle.iox_command.specs.declared.step.ForeignStep.{ForeignStep as Named}
+use Rattle.iox_command.specs.declared.step.ForeignStep.TheVariants as named
+use Rattle.iox_command.specs.declared.step.StepBefore.{StepBefore}
+use Rattle.iox_negotiate_table.specs.DescribeBase.declared.message_type.MessageTypeDetails.{MessageTypeDetails}
+use Rattle.iox_negotiate_table.specs.declared.step.ForeignStep.{ForeignStep}
+use Rattle.iox_negotiate_table.specs.declared.step.ForeignStep.TheVariants as step
+use Rattle.iox_hub_commands.specs.Described.{described}
+
+-- a step on the service of a name; a service that is published has these types
+abbrev pub step_of : List ℕ → MessageTypeDetails → Named → ForeignStep
+step_of name types (named.Lock node) = step.Lock node
+step_of name types (named.GiveUp node) = step.GiveUp node
+step_of name types (named.Publish node options) = step.Publish node (described name options types)
+step_of name types (named.Register node) = step.Register node
+step_of name types (named.Leave node) = step.Leave node
+step_of name types (named.Remove node) = step.Remove node
+
+-- the steps in their order
+abbrev pub list_of : List ℕ → MessageTypeDetails → List Named → List ForeignStep
+list_of name types steps = map (step_of name types) steps
+
+-- the steps that are named before one access, in their order
+abbrev pub list_before : List ℕ → MessageTypeDetails → List StepBefore → ℕ → List ForeignStep
+list_before name types steps access = map (λ before. step_of name types before.step) (filter (λ before. nat_eq before.access access) steps)
+
+-- the last access before which steps are named; 0 where none are
+abbrev pub last_access : List StepBefore → ℕ
+last_access [] = 0
+last_access (before ∷ rest) = max before.access (last_access rest)
+
+-- so many numbers from this one on
+abbrev pub from : ℕ → ℕ → List ℕ
+from first zero = []
+from first (suc count) = first ∷ from (first + 1) count
+
+-- A list of steps for each access, up to the last before which some are named; those before a seventeenth access don't count, as
+-- no call makes so many.
+abbrev pub lists_of : List ℕ → MessageTypeDetails → List StepBefore → List (List ForeignStep)
+lists_of name types steps = map (list_before name types steps) (from 1 (min (last_access steps) 16))

@@ -1,0 +1,38 @@
+//! Factories under numbers: the services that a run of commands opened, and what later commands do with them.
+//!
+//! | Module | What it has |
+//! |---|---|
+//! | `requests` | what a command asks of negotiation |
+//! | `made` | a service that is open, whatever its pattern |
+//! | `factories` | the table: which factory goes by a number |
+//! | `asked` | which service is asked for |
+//! | `creating` | services are created |
+//! | `opening` | services are opened |
+//! | `either` | services are opened, or created |
+//! | `closing` | factories are closed |
+//! | `acting` | nodes of others act |
+//! | `laws` | what these calls come to for the factories, in other words than theirs |
+//!
+//! First calls, where nothing was opened. `NumberedHub` of `iox_hub_run` makes the others.
+//!
+//! ```
+//! let mut factories = Factories::new(alloc);
+//! let closed = factories.close(hub, number);
+//! ```
+
+pub mod acting;
+pub mod asked;
+pub mod closing;
+pub mod creating;
+pub mod either;
+pub mod factories;
+pub mod laws;
+pub mod made;
+pub mod opening;
+pub mod requests;
+
+pub use acting::foreign;
+pub use asked::ServiceAsked;
+pub use factories::Factories;
+pub use iox_hub_base::{Hub, HubConfig};
+pub use made::MadeFactory;

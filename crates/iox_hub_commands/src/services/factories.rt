@@ -1,0 +1,87 @@
+//! The table: which factory goes by a number.
+ghost use Rattle.std.specs.Prelude.{◌≡◌, ◌+◌, ◌<◌, ◌^◌, length, option_map};
+ghost use Rattle.std.specs.Result.{result_map_both};
+ghost use Rattle.iox_hub_commands.specs.Describe.Within.{HasForm};
+ghost use Rattle.iox_maps.specs.NumberTable.{value_at, inserted};
+ghost use Rattle.iox_hub_commands.specs.ServicesNumbering.{MakesRoom, Prepares};
+ghost use Rattle.iox_hub_commands.specs.ServicesTables.{no_factories, parts_of, publish_subscribe_in};
+
+use crate::services::made::MadeFactory;
+use crate::services::requests::step_lists;
+use iox_command::StepBefore;
+use iox_describe::pattern::PublishSubscribe;
+use iox_describe_base::{MessageTypeDetails, ServiceName};
+use iox_hub_base::PortFactory;
+use iox_maps::by_number::Numbered;
+use iox_negotiate_table::StepList;
+use std::alloc::{AllocError, Global};
+
+/// The factories that a run of commands opened and didn't close yet, under numbers that are counted from 1. A number is spent when its
+/// factory is closed.
+///
+/// The calls are made of a hub, which is handed in. Each answers None, and nothing happens, where a number stands for nothing: where it
+/// isn't that of a node of the hub, or not that of a factory of it. This port's own.
+#[derive(Drop)]
+pub struct Factories {
+    /// The factories that aren't closed.
+    pub made: Numbered<MadeFactory>,
+}
+
+impl Factories {
+    /// Nothing was opened yet. It takes no memory.
+    pub fn new(alloc: Global) -> Self
+        ensures { result.made ≡ no_factories }
+    {
+        Factories {
+            made: Numbered::new(alloc),
+        }
+    }
+
+    /// The factory of a publish-subscribe service that goes by a number, if one does.
+    pub fn publish_subscribe(&self, number: u64) -> Option<&PortFactory<PublishSubscribe>>
+        ensures { option_map (λ factory. (factory.now.service.membership, factory.now.owner)) result ≡ publish_subscribe_in (value_at self.now.made number) }
+    {
+        match self.made.get(number) {
+            Some(MadeFactory::PublishSubscribe(factory)) => Some(factory),
+            _ => None,
+        }
+    }
+
+    // Makes ready what a call that opens needs: room for one factory more, and the lists of steps. It takes no memory where there is
+    // room and no steps are named.
+    pub(crate) fn prepare(
+        &mut self,
+        alloc: Global,
+        name: &ServiceName,
+        types: &MessageTypeDetails,
+        steps: &[StepBefore],
+    ) -> Result<Vec<StepList>, AllocError>
+        ensures { Prepares name.now types.now steps.now self.old.made (result_map_both (λ lists. lists.items) (λ lacking. lacking) result) self.new.made }
+    {
+        self.make_room()?;
+        step_lists(alloc, name, types, steps)
+    }
+
+    // The factory gets the next number; its description is one, whoever agreed on it.
+    pub(crate) fn number(&mut self, factory: MadeFactory) -> u64
+        requires room { length self.old.made.entries < self.old.made.room }
+        requires number { self.old.made.next + 1 < 2 ^ 64 }
+        ensures table { self.new.made ≡ inserted self.old.made factory }
+        ensures number { result ≡ self.old.made.next }
+        ensures form { HasForm (parts_of factory).0.service.description }
+    {
+        factory.description();
+        self.made.insert_next(factory)
+    }
+
+    // Makes room for one factory more, where there is none.
+    fn make_room(&mut self) -> Result<(), AllocError>
+        ensures { MakesRoom self.old.made result self.new.made }
+    {
+        let room = self.made.room();
+        if self.made.len() < room {
+            return Ok(());
+        }
+        self.made.reserve(room.checked_add(1).ok_or(AllocError)?)
+    }
+}

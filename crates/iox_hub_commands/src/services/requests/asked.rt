@@ -1,0 +1,89 @@
+//! What is asked of a service of each pattern.
+ghost use Rattle.std.specs.Prelude.{◌≡◌};
+ghost use Rattle.std.specs.Option.{option_map};
+ghost use Rattle.iox_hub_commands.specs.Asked.{types_of, set_to, asked_event, asked_publish_subscribe, asked_request_response};
+
+use iox_command::{EventOptions, NumberOrOff, PublishSubscribeOptions, RequestResponseOptions};
+use iox_describe_base::{AttributeVerifier, Header, MessageTypeDetails, TypeVariant, ZeroCopySend};
+use iox_describe_verdict::requirement;
+
+/// The types of messages that carry slices of `T`, with a user header of `U`.
+pub fn message_types<T: ZeroCopySend, U: ZeroCopySend>() -> MessageTypeDetails
+    ensures { result ≡ types_of T.name T.size T.alignment U.name U.size U.alignment }
+{
+    MessageTypeDetails::from::<Header, U, T>(TypeVariant::Dynamic)
+}
+
+/// What is asked of a publish-subscribe service whose messages are of these types: each setting that is named, and no attribute.
+pub fn publish_subscribe(
+    options: &PublishSubscribeOptions,
+    types: MessageTypeDetails,
+) -> requirement::publish_subscribe::Requirement
+    ensures { result ≡ asked_publish_subscribe options.now types }
+{
+    requirement::publish_subscribe::Requirement {
+        types,
+        attributes: AttributeVerifier::new(),
+        enable_safe_overflow: options.enable_safe_overflow,
+        max_publishers: options.max_publishers,
+        max_subscribers: options.max_subscribers,
+        subscriber_max_buffer_size: options.subscriber_max_buffer_size,
+        history_size: options.history_size,
+        subscriber_max_borrowed_samples: options.subscriber_max_borrowed_samples,
+        max_nodes: options.max_nodes,
+    }
+}
+
+/// What is asked of an event service: each setting that is named, and no attribute.
+pub fn event(options: &EventOptions) -> requirement::event::Requirement
+    ensures { result ≡ asked_event options.now }
+{
+    requirement::event::Requirement {
+        attributes: AttributeVerifier::new(),
+        deadline: named(options.deadline),
+        max_notifiers: options.max_notifiers,
+        max_listeners: options.max_listeners,
+        event_id_max_value: options.event_id_max_value,
+        notifier_created_event: named(options.notifier_created_event),
+        notifier_dropped_event: named(options.notifier_dropped_event),
+        notifier_dead_event: named(options.notifier_dead_event),
+        max_nodes: options.max_nodes,
+    }
+}
+
+/// What is asked of a request-response service whose requests and responses are of these types: each setting that is named, and no
+/// attribute.
+pub fn request_response(
+    options: &RequestResponseOptions,
+    types: MessageTypeDetails,
+) -> requirement::request_response::Requirement
+    ensures { result ≡ asked_request_response options.now types }
+{
+    let same = types;
+    requirement::request_response::Requirement {
+        request_types: types,
+        response_types: same,
+        attributes: AttributeVerifier::new(),
+        enable_safe_overflow_for_requests: options.enable_safe_overflow_for_requests,
+        enable_safe_overflow_for_responses: options.enable_safe_overflow_for_responses,
+        enable_fire_and_forget_requests: options.enable_fire_and_forget_requests,
+        max_loaned_requests: options.max_loaned_requests,
+        max_active_requests_per_client: options.max_active_requests_per_client,
+        max_response_buffer_size: options.max_response_buffer_size,
+        max_servers: options.max_servers,
+        max_clients: options.max_clients,
+        max_borrowed_responses_per_pending_response: options.max_borrowed_responses_per_pending_response,
+        max_nodes: options.max_nodes,
+    }
+}
+
+// What a setting that may be off is required to be, where it is named.
+fn named(option: Option<NumberOrOff>) -> Option<Option<u64>>
+    ensures { result ≡ option_map set_to option }
+{
+    match option {
+        None => None,
+        Some(NumberOrOff::Number(number)) => Some(Some(number)),
+        Some(NumberOrOff::Off) => Some(None),
+    }
+}

@@ -1,0 +1,33 @@
+//! The service that a foreign node publishes.
+ghost use Rattle.std.specs.Prelude.{◌≡◌};
+ghost use Rattle.iox_hub_commands.specs.Described.{settings_of, described};
+
+use crate::services::requests::asked::{event, publish_subscribe, request_response};
+use iox_command::ServiceOptions;
+use iox_describe_base::{AttributeSpecifier, MessageTypeDetails, ServiceName};
+use iox_describe_settings::{Description, Settings};
+
+/// What a foreign node publishes of these options: the defaults for what isn't named, adjusted, with no attributes. It takes no memory.
+pub fn description(
+    name: &ServiceName,
+    options: &ServiceOptions,
+    types: &MessageTypeDetails,
+) -> Description
+    ensures { result ≡ described name.now options.now types.now }
+{
+    Description::new(*name, settings(options, *types), AttributeSpecifier::new())
+}
+
+fn settings(options: &ServiceOptions, types: MessageTypeDetails) -> Settings
+    ensures { result ≡ settings_of options.now types }
+{
+    match options {
+        ServiceOptions::PublishSubscribe(options) => {
+            Settings::PublishSubscribe(publish_subscribe(options, types).asked().adjusted())
+        }
+        ServiceOptions::Event(options) => Settings::Event(event(options).asked().adjusted()),
+        ServiceOptions::RequestResponse(options) => {
+            Settings::RequestResponse(request_response(options, types).asked().adjusted())
+        }
+    }
+}

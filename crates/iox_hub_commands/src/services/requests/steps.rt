@@ -1,0 +1,103 @@
+//! The steps of foreign nodes before each access.
+ghost use Rattle.std.specs.Prelude.{◌≡◌, ℕ, [], map, min, IfOk, IsOk};
+ghost use Rattle.iox_hub_commands.specs.Steps.{step_of, list_of, list_before, last_access, lists_of};
+
+use crate::services::requests::described::description;
+use iox_command::{ForeignStep as Named, StepBefore};
+use iox_describe_base::{MessageTypeDetails, ServiceName};
+use iox_negotiate_table::{ForeignStep, StepList};
+use std::alloc::{AllocError, Global};
+
+/// How many lists of steps a call can come to at most: no call makes more accesses before which foreign nodes act.
+pub const MOST_LISTS: u64 = 16;
+
+/// The steps on the service of a name, in their order.
+///
+/// Refused only where an allocation fails, which doesn't happen where there are no steps.
+pub fn step_list(
+    alloc: Global,
+    name: &ServiceName,
+    types: &MessageTypeDetails,
+    steps: &[Named],
+) -> Result<StepList, AllocError>
+    ensures list { IfOk result (λ list. list ≡ list_of name.now types.now steps.now) }
+    ensures empty { steps.now ≡ [] → IsOk result }
+{
+    let mut list = Vec::new(alloc);
+    for named in steps {
+        list.push(step(named, name, types))?;
+    }
+    Ok(StepList::new(list))
+}
+
+/// The steps before each access, up to the last that has any, and to the sixteenth.
+///
+/// Refused only where an allocation fails, which doesn't happen where there are no steps.
+pub fn step_lists(
+    alloc: Global,
+    name: &ServiceName,
+    types: &MessageTypeDetails,
+    steps: &[StepBefore],
+) -> Result<Vec<StepList>, AllocError>
+    ensures lists { IfOk result (λ lists. lists.items ≡ lists_of name.now types.now steps.now) }
+    ensures empty { steps.now ≡ [] → IsOk result }
+{
+    let mut lists = Vec::new(alloc);
+    let mut access = 1;
+    let mut left = last_access(steps).min(MOST_LISTS);
+    while left > 0 {
+        lists.push(list_before(alloc, access, name, types, steps)?)?;
+        access += 1;
+        left -= 1;
+    }
+    Ok(lists)
+}
+
+// The steps before one access.
+fn list_before(
+    alloc: Global,
+    access: u64,
+    name: &ServiceName,
+    types: &MessageTypeDetails,
+    steps: &[StepBefore],
+) -> Result<StepList, AllocError>
+    ensures { IfOk result (λ list. list ≡ list_before name.now types.now steps.now access) }
+{
+    let mut list = Vec::new(alloc);
+    for before in steps {
+        if before.access == access {
+            list.push(step(&before.step, name, types))?;
+        }
+    }
+    Ok(StepList::new(list))
+}
+
+// The last access before which there are steps; 0 where there are none.
+fn last_access(steps: &[StepBefore]) -> u64
+    ensures { result ≡ last_access steps.now }
+{
+    let mut rest = steps;
+    let mut last = 0;
+    while let Some((before, later)) = rest.split_first() {
+        rest = later;
+        last = before.access.max(last);
+    }
+    last
+}
+
+// A step on the service of a name.
+fn step(named: &Named, name: &ServiceName, types: &MessageTypeDetails) -> ForeignStep
+    ensures { result ≡ step_of name.now types.now named.now }
+{
+    match named {
+        Named::Lock(node) => ForeignStep::Lock { node: *node },
+        Named::GiveUp(node) => ForeignStep::GiveUp { node: *node },
+        Named::Publish(node, options) => ForeignStep::Publish {
+            node: *node,
+            description: description(name, options, types),
+        },
+        Named::Register(node) => ForeignStep::Register { node: *node },
+        Named::Leave(node) => ForeignStep::Leave { node: *node },
+        Named::Remove(node) => ForeignStep::Remove { node: *node },
+    }
+}

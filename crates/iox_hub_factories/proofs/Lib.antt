@@ -1,4 +1,0 @@
-pub mod Unused
-pub mod Found
-pub mod Accesses
-pub use Rattle.iox_maps.proofs as Maps

@@ -1,5 +1,0 @@
-use Rattle.std.proofs.Common.{inl}
-use Rattle.iox_hub_factories.proofs.acting.foreign.Goals as goal
-
-pub returns-in-Ok : goal.returns-in-Ok
-returns-in-Ok g c = inl (rw (c.in-Ok.ensures.list, c.message_types-types.ensures) at c.foreign.ensures)

@@ -1,6 +1,0 @@
-use Rattle.std.proofs.Common.{◌≡◌, ◌++◌, drop}
-use Rattle.iox_hub_factories.specs.Steps.{list_before}
-use Rattle.iox_hub_factories.proofs.requests.steps.list_before.Given as goal
-
-abbrev pub invariant-loop-before : goal.invariant-loop-before
-invariant-loop-before l = l.list.items ++ list_before l.name l.types (drop l.before-index l.steps) l.access ≡ list_before l.name l.types l.steps l.access

@@ -1,6 +1,0 @@
-use Rattle.std.proofs.Common.{◌≡◌, ◌++◌, drop, map}
-use Rattle.iox_hub_factories.specs.Steps.{step_of}
-use Rattle.iox_hub_factories.proofs.requests.steps.step_list.Given as goal
-
-abbrev pub invariant-loop-named : goal.invariant-loop-named
-invariant-loop-named l = l.list.items ++ map (step_of l.name l.types) (drop l.named-index l.steps) ≡ map (step_of l.name l.types) l.steps

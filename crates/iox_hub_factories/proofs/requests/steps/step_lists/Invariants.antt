@@ -1,9 +1,0 @@
-use Rattle.std.proofs.Common.{◌≡◌, ◌+◌, ◌≤◌, ◌++◌, map}
-use Rattle.iox_hub_factories.specs.Steps.{list_before, from, lists_of}
-use Rattle.iox_hub_factories.proofs.requests.steps.step_lists.Given as goal
-
-abbrev pub invariant-loop-left : goal.invariant-loop-left
-invariant-loop-left l = (l.access + l.left ≤ 17) × (l.lists.items ++ map (list_before l.name l.types l.steps) (from l.access l.left) ≡ lists_of l.name l.types l.steps)
-
-abbrev pub decreases-loop-left : goal.decreases-loop-left
-decreases-loop-left l = l.left

@@ -1,0 +1,80 @@
+-- How large the lanes of a domain are, and what that says of their loans.
+use Rattle.std.specs.Prelude.{ℕ, ◌≡◌, ◌+◌, ◌*◌, ◌<◌, ◌≤◌, ◌^◌, List, [], ◌∷◌, ◌++◌, true, length, max, slice_get, Some}
+use Rattle.iox_domain_values.specs.declared.service_sizes.ServiceSizes.{ServiceSizes}
+use Rattle.iox_lanes_machine.specs.LanesParties.Parties.{PublisherLaneState, SubscriberLaneState}
+use Rattle.iox_lanes_machine.specs.LanesParties.declared.call.Answer.TheVariants as answer
+use Rattle.iox_lanes_machine.specs.LanesParties.declared.call.Call.TheVariants as call
+use Rattle.iox_lanes_machine.specs.LanesParties.declared.call.Entry.{Entry}
+use Rattle.iox_lanes_machine.specs.LanesParties.declared.call.FinishedCall.{FinishedCall}
+use Rattle.iox_lanes_machine.specs.LanesParties.declared.call.Move.TheVariants.{Begin, GoOn}
+use Rattle.iox_lanes_machine.specs.LanesParties.declared.call.Party.TheVariants.{Publisher}
+use Rattle.iox_lanes_machine.specs.LanesParties.declared.publisher.slot_book.LoanAnswer.{LoanAnswer}
+use Rattle.iox_lanes_machine.specs.LanesParties.declared.publisher.slot_book.LoanAnswer.TheVariants as loan
+use Rattle.iox_lanes_machine.specs.LedgerRooms.{loans_out}
+use Rattle.iox_lanes_machine.specs.Paces.{led, own_steps, IsInCall}
+use Rattle.iox_lanes_machine.specs.World.{World, fits, happens, RunsTo}
+use Rattle.iox_lanes_machine.specs.declared.sizes.LaneSizes.{LaneSizes}
+use Rattle.iox_lanes.specs.Finding.{WasFound}
+use Rattle.iox_lanes.specs.Holding.{kind_of}
+
+-- how many messages may wait at a connection of the lanes: as many as agreed, and one at least
+abbrev pub most_waiting : ServiceSizes → ℕ
+most_waiting agreed = max agreed.subscriber_max_buffer_size 1
+
+-- how many samples may wait at a connection of the lanes and be borrowed there
+abbrev pub most_at : ServiceSizes → ℕ
+most_at agreed = most_waiting agreed + agreed.subscriber_max_borrowed_samples
+
+-- how many slots a publisher of the lanes has a use for at most: those at its connections to so many subscribers, its history
+-- and its loans
+abbrev pub slots_used : ServiceSizes → ℕ → ℕ → ℕ
+slots_used agreed subscribers loans = subscribers * most_at agreed + agreed.history_size + loans
+
+-- These sizes are the agreed ones: the kind of ring, how many messages may wait, how many samples a subscriber may borrow, and how many
+-- messages a publisher keeps; for so many publishers, subscribers and words.
+pub record AreAgreed (agreed : ServiceSizes) (publishers subscribers payload_count header_count : ℕ) (sizes : LaneSizes) : Type 0 where
+  pub as_many_publishers : sizes.publishers ≡ publishers
+  pub as_many_subscribers : sizes.subscribers ≡ subscribers
+  pub kind : sizes.kind ≡ kind_of agreed.enable_safe_overflow
+  pub buffer : sizes.buffer ≡ most_waiting agreed
+  pub most_borrowed : sizes.most_borrowed ≡ agreed.subscriber_max_borrowed_samples
+  pub history : sizes.history ≡ agreed.history_size
+  pub user_header : sizes.user_header_words ≡ header_count
+  pub payload : sizes.payload_words ≡ payload_count
+
+-- Lanes before their first step are as large as agreed: they were made of the agreed sizes; a ring of samples given back has a cell for
+-- each sample that may be at its connection, and one more; each publisher has a connection to each subscriber, and keeps as many messages
+-- as agreed; and each subscriber may borrow as many samples as agreed.
+pub record AreSized (agreed : ServiceSizes) (publishers subscribers payload_count header_count : ℕ) (m : World) : Type 0 where
+  pub sizes : LaneSizes
+  pub are_agreed : AreAgreed agreed publishers subscribers payload_count header_count sizes
+  pub found : WasFound sizes m
+  pub cells : m.table.sizes.completion_cells ≡ most_at agreed + 1
+  pub routes : (place : ℕ) (lane : PublisherLaneState) → slice_get m.publishers place ≡ Some lane → length lane.port.routes ≡ subscribers
+  pub kept : (place : ℕ) (lane : PublisherLaneState) → slice_get m.publishers place ≡ Some lane → lane.port.book.kept ≡ agreed.history_size
+  pub borrowing : (place : ℕ) (lane : SubscriberLaneState) → slice_get m.subscribers place ≡ Some lane → lane.port.most_borrowed ≡ agreed.subscriber_max_borrowed_samples
+
+-- Wherever steps brought such lanes, a loan that is not over yet has made at most 4 * S * (B + R + 2) + 2 steps with the next one, for S
+-- subscribers at each of which B messages may wait and R samples be borrowed, as agreed; as long as at most 2^63 steps were made.
+abbrev pub AgreedLoansEndSoon : Type 0
+AgreedLoansEndSoon = (agreed : ServiceSizes) (publishers subscribers payload_count header_count : ℕ) (begun : World) → AreSized agreed publishers subscribers payload_count header_count begun
+    → (schedule : List Entry) (made : ℕ) (m : World) → RunsTo begun schedule made m
+    → (place : ℕ) (entries : List Entry) → fits m (Publisher place) (Begin call.LoanUninit) ≡ true
+    → (led (happens m (Publisher place) (Begin call.LoanUninit)) entries).moments ≤ 2 ^ 63
+    → IsInCall (led (happens m (Publisher place) (Begin call.LoanUninit)) entries) place m.moments
+    → 1 + own_steps (happens m (Publisher place) (Begin call.LoanUninit)) place entries + 1 ≤ 4 * subscribers * (most_at agreed + 2) + 2
+
+-- And such a loan ends with a slot, if as it began fewer were out than may be and the publisher had as many slots as it can have a use
+-- for; as long as at most 2^63 steps were made, and for slots that have numbers below 2^64.
+abbrev pub AgreedSlotsSuffice : Type 0
+AgreedSlotsSuffice = (agreed : ServiceSizes) (publishers subscribers payload_count header_count : ℕ) (begun : World) → AreSized agreed publishers subscribers payload_count header_count begun
+    → (schedule : List Entry) (made : ℕ) (m : World) → RunsTo begun schedule made m
+    → (place : ℕ) (entries : List Entry) → fits m (Publisher place) (Begin call.LoanUninit) ≡ true
+    → (led (happens m (Publisher place) (Begin call.LoanUninit)) entries).moments ≤ 2 ^ 63
+    → IsInCall (led (happens m (Publisher place) (Begin call.LoanUninit)) entries) place m.moments
+    → (ended : FinishedCall) → (happens (led (happens m (Publisher place) (Begin call.LoanUninit)) entries) (Publisher place) GoOn).finished
+    ≡ (led (happens m (Publisher place) (Begin call.LoanUninit)) entries).finished ++ ended ∷ []
+    → (given : LoanAnswer) → ended.answer ≡ answer.Lent given
+    → (lane : PublisherLaneState) → slice_get m.publishers place ≡ Some lane → lane.port.book.first + length lane.port.book.loans < 2 ^ 64
+    → loans_out lane.port.book < lane.port.book.most_loans → slots_used agreed subscribers lane.port.book.most_loans ≤ length lane.port.book.uses
+    → (slot : ℕ) × (given ≡ loan.Slot slot)

@@ -1,0 +1,37 @@
+//! The accesses of whole calls in any run of lanes, however the steps of other parties fall between them.
+//!
+//! Each law is the contract of a function that does nothing. A proof cites a law by a call of its function, which does nothing;
+//! what it states is then among the facts of the caller:
+//!
+//! ```
+//! publishers_keep_course();
+//! ```
+
+ghost use Rattle.iox_lanes_laws.specs.Accesses.{PublishersKeepCourse, PublishersEndAtOnce, SubscribersKeepCourse, SubscribersEndAtOnce, ReleasesEndSoon};
+ghost use Rattle.iox_lanes_laws.specs.Takes.{ReceivesTakeInOrder};
+
+/// A publisher's call makes just the accesses of its course, by what each was answered, whoever steps between them. It ends right
+/// behind the last one.
+pub fn publishers_keep_course()
+    ensures course { PublishersKeepCourse }
+    ensures ends { PublishersEndAtOnce }
+{}
+
+/// A subscriber's call makes just the accesses of its course, by what each was answered, whoever steps between them. It ends right
+/// behind the last one.
+pub fn subscribers_keep_course()
+    ensures course { SubscribersKeepCourse }
+    ensures ends { SubscribersEndAtOnce }
+{}
+
+/// A release makes at most four steps between its begin and its last one.
+pub fn releases_end_soon()
+    ensures { ReleasesEndSoon }
+{}
+
+/// A receive takes or looks once at each connection, in their order, up to the first that gave a message, whoever steps between: it
+/// looks exactly where as many samples are borrowed as may be. Where none gave one it answers by these takes: `ExceedsMaxBorrows` if a
+/// look saw a message, else `Nothing`.
+pub fn receives_take_in_order()
+    ensures { ReceivesTakeInOrder }
+{}
