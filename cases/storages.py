@@ -24,15 +24,30 @@ def answers_of_the_page():
     return found
 
 
-def refusals_of_the_page():
-    """For an access and its answer the error that the call then has."""
+def parts_of_the_page():
+    """For each access the text that says what its answers lead to."""
     text = section()
-    parts = {
+
+    def row(access):
+        return re.search(rf"(?m)^\| `{access}` \| `(?:Taken|Made|Published)`.*$", text)[0]
+
+    closing = text.partition("**`close`.**")[2].partition("\n\n")[0]
+    return {
         "look": text.partition("**What a look shows.**")[2].partition("\n\n")[0],
-        "lock": re.search(r"(?m)^\| `lock` \| `Taken` .*$", text)[0],
+        **{it: row(it) for it in ("lock", "make_segment", "publish")},
         "open_segment": text.partition("**`open`.**")[2].partition("\n\n")[0],
+        **{it: closing.partition(f"or `{it}` ")[2].partition("`, ")[0] + "`" for it in ("remove_description", "remove_segment")},
     }
-    return {(access, it): error for access, part in parts.items() for it, error in re.findall(r"`(\w+)` is\s+`(\w+)`", part)}
+
+
+def refusals_of_the_page():
+    """For an access and its answer the accesses that undo what was done, and the error that the call then has."""
+    found = {}
+    for access, part in parts_of_the_page().items():
+        undone = re.search(r"\| after (.*?):", part)
+        for answer, error in re.findall(r"`(\w+)` is\s+`(\w+)`", part):
+            found[access, answer] = (tuple(re.findall(r"`(\w+)`", undone[1])) if undone else (), error)
+    return found
 
 
 def behind(verb, access, answer, closes):
@@ -98,14 +113,22 @@ def each_answer_of_a_storage_has_its_call_at_each_access_in_each_round():
     expect(sorted({it[3:] for it in tried if it[4] not in answers[it[3]] | {"Unlocked"}}), [])
 
 
+def decided(made, closes):
+    """The access whose answer decides what a call is told, and those behind it, which undo what was done."""
+    place = len(made) - 1
+    while not closes and made[place][1] in ("remove_segment", "unlock"):
+        place -= 1
+    return made[place][1:], tuple(access for _, access, _ in made[place + 1 :])
+
+
 @case
 def each_refusal_of_a_storages_answer_is_the_one_of_the_page():
     refusals = refusals_of_the_page()
     met = {}
     for verb, _, made, told in calls():
-        turn, access, answer = made[-1]
+        (access, answer), undone = decided(made, told.startswith("ok, "))
         goes_on = verb == "open_or_create" and answer in ("IsLocked", "Exists")
         if (access, answer) in refusals and not goes_on:
-            error = re.match(r"(?:\w+\()?(\w+)\)?, accesses \d+$", told)
-            met.setdefault((access, answer), set()).add(error[1] if error else told)
-    expect(met, {it: {error} for it, error in refusals.items()})
+            error = re.match(r"(?:ok, )?(?:\w+\()?(\w+)\)?, accesses \d+$", told)
+            met.setdefault((access, answer), set()).add((undone, error[1] if error else told))
+    expect(met, {it: {refusal} for it, refusal in refusals.items()})

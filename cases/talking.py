@@ -188,6 +188,17 @@ def a_random_script_gets_the_models_replies():
         expect((ran.status, ran.out, ran.err.count(b"so one of the two is at fault")), (0, replies, 0))
 
 
+@case_of_program
+def scripts_with_foreign_steps_before_each_access_get_the_models_replies():
+    with tempfile.TemporaryDirectory(prefix="iox-check-") as folder:
+        made = [TOP / "model" / "hostile_scripts.py", "54", "200", Path(folder) / "hostile"]
+        subprocess.run([sys.executable, *made], stdout=subprocess.DEVNULL, check=True)
+        # The first line that differs is told; the number in its service's name says which script it is of.
+        asked = [TOP / "model" / "rows.py", "--program", TOP / "iox", folder]
+        compared = subprocess.run([sys.executable, *asked], capture_output=True, text=True)
+        expect((compared.returncode, compared.stdout), (0, "1 passed, 0 failed\n"))
+
+
 @case
 def the_model_answers_within_a_second_of_processor_time():
     before = resource.getrusage(resource.RUSAGE_CHILDREN)

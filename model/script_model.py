@@ -1,10 +1,11 @@
 #!/usr/bin/env python3
 """A plain model of the machine that a script drives: a script on standard input, one reply a line on standard output.
 
-It follows docs/FORMATS.md and nothing else of this repository, keeps lists and searches them, and never lacks memory.
+It follows docs/FORMATS.md and nothing else of this repository, keeps lists and searches them, and lacks memory only where it is told to.
 What the program answers to a script with memory to spare is what this answers.
 """
 import sys
+from contextlib import suppress
 from pathlib import Path
 
 sys.dont_write_bytecode = True
@@ -41,6 +42,11 @@ class Life:
         self.nodes = [[node, 1]]
         self.emptied_by = None
         self.domain = None
+
+    def copy(self):
+        life = Life(self.agreed, self.attributes, None)
+        life.nodes, life.emptied_by = [[*it] for it in self.nodes], self.emptied_by
+        return life
 
     def place_of(self, node):
         return [it for it in self.nodes if it[0] == node]
@@ -114,6 +120,10 @@ def verdict(pattern, named, required, life):
 
 class NextRound(Exception):
     """The round leads to the next one."""
+
+
+class NotConnected(Exception):
+    """No memory is found for a connection."""
 
 
 class Agreeing:
@@ -224,10 +234,16 @@ class Domain:
         self.publisher_changes = self.subscriber_changes = 0
         self.connections = []
 
+    def has_memory(self):
+        """Whether memory is found for one more connection."""
+        return True
+
     def connection(self, publisher, subscriber):
         """The connection of the two, made by whichever end comes first."""
         known = [it for it in self.connections if it.publisher is publisher and it.subscriber is subscriber]
         if not known:
+            if not self.has_memory():
+                raise NotConnected
             known = [Connection(publisher, subscriber)]
             self.connections += known
         return known[0]
@@ -299,8 +315,9 @@ class Publisher:
                 self.domain.let_go(link)
                 del self.links[place]
             if subscriber is not None and place not in self.links:
-                link = self.links[place] = self.domain.connection(self, subscriber)
-                link.waiting += self.history[-subscriber.buffer :]
+                with suppress(NotConnected):
+                    link = self.links[place] = self.domain.connection(self, subscriber)
+                    link.waiting += self.history[-subscriber.buffer :]
 
     def in_use(self):
         """The messages of the current segment whose slots aren't free."""
@@ -397,9 +414,10 @@ class Subscriber:
         self.domain.subscriber_changes += 1
 
     def attach(self, place, publisher):
+        link = self.domain.connection(publisher, self)
         key = self.freed_keys.pop() if self.freed_keys else self.next_key
         self.next_key += key == self.next_key
-        self.keys[key] = self.at[place] = self.domain.connection(publisher, self)
+        self.keys[key] = self.at[place] = link
         self.at[place].is_attached = True
 
     def forget(self, link):
@@ -442,7 +460,8 @@ class Subscriber:
             link = self.at.get(place)
             if publisher is not None and (link is None or link.publisher is not publisher):
                 if link is None or self.makes_room(place):
-                    self.attach(place, publisher)
+                    with suppress(NotConnected):
+                        self.attach(place, publisher)
                 else:
                     is_failed = True
         for place, publisher in listed:

@@ -1,11 +1,11 @@
 -- What a node hears, beside what was sent.
 use Rattle.std.specs.Prelude.{ℕ, ◌≡◌, Bool, List, Option, None, Some, option_map}
-use Rattle.iox_domain.specs.declared.domain_id.DomainId.{DomainId}
-use Rattle.iox_domain.specs.declared.ports.service_ports.ServicePorts.{ServicePorts}
-use Rattle.iox_domain_publisher.specs.Messages.{Message}
-use Rattle.iox_delivery.specs.Holding.{message_found}
-use Rattle.iox_delivery.specs.Subscribing.{DropsSample}
-use Rattle.iox_delivery.specs.declared.slices.sample.Sample.{Sample}
+use Rattle.iox_hub.specs.Domain.declared.domain_id.DomainId.{DomainId}
+use Rattle.iox_hub.specs.Domain.declared.ports.service_ports.ServicePorts.{ServicePorts}
+use Rattle.iox_hub.specs.DomainPublisher.Messages.{Message}
+use Rattle.iox_hub.specs.Delivery.Holding.{message_found}
+use Rattle.iox_hub.specs.Delivery.Subscribing.{DropsSample}
+use Rattle.iox_hub.specs.Delivery.declared.slices.sample.Sample.{Sample}
 use Rattle.example_bus.specs.declared.bus.Heard.{Heard}
 
 -- the time stamp and the values that a node heard
@@ -22,6 +22,8 @@ as_received None ports = None
 as_received (Some sample) ports = option_map as_sent (message_found sample.taken ports)
 
 -- what was received is let go again, if anything was
-abbrev pub LetsGo : {H : Type 0} → (DomainId → H → Option (ServicePorts ℕ ℕ)) → (DomainId → ServicePorts ℕ ℕ → H → H) → Option (Sample ℕ ℕ) → H → H → Type 0
+abbrev pub LetsGo : {H : Type 0} → (DomainId → H → Option (ServicePorts ℕ ℕ)) → (DomainId → ServicePorts ℕ ℕ → H → H)
+    → Option (Sample ℕ ℕ) → H → H → Type 0
 LetsGo ports_of with_ports None old new = new ≡ old
-LetsGo ports_of with_ports (Some sample) old new = (released : Bool) × DropsSample ports_of with_ports sample.port sample.taken old released new
+LetsGo ports_of with_ports (Some sample) old new = (released : Bool)
+    × DropsSample ports_of with_ports sample.port sample.taken old released new

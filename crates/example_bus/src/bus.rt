@@ -1,24 +1,14 @@
 //! What a node of the bus does: it advertises or listens in a service, publishes and hears.
-ghost use Rattle.iox_domain.specs.Homes as homes;
+ghost use Rattle.iox_hub.specs.Domain.Homes as homes;
 ghost use Rattle.std.specs.Prelude.{◌≡◌, ℕ, Option, true, Some, Ok, IfOk, option_map};
-ghost use Rattle.iox_delivery.specs.Holding.{holds_message, message_found};
-ghost use Rattle.iox_delivery.specs.declared.slices.sample.Sample.{Sample};
-ghost use Rattle.iox_delivery.specs.Slices.{ReceivesSlice};
+ghost use Rattle.iox_hub.specs.Delivery.Holding.{holds_message, message_found};
+ghost use Rattle.iox_hub.specs.Delivery.declared.slices.sample.Sample.{Sample as SliceSample};
+ghost use Rattle.iox_hub.specs.Delivery.Slices.{ReceivesSlice};
 ghost use Rattle.example_bus.specs.Heard.{as_heard, as_sent, as_received, LetsGo};
 
 use anyhow::{Context, Result, bail, ensure};
-use iox_delivery::slices::{Publisher, Sample, Subscriber};
-use iox_delivery::{PortId, Sent};
-use iox_describe::{ServiceName, ZeroCopySend};
-use iox_domain::ports::{PublisherConfig, SubscriberConfig};
-use iox_domain::{DomainId, Home, Nobody, calls};
-use iox_domain_values::{
-    AllocationStrategy, BackpressureStrategy, PortOwner, PreallocatedSamplesOverride,
-};
-use iox_hub_base::{Hub, HubBuilder, NodeHandle};
-use iox_negotiate::Slice;
-use iox_queues_base::Words;
-use std::alloc::{AllocError, Global};
+use iox_hub::prelude::*;
+use std::alloc::AllocError;
 
 /// All nodes and services of the robot. Messages are slices of numbers, and each has a time stamp as its user header. Nobody is
 /// asked at a full mailbox: it drops its oldest message. One bus has one type of values: a second type takes a second bus.
@@ -31,14 +21,13 @@ pub struct Heard {
     pub values: Vec<u64>,
 }
 
-/// A node opens the service of a name, or creates it: four messages wait at most, and a late joiner gets the last two. The answer
-/// is which service it is, and who owns what the node makes there.
+/// A node opens the service of a name, or creates it: four messages wait at most, and a late joiner gets the last two.
 fn join<T: Words + ZeroCopySend>(
     alloc: Global,
     bus: &mut Bus<T>,
     node: &NodeHandle,
     name: &[u8],
-) -> Result<(DomainId, PortOwner)> {
+) -> Result<PortFactory<PublishSubscribe>> {
     ensure!(bus.holds_node(node), "a node of another bus");
     let asked = bus
         .service_builder(node, ServiceName::new(name)?)
@@ -47,14 +36,7 @@ fn join<T: Words + ZeroCopySend>(
         .history_size(2)
         .subscriber_max_buffer_size(4);
     ensure!(asked.holds(bus), "a service of another bus");
-    let service = asked.open_or_create_in(alloc, bus, Vec::new(alloc))?;
-    ensure!(bus.holds(&service), "a service of another bus");
-    let owner = PortOwner {
-        number: service.owner(),
-        node_id: service.node(),
-    };
-    let domain = bus.domain(&service).context("other messages")?;
-    Ok((domain.id, owner))
+    Ok(asked.open_or_create_in(alloc, bus, Vec::new(alloc))?)
 }
 
 /// Makes a publisher of messages of at most so many values.
@@ -65,19 +47,17 @@ pub fn advertise<T: Words + ZeroCopySend>(
     name: &[u8],
     values: usize,
 ) -> Result<PortId> {
-    let (domain, owner) = join(alloc, bus, node, name)?;
-    let config = PublisherConfig {
-        owner,
-        max_loaned_samples: 1,
-        values,
-        unit: 1,
-        allocation: AllocationStrategy::Static,
-    };
-    let slots = PreallocatedSamplesOverride::WorstCase;
-    let number = calls::create_publisher(bus, alloc, domain, config, 0, &slots, Nobody).context(
-        "no service",
-    )??;
-    Ok(PortId { domain, number })
+    let service = join(alloc, bus, node, name)?;
+    ensure!(bus.holds(&service), "a service of another bus");
+    let builder = bus
+        .publisher_builder(&service)
+        .context("other messages")?
+        .initial_max_slice_len(values)
+        .max_loaned_samples(1)
+        .set_handlers(Nobody);
+    ensure!(builder.holds(bus), "no service");
+    let publisher = builder.create_slice(alloc, bus)?;
+    Ok(publisher.into_port())
 }
 
 /// Makes a subscriber.
@@ -87,15 +67,27 @@ pub fn listen<T: Words + ZeroCopySend>(
     node: &NodeHandle,
     name: &[u8],
 ) -> Result<PortId> {
-    let (domain, owner) = join(alloc, bus, node, name)?;
-    let config = SubscriberConfig {
-        owner,
-        buffer_size: None,
-    };
-    let number = calls::create_subscriber(bus, alloc, domain, config, Nobody).context(
-        "no service",
-    )??;
-    Ok(PortId { domain, number })
+    let service = join(alloc, bus, node, name)?;
+    ensure!(bus.holds(&service), "a service of another bus");
+    let builder = bus
+        .subscriber_builder(&service)
+        .context("other messages")?
+        .set_handler(Nobody);
+    ensure!(builder.holds(bus), "no service");
+    let subscriber = builder.create_slice(alloc, bus)?;
+    Ok(subscriber.into_port())
+}
+
+/// Lets a publisher know who came to listen: they get its last messages.
+pub fn follow<T: Copy>(alloc: Global, bus: &mut Bus<T>, port: PortId) -> Result<()> {
+    let publisher = slice::Publisher::of_port(port, BackpressureStrategy::DiscardData, 0);
+    if !publisher.holds(bus) || publisher.is_blocked(bus) {
+        publisher.into_port();
+        bail!("no publisher");
+    }
+    let followed = publisher.update_connections(alloc, bus);
+    publisher.into_port();
+    Ok(followed?)
 }
 
 /// Sends these values with a time stamp; the answer is to how many subscribers.
@@ -106,7 +98,11 @@ pub fn publish<T: Copy>(
     stamp: u64,
     values: &[T],
 ) -> Result<usize> {
-    let publisher = Publisher::of_port(port, BackpressureStrategy::DiscardData, values.len());
+    let publisher = slice::Publisher::of_port(
+        port,
+        BackpressureStrategy::DiscardData,
+        values.len(),
+    );
     if !publisher.holds(bus) || publisher.is_blocked(bus) {
         publisher.into_port();
         bail!("no publisher");
@@ -130,10 +126,11 @@ pub fn publish<T: Copy>(
 fn read<H: Home<u64, u64>>(
     alloc: Global,
     home: &H,
-    sample: &Sample<u64, u64>,
+    sample: &slice::Sample<u64, u64>,
 ) -> Result<Heard, AllocError>
     requires { holds_message sample.now.port.number sample.now.taken (homes.ports_of H.domain_of sample.now.port.domain home.now) ≡ true }
-    ensures { IfOk result (λ heard. Some (as_heard heard) ≡ option_map as_sent (message_found sample.now.taken (homes.ports_of H.domain_of sample.now.port.domain home.now))) }
+    ensures { IfOk result (λ heard. Some (as_heard heard)
+        ≡ option_map as_sent (message_found sample.now.taken (homes.ports_of H.domain_of sample.now.port.domain home.now))) }
 {
     let mut values = Vec::new(alloc);
     values.extend_from_slice(sample.payload(home))?;
@@ -145,12 +142,12 @@ fn read<H: Home<u64, u64>>(
 
 /// Receives the next message, if one waits, and releases it: what is heard is the time stamp and the values of the message received.
 pub fn hear<H: Home<u64, u64>>(alloc: Global, home: &mut H, port: PortId) -> Result<Option<Heard>>
-    ensures { IfOk result (λ heard. (sample : Option (Sample ℕ ℕ)) × (received : H)
+    ensures { IfOk result (λ heard. (sample : Option (SliceSample ℕ ℕ)) × (received : H)
         × ReceivesSlice (homes.ports_of H.domain_of) (homes.with_ports H.changed) (homes.subscriber_degrades (λ kept. H.ForSubscribers.degrades kept) H.domain_of) port home.old (Ok sample) received
         × (option_map as_heard heard ≡ as_received sample (homes.ports_of H.domain_of port.domain received))
         × LetsGo (homes.ports_of H.domain_of) (homes.with_ports H.changed) sample received home.new) }
 {
-    let subscriber = Subscriber::of_port(port, 4);
+    let subscriber = slice::Subscriber::of_port(port, 4);
     if !subscriber.holds(home) {
         subscriber.into_port();
         bail!("no subscriber");

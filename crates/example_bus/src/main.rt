@@ -4,13 +4,10 @@
 mod bus;
 mod pose;
 
-use anyhow::{Context, Result};
-use bus::{Bus, advertise, hear, listen, publish};
-use iox_delivery::PortId;
-use iox_domain::calls;
-use iox_hub_base::{Hub, HubConfig};
+use anyhow::Result;
+use bus::{Bus, advertise, follow, hear, listen, publish};
+use iox_hub::prelude::*;
 use pose::{Pose, hear_pose};
-use std::alloc::Global;
 use std::fmt::Write;
 
 /// Writes down all that waits at a port.
@@ -45,7 +42,7 @@ fn converse(out: &mut String, alloc: Global, bus: &mut Bus) -> Result<()> {
     publish(alloc, bus, commands, 20, &[2, 45])?;
     publish(alloc, bus, commands, 30, &[1, 5])?;
     let orders = listen(alloc, bus, &wheels, b"commands")?;
-    calls::update_publisher(bus, alloc, commands.domain, commands.number).context("no publisher")??;
+    follow(alloc, bus, commands)?;
 
     note(out, alloc, bus, "pilot, odometry", position)?;
     note(out, alloc, bus, "pilot, lidar", echoes)?;

@@ -2,15 +2,11 @@
 ghost use Rattle.std.specs.Prelude.{◌≡◌, ◌∷◌, [], codes, slice_index, T, to_bits, from_bits, refl};
 ghost use Rattle.std.specs.Float.{binary64};
 ghost use Rattle.std.specs.Float.Ieee.{fits};
-ghost use Rattle.iox_queues_base.specs.Scalars.{float-given_back};
+ghost use Rattle.iox_hub.specs.QueuesBase.Scalars.{float-given_back};
 
 use crate::bus::Bus;
 use anyhow::{Result, bail};
-use iox_delivery::PortId;
-use iox_delivery::slices::Subscriber;
-use iox_describe::{TypeDetail, TypeVariant, ZeroCopySend};
-use iox_queues_base::Words;
-use std::alloc::Global;
+use iox_hub::prelude::*;
 
 /// A place in metres, and a heading in degrees.
 #[derive(Clone, Copy, Debug, PartialEq)]
@@ -78,7 +74,7 @@ impl ZeroCopySend for Pose {
 
 /// Receives the next pose, if one waits, and releases it.
 pub fn hear_pose(alloc: Global, poses: &mut Bus<Pose>, port: PortId) -> Result<Option<Pose>> {
-    let subscriber = Subscriber::of_port(port, 4);
+    let subscriber = slice::Subscriber::of_port(port, 4);
     if !subscriber.holds(poses) {
         subscriber.into_port();
         bail!("no subscriber");

@@ -11,4 +11,5 @@ IsRow row it = (it.line.now ≡ before_first (is_byte 9) row) × (it.reply.now �
 -- a text is these rows: up to its first newline it is the first of them, and behind that newline it is the others
 pub data IsConversation : List ℕ → List Exchange → Type 0 where
   nothing : IsConversation [] []
-  row : {text : List ℕ} {it : Exchange} {others : List Exchange} → 0 < length text → IsRow (before_first (is_byte 10) text) it → IsConversation (after_first (is_byte 10) text) others → IsConversation text (it ∷ others)
+  row : {text : List ℕ} {it : Exchange} {others : List Exchange} → 0 < length text → IsRow (before_first (is_byte 10) text) it
+      → IsConversation (after_first (is_byte 10) text) others → IsConversation text (it ∷ others)

@@ -32,7 +32,8 @@ stroke_of class from to =
 
 -- what stands before a text
 abbrev pub opening_of : List ℕ → ℕ × ℕ → List ℕ
-opening_of class at = codes "<text class=\"" ++ class ++ codes "\" x=\"" ++ decimal at.0 ++ codes "\" y=\"" ++ decimal (pixels (middle_of at.1 + 4)) ++ codes "\">"
+opening_of class at = codes "<text class=\"" ++ class ++ codes "\" x=\"" ++ decimal at.0 ++ codes "\" y=\""
+    ++ decimal (pixels (middle_of at.1 + 4)) ++ codes "\">"
 
 -- the element of a text
 abbrev pub label_of : List ℕ → ℕ × ℕ → List ℕ → List ℕ

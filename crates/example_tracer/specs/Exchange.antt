@@ -32,7 +32,8 @@ seen message = record { port = message.port.now; values = option_map (λ values.
 
 -- a reply by which a message is on its way: some mailboxes took it, or one is waited for, or one was passed over
 abbrev pub is_sent : List ℕ → Bool
-is_sent reply = is_text (first_word reply) (codes "ok") || is_text reply (codes "blocked") || is_text reply (codes "err SendError::UnableToDeliver")
+is_sent reply = is_text (first_word reply) (codes "ok") || is_text reply (codes "blocked")
+    || is_text reply (codes "err SendError::UnableToDeliver")
 
 -- the message that a line sent
 abbrev pub sent_by : List ℕ → List ℕ → Option Seen

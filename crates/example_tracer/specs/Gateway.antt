@@ -10,7 +10,8 @@ names_sample (b ∷ bs) = b == 109
 
 -- the values of the sample that a reply gives
 abbrev pub sample_of : List ℕ → Option (List ℕ)
-sample_of reply = if names_sample (first_word (behind reply)) && is_text (first_word reply) (codes "ok") then Some (behind (behind reply)) else None
+sample_of reply = if names_sample (first_word (behind reply))
+    && is_text (first_word reply) (codes "ok") then Some (behind (behind reply)) else None
 
 -- the line that puts these values
 abbrev pub put_of : List ℕ → List ℕ

@@ -39,7 +39,8 @@ lost_rows conversation before arrow =
 -- these rows are those of the arrows, in order: of each its way, and the lines that it shows as lost
 pub data IsDrawn (conversation : List Exchange) : List Arrow → List (Option ℕ × ℕ) → Type 0 where
   nothing : IsDrawn conversation [] []
-  more : {arrows : List Arrow} {rows : List (Option ℕ × ℕ)} → (arrow : Arrow) → IsDrawn conversation arrows rows → IsDrawn conversation (arrows ++ arrow ∷ []) (rows ++ rows_of_way arrow ∷ [] ++ lost_rows conversation arrows arrow)
+  more : {arrows : List Arrow} {rows : List (Option ℕ × ℕ)} → (arrow : Arrow) → IsDrawn conversation arrows rows
+      → IsDrawn conversation (arrows ++ arrow ∷ []) (rows ++ rows_of_way arrow ∷ [] ++ lost_rows conversation arrows arrow)
 
 -- a text is a drawing of a conversation: a row a line, and of the shapes just those are ways that are of the conversation's arrows
 pub record Pictures (conversation : List Exchange) (text : List ℕ) : Type 0 where

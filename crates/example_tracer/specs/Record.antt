@@ -25,7 +25,8 @@ values_of it = told_first (sent_by it.line.now it.reply.now) (received_by it.lin
 
 -- how many mailboxes took what was sent
 abbrev pub delivered_of : Exchange → List ℕ
-delivered_of it = if is_some (sent_by it.line.now it.reply.now) && is_text (first_word it.reply.now) (codes "ok") then behind it.reply.now else []
+delivered_of it = if is_some (sent_by it.line.now it.reply.now)
+    && is_text (first_word it.reply.now) (codes "ok") then behind it.reply.now else []
 
 -- the row of a line and its reply: these two, and what they tell
 abbrev pub fields_of : Exchange → List (List ℕ)

@@ -20,7 +20,8 @@ made_by reply = if is_text (first_word reply) (codes "ok") && is_name (behind re
 
 -- the verbs that end what they name, if they are answered `ok`
 abbrev pub is_ending : List ℕ → Bool
-is_ending verb = is_text verb (codes "close") || is_text verb (codes "leave") || is_text verb (codes "drop") || is_text verb (codes "release")
+is_ending verb = is_text verb (codes "close") || is_text verb (codes "leave") || is_text verb (codes "drop")
+    || is_text verb (codes "release")
 
 -- whether a line ended what has this name: it was closed, left, was dropped or given back, or was sent, unless that was skipped
 abbrev pub ended_by : List ℕ → List ℕ → List ℕ → Bool

@@ -44,7 +44,8 @@ up_to line (Some origin) = nat_le line origin
 
 -- whether an arrow shows that the subscriber got this line's message of the publisher, or one behind it
 abbrev pub passes : Arrow → List ℕ → List ℕ → ℕ → Bool
-passes arrow subscriber publisher line = up_to line arrow.origin && is_text arrow.subscriber.now subscriber && is_text arrow.publisher.now publisher
+passes arrow subscriber publisher line = up_to line arrow.origin && is_text arrow.subscriber.now subscriber
+    && is_text arrow.publisher.now publisher
 
 -- whether a line's message may be the one that was received, after what the arrows show
 abbrev pub may_come : List Arrow → Seen → ℕ → Option Seen → Bool
@@ -74,10 +75,14 @@ pub record IsArrow (conversation : List Exchange) (arrows : List Arrow) (line : 
 -- the arrows of the first n lines: one for each sample received, in order
 pub data Trace (conversation : List Exchange) : ℕ → List Arrow → Type 0 where
   start : Trace conversation 0 []
-  silent : {n : ℕ} {arrows : List Arrow} → Trace conversation n arrows → received_at conversation n ≡ None → Trace conversation (suc n) arrows
-  sample : {n : ℕ} {arrows : List Arrow} {arrow : Arrow} {received : Seen} → Trace conversation n arrows → received_at conversation n ≡ Some received → IsArrow conversation arrows n received arrow → Trace conversation (suc n) (arrows ++ arrow ∷ [])
+  silent : {n : ℕ} {arrows : List Arrow} → Trace conversation n arrows → received_at conversation n ≡ None
+      → Trace conversation (suc n) arrows
+  sample : {n : ℕ} {arrows : List Arrow} {arrow : Arrow} {received : Seen} → Trace conversation n arrows
+      → received_at conversation n ≡ Some received → IsArrow conversation arrows n received arrow
+      → Trace conversation (suc n) (arrows ++ arrow ∷ [])
 
--- an arrow ends at a line that received a sample; where its origin is told, that line is an earlier one that sent a message, and the values fit
+-- an arrow ends at a line that received a sample; where its origin is told, that line is an earlier one that sent a message, and
+-- the values fit
 abbrev pub Joins : List Exchange → Arrow → Type 0
 Joins conversation arrow =
     (received : Seen) × (received_at conversation arrow.receipt ≡ Some received) × (arrow.subscriber.now ≡ received.port)
@@ -91,7 +96,8 @@ Follows (Some first) (Some later) = first < later
 
 -- of two arrows between the same ports, the second to arrive is the second to leave
 abbrev pub KeepsOrder : Arrow → Arrow → Type 0
-KeepsOrder first later = first.subscriber.now ≡ later.subscriber.now → first.publisher.now ≡ later.publisher.now → Follows first.origin later.origin
+KeepsOrder first later = first.subscriber.now ≡ later.subscriber.now → first.publisher.now ≡ later.publisher.now
+    → Follows first.origin later.origin
 
 -- whether the subscriber got something behind a line of which the origin can't be told
 abbrev pub untold : Arrow → List ℕ → ℕ → Bool
@@ -112,7 +118,8 @@ is_lost before arrow line since (Some sent) =
 
 -- an arrow between the same ports doesn't begin at the line
 abbrev pub LeadsElsewhere : Arrow → Arrow → ℕ → Type 0
-LeadsElsewhere arrow other line = other.subscriber.now ≡ arrow.subscriber.now → other.publisher.now ≡ arrow.publisher.now → other.origin ≡ Some line → ⊥
+LeadsElsewhere arrow other line = other.subscriber.now ≡ arrow.subscriber.now → other.publisher.now ≡ arrow.publisher.now
+    → other.origin ≡ Some line → ⊥
 
 -- what an arrow shows as lost, no arrow between the same ports leads there
 abbrev pub LostForGood : List Exchange → List Arrow → Type 0

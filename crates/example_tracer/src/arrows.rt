@@ -159,7 +159,8 @@ fn is_untold(arrows: &[Arrow<'_>], subscriber: &[u8], line: usize) -> bool
 
 /// The ways of all messages that the conversation received, in the order of their receipts.
 ///
-/// What can be told is told: of the earlier lines whose values fit, and which the subscriber didn't get or pass over already, it is the only one.
+/// What can be told is told: of the earlier lines whose values fit, and which the subscriber didn't get or pass over already, it
+/// is the only one.
 pub fn trace<'a>(alloc: Global, conversation: &[Exchange<'a>]) -> Result<Vec<Arrow<'a>>, AllocError>
     ensures trace { IfOk result (λ arrows. Trace conversation.now (length conversation.now) arrows.items) }
     // Each sample that was received has one arrow.

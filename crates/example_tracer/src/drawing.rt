@@ -9,7 +9,8 @@ use std::fmt::Write;
 /// A place in a drawing: how far to the right, in pixels, and in which row.
 pub type Place = (usize, usize);
 
-/// What is drawn, each with its class, by which the drawing's style says how it looks: a stroke from a place to another, or a text at a place.
+/// What is drawn, each with its class, by which the drawing's style says how it looks: a stroke from a place to another, or a
+/// text at a place.
 #[derive(Clone, Copy)]
 pub enum Shape<'a> {
     Stroke(&'static str, Place, Place),

@@ -1,5 +1,5 @@
-//! The frame of a conversation's picture: a row a line, with its reply, and a lifeline for each node, factory, port and loan, from the line that made
-//! it to the line that ended it.
+//! The frame of a conversation's picture: a row a line, with its reply, and a lifeline for each node, factory, port and loan,
+//! from the line that made it to the line that ended it.
 ghost use Rattle.std.specs.Prelude.{◌≡◌, [], ◌∷◌, ◌++◌, IfOk, OnOk, codes, length, map};
 ghost use Rattle.std.specs.List.{range_with_len};
 ghost use Rattle.example_tracer.specs.Frame.{ways_in, texts_of, line_in, reply_in};
@@ -69,8 +69,10 @@ impl<'a> Frame<'a> {
         it: &Exchange<'a>,
     ) -> Result<(), AllocError>
         ensures ways { OnOk result (ways_in shapes.new.items ≡ ways_in shapes.old.items) }
-        ensures line { OnOk result (texts_of (codes "line") shapes.new.items ≡ texts_of (codes "line") shapes.old.items ++ (row, it.now.line.now) ∷ []) }
-        ensures reply { OnOk result (texts_of (codes "reply") shapes.new.items ≡ texts_of (codes "reply") shapes.old.items ++ (row, it.now.reply.now) ∷ []) }
+        ensures line { OnOk result (texts_of (codes "line") shapes.new.items ≡ texts_of (codes "line") shapes.old.items
+            ++ (row, it.now.line.now) ∷ []) }
+        ensures reply { OnOk result (texts_of (codes "reply") shapes.new.items ≡ texts_of (codes "reply") shapes.old.items
+            ++ (row, it.now.reply.now) ∷ []) }
     {
         shapes.push(Shape::Text("line", (8, row), it.line))?;
         shapes.push(Shape::Text("reply", (self.replies, row), it.reply))?;
@@ -104,8 +106,10 @@ impl<'a> Frame<'a> {
     ) -> Result<Shapes<'a>, AllocError>
         ensures ways { IfOk result (λ shapes. ways_in shapes.items ≡ []) }
         // Each line stands in its row, and so does each reply.
-        ensures lines { IfOk result (λ shapes. texts_of (codes "line") shapes.items ≡ map (line_in conversation.now) (range_with_len 0 (length conversation.now))) }
-        ensures replies { IfOk result (λ shapes. texts_of (codes "reply") shapes.items ≡ map (reply_in conversation.now) (range_with_len 0 (length conversation.now))) }
+        ensures lines { IfOk result (λ shapes. texts_of (codes "line") shapes.items
+            ≡ map (line_in conversation.now) (range_with_len 0 (length conversation.now))) }
+        ensures replies { IfOk result (λ shapes. texts_of (codes "reply") shapes.items
+            ≡ map (reply_in conversation.now) (range_with_len 0 (length conversation.now))) }
     {
         let mut shapes = self.lines(alloc, conversation)?;
         for row in 0..conversation.len() {

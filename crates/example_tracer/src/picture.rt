@@ -36,8 +36,8 @@ fn birth(conversation: &[Exchange<'_>], name: &[u8]) -> Option<usize>
     conversation.iter().position(|it| makes(it, name))
 }
 
-/// Adds the way of an arrow, from one lifeline to another: a stroke from the row of its origin to that of its receipt, or a sign at its receipt where no
-/// origin is told.
+/// Adds the way of an arrow, from one lifeline to another: a stroke from the row of its origin to that of its receipt, or a sign
+/// at its receipt where no origin is told.
 fn push_way(
     shapes: &mut Shapes<'_>,
     arrow: &Arrow<'_>,
@@ -81,7 +81,8 @@ fn push_arrow(
     before: &[Arrow<'_>],
     arrow: &Arrow<'_>,
 ) -> Result<(), AllocError>
-    ensures { OnOk result (ways_in shapes.new.items ≡ ways_in shapes.old.items ++ rows_of_way arrow.now ∷ [] ++ lost_rows conversation.now before.now arrow.now) }
+    ensures { OnOk result (ways_in shapes.new.items ≡ ways_in shapes.old.items ++ rows_of_way arrow.now ∷ []
+        ++ lost_rows conversation.now before.now arrow.now) }
 {
     let (from, to) = (frame.find(arrow.publisher), frame.find(arrow.subscriber));
     if let Some(it) = conversation.get(arrow.receipt) {

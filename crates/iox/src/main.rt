@@ -2,6 +2,9 @@
 //!
 //! It ends with status 0 at the end of the input, with 1 after a read or write fault, and with 2 where no memory is
 //! found for a reply; after a fault one line on standard error says which. Arguments are ignored.
+//!
+//! What it needs of the stack is taken before the first line is read. So it ends there where that isn't to be had, and never later, however
+//! much the heap takes.
 #![tactic(auto)]
 
 use iox_script::{HubConfig, Input, Output, serve, status};
@@ -10,7 +13,25 @@ use std::process::ExitCode;
 /// How many connections of publishers that left a subscriber keeps.
 const EXPIRED_CONNECTION_BUFFER: u32 = 128;
 
+/// How much of the stack is taken, in words: more than the deepest call takes, which is some 140 kB.
+const STACK: usize = (160 << 10) / 8;
+
+/// Writes to each word of so much stack, and answers one of them, which is an odd number. No compiler can tell which, and leave words out.
+#[inline(never)]
+fn reached() -> u64 {
+    let mut room = [1u64; STACK];
+    let mut last = 1u64;
+    for word in &mut room {
+        last = last.wrapping_mul(5).wrapping_mul(*word);
+        *word = last;
+    }
+    room[STACK / 2]
+}
+
 fn main(rt: HostRuntime) -> ExitCode {
+    if reached() == 0 {
+        return ExitCode::FAILURE;
+    }
     let config = HubConfig {
         expired_connection_buffer: EXPIRED_CONNECTION_BUFFER,
         id: 0,

@@ -87,6 +87,7 @@ fn attributes_are_published(alloc: Global) -> Result<(), Fail> {
     let asked = builder(b"R")?
         .request_response::<[u32; 3], Slice<i64>>()
         .request_user_header::<u32>()
+        .request_payload_alignment(2)
         .response_payload_alignment(32);
     let factory = asked.create_with_attributes(alloc, &two_attributes(alloc)?, &mut table)?;
     wanted(

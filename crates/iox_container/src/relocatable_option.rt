@@ -98,7 +98,8 @@ impl<T> RelocatableOption<T> {
     pub fn as_deref_mut(&mut self) -> RelocatableOption<&mut T::Target>
     where
         T: DerefMut,
-        ensures { MatchOption (option_of self.old) (option_of result ≡ None) (λ x. IsSomeAnd (option_of result) (λ y. T.deref_mut_gives x y.now)) }
+        ensures { MatchOption (option_of self.old) (option_of result
+            ≡ None) (λ x. IsSomeAnd (option_of result) (λ y. T.deref_mut_gives x y.now)) }
     {
         match self {
             RelocatableOption::Some(value) => RelocatableOption::Some(value.deref_mut()),

@@ -23,14 +23,16 @@ pub record SessionState (M : Type 0) : Type 0 where
   pub line : List ℕ
 
 -- these bytes came, and those answer each line that is whole by them, whatever comes next
-pub record Advances {M : Type 0} (answers : M → List ℕ → List ℕ → M → Type 0) (used : M → ℕ) (old : SessionState M) (bytes out : List ℕ) (new : SessionState M) : Type 0 where
+pub record Advances {M : Type 0} (answers : M → List ℕ → List ℕ → M → Type 0) (used : M
+    → ℕ) (old : SessionState M) (bytes out : List ℕ) (new : SessionState M) : Type 0 where
   pub done : List (List ℕ)
   pub served : Served answers old.machine done out new.machine
   pub lines : (rest : List ℕ) → heard (old.line ++ (bytes ++ rest)) ≡ done ++ heard (new.line ++ rest)
   pub counts : used new.machine ≤ used old.machine + length bytes
 
 -- Those bytes answer each line that is whole by the first of these, and the others end a line.
-pub record StopsShort {M : Type 0} (answers : M → List ℕ → List ℕ → M → Type 0) (used : M → ℕ) (old : SessionState M) (bytes out : List ℕ) : Type 0 where
+pub record StopsShort {M : Type 0} (answers : M → List ℕ → List ℕ → M → Type 0) (used : M
+    → ℕ) (old : SessionState M) (bytes out : List ℕ) : Type 0 where
   pub first : List ℕ
   pub more : List ℕ
   pub mid : SessionState M
@@ -45,7 +47,8 @@ pub record Ends {M : Type 0} (answers : M → List ℕ → List ℕ → M → Ty
   pub served : Served answers old.machine (heard (old.line ++ bytes)) out final
 
 -- A conversation from here to the end of the input: what was left was read to its end, and what was written answers it.
-pub record Converses {M : Type 0} (answers : M → List ℕ → List ℕ → M → Type 0) (used : M → ℕ) (old : SessionState M) (left leaves held holds : Option (List ℕ)) : Type 0 where
+pub record Converses {M : Type 0} (answers : M → List ℕ → List ℕ → M → Type 0) (used : M
+    → ℕ) (old : SessionState M) (left leaves held holds : Option (List ℕ)) : Type 0 where
   pub bytes : List ℕ
   pub text : List ℕ
   pub last : List ℕ
@@ -68,9 +71,9 @@ AreBegun {M} answers used ended old piece part =
 abbrev pub IsDue : {M : Type 0} → Bool → SessionState M → List ℕ → Type 0
 IsDue ended session piece = (list_all (λ b. not (b == 10)) piece ≡ false) ⊎ ((piece ≡ []) × (ended ≡ true) × (0 < length session.line))
 
--- A conversation from here that broke off. All that was read before a last piece is answered. After a read fault there is no such piece, and
--- after a write fault a beginning of what answers it is written. Where memory was wanting, nothing was read yet, or that piece ends the first
--- line that isn't answered.
+-- A conversation from here that broke off. All that was read before a last piece is answered. After a read fault there is no such
+-- piece, and after a write fault a beginning of what answers it is written. Where memory was wanting, nothing was read yet, or
+-- that piece ends the first line that isn't answered.
 pub record BreaksOff {M : Type 0} (answers : M → List ℕ → List ℕ → M → Type 0) (used : M → ℕ) (error : ServeError) (ended : Bool)
     (old : SessionState M) (left leaves held holds : Option (List ℕ)) : Type 0 where
   pub bytes : List ℕ
@@ -88,7 +91,8 @@ pub record BreaksOff {M : Type 0} (answers : M → List ℕ → List ℕ → M �
   pub due : error ≡ OutOfMemory → IsDue ended mid piece ⊎ ((bytes ≡ []) × (piece ≡ []))
 
 -- What was written is a beginning of the reply lines, in order, of lines that were read whole: the first ones, one reply line for each.
-pub record WritesABeginning {M : Type 0} (answers : M → List ℕ → List ℕ → M → Type 0) (ended : Bool) (start : M) (left leaves held holds : Option (List ℕ)) : Type 0 where
+pub record WritesABeginning {M : Type 0} (answers : M → List ℕ → List ℕ → M
+    → Type 0) (ended : Bool) (start : M) (left leaves held holds : Option (List ℕ)) : Type 0 where
   pub read : List ℕ
   pub written : List ℕ
   pub unwritten : List ℕ

@@ -75,7 +75,8 @@ fn converse<M: AnswersLines, R: Read, W: Write>(
     requires calls { input.old.calls + 2 ^ 20 < 2 ^ 64 }
     ensures conversation { OnOk result (Converses M.answers M.used session.old (R.remaining input.old.reader) (R.remaining input.new.reader)
         (W.contents output.old.writer) (W.contents output.new.writer)) }
-    ensures broken { IfErr result (λ error. BreaksOff M.answers M.used error input.new.ended session.old (R.remaining input.old.reader) (R.remaining input.new.reader)
+    ensures broken { IfErr result (λ error. BreaksOff M.answers M.used error input.new.ended session.old (R.remaining input.old.reader)
+        (R.remaining input.new.reader)
         (W.contents output.old.writer) (W.contents output.new.writer)) }
     ensures ended { OnOk result (input.new.ended ≡ true) }
     ensures read_fault { result ≡ Err ServeError.ReadFault → (input.new.failed ≡ true) ⊎ (input.new.calls ≡ input.old.calls + 2 ^ 20) }

@@ -73,7 +73,8 @@ impl<R: Read> Input<R> {
     pub(crate) fn read(&mut self, buffer: &mut [u8]) -> io::Result<Option<usize>>
         requires { self.old.calls + 1 < 2 ^ 64 }
         ensures bound { IfOk result (λ given. IfSome given (λ count. count ≤ length buffer.new)) }
-        ensures bytes { IfOk result (λ given. IfSome given (λ count. Consumes (R.remaining self.old.reader) (R.remaining self.new.reader) (take count buffer.new))) }
+        ensures bytes { IfOk result (λ given. IfSome given
+            (λ count. Consumes (R.remaining self.old.reader) (R.remaining self.new.reader) (take count buffer.new))) }
         ensures interrupted { IfOk result (λ given. IfNone given (Keeps (R.remaining self.old.reader) (R.remaining self.new.reader))) }
         ensures kept { OnErr result (Keeps (R.remaining self.old.reader) (R.remaining self.new.reader)) }
         ensures retried { IfErr result (λ error. error_kind error ≢ ErrorKind.Interrupted) }

@@ -1,7 +1,7 @@
 //! Lines in, lines out: a conversation of anybody who answers lines, over any reader and writer.
 //!
-//! The contract of `serve` says that, for any reader and writer whose contracts say which bytes passed, what was written are the answers, in
-//! order, to the lines read: `specs/Conversation.antt`. What a line is answered is a member of who answers.
+//! The contract of `serve` says that, for any reader and writer whose contracts say which bytes passed, what was written are the
+//! answers, in order, to the lines read: `specs/Conversation.antt`. What a line is answered is a member of who answers.
 //!
 //! | Module | What it has |
 //! |---|---|

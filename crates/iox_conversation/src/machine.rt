@@ -24,7 +24,8 @@ pub trait AnswersLines: Drop {
         out: &mut Vec<u8>,
     ) -> Result<(), AllocError>
         requires { used self.old + 1 < 2 ^ 64 }
-        ensures answers { OnOk result ((text : List ℕ) × (out.new.items ≡ out.old.items ++ text) × answers self.old line.now text self.new) }
+        ensures answers { OnOk result ((text : List ℕ) × (out.new.items ≡ out.old.items ++ text)
+            × answers self.old line.now text self.new) }
         ensures kept { OnErr result (StartsWith out.new.items out.old.items) }
         ensures counts { used self.new ≤ used self.old + 1 };
 }

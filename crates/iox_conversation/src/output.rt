@@ -84,7 +84,8 @@ impl<W: Write> Output<W> {
     /// One write call: how many bytes it took, or `None` where a signal interrupted it. One that took none has failed.
     fn write_once(&mut self, bytes: &[u8]) -> io::Result<Option<usize>>
         ensures bound { IfOk result (λ took. IfSome took (λ count. (0 < count) × (count ≤ length bytes.now))) }
-        ensures taken { IfOk result (λ took. IfSome took (λ count. Appends (W.contents self.old.writer) (W.contents self.new.writer) (take count bytes.now))) }
+        ensures taken { IfOk result (λ took. IfSome took
+            (λ count. Appends (W.contents self.old.writer) (W.contents self.new.writer) (take count bytes.now))) }
         ensures interrupted { IfOk result (λ took. IfNone took (Keeps (W.contents self.old.writer) (W.contents self.new.writer))) }
         ensures kept { OnErr result (Keeps (W.contents self.old.writer) (W.contents self.new.writer)) }
         ensures retried { IfErr result (λ error. error_kind error ≢ ErrorKind.Interrupted) }

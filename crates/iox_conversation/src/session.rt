@@ -63,7 +63,8 @@ impl<M: AnswersLines> Session<M> {
         requires unbroken { list_all (λ b. not (b == 10)) part.now ≡ true }
         requires used { M.used self.old.machine + 1 < 2 ^ 64 }
         ensures whole { list_all (λ b. not (b == 10)) self.new.line ≡ true }
-        ensures answers { OnOk result ((text : List ℕ) × (out.new.items ≡ out.old.items ++ text) × Advances M.answers M.used self.old (part.now ++ 10 ∷ []) text self.new) }
+        ensures answers { OnOk result ((text : List ℕ) × (out.new.items ≡ out.old.items ++ text)
+            × Advances M.answers M.used self.old (part.now ++ 10 ∷ []) text self.new) }
         ensures kept { OnErr result (out.new.items ≡ out.old.items) }
     {
         if !self.line.is_empty() {
@@ -87,8 +88,10 @@ impl<M: AnswersLines> Session<M> {
     ) -> Result<(), AllocError>
         requires { M.used self.old.machine + length bytes.now < 2 ^ 64 }
         ensures whole { list_all (λ b. not (b == 10)) self.new.line ≡ true }
-        ensures answers { OnOk result ((text : List ℕ) × (out.new.items ≡ out.old.items ++ text) × Advances M.answers M.used self.old bytes.now text self.new) }
-        ensures kept { OnErr result ((text : List ℕ) × (out.new.items ≡ out.old.items ++ text) × StopsShort M.answers M.used self.old bytes.now text) }
+        ensures answers { OnOk result ((text : List ℕ) × (out.new.items ≡ out.old.items ++ text)
+            × Advances M.answers M.used self.old bytes.now text self.new) }
+        ensures kept { OnErr result ((text : List ℕ) × (out.new.items ≡ out.old.items ++ text)
+            × StopsShort M.answers M.used self.old bytes.now text) }
     {
         let _ = &self.line;
         let mut rest = bytes;
@@ -122,7 +125,8 @@ fn answer<M: AnswersLines>(
     out: &mut Vec<u8>,
 ) -> Result<(), AllocError>
     requires { M.used machine.old + 1 < 2 ^ 64 }
-    ensures answers { OnOk result ((text : List ℕ) × (out.new.items ≡ out.old.items ++ (text ++ 10 ∷ [])) × M.answers machine.old line.now text machine.new) }
+    ensures answers { OnOk result ((text : List ℕ) × (out.new.items ≡ out.old.items ++ (text ++ 10 ∷ []))
+        × M.answers machine.old line.now text machine.new) }
     ensures kept { OnErr result (out.new.items ≡ out.old.items) }
     ensures counts { M.used machine.new ≤ M.used machine.old + 1 }
 {
@@ -142,7 +146,8 @@ fn append_answer<M: AnswersLines>(
     out: &mut Vec<u8>,
 ) -> Result<(), AllocError>
     requires { M.used machine.old + 1 < 2 ^ 64 }
-    ensures answers { OnOk result ((text : List ℕ) × (out.new.items ≡ out.old.items ++ (text ++ 10 ∷ [])) × M.answers machine.old line.now text machine.new) }
+    ensures answers { OnOk result ((text : List ℕ) × (out.new.items ≡ out.old.items ++ (text ++ 10 ∷ []))
+        × M.answers machine.old line.now text machine.new) }
     ensures kept { OnErr result (StartsWith out.new.items out.old.items) }
     ensures counts { M.used machine.new ≤ M.used machine.old + 1 }
 {

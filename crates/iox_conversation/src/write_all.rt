@@ -9,7 +9,8 @@ use std::io::Write;
 /// is written.
 pub(crate) fn write_all<W: Write>(output: &mut Output<W>, bytes: &[u8]) -> bool
     ensures written { result ≡ true → Appends (W.contents output.old.writer) (W.contents output.new.writer) bytes.now }
-    ensures begun { (part : List ℕ) × (rest : List ℕ) × (bytes.now ≡ part ++ rest) × Appends (W.contents output.old.writer) (W.contents output.new.writer) part }
+    ensures begun { (part : List ℕ) × (rest : List ℕ) × (bytes.now ≡ part ++ rest)
+        × Appends (W.contents output.old.writer) (W.contents output.new.writer) part }
     ensures failed { output.new.failed ≡ (output.old.failed || not result) }
 {
     let mut start = 0;

@@ -16,7 +16,8 @@ use Rattle.iox_delivery.specs.Domain.Steps.{LoansBy}
 use Rattle.iox_delivery.specs.Holding.{loan_found, publisher_blocked}
 use Rattle.iox_delivery.specs.Lent.{IsReady}
 use Rattle.iox_delivery.specs.Publishing.{changed_at}
-use Rattle.iox_delivery.proofs.Lent.{one_passes, found_changed, stepped, changed_there_at, lent_there, ready_there}
+use Rattle.iox_domain.proofs.Lent.{one_passes, found_changed}
+use Rattle.iox_delivery.proofs.Lent.{stepped, changed_there_at, lent_there, ready_there}
 use Rattle.iox_delivery.specs.Slices.{each_written, each_written_in}
 
 not_none : {X : Type 0} (x : X) → None ≡ Some x → ⊥

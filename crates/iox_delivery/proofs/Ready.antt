@@ -1,23 +1,19 @@
 -- What is held may be sent, and released.
-use Rattle.std.proofs.Common.{◌≡◌, ◌&&◌, ◌||◌, ◌==◌, ◌∙◌, ℕ, Bool, true, false, not, cond, List, [], is_some, option_map, slice_get, unwrap_or, Option, None, Some, Result, Ok, Err, refl, sym, ap, position}
-use Rattle.iox_domain.specs.IndexBase.declared.container.Member.{Member}
+use Rattle.std.proofs.Common.{◌≡◌, ◌&&◌, ◌==◌, ◌∙◌, ℕ, Bool, true, false, cond, List, [], is_some, option_map, slice_get, unwrap_or, Option, None, Some, refl, sym, ap}
 use Rattle.iox_domain.specs.DomainValues.declared.backpressure.BackpressureDecision.{BackpressureDecision}
 use Rattle.iox_domain.specs.DomainValues.declared.backpressure.BackpressureInfo.{BackpressureInfo}
-use Rattle.iox_domain.specs.DomainValues.declared.connection_failure.ConnectionFailure.{ConnectionFailure}
 use Rattle.iox_domain.specs.DomainValues.declared.degradation.DegradationAction.{DegradationAction}
 use Rattle.iox_domain.specs.DomainValues.declared.degradation.DegradationInfo.{DegradationInfo}
 use Rattle.iox_domain.specs.DomainPublisher.Messages.{Loan, Message}
 use Rattle.iox_domain.specs.DomainPublisher.MessagesSending.{is_written_loan}
-use Rattle.iox_domain.proofs.DomainPublisher.Finding.{at_place, at_none}
+use Rattle.iox_domain.proofs.DomainPublisher.Finding.{at_none}
 use Rattle.iox_domain.specs.DomainPublisher.Ports.{connection_of}
-use Rattle.iox_domain.specs.DomainPublisher.Sending.{ready_at, Sends, SendsIf, SendsAfter}
-use Rattle.iox_domain.specs.DomainPublisher.Writing.{loan_of}
 use Rattle.iox_domain.specs.DomainPublisher.declared.publisher_port.PublisherPort.{PublisherPort}
-use Rattle.iox_domain.specs.DomainPublisher.declared.subscriber_entry.SubscriberEntry.{SubscriberEntry}
 use Rattle.iox_domain.specs.DomainSubscriber.Publishers.{port_of, connection_in, connection_at_port}
 use Rattle.iox_domain.specs.DomainSubscriber.Reading.{place_of}
 use Rattle.iox_domain.specs.DomainSubscriber.declared.attached.Taken.{Taken}
 use Rattle.iox_domain.specs.DomainSubscriber.declared.subscriber_port.SubscriberPort.{SubscriberPort}
+use Rattle.iox_domain.proofs.Lent.{ready_there, none_ready}
 use Rattle.iox_domain.specs.Lending.{passes_port, loan_at_port}
 use Rattle.iox_domain.specs.Ports.{AtPublisher}
 use Rattle.iox_domain.specs.PortsPublishing.{is_blocked, SendsOne}
@@ -39,34 +35,6 @@ left_of false b h = h
 right_of : (a b : Bool) → (a && b) ≡ true → b ≡ true
 right_of true b h = h
 right_of false b h = absurd (no h)
-
-may_be_sent : {T U : Type 0} (at : ℕ) (port : PublisherPort T U) (blocked written : Bool) → blocked ≡ false → written ≡ true → cond (blocked || not written) None (Some at) ≡ None → ⊥
-may_be_sent at port true written free is none = no (sym free)
-may_be_sent at port false false free is none = no is
-may_be_sent at port false true free is none = cc
-
--- a written loan of a publisher of which no send waits may be sent
-ready_there : {T U : Type 0} (slot : ℕ) (port : PublisherPort T U) (at : Option ℕ) → at ≡ position (λ loan. loan.slot == slot) port.sender.uses.loans
-    → is_written_loan (loan_of slot port) ≡ true → is_blocked port ≡ false → ready_at at port ≡ None → ⊥
-ready_there slot port None is written free none = no (sym (ap is_written_loan (at_none (λ loan. loan.slot == slot) port.sender.uses.loans is)) ∙ written)
-ready_there slot port (Some at) is written free none =
-    may_be_sent at port _ _ free (ap is_written_loan (at_place (λ loan. loan.slot == slot) port.sender.uses.loans at is) ∙ written) none
-
-answers_after : {T U : Type 0} (may : BackpressureInfo → BackpressureDecision → Type 0) (at : ℕ) (outcome : Result (Unit {0}) ConnectionFailure) (updated new : PublisherPort T U)
-    → SendsAfter may at outcome updated None new → ⊥
-answers_after may at (Err failure) updated new sends = let is : None ≡ Some _ = sends.0 in cc
-answers_after may at (Ok done) updated new sends = let is : None ≡ Some _ = sends.2 in cc
-
-answers_if : {T U : Type 0} (stands : Bool) (may_degrade : DegradationInfo → DegradationAction → Type 0) (may : BackpressureInfo → BackpressureDecision → Type 0) (listed : List (Option (Member SubscriberEntry))) (changes at : ℕ) (old new : PublisherPort T U)
-    → SendsIf stands may_degrade may listed changes at old None new → ⊥
-answers_if false may_degrade may listed changes at old new sends = let is : None ≡ Some _ = sends.0 in cc
-answers_if true may_degrade may listed changes at old new sends = answers_after may at sends.0 sends.1 new sends.3
-
--- only where no loan may be sent there is no answer
-none_ready : {T U : Type 0} (may_degrade : DegradationInfo → DegradationAction → Type 0) (may : BackpressureInfo → BackpressureDecision → Type 0) (listed : List (Option (Member SubscriberEntry))) (changes : ℕ) (ready : Option ℕ) (old new : PublisherPort T U)
-    → Sends may_degrade may listed changes ready old None new → ready ≡ None
-none_ready may_degrade may listed changes None old new sends = refl
-none_ready may_degrade may listed changes (Some at) old new sends = absurd (answers_if old.stands may_degrade may listed changes at old new sends)
 
 port_sends : {T U : Type 0} (may_degrade : DegradationInfo → DegradationAction → Type 0) (may : BackpressureInfo → BackpressureDecision → Type 0) (number slot : ℕ) (port : Option (PublisherPort T U)) (old new : ServicePorts T U)
     → is_written_loan (loan_at_port slot port) ≡ true → passes_port is_blocked port ≡ false → AtPublisher number (SendsOne may_degrade may old.subscriber_list slot) port old None new → ⊥

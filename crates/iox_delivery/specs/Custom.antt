@@ -20,7 +20,8 @@ abbrev pub values_of : {T U : Type 0} → ℕ → ℕ → Option (ServicePorts T
 values_of number elements ports = min (elements * unit_of (publisher_found number ports)) (2 ^ 64 - 1)
 
 -- A publisher lends so many elements to be written, as all of their values; the header tells so many elements.
-abbrev pub LendsElements : {T U H : Type 0} → (DomainId → H → Option (ServicePorts T U)) → (DomainId → ServicePorts T U → H → H) → PortId → ℕ → H → Result (SampleMutUninit T U) LoanError → H → Type 0
+abbrev pub LendsElements : {T U H : Type 0} → (DomainId → H → Option (ServicePorts T U)) → (DomainId → ServicePorts T U → H → H)
+    → PortId → ℕ → H → Result (SampleMutUninit T U) LoanError → H → Type 0
 LendsElements ports_of with_ports port elements old answer new =
     (lent : Result ℕ LoanError) × LendsSlot ports_of with_ports port (values_of port.number elements (ports_of port.domain old)) elements old lent new
     × (answer ≡ lent_of (values_of port.number elements (ports_of port.domain old)) port lent)

@@ -1,5 +1,5 @@
 -- What a home has of a port, a loan or a sample: the conditions of its calls. `ports` are the ports of its domain, if the home has them.
-use Rattle.std.specs.Prelude.{ℕ, ◌==◌, ◌&&◌, Bool, false, is_some, slice_get, Option, None, Some}
+use Rattle.std.specs.Prelude.{ℕ, ◌==◌, ◌&&◌, Bool, true, false, is_some, slice_get, Option, None, Some, Result, Ok, Err}
 use Rattle.iox_domain.specs.DomainPublisher.Messages.{Loan, Message}
 use Rattle.iox_domain.specs.DomainPublisher.MessagesSending.{is_written_loan}
 use Rattle.iox_domain.specs.DomainPublisher.Writing.{value_at}
@@ -67,3 +67,8 @@ holds_sample number taken ports =
 abbrev pub holds_message : {T U : Type 0} → ℕ → Taken → Option (ServicePorts T U) → Bool
 holds_message number taken ports =
     (is_some (subscriber_found number ports) && is_some (message_found taken ports)) && (taken.subscriber == number)
+
+-- what letting a port go answers: nothing where it left, else the port itself
+abbrev pub left_or_given_back : {P : Type 0} → Bool → P → Result (Unit {0}) P
+left_or_given_back true port = Ok tt
+left_or_given_back false port = Err port

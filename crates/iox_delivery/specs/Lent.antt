@@ -20,7 +20,8 @@ IsFresh {T} {U} number values elements slot old new =
 
 -- A loan that was just made is such a one.
 abbrev pub LoanIsFresh : (T U : Type 0) → Type 0
-LoanIsFresh T U = (number values elements slot : ℕ) (old new : ServicePorts T U) → LoansBy number values elements old (Some (Ok slot)) new → IsFresh number values elements slot old new
+LoanIsFresh T U = (number values elements slot : ℕ) (old new : ServicePorts T U)
+    → LoansBy number values elements old (Some (Ok slot)) new → IsFresh number values elements slot old new
 
 -- The loan in a slot has just these values, each written, and so many elements; and no send of its publisher waits.
 abbrev pub IsReady : {T U : Type 0} → ℕ → List T → ℕ → ℕ → Option (ServicePorts T U) → Type 0

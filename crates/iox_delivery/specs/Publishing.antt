@@ -55,12 +55,14 @@ loan_header_found number slot None = None
 loan_header_found number slot (Some ports) = loan_header_in number slot ports
 
 -- A publisher lends a slot for so many values and elements.
-abbrev pub LendsSlot : {T U H : Type 0} → (DomainId → H → Option (ServicePorts T U)) → (DomainId → ServicePorts T U → H → H) → PortId → ℕ → ℕ → H → Result ℕ LoanError → H → Type 0
+abbrev pub LendsSlot : {T U H : Type 0} → (DomainId → H → Option (ServicePorts T U)) → (DomainId → ServicePorts T U → H → H) → PortId
+    → ℕ → ℕ → H → Result ℕ LoanError → H → Type 0
 LendsSlot ports_of with_ports port values elements old answer new =
     AtDomain (λ after. with_ports port.domain after old) (LoansBy port.number values elements) (ports_of port.domain old) old (Some answer) new
 
 -- A publisher lends a value to be written.
-abbrev pub LendsUninit : {T U H : Type 0} → (DomainId → H → Option (ServicePorts T U)) → (DomainId → ServicePorts T U → H → H) → PortId → H → Result (SampleMutUninit T U) LoanError → H → Type 0
+abbrev pub LendsUninit : {T U H : Type 0} → (DomainId → H → Option (ServicePorts T U)) → (DomainId → ServicePorts T U → H → H) → PortId
+    → H → Result (SampleMutUninit T U) LoanError → H → Type 0
 LendsUninit ports_of with_ports port old answer new =
     (lent : Result ℕ LoanError) × LendsSlot ports_of with_ports port 1 1 old lent new × (answer ≡ lent_of port lent)
 
@@ -75,81 +77,100 @@ written_of port (Ok slot) = Ok (sample_mut_of port slot)
 written_of port (Err error) = Err error
 
 -- A publisher follows the list of subscribers.
-abbrev pub FollowsSubscribers : {T U H : Type 0} → (DomainId → H → Option (ServicePorts T U)) → (DomainId → ServicePorts T U → H → H) → (DomainId → ℕ → H → DegradationInfo → DegradationAction → Type 0) → PortId → H → Result (Unit {0}) ConnectionFailure → H → Type 0
+abbrev pub FollowsSubscribers : {T U H : Type 0} → (DomainId → H → Option (ServicePorts T U)) → (DomainId → ServicePorts T U → H → H)
+    → (DomainId → ℕ → H → DegradationInfo → DegradationAction → Type 0) → PortId → H → Result (Unit {0}) ConnectionFailure → H → Type 0
 FollowsSubscribers ports_of with_ports degrades port old answer new =
     AtDomain (λ after. with_ports port.domain after old) (UpdatesBy (degrades port.domain port.number old) port.number) (ports_of port.domain old) old (Some answer) new
 
 -- A publisher leaves.
-abbrev pub PublisherGoes : {T U H : Type 0} → (DomainId → H → Option (ServicePorts T U)) → (DomainId → ServicePorts T U → H → H) → (DomainId → ℕ → H → H) → PortId → H → H → Type 0
+abbrev pub PublisherGoes : {T U H : Type 0} → (DomainId → H → Option (ServicePorts T U)) → (DomainId → ServicePorts T U → H → H)
+    → (DomainId → ℕ → H → H) → PortId → H → H → Type 0
 PublisherGoes ports_of with_ports without port old new =
     LeavesDomain (λ after. with_ports port.domain after old) (without port.domain port.number) (PublisherLeaves port.number) (ports_of port.domain old) old true new
 
 -- A publisher that is let go leaves; nothing happens where it can't.
-abbrev pub EndsPublisher : {T U H : Type 0} → (DomainId → H → Option (ServicePorts T U)) → (DomainId → ServicePorts T U → H → H) → (DomainId → ℕ → H → H) → PortId → H → Bool → H → Type 0
+abbrev pub EndsPublisher : {T U H : Type 0} → (DomainId → H → Option (ServicePorts T U)) → (DomainId → ServicePorts T U → H → H)
+    → (DomainId → ℕ → H → H) → PortId → H → Bool → H → Type 0
 EndsPublisher ports_of with_ports without port old left new =
     LeavesDomain (λ after. with_ports port.domain after old) (without port.domain port.number) (PublisherLeaves port.number) (ports_of port.domain old) old left new
 
 -- The value of a loan of one value is written.
-abbrev pub WritesPayload : {T U H : Type 0} → (DomainId → H → Option (ServicePorts T U)) → (DomainId → ServicePorts T U → H → H) → PortId → ℕ → T → H → H → Type 0
+abbrev pub WritesPayload : {T U H : Type 0} → (DomainId → H → Option (ServicePorts T U)) → (DomainId → ServicePorts T U → H → H)
+    → PortId → ℕ → T → H → H → Type 0
 WritesPayload ports_of with_ports port slot value old new =
     new ≡ changed_at (λ after. with_ports port.domain after old) (written_in port.number (λ publisher. has_length slot 1 publisher.sender.uses) slot (write_value 0 value)) (ports_of port.domain old) old
 
 -- The value of the loan in a slot is written, and the slot is answered.
-abbrev pub WritesLent : {T U H : Type 0} → (DomainId → H → Option (ServicePorts T U)) → (DomainId → ServicePorts T U → H → H) → PortId → T → ℕ → H → Result ℕ LoanError → H → Type 0
-WritesLent ports_of with_ports port value slot old answer new = WritesPayload ports_of with_ports port slot value old new × (answer ≡ Ok slot)
+abbrev pub WritesLent : {T U H : Type 0} → (DomainId → H → Option (ServicePorts T U)) → (DomainId → ServicePorts T U → H → H) → PortId
+    → T → ℕ → H → Result ℕ LoanError → H → Type 0
+WritesLent ports_of with_ports port value slot old answer new = WritesPayload ports_of with_ports port slot value old new
+    × (answer ≡ Ok slot)
 
 -- A publisher lends a slot for one value, which is written there.
-abbrev pub LendsValue : {T U H : Type 0} → (DomainId → H → Option (ServicePorts T U)) → (DomainId → ServicePorts T U → H → H) → PortId → T → H → Result ℕ LoanError → H → Type 0
+abbrev pub LendsValue : {T U H : Type 0} → (DomainId → H → Option (ServicePorts T U)) → (DomainId → ServicePorts T U → H → H) → PortId
+    → T → H → Result ℕ LoanError → H → Type 0
 LendsValue {T} {U} {H} ports_of with_ports port value old answer new =
     (lent : Result ℕ LoanError) × (middle : H)
     × LendsSlot ports_of with_ports port 1 1 old lent middle × AfterLoan Err (WritesLent ports_of with_ports port value) lent middle answer new
 
 -- A publisher lends a value that is written: a default.
-abbrev pub LendsDefault : {T U H : Type 0} → (DomainId → H → Option (ServicePorts T U)) → (DomainId → ServicePorts T U → H → H) → (T → Type 0) → PortId → H → Result (SampleMut T U) LoanError → H → Type 0
+abbrev pub LendsDefault : {T U H : Type 0} → (DomainId → H → Option (ServicePorts T U)) → (DomainId → ServicePorts T U → H → H)
+    → (T → Type 0) → PortId → H → Result (SampleMut T U) LoanError → H → Type 0
 LendsDefault {T} {U} {H} ports_of with_ports is_default port old answer new =
     (value : T) × is_default value × (lent : Result ℕ LoanError) × LendsValue ports_of with_ports port value old lent new × (answer ≡ written_of port lent)
 
 -- what the home ends as once the loan in a slot changed; nothing changes where the domain isn't here
-abbrev pub loan_changed : {T U H : Type 0} → (DomainId → H → Option (ServicePorts T U)) → (DomainId → ServicePorts T U → H → H) → PortId → ℕ → (Loan T U → Loan T U) → H → H
-loan_changed ports_of with_ports port slot change home = changed_at (λ after. with_ports port.domain after home) (loan_changed_in port.number slot change) (ports_of port.domain home) home
+abbrev pub loan_changed : {T U H : Type 0} → (DomainId → H → Option (ServicePorts T U)) → (DomainId → ServicePorts T U → H → H) → PortId
+    → ℕ → (Loan T U → Loan T U) → H → H
+loan_changed ports_of with_ports port slot change home
+    = changed_at (λ after. with_ports port.domain after home) (loan_changed_in port.number slot change) (ports_of port.domain home) home
 
 -- The user header of a loan is written.
-abbrev pub WritesUserHeader : {T U H : Type 0} → (DomainId → H → Option (ServicePorts T U)) → (DomainId → ServicePorts T U → H → H) → PortId → ℕ → U → H → H → Type 0
+abbrev pub WritesUserHeader : {T U H : Type 0} → (DomainId → H → Option (ServicePorts T U)) → (DomainId → ServicePorts T U → H → H)
+    → PortId → ℕ → U → H → H → Type 0
 WritesUserHeader ports_of with_ports port slot user_header old new =
     new ≡ changed_at (λ after. with_ports port.domain after old) (written_in port.number (λ publisher. has_loan slot publisher.sender.uses) slot (write_user_header user_header)) (ports_of port.domain old) old
 
 -- A loan is given up.
-abbrev pub GivesUpLoan : {T U H : Type 0} → (DomainId → H → Option (ServicePorts T U)) → (DomainId → ServicePorts T U → H → H) → PortId → ℕ → H → H → Type 0
+abbrev pub GivesUpLoan : {T U H : Type 0} → (DomainId → H → Option (ServicePorts T U)) → (DomainId → ServicePorts T U → H → H) → PortId
+    → ℕ → H → H → Type 0
 GivesUpLoan ports_of with_ports port slot old new =
     new ≡ changed_at (λ after. with_ports port.domain after old) (gave_up_in port.number slot) (ports_of port.domain old) old
 
 -- A written loan is sent.
-abbrev pub SendsSample : {T U H : Type 0} → (DomainId → H → Option (ServicePorts T U)) → (DomainId → ServicePorts T U → H → H) → (DomainId → ℕ → H → DegradationInfo → DegradationAction → Type 0) → (DomainId → ℕ → H → BackpressureInfo → BackpressureDecision → Type 0) → PortId → ℕ → H → Result (Sent T U) SendError → H → Type 0
+abbrev pub SendsSample : {T U H : Type 0} → (DomainId → H → Option (ServicePorts T U)) → (DomainId → ServicePorts T U → H → H)
+    → (DomainId → ℕ → H → DegradationInfo → DegradationAction → Type 0)
+    → (DomainId → ℕ → H → BackpressureInfo → BackpressureDecision → Type 0) → PortId → ℕ → H → Result (Sent T U) SendError → H → Type 0
 SendsSample ports_of with_ports degrades decides port slot old answer new =
     (outcome : Result Sending SendError)
     × AtDomain (λ after. with_ports port.domain after old) (SendsBy (degrades port.domain port.number old) (decides port.domain port.number old) port.number slot) (ports_of port.domain old) old (Some outcome) new
     × (answer ≡ sent_of port outcome)
 
 -- A value is lent, written and sent.
-abbrev pub SendsCopy : {T U H : Type 0} → (DomainId → H → Option (ServicePorts T U)) → (DomainId → ServicePorts T U → H → H) → (DomainId → ℕ → H → DegradationInfo → DegradationAction → Type 0) → (DomainId → ℕ → H → BackpressureInfo → BackpressureDecision → Type 0) → PortId → T → H → Result (Sent T U) SendError → H → Type 0
+abbrev pub SendsCopy : {T U H : Type 0} → (DomainId → H → Option (ServicePorts T U)) → (DomainId → ServicePorts T U → H → H)
+    → (DomainId → ℕ → H → DegradationInfo → DegradationAction → Type 0)
+    → (DomainId → ℕ → H → BackpressureInfo → BackpressureDecision → Type 0) → PortId → T → H → Result (Sent T U) SendError → H → Type 0
 SendsCopy {T} {U} {H} ports_of with_ports degrades decides port value old answer new =
     (lent : Result ℕ LoanError) × (middle : H)
     × LendsValue ports_of with_ports port value old lent middle
     × AfterLoan (λ error. Err (refusal.LoanError error)) (SendsSample ports_of with_ports degrades decides port) lent middle answer new
 
 -- A send that waits is tried again.
-abbrev pub RetriesSend : {T U H : Type 0} → (DomainId → H → Option (ServicePorts T U)) → (DomainId → ServicePorts T U → H → H) → (DomainId → ℕ → H → BackpressureInfo → BackpressureDecision → Type 0) → PortId → ℕ → H → Result (Sent T U) SendError → H → Type 0
+abbrev pub RetriesSend : {T U H : Type 0} → (DomainId → H → Option (ServicePorts T U)) → (DomainId → ServicePorts T U → H → H)
+    → (DomainId → ℕ → H → BackpressureInfo → BackpressureDecision → Type 0) → PortId → ℕ → H → Result (Sent T U) SendError → H → Type 0
 RetriesSend ports_of with_ports decides port elapsed old answer new =
     (outcome : Result Sending SendError)
     × AtDomain (λ after. with_ports port.domain after old) (RetriesBy (decides port.domain port.number old) port.number elapsed) (ports_of port.domain old) old (Some outcome) new
     × (answer ≡ sent_of port outcome)
 
 -- A send that waits is given up.
-abbrev pub GivesUpSend : {T U H : Type 0} → (DomainId → H → Option (ServicePorts T U)) → (DomainId → ServicePorts T U → H → H) → PortId → H → ℕ → H → Type 0
+abbrev pub GivesUpSend : {T U H : Type 0} → (DomainId → H → Option (ServicePorts T U)) → (DomainId → ServicePorts T U → H → H) → PortId
+    → H → ℕ → H → Type 0
 GivesUpSend ports_of with_ports port old answer new =
     AtDomain (λ after. with_ports port.domain after old) (GivesUpBy port.number) (ports_of port.domain old) old (Some answer) new
 
 -- A send that is let go ends, if it waits.
-abbrev pub EndsSend : {T U H : Type 0} → (DomainId → H → Option (ServicePorts T U)) → (DomainId → ServicePorts T U → H → H) → PortId → H → Option ℕ → H → Type 0
+abbrev pub EndsSend : {T U H : Type 0} → (DomainId → H → Option (ServicePorts T U)) → (DomainId → ServicePorts T U → H → H) → PortId → H
+    → Option ℕ → H → Type 0
 EndsSend ports_of with_ports port old answer new =
     AtDomain (λ after. with_ports port.domain after old) (GivesUpBy port.number) (ports_of port.domain old) old answer new

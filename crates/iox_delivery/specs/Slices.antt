@@ -44,42 +44,50 @@ lent_of len port (Ok slot) = Ok (loan_of len port slot)
 lent_of len port (Err error) = Err error
 
 -- A publisher lends so many values to be written; the header tells as many elements.
-abbrev pub LendsSlice : {T U H : Type 0} → (DomainId → H → Option (ServicePorts T U)) → (DomainId → ServicePorts T U → H → H) → PortId → ℕ → H → Result (SampleMutUninit T U) LoanError → H → Type 0
+abbrev pub LendsSlice : {T U H : Type 0} → (DomainId → H → Option (ServicePorts T U)) → (DomainId → ServicePorts T U → H → H) → PortId
+    → ℕ → H → Result (SampleMutUninit T U) LoanError → H → Type 0
 LendsSlice ports_of with_ports port len old answer new =
     (lent : Result ℕ LoanError) × LendsSlot ports_of with_ports port len len old lent new × (answer ≡ lent_of len port lent)
 
 -- The value at a place of a loan is written, if the loan has that place.
-abbrev pub WritesAt : {T U H : Type 0} → (DomainId → H → Option (ServicePorts T U)) → (DomainId → ServicePorts T U → H → H) → PortId → ℕ → ℕ → T → H → H → Type 0
+abbrev pub WritesAt : {T U H : Type 0} → (DomainId → H → Option (ServicePorts T U)) → (DomainId → ServicePorts T U → H → H) → PortId → ℕ
+    → ℕ → T → H → H → Type 0
 WritesAt ports_of with_ports port slot place value old new =
     new ≡ changed_at (λ after. with_ports port.domain after old) (written_in port.number (λ publisher. has_place slot place publisher.sender.uses) slot (write_value place value)) (ports_of port.domain old) old
 
 -- All values of a loan are written, if it has as many.
-abbrev pub WritesAll : {T U H : Type 0} → (DomainId → H → Option (ServicePorts T U)) → (DomainId → ServicePorts T U → H → H) → PortId → ℕ → List T → H → H → Type 0
+abbrev pub WritesAll : {T U H : Type 0} → (DomainId → H → Option (ServicePorts T U)) → (DomainId → ServicePorts T U → H → H) → PortId
+    → ℕ → List T → H → H → Type 0
 WritesAll ports_of with_ports port slot values old new =
     new ≡ changed_at (λ after. with_ports port.domain after old) (written_in port.number (λ publisher. has_length slot (length values) publisher.sender.uses) slot (write_all values)) (ports_of port.domain old) old
 
 -- Values are written from a place of the loan in a slot on, one after the other, each where the loan has its place.
 abbrev pub each_written : {T U : Type 0} → ℕ → ℕ → List T → PublisherPort T U → PublisherPort T U
 each_written slot place [] port = port
-each_written slot place (value ∷ values) port = each_written slot (place + 1) values (changed_if (has_place slot place port.sender.uses) slot (write_value place value) port)
+each_written slot place (value ∷ values) port
+    = each_written slot (place + 1) values (changed_if (has_place slot place port.sender.uses) slot (write_value place value) port)
 
 -- values are written from the first place of a loan on
 abbrev pub each_written_in : {T U : Type 0} → ℕ → ℕ → List T → ServicePorts T U → ServicePorts T U
 each_written_in number slot values ports = record ports { publishers = changed number (each_written slot 0 values) ports.publishers }
 
 -- Values are written in the loan in a slot; a loan of as many has just these then.
-abbrev pub WritesEach : {T U H : Type 0} → (DomainId → H → Option (ServicePorts T U)) → (DomainId → ServicePorts T U → H → H) → PortId → ℕ → List T → H → H → Type 0
+abbrev pub WritesEach : {T U H : Type 0} → (DomainId → H → Option (ServicePorts T U)) → (DomainId → ServicePorts T U → H → H) → PortId
+    → ℕ → List T → H → H → Type 0
 WritesEach {T} {U} ports_of with_ports port slot values old new =
     (new ≡ changed_at (λ after. with_ports port.domain after old) (each_written_in port.number slot values) (ports_of port.domain old) old)
     × ((loan : Loan T U) → loan_found port.number slot (ports_of port.domain old) ≡ Some loan → length loan.values ≡ length values
     → loan_found port.number slot (ports_of port.domain new) ≡ Some (write_all values loan))
 
 -- so many values are written in the loan in a slot, all the same, and the slot is answered
-abbrev pub FillsLent : {T U H : Type 0} → (DomainId → H → Option (ServicePorts T U)) → (DomainId → ServicePorts T U → H → H) → PortId → ℕ → T → ℕ → H → Result ℕ LoanError → H → Type 0
-FillsLent ports_of with_ports port len value slot old answer new = WritesEach ports_of with_ports port slot (replicate len value) old new × (answer ≡ Ok slot)
+abbrev pub FillsLent : {T U H : Type 0} → (DomainId → H → Option (ServicePorts T U)) → (DomainId → ServicePorts T U → H → H) → PortId
+    → ℕ → T → ℕ → H → Result ℕ LoanError → H → Type 0
+FillsLent ports_of with_ports port len value slot old answer new
+    = WritesEach ports_of with_ports port slot (replicate len value) old new × (answer ≡ Ok slot)
 
 -- A publisher lends a slot for so many values, each of which is written: all the same.
-abbrev pub LendsFilled : {T U H : Type 0} → (DomainId → H → Option (ServicePorts T U)) → (DomainId → ServicePorts T U → H → H) → PortId → ℕ → T → H → Result ℕ LoanError → H → Type 0
+abbrev pub LendsFilled : {T U H : Type 0} → (DomainId → H → Option (ServicePorts T U)) → (DomainId → ServicePorts T U → H → H) → PortId
+    → ℕ → T → H → Result ℕ LoanError → H → Type 0
 LendsFilled {T} {U} {H} ports_of with_ports port len value old answer new =
     (lent : Result ℕ LoanError) × (middle : H)
     × LendsSlot ports_of with_ports port len len old lent middle × AfterLoan Err (FillsLent ports_of with_ports port len value) lent middle answer new
@@ -90,30 +98,41 @@ written_of port (Ok slot) = Ok (sample_mut_of port slot)
 written_of port (Err error) = Err error
 
 -- A publisher lends so many values that are written: each is one default.
-abbrev pub LendsDefaults : {T U H : Type 0} → (DomainId → H → Option (ServicePorts T U)) → (DomainId → ServicePorts T U → H → H) → (T → Type 0) → PortId → ℕ → H → Result (SampleMut T U) LoanError → H → Type 0
+abbrev pub LendsDefaults : {T U H : Type 0} → (DomainId → H → Option (ServicePorts T U)) → (DomainId → ServicePorts T U → H → H)
+    → (T → Type 0) → PortId → ℕ → H → Result (SampleMut T U) LoanError → H → Type 0
 LendsDefaults {T} {U} {H} ports_of with_ports is_default port len old answer new =
     (value : T) × is_default value × (lent : Result ℕ LoanError) × LendsFilled ports_of with_ports port len value old lent new × (answer ≡ written_of port lent)
 
 -- the values are written in the loan in a slot, which is sent then
-abbrev pub SendsAll : {T U H : Type 0} → (DomainId → H → Option (ServicePorts T U)) → (DomainId → ServicePorts T U → H → H) → (DomainId → ℕ → H → DegradationInfo → DegradationAction → Type 0) → (DomainId → ℕ → H → BackpressureInfo → BackpressureDecision → Type 0) → PortId → List T → ℕ → H → Result (Sent T U) SendError → H → Type 0
+abbrev pub SendsAll : {T U H : Type 0} → (DomainId → H → Option (ServicePorts T U)) → (DomainId → ServicePorts T U → H → H)
+    → (DomainId → ℕ → H → DegradationInfo → DegradationAction → Type 0)
+    → (DomainId → ℕ → H → BackpressureInfo → BackpressureDecision → Type 0) → PortId → List T → ℕ → H → Result (Sent T U) SendError → H
+    → Type 0
 SendsAll {T} {U} {H} ports_of with_ports degrades decides port values slot old answer new =
     (middle : H) × WritesAll ports_of with_ports port slot values old middle × SendsSample ports_of with_ports degrades decides port slot middle answer new
 
 -- Values are lent, written and sent.
-abbrev pub SendsSlice : {T U H : Type 0} → (DomainId → H → Option (ServicePorts T U)) → (DomainId → ServicePorts T U → H → H) → (DomainId → ℕ → H → DegradationInfo → DegradationAction → Type 0) → (DomainId → ℕ → H → BackpressureInfo → BackpressureDecision → Type 0) → PortId → List T → H → Result (Sent T U) SendError → H → Type 0
+abbrev pub SendsSlice : {T U H : Type 0} → (DomainId → H → Option (ServicePorts T U)) → (DomainId → ServicePorts T U → H → H)
+    → (DomainId → ℕ → H → DegradationInfo → DegradationAction → Type 0)
+    → (DomainId → ℕ → H → BackpressureInfo → BackpressureDecision → Type 0) → PortId → List T → H → Result (Sent T U) SendError → H → Type 0
 SendsSlice {T} {U} {H} ports_of with_ports degrades decides port values old answer new =
     (lent : Result ℕ LoanError) × (middle : H)
     × LendsSlot ports_of with_ports port (length values) (length values) old lent middle
     × AfterLoan (λ error. Err (refusal.LoanError error)) (SendsAll ports_of with_ports degrades decides port values) lent middle answer new
 
 -- the values are written in the loan in a slot, so that it has just these, and it is sent then; the answer is what the send came to
-abbrev pub WritesAndSends : {T U H : Type 0} → (DomainId → H → Option (ServicePorts T U)) → (DomainId → ServicePorts T U → H → H) → (DomainId → ℕ → H → DegradationInfo → DegradationAction → Type 0) → (DomainId → ℕ → H → BackpressureInfo → BackpressureDecision → Type 0) → PortId → List T → ℕ → H → Result Sending SendError → H → Type 0
+abbrev pub WritesAndSends : {T U H : Type 0} → (DomainId → H → Option (ServicePorts T U)) → (DomainId → ServicePorts T U → H → H)
+    → (DomainId → ℕ → H → DegradationInfo → DegradationAction → Type 0)
+    → (DomainId → ℕ → H → BackpressureInfo → BackpressureDecision → Type 0) → PortId → List T → ℕ → H → Result Sending SendError → H
+    → Type 0
 WritesAndSends {T} {U} {H} ports_of with_ports degrades decides port values slot old answer new =
     (middle : H) × WritesAll ports_of with_ports port slot values old middle × IsReady port.number values (length values) slot (ports_of port.domain middle)
     × AtDomain (λ after. with_ports port.domain after middle) (SendsBy (degrades port.domain port.number middle) (decides port.domain port.number middle) port.number slot) (ports_of port.domain middle) middle (Some answer) new
 
 -- Values are lent, written and sent, as `SendsSlice` says; the answer is what the send came to, or the loan's refusal.
-abbrev pub SendsValues : {T U H : Type 0} → (DomainId → H → Option (ServicePorts T U)) → (DomainId → ServicePorts T U → H → H) → (DomainId → ℕ → H → DegradationInfo → DegradationAction → Type 0) → (DomainId → ℕ → H → BackpressureInfo → BackpressureDecision → Type 0) → PortId → List T → H → Result Sending SendError → H → Type 0
+abbrev pub SendsValues : {T U H : Type 0} → (DomainId → H → Option (ServicePorts T U)) → (DomainId → ServicePorts T U → H → H)
+    → (DomainId → ℕ → H → DegradationInfo → DegradationAction → Type 0)
+    → (DomainId → ℕ → H → BackpressureInfo → BackpressureDecision → Type 0) → PortId → List T → H → Result Sending SendError → H → Type 0
 SendsValues {T} {U} {H} ports_of with_ports degrades decides port values old answer new =
     (lent : Result ℕ LoanError) × (middle : H)
     × LendsSlot ports_of with_ports port (length values) (length values) old lent middle
@@ -130,6 +149,8 @@ received_of port (Ok None) = Ok None
 received_of port (Err error) = Err error
 
 -- A subscriber receives.
-abbrev pub ReceivesSlice : {T U H : Type 0} → (DomainId → H → Option (ServicePorts T U)) → (DomainId → ServicePorts T U → H → H) → (DomainId → ℕ → H → DegradationInfo → DegradationAction → Type 0) → PortId → H → Result (Option (Sample T U)) ReceiveError → H → Type 0
+abbrev pub ReceivesSlice : {T U H : Type 0} → (DomainId → H → Option (ServicePorts T U)) → (DomainId → ServicePorts T U → H → H)
+    → (DomainId → ℕ → H → DegradationInfo → DegradationAction → Type 0) → PortId → H → Result (Option (Sample T U)) ReceiveError → H
+    → Type 0
 ReceivesSlice ports_of with_ports degrades port old answer new =
     (received : Result (Option Taken) ReceiveError) × TakesMessage ports_of with_ports degrades port old received new × (answer ≡ received_of port received)

@@ -32,32 +32,39 @@ header_found taken None = None
 header_found taken (Some ports) = header_in taken ports
 
 -- A subscriber follows the list of publishers.
-abbrev pub FollowsPublishers : {T U H : Type 0} → (DomainId → H → Option (ServicePorts T U)) → (DomainId → ServicePorts T U → H → H) → (DomainId → ℕ → H → DegradationInfo → DegradationAction → Type 0) → PortId → H → Result (Unit {0}) ConnectionFailure → H → Type 0
+abbrev pub FollowsPublishers : {T U H : Type 0} → (DomainId → H → Option (ServicePorts T U)) → (DomainId → ServicePorts T U → H → H)
+    → (DomainId → ℕ → H → DegradationInfo → DegradationAction → Type 0) → PortId → H → Result (Unit {0}) ConnectionFailure → H → Type 0
 FollowsPublishers ports_of with_ports degrades port old answer new =
     AtDomain (λ after. with_ports port.domain after old) (FollowsBy (degrades port.domain port.number old) port.number) (ports_of port.domain old) old (Some answer) new
 
 -- It is told whether some connection of a subscriber has data.
-abbrev pub TellsSamples : {T U H : Type 0} → (DomainId → H → Option (ServicePorts T U)) → (DomainId → ServicePorts T U → H → H) → (DomainId → ℕ → H → DegradationInfo → DegradationAction → Type 0) → PortId → H → Result Bool ConnectionFailure → H → Type 0
+abbrev pub TellsSamples : {T U H : Type 0} → (DomainId → H → Option (ServicePorts T U)) → (DomainId → ServicePorts T U → H → H)
+    → (DomainId → ℕ → H → DegradationInfo → DegradationAction → Type 0) → PortId → H → Result Bool ConnectionFailure → H → Type 0
 TellsSamples ports_of with_ports degrades port old answer new =
     AtDomain (λ after. with_ports port.domain after old) (TellsBy (degrades port.domain port.number old) port.number) (ports_of port.domain old) old (Some answer) new
 
 -- A subscriber takes the message that comes next, if one comes.
-abbrev pub TakesMessage : {T U H : Type 0} → (DomainId → H → Option (ServicePorts T U)) → (DomainId → ServicePorts T U → H → H) → (DomainId → ℕ → H → DegradationInfo → DegradationAction → Type 0) → PortId → H → Result (Option Taken) ReceiveError → H → Type 0
+abbrev pub TakesMessage : {T U H : Type 0} → (DomainId → H → Option (ServicePorts T U)) → (DomainId → ServicePorts T U → H → H)
+    → (DomainId → ℕ → H → DegradationInfo → DegradationAction → Type 0) → PortId → H → Result (Option Taken) ReceiveError → H → Type 0
 TakesMessage ports_of with_ports degrades port old answer new =
     AtDomain (λ after. with_ports port.domain after old) (ReceivesBy (degrades port.domain port.number old) port.number) (ports_of port.domain old) old (Some answer) new
 
 -- A subscriber receives.
-abbrev pub ReceivesSample : {T U H : Type 0} → (DomainId → H → Option (ServicePorts T U)) → (DomainId → ServicePorts T U → H → H) → (DomainId → ℕ → H → DegradationInfo → DegradationAction → Type 0) → PortId → H → Result (Option (Sample T U)) ReceiveError → H → Type 0
+abbrev pub ReceivesSample : {T U H : Type 0} → (DomainId → H → Option (ServicePorts T U)) → (DomainId → ServicePorts T U → H → H)
+    → (DomainId → ℕ → H → DegradationInfo → DegradationAction → Type 0) → PortId → H → Result (Option (Sample T U)) ReceiveError → H
+    → Type 0
 ReceivesSample ports_of with_ports degrades port old answer new =
     (received : Result (Option Taken) ReceiveError) × TakesMessage ports_of with_ports degrades port old received new × (answer ≡ received_of port received)
 
 -- A subscriber leaves.
-abbrev pub SubscriberGoes : {T U H : Type 0} → (DomainId → H → Option (ServicePorts T U)) → (DomainId → ServicePorts T U → H → H) → (DomainId → ℕ → H → H) → PortId → H → H → Type 0
+abbrev pub SubscriberGoes : {T U H : Type 0} → (DomainId → H → Option (ServicePorts T U)) → (DomainId → ServicePorts T U → H → H)
+    → (DomainId → ℕ → H → H) → PortId → H → H → Type 0
 SubscriberGoes ports_of with_ports without port old new =
     LeavesDomain (λ after. with_ports port.domain after old) (without port.domain port.number) (SubscriberLeaves port.number) (ports_of port.domain old) old true new
 
 -- A subscriber that is let go leaves; nothing happens where it can't.
-abbrev pub EndsSubscriber : {T U H : Type 0} → (DomainId → H → Option (ServicePorts T U)) → (DomainId → ServicePorts T U → H → H) → (DomainId → ℕ → H → H) → PortId → H → Bool → H → Type 0
+abbrev pub EndsSubscriber : {T U H : Type 0} → (DomainId → H → Option (ServicePorts T U)) → (DomainId → ServicePorts T U → H → H)
+    → (DomainId → ℕ → H → H) → PortId → H → Bool → H → Type 0
 EndsSubscriber ports_of with_ports without port old left new =
     LeavesDomain (λ after. with_ports port.domain after old) (without port.domain port.number) (SubscriberLeaves port.number) (ports_of port.domain old) old left new
 
@@ -66,15 +73,19 @@ abbrev pub ReleasesOne : {T U : Type 0} → ℕ → Taken → ServicePorts T U �
 ReleasesOne number taken old answer new = Releases number taken old true new
 
 -- A sample is released.
-abbrev pub ReleasesSample : {T U H : Type 0} → (DomainId → H → Option (ServicePorts T U)) → (DomainId → ServicePorts T U → H → H) → PortId → Taken → H → H → Type 0
+abbrev pub ReleasesSample : {T U H : Type 0} → (DomainId → H → Option (ServicePorts T U)) → (DomainId → ServicePorts T U → H → H)
+    → PortId → Taken → H → H → Type 0
 ReleasesSample ports_of with_ports port taken old new =
     AtDomain (λ after. with_ports port.domain after old) (ReleasesOne port.number taken) (ports_of port.domain old) old (Some tt) new
 
 -- A sample of a domain is released, if it is held; nothing happens where the domain isn't here.
 abbrev pub DropsAt : {T U H : Type 0} → (ServicePorts T U → H) → ℕ → Taken → Option (ServicePorts T U) → H → Bool → H → Type 0
 DropsAt with_ports number taken None old answer new = (answer ≡ false) × (new ≡ old)
-DropsAt {T} {U} with_ports number taken (Some ports) old answer new = (after : ServicePorts T U) × Releases number taken ports answer after × (new ≡ with_ports after)
+DropsAt {T} {U} with_ports number taken (Some ports) old answer new = (after : ServicePorts T U)
+    × Releases number taken ports answer after × (new ≡ with_ports after)
 
 -- A sample that is let go is released, if it is held.
-abbrev pub DropsSample : {T U H : Type 0} → (DomainId → H → Option (ServicePorts T U)) → (DomainId → ServicePorts T U → H → H) → PortId → Taken → H → Bool → H → Type 0
-DropsSample ports_of with_ports port taken old answer new = DropsAt (λ after. with_ports port.domain after old) port.number taken (ports_of port.domain old) old answer new
+abbrev pub DropsSample : {T U H : Type 0} → (DomainId → H → Option (ServicePorts T U)) → (DomainId → ServicePorts T U → H → H) → PortId
+    → Taken → H → Bool → H → Type 0
+DropsSample ports_of with_ports port taken old answer new
+    = DropsAt (λ after. with_ports port.domain after old) port.number taken (ports_of port.domain old) old answer new

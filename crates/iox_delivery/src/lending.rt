@@ -58,7 +58,8 @@ where
     T: 'a,
     U: 'a,
     requires { is_some (loan_found port.number slot (homes.ports_of H.domain_of port.domain home.now)) ≡ true }
-    ensures { Some result.now ≡ option_map (λ loan. loan.user_header) (loan_found port.number slot (homes.ports_of H.domain_of port.domain home.now)) }
+    ensures { Some result.now ≡ option_map (λ loan. loan.user_header)
+        (loan_found port.number slot (homes.ports_of H.domain_of port.domain home.now)) }
 {
     let Some(ports) = calls::ports(home, port.domain) else {
         unreachable!();
@@ -116,8 +117,11 @@ pub fn value_mut<'a, T: Copy, U: Copy, H: Home<T, U>>(
 where
     T: 'a,
     U: 'a,
-    ensures* writes_back { sem 𝓛 (LendsIf H.row T.row home.entry result (λ last. loan_changed (homes.ports_of H.domain_of) (homes.with_ports H.changed) port slot (write_value place last) home.old) home.old) }
-    ensures value { option_copied_mut result ≡ value_at place (loan_found port.number slot (homes.ports_of H.domain_of port.domain home.old)) }
+    ensures* writes_back { sem 𝓛 (LendsIf H.row T.row home.entry result
+        (λ last. loan_changed (homes.ports_of H.domain_of) (homes.with_ports H.changed) port slot (write_value place last) home.old)
+        home.old) }
+    ensures value { option_copied_mut result
+        ≡ value_at place (loan_found port.number slot (homes.ports_of H.domain_of port.domain home.old)) }
 {
     match calls::ports_mut(home, port.domain) {
         Some(ports) => ports.value_mut(port.number, slot, place),
@@ -137,8 +141,11 @@ pub fn user_header_mut<'a, T: Copy, U: Copy, H: Home<T, U>>(
 where
     T: 'a,
     U: 'a,
-    ensures* writes_back { sem 𝓛 (LendsIf H.row U.row home.entry result (λ last. loan_changed (homes.ports_of H.domain_of) (homes.with_ports H.changed) port slot (write_user_header last) home.old) home.old) }
-    ensures value { option_copied_mut result ≡ option_map (λ loan. loan.user_header) (loan_found port.number slot (homes.ports_of H.domain_of port.domain home.old)) }
+    ensures* writes_back { sem 𝓛 (LendsIf H.row U.row home.entry result
+        (λ last. loan_changed (homes.ports_of H.domain_of) (homes.with_ports H.changed) port slot (write_user_header last) home.old)
+        home.old) }
+    ensures value { option_copied_mut result
+        ≡ option_map (λ loan. loan.user_header) (loan_found port.number slot (homes.ports_of H.domain_of port.domain home.old)) }
 {
     calls::ports_mut(home, port.domain)?.user_header_mut(port.number, slot)
 }
@@ -156,7 +163,9 @@ pub fn send<T: Copy, U: Copy, H: Home<T, U>>(
 ) -> Result<Sent<T, U>, SendError>
     requires holds { is_written_loan (loan_found port.number slot (homes.ports_of H.domain_of port.domain home.old)) ≡ true }
     requires free { publisher_blocked port.number (homes.ports_of H.domain_of port.domain home.old) ≡ false }
-    ensures { SendsSample (homes.ports_of H.domain_of) (homes.with_ports H.changed) (homes.publisher_degrades (λ kept. H.ForPublishers.degrades kept) H.domain_of) (homes.publisher_decides (λ kept. H.ForPublishers.decides kept) H.domain_of) port slot home.old result home.new }
+    ensures { SendsSample (homes.ports_of H.domain_of) (homes.with_ports H.changed)
+        (homes.publisher_degrades (λ kept. H.ForPublishers.degrades kept) H.domain_of)
+        (homes.publisher_decides (λ kept. H.ForPublishers.decides kept) H.domain_of) port slot home.old result home.new }
 {
     match calls::send(home, alloc, port.domain, port.number, slot) {
         Some(sent) => sent_of(port, sent),

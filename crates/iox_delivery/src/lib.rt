@@ -8,6 +8,7 @@
 //! - [`sent`]: what a send came to, and a send that waits.
 //! - [`subscriber`]: a subscriber of single values.
 //! - [`sample`]: a message that was received.
+//! - [`update_connections`]: what follows the ports of the other side.
 //! - [`publishing`], [`lending`], [`subscribing`]: what ports of slices have in common with these, by port, slot and message.
 //! - [`slices`]: publishers, subscribers, loans and samples of slices.
 //! - [`laws`]: what a loan comes to that was just made.
@@ -55,6 +56,7 @@ pub mod sent;
 pub mod slices;
 pub mod subscriber;
 pub mod subscribing;
+pub mod update_connections;
 
 pub use port_id::PortId;
 pub use publisher::Publisher;
@@ -63,3 +65,4 @@ pub use sample_mut::SampleMut;
 pub use sample_mut_uninit::SampleMutUninit;
 pub use sent::{BlockedSend, Sent};
 pub use subscriber::Subscriber;
+pub use update_connections::UpdateConnections;

@@ -1,14 +1,16 @@
 //! A publisher of single values.
 ghost use Rattle.iox_domain.specs.Homes as homes;
-ghost use Rattle.std.specs.Prelude.{◌≡◌, ◌&&◌, ◌∷◌, [], true, false, not, IfOk};
+ghost use Rattle.std.specs.Prelude.{◌≡◌, ◌&&◌, ◌∷◌, [], true, false, not, IfOk, is_ok};
+ghost use Rattle.iox_domain.specs.Steps.{UpdatesBy};
 ghost use Rattle.iox_delivery.specs.Lent.{IsReady};
-ghost use Rattle.iox_delivery.specs.Holding.{publisher_stands, publisher_blocked};
-ghost use Rattle.iox_delivery.specs.Publishing.{LendsUninit, LendsDefault, SendsCopy, FollowsSubscribers, PublisherGoes, EndsPublisher};
+ghost use Rattle.iox_delivery.specs.Holding.{publisher_stands, publisher_blocked, left_or_given_back};
+ghost use Rattle.iox_delivery.specs.Publishing.{LendsUninit, LendsDefault, SendsCopy, PublisherGoes, EndsPublisher};
 
 use crate::port_id::PortId;
 use crate::sample_mut::SampleMut;
 use crate::sample_mut_uninit::SampleMutUninit;
 use crate::sent::Sent;
+use crate::update_connections::UpdateConnections;
 use crate::{lending, publishing};
 use iox_domain::{DomainId, Home};
 use iox_domain_values::{BackpressureStrategy, ConnectionFailure, LoanError, SendError};
@@ -116,8 +118,10 @@ impl<T: Copy, U: Copy> Publisher<T, U> {
         T: Default,
         requires holds { publisher_stands self.now.port.number (homes.ports_of H.domain_of self.now.port.domain home.old) ≡ true }
         requires free { publisher_blocked self.now.port.number (homes.ports_of H.domain_of self.now.port.domain home.old) ≡ false }
-        ensures lends { LendsDefault (homes.ports_of H.domain_of) (homes.with_ports H.changed) T.is_default self.now.port home.old result home.new }
-        ensures ready { IfOk result (λ sample. (value : T) × T.is_default value × IsReady self.now.port.number (value ∷ []) 1 sample.slot (homes.ports_of H.domain_of self.now.port.domain home.new)) }
+        ensures lends { LendsDefault (homes.ports_of H.domain_of) (homes.with_ports H.changed) T.is_default self.now.port home.old
+            result home.new }
+        ensures ready { IfOk result (λ sample. (value : T) × T.is_default value
+            × IsReady self.now.port.number (value ∷ []) 1 sample.slot (homes.ports_of H.domain_of self.now.port.domain home.new)) }
     {
         let slot = publishing::loan_value(self.port, alloc, home, T::default())?;
         Ok(SampleMut::of_loan(self.port, slot))
@@ -136,27 +140,12 @@ impl<T: Copy, U: Copy> Publisher<T, U> {
     ) -> Result<Sent<T, U>, SendError>
         requires holds { publisher_stands self.now.port.number (homes.ports_of H.domain_of self.now.port.domain home.old) ≡ true }
         requires free { publisher_blocked self.now.port.number (homes.ports_of H.domain_of self.now.port.domain home.old) ≡ false }
-        ensures { SendsCopy (homes.ports_of H.domain_of) (homes.with_ports H.changed) (homes.publisher_degrades (λ kept. H.ForPublishers.degrades kept) H.domain_of) (homes.publisher_decides (λ kept. H.ForPublishers.decides kept) H.domain_of) self.now.port value home.old result home.new }
+        ensures { SendsCopy (homes.ports_of H.domain_of) (homes.with_ports H.changed)
+            (homes.publisher_degrades (λ kept. H.ForPublishers.degrades kept) H.domain_of)
+            (homes.publisher_decides (λ kept. H.ForPublishers.decides kept) H.domain_of) self.now.port value home.old result home.new }
     {
         let slot = publishing::loan_value(self.port, alloc, home, value)?;
         lending::send(self.port, slot, alloc, home)
-    }
-
-    /// Follows the subscribers that came and left: `ServicePorts::update_publisher` says what that does. It fails as a handler says where a
-    /// connection isn't made.
-    ///
-    /// Ported from `iceoryx2::port::update_connections::UpdateConnections`.
-    /// Example: `publisher.update_connections(alloc, home)?;`
-    pub fn update_connections<H: Home<T, U>>(
-        &self,
-        alloc: Global,
-        home: &mut H,
-    ) -> Result<(), ConnectionFailure>
-        requires holds { publisher_stands self.now.port.number (homes.ports_of H.domain_of self.now.port.domain home.old) ≡ true }
-        requires free { publisher_blocked self.now.port.number (homes.ports_of H.domain_of self.now.port.domain home.old) ≡ false }
-        ensures { FollowsSubscribers (homes.ports_of H.domain_of) (homes.with_ports H.changed) (homes.publisher_degrades (λ kept. H.ForPublishers.degrades kept) H.domain_of) self.now.port home.old result home.new }
-    {
-        publishing::update(self.port, alloc, home)
     }
 
     /// Its port, of which `of_port` makes a value again. The publisher stays.
@@ -174,15 +163,24 @@ impl<T: Copy, U: Copy> Publisher<T, U> {
         port
     }
 
-    /// Lets it go: it leaves as by `leave`, if it exists and no send of it waits; else nothing happens. Whether it left is the answer.
+    /// Lets it go: it leaves as by `leave`, if it exists and no send of it waits. Else nothing happens, and it is given back: it can leave
+    /// its own home once that send has ended.
     ///
     /// Ported from dropping an `iceoryx2::port::publisher::Publisher`.
-    /// Example: `let has_left = publisher.drop_with(home);`
-    pub fn drop_with<H: Home<T, U>>(self, home: &mut H) -> bool
-        ensures ends { EndsPublisher (homes.ports_of H.domain_of) (homes.with_ports H.changed) (homes.without_publisher H.changed) self.port home.old result home.new }
-        ensures left { result ≡ (publisher_stands self.port.number (homes.ports_of H.domain_of self.port.domain home.old) && not (publisher_blocked self.port.number (homes.ports_of H.domain_of self.port.domain home.old))) }
+    /// Example: `let stays = publisher.drop_with(home).err();`
+    pub fn drop_with<H: Home<T, U>>(self, home: &mut H) -> Result<(), Self>
+        ensures ends { EndsPublisher (homes.ports_of H.domain_of) (homes.with_ports H.changed) (homes.without_publisher H.changed)
+            self.port home.old (is_ok result) home.new }
+        ensures left { result ≡ left_or_given_back
+            (publisher_stands self.port.number (homes.ports_of H.domain_of self.port.domain home.old)
+            && not (publisher_blocked self.port.number (homes.ports_of H.domain_of self.port.domain home.old))) self }
     {
-        publishing::drop_port(self.into_port(), home)
+        if publishing::drop_port(self.port, home) {
+            let _ = self.into_port();
+            Ok(())
+        } else {
+            Err(self)
+        }
     }
 
     /// Leaves: what was sent stays to be read, and what is lent can't be sent any longer. Its handlers are dropped.
@@ -192,8 +190,25 @@ impl<T: Copy, U: Copy> Publisher<T, U> {
     pub fn leave<H: Home<T, U>>(self, home: &mut H)
         requires holds { publisher_stands self.port.number (homes.ports_of H.domain_of self.port.domain home.old) ≡ true }
         requires free { publisher_blocked self.port.number (homes.ports_of H.domain_of self.port.domain home.old) ≡ false }
-        ensures { PublisherGoes (homes.ports_of H.domain_of) (homes.with_ports H.changed) (homes.without_publisher H.changed) self.port home.old home.new }
+        ensures { PublisherGoes (homes.ports_of H.domain_of) (homes.with_ports H.changed) (homes.without_publisher H.changed) self.port
+            home.old home.new }
     {
         publishing::leave(self.into_port(), home);
+    }
+}
+
+impl<T: Copy, U: Copy> UpdateConnections<T, U> for Publisher<T, U> {
+    ghost port_of = { λ publisher. publisher.port };
+
+    ghost may_follow = { λ number ports. publisher_stands number ports && not (publisher_blocked number ports) };
+
+    ghost follows = { λ publishers subscribers number. UpdatesBy publishers number };
+
+    fn update_connections<H: Home<T, U>>(
+        &self,
+        alloc: Global,
+        home: &mut H,
+    ) -> Result<(), ConnectionFailure> {
+        publishing::update(self.port, alloc, home)
     }
 }

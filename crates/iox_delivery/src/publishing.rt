@@ -95,7 +95,8 @@ pub fn update<T: Copy, U: Copy, H: Home<T, U>>(
 ) -> Result<(), ConnectionFailure>
     requires holds { publisher_stands port.number (homes.ports_of H.domain_of port.domain home.old) ≡ true }
     requires free { publisher_blocked port.number (homes.ports_of H.domain_of port.domain home.old) ≡ false }
-    ensures { FollowsSubscribers (homes.ports_of H.domain_of) (homes.with_ports H.changed) (homes.publisher_degrades (λ kept. H.ForPublishers.degrades kept) H.domain_of) port home.old result home.new }
+    ensures { FollowsSubscribers (homes.ports_of H.domain_of) (homes.with_ports H.changed)
+        (homes.publisher_degrades (λ kept. H.ForPublishers.degrades kept) H.domain_of) port home.old result home.new }
 {
     match calls::update_publisher(home, alloc, port.domain, port.number) {
         Some(outcome) => outcome,
@@ -110,8 +111,10 @@ pub fn update<T: Copy, U: Copy, H: Home<T, U>>(
 /// Example: `let has_left = publishing::drop_port(port, home);`
 #[tactic(auto, using(crate::proofs::Ending::publisher_end_tells))]
 pub fn drop_port<T: Copy, U: Copy, H: Home<T, U>>(port: PortId, home: &mut H) -> bool
-    ensures ends { EndsPublisher (homes.ports_of H.domain_of) (homes.with_ports H.changed) (homes.without_publisher H.changed) port home.old result home.new }
-    ensures left { result ≡ (publisher_stands port.number (homes.ports_of H.domain_of port.domain home.old) && not (publisher_blocked port.number (homes.ports_of H.domain_of port.domain home.old))) }
+    ensures ends { EndsPublisher (homes.ports_of H.domain_of) (homes.with_ports H.changed) (homes.without_publisher H.changed) port
+        home.old result home.new }
+    ensures left { result ≡ (publisher_stands port.number (homes.ports_of H.domain_of port.domain home.old)
+        && not (publisher_blocked port.number (homes.ports_of H.domain_of port.domain home.old))) }
 {
     calls::leave_publisher(home, port.domain, port.number)
 }
@@ -123,7 +126,8 @@ pub fn drop_port<T: Copy, U: Copy, H: Home<T, U>>(port: PortId, home: &mut H) ->
 pub fn leave<T: Copy, U: Copy, H: Home<T, U>>(port: PortId, home: &mut H)
     requires holds { publisher_stands port.number (homes.ports_of H.domain_of port.domain home.old) ≡ true }
     requires free { publisher_blocked port.number (homes.ports_of H.domain_of port.domain home.old) ≡ false }
-    ensures { PublisherGoes (homes.ports_of H.domain_of) (homes.with_ports H.changed) (homes.without_publisher H.changed) port home.old home.new }
+    ensures { PublisherGoes (homes.ports_of H.domain_of) (homes.with_ports H.changed) (homes.without_publisher H.changed) port home.old
+        home.new }
 {
     if !calls::leave_publisher(home, port.domain, port.number) {
         unreachable!();

@@ -59,7 +59,8 @@ impl<T: Copy, U: Copy> Sample<T, U> {
         T: 'a,
         U: 'a,
         requires { holds_sample self.now.port.number self.now.taken (homes.ports_of H.domain_of self.now.port.domain home.now) ≡ true }
-        ensures { Some result.now ≡ value_found 0 (message_found self.now.taken (homes.ports_of H.domain_of self.now.port.domain home.now)) }
+        ensures { Some result.now ≡ value_found 0
+            (message_found self.now.taken (homes.ports_of H.domain_of self.now.port.domain home.now)) }
     {
         match subscribing::values(self.port, self.taken, home).first() {
             Some(value) => value,
@@ -77,7 +78,8 @@ impl<T: Copy, U: Copy> Sample<T, U> {
         T: 'a,
         U: 'a,
         requires { holds_sample self.now.port.number self.now.taken (homes.ports_of H.domain_of self.now.port.domain home.now) ≡ true }
-        ensures { Some result.now ≡ option_map (λ message. message.user_header) (message_found self.now.taken (homes.ports_of H.domain_of self.now.port.domain home.now)) }
+        ensures { Some result.now ≡ option_map (λ message. message.user_header)
+            (message_found self.now.taken (homes.ports_of H.domain_of self.now.port.domain home.now)) }
     {
         subscribing::user_header(self.port, self.taken, home)
     }
@@ -100,7 +102,8 @@ impl<T: Copy, U: Copy> Sample<T, U> {
     /// Example: `let publisher = sample.origin(home);`
     pub fn origin<H: Home<T, U>>(&self, home: &H) -> u64
         requires { holds_sample self.now.port.number self.now.taken (homes.ports_of H.domain_of self.now.port.domain home.now) ≡ true }
-        ensures { Some result ≡ option_map (λ header. header.publisher_id) (header_found self.now.taken (homes.ports_of H.domain_of self.now.port.domain home.now)) }
+        ensures { Some result ≡ option_map (λ header. header.publisher_id)
+            (header_found self.now.taken (homes.ports_of H.domain_of self.now.port.domain home.now)) }
     {
         self.header(home).publisher_id
     }

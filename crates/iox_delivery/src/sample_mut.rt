@@ -42,7 +42,8 @@ impl<T: Copy, U: Copy> SampleMut<T, U> {
     /// Whether the loan is out in this home, and written: the condition of its calls.
     /// Example: `let is_there = sample.holds(home);`
     pub fn holds<H: Home<T, U>>(&self, home: &H) -> bool
-        ensures { result ≡ is_sample (loan_found self.now.port.number self.now.slot (homes.ports_of H.domain_of self.now.port.domain home.now)) }
+        ensures { result ≡ is_sample (loan_found self.now.port.number self.now.slot
+            (homes.ports_of H.domain_of self.now.port.domain home.now)) }
     {
         is_written(self.port, self.slot, home)
     }
@@ -55,8 +56,10 @@ impl<T: Copy, U: Copy> SampleMut<T, U> {
     where
         T: 'a,
         U: 'a,
-        requires { is_sample (loan_found self.now.port.number self.now.slot (homes.ports_of H.domain_of self.now.port.domain home.now)) ≡ true }
-        ensures { Some result.now ≡ value_at 0 (loan_found self.now.port.number self.now.slot (homes.ports_of H.domain_of self.now.port.domain home.now)) }
+        requires { is_sample (loan_found self.now.port.number self.now.slot (homes.ports_of H.domain_of self.now.port.domain home.now))
+            ≡ true }
+        ensures { Some result.now ≡ value_at 0
+            (loan_found self.now.port.number self.now.slot (homes.ports_of H.domain_of self.now.port.domain home.now)) }
     {
         let Some(ports) = calls::ports(home, self.port.domain) else {
             unreachable!();
@@ -75,8 +78,11 @@ impl<T: Copy, U: Copy> SampleMut<T, U> {
     where
         T: 'a,
         U: 'a,
-        ensures* writes_back { sem 𝓛 (LendsIf H.row T.row home.entry result (λ last. loan_changed (homes.ports_of H.domain_of) (homes.with_ports H.changed) sample.now.port sample.now.slot (write_value 0 last) home.old) home.old) }
-        ensures value { option_copied_mut result ≡ value_at 0 (loan_found sample.now.port.number sample.now.slot (homes.ports_of H.domain_of sample.now.port.domain home.old)) }
+        ensures* writes_back { sem 𝓛 (LendsIf H.row T.row home.entry result
+            (λ last. loan_changed (homes.ports_of H.domain_of) (homes.with_ports H.changed) sample.now.port sample.now.slot
+            (write_value 0 last) home.old) home.old) }
+        ensures value { option_copied_mut result
+            ≡ value_at 0 (loan_found sample.now.port.number sample.now.slot (homes.ports_of H.domain_of sample.now.port.domain home.old)) }
     {
         lending::value_mut(home, sample.port, sample.slot, 0)
     }
@@ -87,8 +93,10 @@ impl<T: Copy, U: Copy> SampleMut<T, U> {
     /// Example: `let header = sample.header(home);`
     #[tactic(auto, using(crate::proofs::Ready::sample_is_loan))]
     pub fn header<H: Home<T, U>>(&self, home: &H) -> Header
-        requires { is_sample (loan_found self.now.port.number self.now.slot (homes.ports_of H.domain_of self.now.port.domain home.now)) ≡ true }
-        ensures { Some result ≡ loan_header_found self.now.port.number self.now.slot (homes.ports_of H.domain_of self.now.port.domain home.now) }
+        requires { is_sample (loan_found self.now.port.number self.now.slot (homes.ports_of H.domain_of self.now.port.domain home.now))
+            ≡ true }
+        ensures { Some result ≡ loan_header_found self.now.port.number self.now.slot
+            (homes.ports_of H.domain_of self.now.port.domain home.now) }
     {
         lending::header(self.port, self.slot, home)
     }
@@ -102,8 +110,10 @@ impl<T: Copy, U: Copy> SampleMut<T, U> {
     where
         T: 'a,
         U: 'a,
-        requires { is_sample (loan_found self.now.port.number self.now.slot (homes.ports_of H.domain_of self.now.port.domain home.now)) ≡ true }
-        ensures { Some result.now ≡ option_map (λ loan. loan.user_header) (loan_found self.now.port.number self.now.slot (homes.ports_of H.domain_of self.now.port.domain home.now)) }
+        requires { is_sample (loan_found self.now.port.number self.now.slot (homes.ports_of H.domain_of self.now.port.domain home.now))
+            ≡ true }
+        ensures { Some result.now ≡ option_map (λ loan. loan.user_header)
+            (loan_found self.now.port.number self.now.slot (homes.ports_of H.domain_of self.now.port.domain home.now)) }
     {
         lending::user_header(self.port, self.slot, home)
     }
@@ -116,8 +126,12 @@ impl<T: Copy, U: Copy> SampleMut<T, U> {
     where
         T: 'a,
         U: 'a,
-        ensures* writes_back { sem 𝓛 (LendsIf H.row U.row home.entry result (λ last. loan_changed (homes.ports_of H.domain_of) (homes.with_ports H.changed) sample.now.port sample.now.slot (write_user_header last) home.old) home.old) }
-        ensures value { option_copied_mut result ≡ option_map (λ loan. loan.user_header) (loan_found sample.now.port.number sample.now.slot (homes.ports_of H.domain_of sample.now.port.domain home.old)) }
+        ensures* writes_back { sem 𝓛 (LendsIf H.row U.row home.entry result
+            (λ last. loan_changed (homes.ports_of H.domain_of) (homes.with_ports H.changed) sample.now.port sample.now.slot
+            (write_user_header last) home.old) home.old) }
+        ensures value { option_copied_mut result
+            ≡ option_map (λ loan. loan.user_header)
+            (loan_found sample.now.port.number sample.now.slot (homes.ports_of H.domain_of sample.now.port.domain home.old)) }
     {
         lending::user_header_mut(home, sample.port, sample.slot)
     }
@@ -127,7 +141,8 @@ impl<T: Copy, U: Copy> SampleMut<T, U> {
     /// Ported from writing through `iceoryx2::sample_mut::SampleMut::user_header_mut`.
     /// Example: `sample.user_header_write(home, 150);`
     pub fn user_header_write<H: Home<T, U>>(&mut self, home: &mut H, user_header: U)
-        ensures writes { WritesUserHeader (homes.ports_of H.domain_of) (homes.with_ports H.changed) self.old.port self.old.slot user_header home.old home.new }
+        ensures writes { WritesUserHeader (homes.ports_of H.domain_of) (homes.with_ports H.changed) self.old.port self.old.slot
+            user_header home.old home.new }
         ensures same { self.new ≡ self.old }
     {
         lending::write_user_header(self.port, self.slot, home, user_header);
@@ -149,7 +164,9 @@ impl<T: Copy, U: Copy> SampleMut<T, U> {
     pub fn send<H: Home<T, U>>(self, alloc: Global, home: &mut H) -> Result<Sent<T, U>, SendError>
         requires holds { is_sample (loan_found self.port.number self.slot (homes.ports_of H.domain_of self.port.domain home.old)) ≡ true }
         requires free { publisher_blocked self.port.number (homes.ports_of H.domain_of self.port.domain home.old) ≡ false }
-        ensures { SendsSample (homes.ports_of H.domain_of) (homes.with_ports H.changed) (homes.publisher_degrades (λ kept. H.ForPublishers.degrades kept) H.domain_of) (homes.publisher_decides (λ kept. H.ForPublishers.decides kept) H.domain_of) self.port self.slot home.old result home.new }
+        ensures { SendsSample (homes.ports_of H.domain_of) (homes.with_ports H.changed)
+            (homes.publisher_degrades (λ kept. H.ForPublishers.degrades kept) H.domain_of)
+            (homes.publisher_decides (λ kept. H.ForPublishers.decides kept) H.domain_of) self.port self.slot home.old result home.new }
     {
         let SampleMut { port, slot, of: _ } = self;
         lending::send(port, slot, alloc, home)

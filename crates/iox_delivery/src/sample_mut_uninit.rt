@@ -39,7 +39,8 @@ impl<T: Copy, U: Copy> SampleMutUninit<T, U> {
     /// Whether the loan is out in this home: the condition of its calls.
     /// Example: `let is_there = loan.holds(home);`
     pub fn holds<H: Home<T, U>>(&self, home: &H) -> bool
-        ensures { result ≡ is_some (loan_found self.now.port.number self.now.slot (homes.ports_of H.domain_of self.now.port.domain home.now)) }
+        ensures { result ≡ is_some (loan_found self.now.port.number self.now.slot
+            (homes.ports_of H.domain_of self.now.port.domain home.now)) }
     {
         lending::is_out(self.port, self.slot, home)
     }
@@ -47,7 +48,8 @@ impl<T: Copy, U: Copy> SampleMutUninit<T, U> {
     /// Whether the value is written: the condition of `assume_init`.
     /// Example: `let may_be_sent = loan.is_written(home);`
     pub fn is_written<H: Home<T, U>>(&self, home: &H) -> bool
-        ensures { result ≡ is_sample (loan_found self.now.port.number self.now.slot (homes.ports_of H.domain_of self.now.port.domain home.now)) }
+        ensures { result ≡ is_sample (loan_found self.now.port.number self.now.slot
+            (homes.ports_of H.domain_of self.now.port.domain home.now)) }
     {
         is_written(self.port, self.slot, home)
     }
@@ -60,7 +62,8 @@ impl<T: Copy, U: Copy> SampleMutUninit<T, U> {
     where
         T: 'a,
         U: 'a,
-        ensures { option_copied result ≡ value_at 0 (loan_found self.now.port.number self.now.slot (homes.ports_of H.domain_of self.now.port.domain home.now)) }
+        ensures { option_copied result ≡ value_at 0
+            (loan_found self.now.port.number self.now.slot (homes.ports_of H.domain_of self.now.port.domain home.now)) }
     {
         match calls::ports(home, self.port.domain) {
             Some(ports) => ports.value(self.port.number, self.slot, 0),
@@ -73,7 +76,8 @@ impl<T: Copy, U: Copy> SampleMutUninit<T, U> {
     /// Ported from writing through `iceoryx2::sample_mut_uninit::SampleMutUninit::payload_mut`.
     /// Example: `loan.payload_write(home, 7);`
     pub fn payload_write<H: Home<T, U>>(&mut self, home: &mut H, value: T)
-        ensures writes { WritesPayload (homes.ports_of H.domain_of) (homes.with_ports H.changed) self.old.port self.old.slot value home.old home.new }
+        ensures writes { WritesPayload (homes.ports_of H.domain_of) (homes.with_ports H.changed) self.old.port self.old.slot value
+            home.old home.new }
         ensures same { self.new ≡ self.old }
     {
         write(self.port, self.slot, home, value);
@@ -84,7 +88,8 @@ impl<T: Copy, U: Copy> SampleMutUninit<T, U> {
     /// Ported from `iceoryx2::sample_mut_uninit::SampleMutUninit::write_payload`.
     /// Example: `let sample = loan.write_payload(home, 7);`
     pub fn write_payload<H: Home<T, U>>(self, home: &mut H, value: T) -> SampleMut<T, U>
-        ensures writes { WritesPayload (homes.ports_of H.domain_of) (homes.with_ports H.changed) self.port self.slot value home.old home.new }
+        ensures writes { WritesPayload (homes.ports_of H.domain_of) (homes.with_ports H.changed) self.port self.slot value home.old
+            home.new }
         ensures same { result ≡ sample_mut_of self.port self.slot }
     {
         let SampleMutUninit { port, slot, of: _ } = self;
@@ -110,8 +115,10 @@ impl<T: Copy, U: Copy> SampleMutUninit<T, U> {
     /// Ported from `iceoryx2::sample_mut_uninit::SampleMutUninit::header`.
     /// Example: `let header = loan.header(home);`
     pub fn header<H: Home<T, U>>(&self, home: &H) -> Header
-        requires { is_some (loan_found self.now.port.number self.now.slot (homes.ports_of H.domain_of self.now.port.domain home.now)) ≡ true }
-        ensures { Some result ≡ loan_header_found self.now.port.number self.now.slot (homes.ports_of H.domain_of self.now.port.domain home.now) }
+        requires { is_some (loan_found self.now.port.number self.now.slot (homes.ports_of H.domain_of self.now.port.domain home.now))
+            ≡ true }
+        ensures { Some result ≡ loan_header_found self.now.port.number self.now.slot
+            (homes.ports_of H.domain_of self.now.port.domain home.now) }
     {
         lending::header(self.port, self.slot, home)
     }
@@ -124,8 +131,10 @@ impl<T: Copy, U: Copy> SampleMutUninit<T, U> {
     where
         T: 'a,
         U: 'a,
-        requires { is_some (loan_found self.now.port.number self.now.slot (homes.ports_of H.domain_of self.now.port.domain home.now)) ≡ true }
-        ensures { Some result.now ≡ option_map (λ loan. loan.user_header) (loan_found self.now.port.number self.now.slot (homes.ports_of H.domain_of self.now.port.domain home.now)) }
+        requires { is_some (loan_found self.now.port.number self.now.slot (homes.ports_of H.domain_of self.now.port.domain home.now))
+            ≡ true }
+        ensures { Some result.now ≡ option_map (λ loan. loan.user_header)
+            (loan_found self.now.port.number self.now.slot (homes.ports_of H.domain_of self.now.port.domain home.now)) }
     {
         lending::user_header(self.port, self.slot, home)
     }
@@ -138,8 +147,12 @@ impl<T: Copy, U: Copy> SampleMutUninit<T, U> {
     where
         T: 'a,
         U: 'a,
-        ensures* writes_back { sem 𝓛 (LendsIf H.row U.row home.entry result (λ last. loan_changed (homes.ports_of H.domain_of) (homes.with_ports H.changed) sample.now.port sample.now.slot (write_user_header last) home.old) home.old) }
-        ensures value { option_copied_mut result ≡ option_map (λ loan. loan.user_header) (loan_found sample.now.port.number sample.now.slot (homes.ports_of H.domain_of sample.now.port.domain home.old)) }
+        ensures* writes_back { sem 𝓛 (LendsIf H.row U.row home.entry result
+            (λ last. loan_changed (homes.ports_of H.domain_of) (homes.with_ports H.changed) sample.now.port sample.now.slot
+            (write_user_header last) home.old) home.old) }
+        ensures value { option_copied_mut result
+            ≡ option_map (λ loan. loan.user_header)
+            (loan_found sample.now.port.number sample.now.slot (homes.ports_of H.domain_of sample.now.port.domain home.old)) }
     {
         lending::user_header_mut(home, sample.port, sample.slot)
     }
@@ -149,7 +162,8 @@ impl<T: Copy, U: Copy> SampleMutUninit<T, U> {
     /// Ported from writing through `iceoryx2::sample_mut_uninit::SampleMutUninit::user_header_mut`.
     /// Example: `loan.user_header_write(home, 150);`
     pub fn user_header_write<H: Home<T, U>>(&mut self, home: &mut H, user_header: U)
-        ensures writes { WritesUserHeader (homes.ports_of H.domain_of) (homes.with_ports H.changed) self.old.port self.old.slot user_header home.old home.new }
+        ensures writes { WritesUserHeader (homes.ports_of H.domain_of) (homes.with_ports H.changed) self.old.port self.old.slot
+            user_header home.old home.new }
         ensures same { self.new ≡ self.old }
     {
         lending::write_user_header(self.port, self.slot, home, user_header);

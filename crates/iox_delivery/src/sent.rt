@@ -49,7 +49,8 @@ impl<T: Copy, U: Copy> BlockedSend<T, U> {
         elapsed_ns: u64,
     ) -> Result<Sent<T, U>, SendError>
         requires { publisher_blocked self.port.number (homes.ports_of H.domain_of self.port.domain home.old) ≡ true }
-        ensures { RetriesSend (homes.ports_of H.domain_of) (homes.with_ports H.changed) (homes.publisher_decides (λ kept. H.ForPublishers.decides kept) H.domain_of) self.port elapsed_ns home.old result home.new }
+        ensures { RetriesSend (homes.ports_of H.domain_of) (homes.with_ports H.changed)
+            (homes.publisher_decides (λ kept. H.ForPublishers.decides kept) H.domain_of) self.port elapsed_ns home.old result home.new }
     {
         let BlockedSend { port, of: _ } = self;
         match calls::retry(home, port.domain, port.number, elapsed_ns) {

@@ -37,7 +37,8 @@ pub fn has_samples<T: Copy, U: Copy, H: Home<T, U>>(
     home: &mut H,
 ) -> Result<bool, ConnectionFailure>
     requires { subscriber_stands port.number (homes.ports_of H.domain_of port.domain home.old) ≡ true }
-    ensures { TellsSamples (homes.ports_of H.domain_of) (homes.with_ports H.changed) (homes.subscriber_degrades (λ kept. H.ForSubscribers.degrades kept) H.domain_of) port home.old result home.new }
+    ensures { TellsSamples (homes.ports_of H.domain_of) (homes.with_ports H.changed)
+        (homes.subscriber_degrades (λ kept. H.ForSubscribers.degrades kept) H.domain_of) port home.old result home.new }
 {
     match calls::has_samples(home, alloc, port.domain, port.number) {
         Some(outcome) => outcome,
@@ -55,7 +56,8 @@ pub fn take<T: Copy, U: Copy, H: Home<T, U>>(
     home: &mut H,
 ) -> Result<Option<Taken>, ReceiveError>
     requires { subscriber_stands port.number (homes.ports_of H.domain_of port.domain home.old) ≡ true }
-    ensures { TakesMessage (homes.ports_of H.domain_of) (homes.with_ports H.changed) (homes.subscriber_degrades (λ kept. H.ForSubscribers.degrades kept) H.domain_of) port home.old result home.new }
+    ensures { TakesMessage (homes.ports_of H.domain_of) (homes.with_ports H.changed)
+        (homes.subscriber_degrades (λ kept. H.ForSubscribers.degrades kept) H.domain_of) port home.old result home.new }
 {
     match calls::receive(home, alloc, port.domain, port.number) {
         Some(outcome) => outcome,
@@ -73,7 +75,8 @@ pub fn update<T: Copy, U: Copy, H: Home<T, U>>(
     home: &mut H,
 ) -> Result<(), ConnectionFailure>
     requires { subscriber_stands port.number (homes.ports_of H.domain_of port.domain home.old) ≡ true }
-    ensures { FollowsPublishers (homes.ports_of H.domain_of) (homes.with_ports H.changed) (homes.subscriber_degrades (λ kept. H.ForSubscribers.degrades kept) H.domain_of) port home.old result home.new }
+    ensures { FollowsPublishers (homes.ports_of H.domain_of) (homes.with_ports H.changed)
+        (homes.subscriber_degrades (λ kept. H.ForSubscribers.degrades kept) H.domain_of) port home.old result home.new }
 {
     match calls::update_subscriber(home, alloc, port.domain, port.number) {
         Some(outcome) => outcome,
@@ -87,7 +90,8 @@ pub fn update<T: Copy, U: Copy, H: Home<T, U>>(
 /// Example: `let has_left = subscribing::drop_port(port, home);`
 #[tactic(auto, using(crate::proofs::Ending::subscriber_end_tells))]
 pub fn drop_port<T: Copy, U: Copy, H: Home<T, U>>(port: PortId, home: &mut H) -> bool
-    ensures ends { EndsSubscriber (homes.ports_of H.domain_of) (homes.with_ports H.changed) (homes.without_subscriber H.changed) port home.old result home.new }
+    ensures ends { EndsSubscriber (homes.ports_of H.domain_of) (homes.with_ports H.changed) (homes.without_subscriber H.changed) port
+        home.old result home.new }
     ensures left { result ≡ subscriber_stands port.number (homes.ports_of H.domain_of port.domain home.old) }
 {
     calls::leave_subscriber(home, port.domain, port.number)
@@ -99,7 +103,8 @@ pub fn drop_port<T: Copy, U: Copy, H: Home<T, U>>(port: PortId, home: &mut H) ->
 /// Example: `subscribing::leave(port, home);`
 pub fn leave<T: Copy, U: Copy, H: Home<T, U>>(port: PortId, home: &mut H)
     requires { subscriber_stands port.number (homes.ports_of H.domain_of port.domain home.old) ≡ true }
-    ensures { SubscriberGoes (homes.ports_of H.domain_of) (homes.with_ports H.changed) (homes.without_subscriber H.changed) port home.old home.new }
+    ensures { SubscriberGoes (homes.ports_of H.domain_of) (homes.with_ports H.changed) (homes.without_subscriber H.changed) port
+        home.old home.new }
 {
     if !calls::leave_subscriber(home, port.domain, port.number) {
         unreachable!();
@@ -119,7 +124,8 @@ where
     T: 'a,
     U: 'a,
     requires { holds_message port.number taken (homes.ports_of H.domain_of port.domain home.now) ≡ true }
-    ensures { Some result.now ≡ option_map (λ message. message.values) (message_found taken (homes.ports_of H.domain_of port.domain home.now)) }
+    ensures { Some result.now ≡ option_map (λ message. message.values)
+        (message_found taken (homes.ports_of H.domain_of port.domain home.now)) }
 {
     let Some(ports) = calls::ports(home, port.domain) else {
         unreachable!();
@@ -143,7 +149,8 @@ where
     T: 'a,
     U: 'a,
     requires { holds_message port.number taken (homes.ports_of H.domain_of port.domain home.now) ≡ true }
-    ensures { Some result.now ≡ option_map (λ message. message.user_header) (message_found taken (homes.ports_of H.domain_of port.domain home.now)) }
+    ensures { Some result.now ≡ option_map (λ message. message.user_header)
+        (message_found taken (homes.ports_of H.domain_of port.domain home.now)) }
 {
     let Some(ports) = calls::ports(home, port.domain) else {
         unreachable!();

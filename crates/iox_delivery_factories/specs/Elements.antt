@@ -20,4 +20,5 @@ pub record ValuesOfElements (payload user_header : Detail) (types : MessageTypeD
 
 -- This holds of all types that fit.
 abbrev pub ElementsHaveValues : Type 0
-ElementsHaveValues = (payload user_header : Detail) (types : MessageTypeDetails) → FitTypes payload user_header types → ValuesOfElements payload user_header types
+ElementsHaveValues = (payload user_header : Detail) (types : MessageTypeDetails) → FitTypes payload user_header types
+    → ValuesOfElements payload user_header types

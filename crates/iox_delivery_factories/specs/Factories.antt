@@ -34,38 +34,48 @@ abbrev pub nobody_named : {X Y : Type 0} {F : X → Type 0} {G : Y → Type 0} �
 nobody_named strategy = record { strategy = strategy; backpressure = None; degradation = Fixed Warn }
 
 -- a builder of publishers of elements of so many values, where nothing is named
-abbrev pub new_publisher_builder : {T U X Y Z : Type 0} {F : X → Type 0} {G : Y → Type 0} {K : Z → Type 0} → DomainId → ℕ → ℕ → ℕ → PortFactoryPublisher T U (Handlers X Y F G) (PreallocatedSamplesOverride Z K)
+abbrev pub new_publisher_builder : {T U X Y Z : Type 0} {F : X → Type 0} {G : Y → Type 0} {K : Z → Type 0} → DomainId → ℕ → ℕ → ℕ
+    → PortFactoryPublisher T U (Handlers X Y F G) (PreallocatedSamplesOverride Z K)
 new_publisher_builder domain unit node_id owner =
     record { domain = domain; owner = record { number = owner; node_id = node_id }; unit = unit; settings = publisher_defaults; handlers = nobody_named RetryUntilDelivered; overriding = WorstCase; of = record {} }
 
 -- a builder of subscribers where nothing is named
-abbrev pub new_subscriber_builder : {T U Y : Type 0} {G : Y → Type 0} → DomainId → ℕ → ℕ → PortFactorySubscriber T U (DegradationHandler Y G)
+abbrev pub new_subscriber_builder : {T U Y : Type 0} {G : Y → Type 0} → DomainId → ℕ → ℕ
+    → PortFactorySubscriber T U (DegradationHandler Y G)
 new_subscriber_builder domain node_id owner =
     record { domain = domain; owner = record { number = owner; node_id = node_id }; settings = subscriber_defaults; handler = Fixed Warn; of = record {} }
 
 -- a builder with this strategy
-abbrev pub with_strategy : {T U X Y O : Type 0} {F : X → Type 0} {G : Y → Type 0} → BackpressureStrategy → PortFactoryPublisher T U (Handlers X Y F G) O → PortFactoryPublisher T U (Handlers X Y F G) O
-with_strategy strategy builder = record builder { settings = record builder.settings { strategy = strategy }; handlers = record builder.handlers { strategy = strategy } }
+abbrev pub with_strategy : {T U X Y O : Type 0} {F : X → Type 0} {G : Y → Type 0} → BackpressureStrategy
+    → PortFactoryPublisher T U (Handlers X Y F G) O → PortFactoryPublisher T U (Handlers X Y F G) O
+with_strategy strategy builder = record builder
+    { settings = record builder.settings { strategy = strategy }; handlers = record builder.handlers { strategy = strategy } }
 
 -- a builder where this one is asked where a connection failed
-abbrev pub with_degradation : {T U X Y O : Type 0} {F : X → Type 0} {G : Y → Type 0} → DegradationHandler Y G → PortFactoryPublisher T U (Handlers X Y F G) O → PortFactoryPublisher T U (Handlers X Y F G) O
+abbrev pub with_degradation : {T U X Y O : Type 0} {F : X → Type 0} {G : Y → Type 0} → DegradationHandler Y G
+    → PortFactoryPublisher T U (Handlers X Y F G) O → PortFactoryPublisher T U (Handlers X Y F G) O
 with_degradation handler builder = record builder { handlers = record builder.handlers { degradation = handler } }
 
 -- a builder where this one is asked at a full mailbox
-abbrev pub with_backpressure : {T U X Y O : Type 0} {F : X → Type 0} {G : Y → Type 0} → Option (BackpressureHandler X F) → PortFactoryPublisher T U (Handlers X Y F G) O → PortFactoryPublisher T U (Handlers X Y F G) O
+abbrev pub with_backpressure : {T U X Y O : Type 0} {F : X → Type 0} {G : Y → Type 0} → Option (BackpressureHandler X F)
+    → PortFactoryPublisher T U (Handlers X Y F G) O → PortFactoryPublisher T U (Handlers X Y F G) O
 with_backpressure handler builder = record builder { handlers = record builder.handlers { backpressure = handler } }
 
 -- the same settings with nobody asked
-abbrev pub cloned : {T U X Y Z : Type 0} {F : X → Type 0} {G : Y → Type 0} {K : Z → Type 0} → PortFactoryPublisher T U (Handlers X Y F G) (PreallocatedSamplesOverride Z K) → PortFactoryPublisher T U (Handlers X Y F G) (PreallocatedSamplesOverride Z K)
+abbrev pub cloned : {T U X Y Z : Type 0} {F : X → Type 0} {G : Y → Type 0} {K : Z → Type 0}
+    → PortFactoryPublisher T U (Handlers X Y F G) (PreallocatedSamplesOverride Z K)
+    → PortFactoryPublisher T U (Handlers X Y F G) (PreallocatedSamplesOverride Z K)
 cloned builder = record builder { handlers = nobody_named builder.settings.strategy; overriding = WorstCase }
 
 -- the same settings with a warning where a connection fails
-abbrev pub subscriber_cloned : {T U Y : Type 0} {G : Y → Type 0} → PortFactorySubscriber T U (DegradationHandler Y G) → PortFactorySubscriber T U (DegradationHandler Y G)
+abbrev pub subscriber_cloned : {T U Y : Type 0} {G : Y → Type 0} → PortFactorySubscriber T U (DegradationHandler Y G)
+    → PortFactorySubscriber T U (DegradationHandler Y G)
 subscriber_cloned builder = record builder { handler = Fixed Warn }
 
 -- what a publisher of single values is made with
 abbrev pub single_config : PortOwner → PublisherSettings → PublisherConfig
-single_config owner settings = record { owner = owner; max_loaned_samples = settings.max_loaned_samples; values = 1; unit = 1; allocation = Static }
+single_config owner settings = record
+    { owner = owner; max_loaned_samples = settings.max_loaned_samples; values = 1; unit = 1; allocation = Static }
 
 -- what a publisher of slices of elements of so many values is made with
 abbrev pub slice_config : PortOwner → ℕ → PublisherSettings → PublisherConfig
@@ -87,22 +97,28 @@ buffer_at settings None = 0
 buffer_at settings (Some ports) = allowed (buffer_of settings.buffer_size ports.sizes)
 
 -- the publisher that came, as a value
-abbrev pub publisher_of : {T U : Type 0} → DomainId → PublisherSettings → Result ℕ PublisherCreateError → Result (Publisher T U) PublisherCreateError
-publisher_of domain settings (Ok number) = Ok (record { port = record { domain = domain; number = number }; strategy = settings.strategy; of = record {} })
+abbrev pub publisher_of : {T U : Type 0} → DomainId → PublisherSettings → Result ℕ PublisherCreateError
+    → Result (Publisher T U) PublisherCreateError
+publisher_of domain settings (Ok number)
+    = Ok (record { port = record { domain = domain; number = number }; strategy = settings.strategy; of = record {} })
 publisher_of domain settings (Err error) = Err error
 
 -- the publisher of slices that came, as a value
-abbrev pub slice_publisher_of : {T U : Type 0} → DomainId → PublisherSettings → Result ℕ PublisherCreateError → Result (SlicePublisher T U) PublisherCreateError
+abbrev pub slice_publisher_of : {T U : Type 0} → DomainId → PublisherSettings → Result ℕ PublisherCreateError
+    → Result (SlicePublisher T U) PublisherCreateError
 slice_publisher_of domain settings (Ok number) =
     Ok (record { port = record { domain = domain; number = number }; strategy = settings.strategy; initial_max_slice_len = settings.initial_max_slice_len; of = record {} })
 slice_publisher_of domain settings (Err error) = Err error
 
 -- the subscriber that came, as a value
 abbrev pub subscriber_of : {T U : Type 0} → DomainId → ℕ → Result ℕ SubscriberCreateError → Result (Subscriber T U) SubscriberCreateError
-subscriber_of domain buffer_size (Ok number) = Ok (record { port = record { domain = domain; number = number }; buffer_size = buffer_size; of = record {} })
+subscriber_of domain buffer_size (Ok number)
+    = Ok (record { port = record { domain = domain; number = number }; buffer_size = buffer_size; of = record {} })
 subscriber_of domain buffer_size (Err error) = Err error
 
 -- the subscriber of slices that came, as a value
-abbrev pub slice_subscriber_of : {T U : Type 0} → DomainId → ℕ → Result ℕ SubscriberCreateError → Result (SliceSubscriber T U) SubscriberCreateError
-slice_subscriber_of domain buffer_size (Ok number) = Ok (record { port = record { domain = domain; number = number }; buffer_size = buffer_size; of = record {} })
+abbrev pub slice_subscriber_of : {T U : Type 0} → DomainId → ℕ → Result ℕ SubscriberCreateError
+    → Result (SliceSubscriber T U) SubscriberCreateError
+slice_subscriber_of domain buffer_size (Ok number)
+    = Ok (record { port = record { domain = domain; number = number }; buffer_size = buffer_size; of = record {} })
 slice_subscriber_of domain buffer_size (Err error) = Err error

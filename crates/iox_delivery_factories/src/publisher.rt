@@ -1,6 +1,6 @@
 //! What makes a publisher.
 ghost use Rattle.iox_domain.specs.Homes as homes;
-ghost use Rattle.std.specs.Prelude.{◌≡◌, ℕ, IsSome, Some, Result};
+ghost use Rattle.std.specs.Prelude.{◌≡◌, ℕ, IsSome, Some, Result, is_some};
 ghost use Rattle.iox_domain.specs.DomainValues.declared.degradation.DegradationCause.TheVariants.{FailedToEstablishConnection};
 ghost use Rattle.iox_domain.specs.AtHomes.{MakesAt};
 ghost use Rattle.iox_domain.specs.Steps.{PublisherComes, why_no_publisher};
@@ -121,6 +121,32 @@ impl<T, U> PortFactoryPublisher<T, U, Handlers, PreallocatedSamplesOverride> {
         self
     }
 
+    /// The same settings, for publishers that this one decides for in the place of handlers: so those of a hub of `Nobody`, too.
+    ///
+    /// This port's own.
+    /// Example: `builder.set_handlers(Nobody)`
+    pub fn set_handlers<B>(self, handlers: B) -> PortFactoryPublisher<T, U, B>
+        ensures { result ≡ record {
+          domain = self.domain;
+          owner = self.owner;
+          unit = self.unit;
+          settings = self.settings;
+          handlers = handlers;
+          overriding = self.overriding;
+          of = self.of;
+        } }
+    {
+        PortFactoryPublisher {
+            domain: self.domain,
+            owner: self.owner,
+            unit: self.unit,
+            settings: self.settings,
+            handlers,
+            overriding: self.overriding,
+            of: self.of,
+        }
+    }
+
     /// The same settings once more, with nobody asked: as many slots as are needed in the worst case, no handler at a full mailbox, and a
     /// warning where a connection fails.
     ///
@@ -151,6 +177,16 @@ impl<T: Copy, U: Copy + Default, B: Decides + Degrades, O: Overrides> PortFactor
     B,
     O,
 > {
+    /// Whether the home has the domain of the publisher: the condition of `create` and `create_slice`.
+    ///
+    /// This port's own.
+    /// Example: `let may = builder.holds(home);`
+    pub fn holds<H: Home<T, U, ForPublishers = B>>(&self, home: &H) -> bool
+        ensures { result ≡ is_some (homes.ports_of H.domain_of self.now.domain home.now) }
+    {
+        calls::ports(home, self.domain).is_some()
+    }
+
     /// Makes the publisher, of single values, in the home of its domain. It gets as many slots as it needs in the worst case, or fewer as
     /// the override answers, and is connected to the subscribers that are there; where a connection isn't made its handler is asked, and it
     /// comes nevertheless.

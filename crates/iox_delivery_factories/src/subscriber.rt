@@ -1,6 +1,6 @@
 //! What makes a subscriber.
 ghost use Rattle.iox_domain.specs.Homes as homes;
-ghost use Rattle.std.specs.Prelude.{◌≡◌, ℕ, IsSome, Some, Result};
+ghost use Rattle.std.specs.Prelude.{◌≡◌, ℕ, IsSome, Some, Result, is_some};
 ghost use Rattle.iox_domain.specs.DomainValues.declared.create_error.SubscriberCreateError.{SubscriberCreateError};
 ghost use Rattle.iox_domain.specs.DomainValues.declared.degradation.DegradationCause.TheVariants.{FailedToEstablishConnection};
 ghost use Rattle.iox_domain.specs.AtHomes.{MakesAt};
@@ -57,6 +57,28 @@ impl<T, U> PortFactorySubscriber<T, U, DegradationHandler> {
         self
     }
 
+    /// The same settings, for subscribers that this one decides for in the place of a handler.
+    ///
+    /// This port's own.
+    /// Example: `builder.set_handler(Nobody)`
+    pub fn set_handler<D>(self, handler: D) -> PortFactorySubscriber<T, U, D>
+        ensures { result ≡ record {
+          domain = self.domain;
+          owner = self.owner;
+          settings = self.settings;
+          handler = handler;
+          of = self.of;
+        } }
+    {
+        PortFactorySubscriber {
+            domain: self.domain,
+            owner: self.owner,
+            settings: self.settings,
+            handler,
+            of: self.of,
+        }
+    }
+
     /// The same settings once more, with a warning where a connection fails.
     ///
     /// Ported from `PortFactorySubscriber::__internal_partial_clone`, whose name stands for a macro's here.
@@ -75,6 +97,16 @@ impl<T, U> PortFactorySubscriber<T, U, DegradationHandler> {
 }
 
 impl<T: Copy, U: Copy, D: Degrades> PortFactorySubscriber<T, U, D> {
+    /// Whether the home has the domain of the subscriber: the condition of `create` and `create_slice`.
+    ///
+    /// This port's own.
+    /// Example: `let may = builder.holds(home);`
+    pub fn holds<H: Home<T, U, ForSubscribers = D>>(&self, home: &H) -> bool
+        ensures { result ≡ is_some (homes.ports_of H.domain_of self.now.domain home.now) }
+    {
+        calls::ports(home, self.domain).is_some()
+    }
+
     /// Makes the subscriber, of single values, in the home of its domain. It is connected to the publishers that are there; where a
     /// connection isn't made its handler is asked, and it comes nevertheless.
     ///
@@ -130,7 +162,8 @@ impl<T: Copy, U: Copy, D: Degrades> PortFactorySubscriber<T, U, D> {
         home: &mut H,
     ) -> Result<u64, SubscriberCreateError>
         requires { IsSome (homes.ports_of H.domain_of self.domain home.old) }
-        ensures { MakesAt (λ after. homes.with_ports H.changed self.domain after home.old) (λ number. homes.with_subscriber H.changed self.domain number self.handler)
+        ensures { MakesAt (λ after. homes.with_ports H.changed self.domain after home.old)
+            (λ number. homes.with_subscriber H.changed self.domain number self.handler)
             (SubscriberComes (D.degrades self.handler FailedToEstablishConnection) (subscriber_config self.owner self.settings)) (why_no_subscriber (subscriber_config self.owner self.settings))
             (homes.ports_of H.domain_of self.domain home.old) home.old (Some result) home.new }
     {

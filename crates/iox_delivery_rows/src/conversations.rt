@@ -1,8 +1,7 @@
 //! Messages of single values go from node to node.
 use crate::services::{CONFIG, Messages, Service, create, open, wanted};
-use iox_delivery::{Publisher, Sent, Subscriber};
+use iox_delivery::{Publisher, Sent, Subscriber, UpdateConnections};
 use iox_delivery_factories::{PortFactoryPublisher, PortFactorySubscriber};
-use iox_domain::calls;
 use iox_domain_values::{PublisherCreateError, SendError, SubscriberCreateError};
 use iox_hub_base::Hub;
 use std::alloc::Global;
@@ -15,9 +14,10 @@ fn publish(
     alloc: Global,
     hub: &mut Messages,
 ) -> Result<Publisher<u64, u8>, PublisherCreateError> {
-    match calls::ports(&*hub, builder.domain) {
-        Some(_) => builder.create(alloc, hub),
-        None => Err(PublisherCreateError::UnableToCreateDataSegment),
+    if builder.holds(hub) {
+        builder.create(alloc, hub)
+    } else {
+        Err(PublisherCreateError::UnableToCreateDataSegment)
     }
 }
 
@@ -27,9 +27,10 @@ fn subscribe(
     alloc: Global,
     hub: &mut Messages,
 ) -> Result<Subscriber<u64, u8>, SubscriberCreateError> {
-    match calls::ports(&*hub, builder.domain) {
-        Some(_) => builder.create(alloc, hub),
-        None => Err(SubscriberCreateError::OutOfMemory),
+    if builder.holds(hub) {
+        builder.create(alloc, hub)
+    } else {
+        Err(SubscriberCreateError::OutOfMemory)
     }
 }
 
@@ -191,7 +192,7 @@ const CALLS: [Call; 12] = [
     Call::Receives(Some(3)),
 ];
 
-// Each call must go so; then the publisher leaves.
+// Each call must go so. Another hub gives the publisher back, and at its own it leaves.
 fn go_on(
     rt: &impl Abort,
     alloc: Global,
@@ -205,12 +206,15 @@ fn go_on(
             "call {place}"
         );
     }
+    let Err(publisher) = publisher.drop_with(&mut Messages::new(alloc, CONFIG)) else {
+        panic!(rt; "it leaves another hub");
+    };
     assert!(rt; publisher.holds(hub));
     assert!(rt; !publisher.is_blocked(hub));
     publisher.leave(hub);
 }
 
-// Whether ports that builders make understand one another; then the subscriber leaves.
+// Whether ports that builders make understand one another. Another hub gives the subscriber back, and at its own it leaves.
 fn understand(
     rt: &impl Abort,
     alloc: Global,
@@ -224,6 +228,9 @@ fn understand(
     if let Ok(publisher) = publisher {
         go_on(rt, alloc, hub, publisher, &subscriber);
     }
+    let Err(subscriber) = subscriber.drop_with(&mut Messages::new(alloc, CONFIG)) else {
+        panic!(rt; "it leaves another hub");
+    };
     assert!(rt; subscriber.holds(hub));
     subscriber.leave(hub);
     wanted(made, "a publisher comes")

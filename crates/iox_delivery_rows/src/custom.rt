@@ -1,6 +1,6 @@
 //! Ports of a payload that only the description says.
-use iox_delivery::Sent;
-use iox_delivery::slices::{Publisher, SampleMut, SampleMutUninit, Subscriber};
+use iox_delivery::slices::{Publisher, SampleMutUninit, Subscriber};
+use iox_delivery::{BlockedSend, Sent, UpdateConnections};
 use iox_delivery_factories::{publisher_builder, subscriber_builder};
 use iox_describe_base::{
     AttributeSpecifier, Header, MessageTypeDetails, ServiceName, TypeDetail, TypeVariant,
@@ -10,7 +10,7 @@ use iox_describe_settings::{Description, Settings};
 use iox_domain::settings::{CustomHeaderMarker, CustomPayloadMarker};
 use iox_domain::{Domain, DomainId, Home, calls};
 use iox_domain_values::{
-    AllocationStrategy, LoanError, PublisherCreateError, SubscriberCreateError,
+    AllocationStrategy, LoanError, PublisherCreateError, SendError, SubscriberCreateError,
 };
 use std::alloc::Global;
 use std::process::Abort;
@@ -24,12 +24,14 @@ type Byte = CustomPayloadMarker;
 // A user header that isn't reached.
 type Any = CustomHeaderMarker;
 
-// A service of slices, whose elements have so many bytes.
+// A service of slices, whose elements have so many bytes. A full mailbox holds a send up.
 fn described(size: u64) -> Option<Description> {
     let name = ServiceName::new(b"A").ok()?;
     let mut types = MessageTypeDetails::from::<Header, u16, u64>(TypeVariant::Dynamic);
     types.payload = TypeDetail::new(TypeVariant::Dynamic, b"Element", size, 1).ok()?;
-    let settings = Settings::PublishSubscribe(StaticConfig::new(types));
+    let mut agreed = StaticConfig::new(types);
+    agreed.enable_safe_overflow = false;
+    let settings = Settings::PublishSubscribe(agreed);
     Some(Description::new(name, settings, AttributeSpecifier::new()))
 }
 
@@ -62,9 +64,10 @@ fn publish(alloc: Global, domain: &mut Domain<Byte, Any>, case: &Case) -> Made {
     if let Some(first) = case.first {
         builder = builder.initial_max_slice_len(first);
     }
-    match calls::ports(&*domain, builder.domain) {
-        Some(_) => builder.create_slice(alloc, domain),
-        None => Err(PublisherCreateError::ExceedsMaxSupportedPublishers),
+    if builder.holds(domain) {
+        builder.create_slice(alloc, domain)
+    } else {
+        Err(PublisherCreateError::ExceedsMaxSupportedPublishers)
     }
 }
 
@@ -74,9 +77,10 @@ fn subscribe(
     domain: &mut Domain<Byte, Any>,
 ) -> Result<Subscriber<Byte, Any>, SubscriberCreateError> {
     let builder = subscriber_builder(domain, 4, 3);
-    match calls::ports(&*domain, builder.domain) {
-        Some(_) => builder.create_slice(alloc, domain),
-        None => Err(SubscriberCreateError::OutOfMemory),
+    if builder.holds(domain) {
+        builder.create_slice(alloc, domain)
+    } else {
+        Err(SubscriberCreateError::OutOfMemory)
     }
 }
 
@@ -128,16 +132,31 @@ fn room(domain: &Domain<Byte, Any>, publisher: &Publisher<Byte, Any>) -> Option<
     Some(publisher.sender.room())
 }
 
-// Whether one connection takes what was written.
-fn is_delivered(
+// Sends so many elements, of bytes that are all 7.
+fn send(
     rt: &impl Abort,
     alloc: Global,
     domain: &mut Domain<Byte, Any>,
-    sample: SampleMut<Byte, Any>,
-) -> bool {
+    publisher: &Publisher<Byte, Any>,
+    len: usize,
+) -> Result<Sent<Byte, Any>, SendError> {
+    let loan = lends(rt, alloc, domain, publisher, len)?;
+    assert!(rt; loan.holds(domain));
+    let sample = loan.write_from_fn(domain, &mut |_: usize| CustomPayloadMarker { byte: 7 });
     assert!(rt; sample.holds(domain));
     assert!(rt; !sample.is_blocked(domain));
-    match sample.send(alloc, domain) {
+    sample.send(alloc, domain)
+}
+
+// Whether one connection takes so many elements.
+fn sends(
+    rt: &impl Abort,
+    alloc: Global,
+    domain: &mut Domain<Byte, Any>,
+    publisher: &Publisher<Byte, Any>,
+    len: usize,
+) -> bool {
+    match send(rt, alloc, domain, publisher, len) {
         Ok(Sent::Delivered(delivered)) => delivered == 1,
         Ok(Sent::Blocked(blocked)) => {
             blocked.drop_with(domain);
@@ -147,20 +166,43 @@ fn is_delivered(
     }
 }
 
-// Whether one connection takes so many elements, of bytes that are all 7.
-fn sends(
+// The send that waits behind two messages, which are all that a mailbox holds.
+fn waits(
     rt: &impl Abort,
     alloc: Global,
     domain: &mut Domain<Byte, Any>,
     publisher: &Publisher<Byte, Any>,
-    len: usize,
-) -> bool {
-    let Ok(loan) = lends(rt, alloc, domain, publisher, len) else {
-        return false;
+) -> BlockedSend<Byte, Any> {
+    for _ in 0..3 {
+        match send(rt, alloc, domain, publisher, 0) {
+            Ok(Sent::Delivered(delivered)) => assert!(rt; delivered == 1),
+            Ok(Sent::Blocked(blocked)) => return blocked,
+            Err(error) => panic!(rt; "it isn't sent: {error:?}"),
+        }
+    }
+    panic!(rt; "three are taken");
+}
+
+// A publisher that is let go while its send waits is given back, and leaves once that was given up.
+fn leave(
+    rt: &impl Abort,
+    alloc: Global,
+    domain: &mut Domain<Byte, Any>,
+    publisher: Publisher<Byte, Any>,
+    subscriber: &Subscriber<Byte, Any>,
+) {
+    // A full mailbox holds up only where its subscriber knows it.
+    assert!(rt; subscriber.holds(domain));
+    assert!(rt; subscriber.update_connections(alloc, domain) == Ok(()));
+    let blocked = waits(rt, alloc, domain, &publisher);
+    let Err(publisher) = publisher.drop_with(domain) else {
+        panic!(rt; "it left while its send waits");
     };
-    assert!(rt; loan.holds(domain));
-    let sample = loan.write_from_fn(domain, &mut |_: usize| CustomPayloadMarker { byte: 7 });
-    is_delivered(rt, alloc, domain, sample)
+    assert!(rt; blocked.drop_with(domain) == Some(0));
+    if let Err(publisher) = publisher.drop_with(domain) {
+        let _ = publisher.into_port();
+        panic!(rt; "it is given back though nothing waits");
+    }
 }
 
 // How many elements and bytes are received, where the last byte is 7 or there is none; they are released.
@@ -201,7 +243,7 @@ fn goes(
     }
 }
 
-// Each call must go so; then the publisher leaves.
+// Each call must go so; then the publisher leaves, though its send waits.
 fn go_on(
     rt: &impl Abort,
     alloc: Global,
@@ -217,9 +259,7 @@ fn go_on(
             case.size
         );
     }
-    assert!(rt; publisher.holds(domain));
-    assert!(rt; !publisher.is_blocked(domain));
-    publisher.leave(domain);
+    leave(rt, alloc, domain, publisher, subscriber);
 }
 
 // Whether a publisher comes and each call goes so, or it is refused so.
@@ -248,9 +288,13 @@ fn go(rt: &impl Abort, alloc: Global, case: &Case) -> bool {
         return false;
     };
     let gone = converse(rt, alloc, &mut domain, &subscriber, case);
-    assert!(rt; subscriber.holds(&domain));
-    subscriber.leave(&mut domain);
-    gone
+    match subscriber.drop_with(&mut domain) {
+        Ok(()) => gone,
+        Err(subscriber) => {
+            let _ = subscriber.into_port();
+            false
+        }
+    }
 }
 
 const STATIC: AllocationStrategy = AllocationStrategy::Static;
@@ -407,6 +451,7 @@ const ENDS: Case = Case {
         Call::Room(8),
         Call::Lends(usize::MAX, Err(LoanError::OutOfMemory)),
         Call::Room(8),
+        Call::Sends(1, 8),
     ],
 };
 

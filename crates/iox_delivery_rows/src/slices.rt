@@ -1,14 +1,19 @@
 //! Messages of slices go from node to node.
+ghost use Rattle.std.specs.Prelude.{◌≤◌};
+
 use crate::services::{CONFIG, Messages, Service, create, wanted};
 use iox_delivery::Sent;
 use iox_delivery::slices::{Publisher, SampleMut, Subscriber};
 use iox_delivery_factories::{PortFactoryPublisher, PortFactorySubscriber};
 use iox_describe::Header;
-use iox_domain::calls;
-use iox_domain_values::{LoanError, PublisherCreateError, SendError, SubscriberCreateError};
+use iox_domain_values::{
+    LoanError, PreallocatedSamplesFn, PreallocatedSamplesOverride, PublisherCreateError, SendError,
+    SubscriberCreateError,
+};
 use iox_hub_base::Hub;
 use iox_negotiate::Slice;
 use std::alloc::Global;
+use std::cell::Cell;
 use std::process::Abort;
 use std::test::Fail;
 
@@ -18,16 +23,50 @@ const LENGTHS: [usize; 6] = [0, 1, 2, 7, 64, 1000];
 // As many values as any slice has.
 const SEVENS: [u64; 1000] = [7; 1000];
 
+// Keeps the number of places the first time that it is asked, and answers one place after that.
+#[derive(Drop)]
+struct KeptOnce {
+    is_asked: Cell<bool>,
+}
+
+impl PreallocatedSamplesFn for KeptOnce {
+    ghost allows = { λ _ worst_case answer. answer ≤ worst_case };
+
+    fn call(&self, worst_case: usize) -> usize {
+        let was_asked = self.is_asked.get();
+        self.is_asked.set(true);
+        if was_asked {
+            worst_case.min(1)
+        } else {
+            worst_case
+        }
+    }
+}
+
+// Who decides once how many slots a publisher gets.
+fn kept_once(alloc: Global) -> Result<PreallocatedSamplesOverride, PublisherCreateError> {
+    let is_asked = Cell::new(false);
+    match Box::new(alloc, KeptOnce { is_asked }) {
+        Ok(object) => Ok(PreallocatedSamplesOverride::boxed(object)),
+        Err(_) => Err(PublisherCreateError::UnableToCreateDataSegment),
+    }
+}
+
 // A publisher of slices of so many values at first.
 fn publish(
     builder: PortFactoryPublisher<u64, u8>,
     alloc: Global,
     hub: &mut Messages,
+    overriding: PreallocatedSamplesOverride,
     len: usize,
 ) -> Result<Publisher<u64, u8>, PublisherCreateError> {
-    match calls::ports(&*hub, builder.domain) {
-        Some(_) => builder.initial_max_slice_len(len).create_slice(alloc, hub),
-        None => Err(PublisherCreateError::ExceedsMaxSupportedPublishers),
+    let builder = builder
+        .override_sample_preallocation(overriding)
+        .initial_max_slice_len(len);
+    if builder.holds(hub) {
+        builder.create_slice(alloc, hub)
+    } else {
+        Err(PublisherCreateError::ExceedsMaxSupportedPublishers)
     }
 }
 
@@ -37,9 +76,10 @@ fn subscribe(
     alloc: Global,
     hub: &mut Messages,
 ) -> Result<Subscriber<u64, u8>, SubscriberCreateError> {
-    match calls::ports(&*hub, builder.domain) {
-        Some(_) => builder.create_slice(alloc, hub),
-        None => Err(SubscriberCreateError::OutOfMemory),
+    if builder.holds(hub) {
+        builder.create_slice(alloc, hub)
+    } else {
+        Err(SubscriberCreateError::OutOfMemory)
     }
 }
 
@@ -182,7 +222,10 @@ fn is_heard(
     let Some(builder) = hub.publisher_builder(service) else {
         return false;
     };
-    let Ok(publisher) = publish(builder, alloc, hub, len) else {
+    let Ok(overriding) = kept_once(alloc) else {
+        return false;
+    };
+    let Ok(publisher) = publish(builder, alloc, hub, overriding, len) else {
         return false;
     };
     are_sent(rt, alloc, hub, &publisher, len);

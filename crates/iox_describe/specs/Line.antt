@@ -63,7 +63,8 @@ value_tree (Types t) = types_tree t
 -- the settings of a list, each under its key
 abbrev pub settings_members : {S C : Type 0} → (S → List ℕ) → (S → C → SettingValue) → List S → C → Members
 settings_members key value [] config = no_members
-settings_members key value (setting ∷ more) config = member (key setting) (value_tree (value setting config)) (settings_members key value more config)
+settings_members key value (setting ∷ more) config
+    = member (key setting) (value_tree (value setting config)) (settings_members key value more config)
 
 -- the settings of any pattern
 abbrev pub settings_tree : Settings → Data

@@ -12,7 +12,8 @@ use Rattle.iox_describe.specs.Line.{value_tree}
 -- each setting of a list is found under its key
 abbrev pub AreFound : {S C : Type 0} → (S → List ℕ) → (S → C → SettingValue) → List S → C → Data → Type 0
 AreFound key value [] target d = Unit {0}
-AreFound key value (setting ∷ more) target d = (get (key setting) d ≡ Some (value_tree (value setting target))) × AreFound key value more target d
+AreFound key value (setting ∷ more) target d = (get (key setting) d ≡ Some (value_tree (value setting target)))
+    × AreFound key value more target d
 
 -- a line has no attribute that is outside the limits, or there was no memory
 abbrev pub description_error : AttributeError → DescriptionError

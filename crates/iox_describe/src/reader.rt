@@ -38,13 +38,14 @@ const MAX_LINE_LENGTH: usize = 32_768;
 /// The description that the bytes spell.
 ///
 /// It is the one within the limits for which `encode` writes just these bytes. `Invalid` exactly if there
-/// is none. `OutOfMemory` where there was no memory.
+/// is none, and so wherever there are more than 32,768 bytes. `OutOfMemory` where there was no memory.
 pub fn decode(alloc: Global, bytes: &[u8]) -> Result<Description, DescriptionError>
     ensures spelled { IfOk result (λ description. bytes.now ≡ line description) }
     ensures within { IfOk result (λ description. IsWithinLimits description) }
     ensures read { (description : Agreement) → IsWithinLimits description → bytes.now ≡ line description
         → (result ≡ Ok description) ⊎ (result ≡ Err OutOfMemory) }
     ensures invalid { result ≡ Err Invalid → (description : Agreement) → IsWithinLimits description → bytes.now ≡ line description → ⊥ }
+    ensures longer { 32_768 < length bytes.now → result ≡ Err Invalid }
 {
     if bytes.len() > MAX_LINE_LENGTH {
         return Err(DescriptionError::Invalid);
@@ -120,7 +121,8 @@ fn attributes_of(alloc: Global, value: &Value) -> Result<AttributeSpecifier, Des
 
 /// The one description of these attributes whose JSON this may be.
 fn candidate(attributes: AttributeSpecifier, value: &Value) -> Option<Description>
-    ensures { (description : Agreement) → IsWithinLimits description → attributes ≡ description.attributes → view value.now ≡ tree description
+    ensures { (description : Agreement) → IsWithinLimits description → attributes ≡ description.attributes
+        → view value.now ≡ tree description
         → result ≡ Some description }
 {
     let name = ServiceName::new(text_at(value, "name")?.as_bytes()).ok()?;
@@ -184,7 +186,8 @@ fn define(
 /// The text at a place of a list.
 fn text_of(value: &Value, place: usize) -> Option<&str>
     ensures first { (pair : Attribute) → view value.now ≡ attribute_tree pair → place ≡ 0 → IsSomeAnd result (λ text. text.now ≡ pair.key) }
-    ensures second { (pair : Attribute) → view value.now ≡ attribute_tree pair → place ≡ 1 → IsSomeAnd result (λ text. text.now ≡ pair.value) }
+    ensures second { (pair : Attribute) → view value.now ≡ attribute_tree pair → place ≡ 1
+        → IsSomeAnd result (λ text. text.now ≡ pair.value) }
 {
     value.get(place)?.as_str()
 }
@@ -231,7 +234,8 @@ fn filled<S: PatternSetting>(config: S::Config, value: &Value) -> Option<S::Conf
 
 /// Sets a setting to what it is in the JSON.
 fn set<S: PatternSetting>(setting: S, config: &mut S::Config, value: &Value) -> Option<()>
-    ensures { (target : S.Config) → IsValue (S.value setting target) → get (S.key setting) (view value.now) ≡ Some (value_tree (S.value setting target))
+    ensures { (target : S.Config) → IsValue (S.value setting target)
+        → get (S.key setting) (view value.now) ≡ Some (value_tree (S.value setting target))
         → (result ≡ Some tt) × (config.new ≡ S.changed setting (S.value setting target) config.old) }
 {
     let value = setting_value(setting.rule(), value.get(setting.key())?)?;

@@ -15,7 +15,8 @@ same_variant Dynamic Dynamic = true
 
 -- whether two details are one
 abbrev pub same_detail : Detail → Detail → Bool
-same_detail a b = same_variant a.variant b.variant && (pointwise nat_eq a.name b.name && ((a.size == b.size) && (a.alignment == b.alignment)))
+same_detail a b = same_variant a.variant b.variant
+    && (pointwise nat_eq a.name b.name && ((a.size == b.size) && (a.alignment == b.alignment)))
 
 -- whether what is asked fits what is given: all is equal, but for the payload's alignment, of which
 -- at most the given one is asked

@@ -48,7 +48,8 @@ impl AttributeVerifier {
     /// more than 64, the value more than 256, or if a byte of either lies outside 1..=127; else with `OutOfMemory` if it is
     /// the first pair and an allocation fails.
     pub fn require(&mut self, alloc: Global, key: &[u8], value: &[u8]) -> Result<(), AttributeError>
-        ensures answer { AnswersOneMore ((length self.old.pairs < 8) × IsText 1 64 key.now × IsText 0 256 value.now) (self.old.pairs ≡ []) result }
+        ensures answer { AnswersOneMore ((length self.old.pairs < 8) × IsText 1 64 key.now
+            × IsText 0 256 value.now) (self.old.pairs ≡ []) result }
         ensures ok { OnOk result (self.new ≡ required (self.old.pairs ++ attribute key.now value.now ∷ []) self.old.keys) }
         ensures err { OnErr result (self.new ≡ self.old) }
     {

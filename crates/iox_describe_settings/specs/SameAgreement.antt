@@ -79,7 +79,8 @@ values (Types a) (OptionalNumber b) = (λ e. absurd cc, λ e. absurd cc)
 values (Types a) (Types b) = (λ e. ap Types ((types a b).0 e), λ e. (types a b).1 (let k : a ≡ b = cc in k))
 
 -- where each setting is the same, filling from one or the other is the same
-fills : {S C : Type 0} (value : S → C → SettingValue) (changed : S → SettingValue → C → C) (all : List S) (a b c : C) → all_same value all a b ≡ true → filled value changed all a c ≡ filled value changed all b c
+fills : {S C : Type 0} (value : S → C → SettingValue) (changed : S → SettingValue → C → C) (all : List S) (a b c : C)
+    → all_same value all a b ≡ true → filled value changed all a c ≡ filled value changed all b c
 fills value changed [] a b c e = refl
 fills value changed (s ∷ more) a b c e =
     let here = (values (value s a) (value s b)).0 (first_so (same_value (value s a) (value s b)) (all_same value more a b) e) in
@@ -94,7 +95,8 @@ all_same-itself value (s ∷ more) a =
     λ i. p i && q i
 
 -- settings of which each is the same are one, where the list is whole
-configs : {S C : Type 0} (value : S → C → SettingValue) (changed : S → SettingValue → C → C) (all : List S) → ((target config : C) → filled value changed all target config ≡ target)
+configs : {S C : Type 0} (value : S → C → SettingValue) (changed : S → SettingValue → C → C) (all : List S)
+    → ((target config : C) → filled value changed all target config ≡ target)
     → (a b : C) → Decides (all_same value all a b) (a ≡ b)
 configs value changed all whole a b = (
   λ e. sym (whole a a) ∙ fills value changed all a b a e ∙ whole b a,
@@ -121,7 +123,8 @@ same_settings_decides (Event a) (Event b) =
 pub same_settings_laws : IsEquivalence same_settings
 same_settings_laws = decided same_settings same_settings_decides
 
-same_parts : (a b : Agreement) → a.name ≡ b.name → a.service_hash.digest ≡ b.service_hash.digest → a.settings ≡ b.settings → a.attributes ≡ b.attributes → a ≡ b
+same_parts : (a b : Agreement) → a.name ≡ b.name → a.service_hash.digest ≡ b.service_hash.digest → a.settings ≡ b.settings
+    → a.attributes ≡ b.attributes → a ≡ b
 same_parts a b p q r s = λ i. record { name = p i; service_hash = record { digest = q i }; settings = r i; attributes = s i }
 
 pub same_agreement_decides : (a b : Agreement) → Decides (same_agreement a b) (a ≡ b)

@@ -84,7 +84,8 @@ defaulted rule changed (setting ∷ more) config = defaulted rule changed more (
 -- what becomes of settings when each number of a list is raised to the least that can serve
 abbrev pub adjusted : {S C : Type 0} → (S → Rule) → (S → C → SettingValue) → (S → SettingValue → C → C) → List S → C → C
 adjusted rule value changed [] config = config
-adjusted rule value changed (setting ∷ more) config = adjusted rule value changed more (changed setting (adjusted_value (rule setting) (value setting config)) config)
+adjusted rule value changed (setting ∷ more) config
+    = adjusted rule value changed more (changed setting (adjusted_value (rule setting) (value setting config)) config)
 
 -- each number of a list lies between its ends
 abbrev pub AreAllowed : {S C : Type 0} → (S → Rule) → (S → C → SettingValue) → List S → C → Type 0

@@ -13,7 +13,8 @@ use Rattle.iox_describe_verdict.specs.Verdict.{first_unmet, unmet_clause}
 use Rattle.iox_describe_verdict.specs.EventClauses.{clauses_on, clauses_of, named, IsWeaker}
 use Rattle.iox_describe_verdict.specs.VerdictLemmas.{attributes, met, setting, step}
 
-on : (weak strong : Requirement) (given : List Attribute) (c : StaticConfig) → IsWeaker weak strong → first_unmet (clauses_on strong given c) ≡ met → first_unmet (clauses_on weak given c) ≡ met
+on : (weak strong : Requirement) (given : List Attribute) (c : StaticConfig) → IsWeaker weak strong
+    → first_unmet (clauses_on strong given c) ≡ met → first_unmet (clauses_on weak given c) ≡ met
 on weak strong given c h =
     step _ _ _ _ _ (attributes weak.attributes strong.attributes given h.attributes)
     (step _ _ _ _ _ (setting (named Deadline weak) (named Deadline strong) (value Deadline c) (h.settings Deadline))
@@ -26,13 +27,15 @@ on weak strong given c h =
     (step _ _ _ _ _ (setting (named MaxNodes weak) (named MaxNodes strong) (value MaxNodes c) (h.settings MaxNodes))
     (λ e. e)))))))))
 
-pub weaker : (weak strong : Requirement) (given : List Attribute) (settings : Settings) → IsWeaker weak strong → first_unmet (clauses_of strong given settings) ≡ met → first_unmet (clauses_of weak given settings) ≡ met
+pub weaker : (weak strong : Requirement) (given : List Attribute) (settings : Settings) → IsWeaker weak strong
+    → first_unmet (clauses_of strong given settings) ≡ met → first_unmet (clauses_of weak given settings) ≡ met
 weaker weak strong given (RequestResponse c) h e = e
 weaker weak strong given (PublishSubscribe c) h e = e
 weaker weak strong given (Event c) h e = step _ _ _ _ _ (λ met. met) (on weak strong given c h) e
 
 -- only a service of the pattern meets a requirement
-pub met_is_of_pattern : (r : Requirement) (given : List Attribute) (settings : Settings) → first_unmet (clauses_of r given settings) ≡ met → IsSome (event_of settings)
+pub met_is_of_pattern : (r : Requirement) (given : List Attribute) (settings : Settings)
+    → first_unmet (clauses_of r given settings) ≡ met → IsSome (event_of settings)
 unfolding unmet_clause
 met_is_of_pattern r given (RequestResponse c) h = absurd cc
 met_is_of_pattern r given (PublishSubscribe c) h = absurd cc

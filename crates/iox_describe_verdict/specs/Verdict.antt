@@ -70,7 +70,8 @@ number_is_of_kind (rule.Number range) h (Some n) = tt
 number_is_of_kind (rule.OptionalNumber default) h (Some n) = h
 number_is_of_kind rule.Types h (Some n) = h
 
-pub optional_number_is_of_kind : (r : Rule) → IsOfKind r (OptionalNumber None) → (o : Option (Option ℕ)) → IfSome (option_map OptionalNumber o) (IsOfKind r)
+pub optional_number_is_of_kind : (r : Rule) → IsOfKind r (OptionalNumber None) → (o : Option (Option ℕ))
+    → IfSome (option_map OptionalNumber o) (IsOfKind r)
 optional_number_is_of_kind r h None = tt
 optional_number_is_of_kind (rule.Switch default) h (Some n) = h
 optional_number_is_of_kind (rule.Number range) h (Some n) = h

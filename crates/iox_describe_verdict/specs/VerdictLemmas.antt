@@ -15,7 +15,8 @@ abbrev pub met : {E : Type 0} → Result (Unit {0}) E
 met = Ok tt
 
 -- one clause after another
-pub step : {E : Type 0} (b c : Bool) (e : E) (cs ds : List (Bool × E)) → (b ≡ true → c ≡ true) → (first_unmet cs ≡ met → first_unmet ds ≡ met)
+pub step : {E : Type 0} (b c : Bool) (e : E) (cs ds : List (Bool × E)) → (b ≡ true → c ≡ true)
+    → (first_unmet cs ≡ met → first_unmet ds ≡ met)
     → first_unmet ((b, e) ∷ cs) ≡ met → first_unmet ((c, e) ∷ ds) ≡ met
 unfolding unmet_clause
 step true true e cs ds f g h = g h
@@ -50,7 +51,8 @@ as_asked (Types a) (Types b) (Number g) h e = absurd cc
 as_asked (Types a) (Types b) (OptionalNumber g) h e = absurd cc
 as_asked (Types a) (Types b) (Types g) h e = compatible-chain a b g h e
 
-pub setting : (weak strong : Option SettingValue) (given : SettingValue) → AsksLess weak strong → is_met strong given ≡ true → is_met weak given ≡ true
+pub setting : (weak strong : Option SettingValue) (given : SettingValue) → AsksLess weak strong → is_met strong given ≡ true
+    → is_met weak given ≡ true
 setting None strong given h e = refl
 setting (Some w) None given h e = absurd h
 setting (Some w) (Some s) given h e = as_asked w s given h e
@@ -94,7 +96,8 @@ no-pair-from None None e f = refl
 no-pair-from None (Some k) e f = absurd cc
 no-pair-from (Some a) k e f = absurd cc
 
-pub attributes : (weak strong : Required) (given : List Attribute) → IsFewer weak strong → has_required strong given ≡ true → has_required weak given ≡ true
+pub attributes : (weak strong : Required) (given : List Attribute) → IsFewer weak strong → has_required strong given ≡ true
+    → has_required weak given ≡ true
 attributes weak strong given h e =
     let n = no-pair (unmet_pair strong.pairs given) (unmet_lone_key strong.keys given) e in
     no-pair-from (unmet_pair weak.pairs given) (unmet_lone_key weak.keys given)

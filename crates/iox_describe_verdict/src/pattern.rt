@@ -119,13 +119,16 @@ pub trait Pattern {
     ghost limits_are_those_of_descriptions: { (config : Self.StaticConfig) → IsWithinLimits config ↔ AreWithinLimits (settings config) };
 
     // within the limits there is a node, and there are fewer than 2^24
-    ghost has_nodes: { (config : Self.StaticConfig) → IsWithinLimits config → (1 ≤ max_nodes_of (settings config)) × (max_nodes_of (settings config) < 2 ^ 24) };
+    ghost has_nodes: { (config : Self.StaticConfig) → IsWithinLimits config → (1 ≤ max_nodes_of (settings config))
+        × (max_nodes_of (settings config) < 2 ^ 24) };
 
     // only a service of the pattern meets a requirement
-    ghost met_is_of_pattern: { (requirement : Self.Requirement) (a : Agreement) → verdict requirement a ≡ Ok tt → IsSome (static_config a.settings) };
+    ghost met_is_of_pattern: { (requirement : Self.Requirement) (a : Agreement) → verdict requirement a ≡ Ok tt
+        → IsSome (static_config a.settings) };
 
     // a service that meets a requirement meets every weaker one
-    ghost weaker_is_met: { (weak strong : Self.Requirement) (a : Agreement) → IsWeaker weak strong → verdict strong a ≡ Ok tt → verdict weak a ≡ Ok tt };
+    ghost weaker_is_met: { (weak strong : Self.Requirement) (a : Agreement) → IsWeaker weak strong → verdict strong a ≡ Ok tt
+        → verdict weak a ≡ Ok tt };
 }
 
 /// The description of a service of the pattern, with the hash that belongs to the pattern and the name.

@@ -36,7 +36,8 @@ trait RequiredSetting: PatternSetting {
         ensures { result ≡ error self };
 
     // what is asked is of the setting's kind
-    ghost named_is_of_kind: { (setting : Self) (requirement : Self.Requirement) → IfSome (named setting requirement) (IsOfKind (Self.rule setting)) };
+    ghost named_is_of_kind: { (setting : Self) (requirement : Self.Requirement)
+        → IfSome (named setting requirement) (IsOfKind (Self.rule setting)) };
 }
 
 /// The same settings, but that each one that is named is as it was asked.
@@ -59,7 +60,9 @@ fn first_unmet<S: RequiredSetting>(
     requirement: &S::Requirement,
     given: &S::Config,
 ) -> Result<(), S::ClauseError>
-    ensures { (clauses : List (Bool × S.ClauseError)) → AreSame S.ClauseError.cmp (attributes ∷ map (λ setting. (is_met (S.named setting requirement.now) (S.value setting given.now), S.error setting)) S.all) clauses
+    ensures { (clauses : List (Bool × S.ClauseError))
+        → AreSame S.ClauseError.cmp (attributes
+        ∷ map (λ setting. (is_met (S.named setting requirement.now) (S.value setting given.now), S.error setting)) S.all) clauses
         → rise S.ClauseError.cmp clauses ≡ true → result ≡ first_unmet clauses }
 {
     match earliest_unmet::<S>(error_of_unmet(attributes), requirement, given) {
@@ -81,7 +84,8 @@ fn earliest_unmet<S: RequiredSetting>(
     requirement: &S::Requirement,
     given: &S::Config,
 ) -> Option<S::ClauseError>
-    ensures { result ≡ earliest S.ClauseError.cmp before (map (λ setting. (is_met (S.named setting requirement.now) (S.value setting given.now), S.error setting)) S.all) }
+    ensures { result ≡ earliest S.ClauseError.cmp before
+        (map (λ setting. (is_met (S.named setting requirement.now) (S.value setting given.now), S.error setting)) S.all) }
 {
     let mut first = before;
     for setting in S::all() {

@@ -20,8 +20,8 @@ use Rattle.iox_domain.proofs.PortLawsParts.{part_first, part_nothing}
 use Rattle.iox_domain.proofs.TiedWell.{MadeAt, connects_made, ok_same, found_leads, gone_there}
 use Rattle.iox_domain.proofs.WellKept.{left_leads, settled_goes}
 
--- A publisher is as far as it was; the connection, if it is there, was there and as much waits, or it is new; and it goes only where the publisher
--- left.
+-- A publisher is as far as it was; the connection, if it is there, was there and as much waits, or it is new; and it goes only
+-- where the publisher left.
 pub record Steady {T U : Type 0} (index subscriber : ℕ) (old new : PublisherPort T U) : Type 0 where
   pub sending : new.sender.uses.sending ≡ old.sender.uses.sending
   pub history : new.sender.uses.history ≡ old.sender.uses.history

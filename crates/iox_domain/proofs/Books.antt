@@ -15,8 +15,9 @@ use Rattle.iox_domain.specs.Order.{IsPartOf, leads_at}
 use Rattle.iox_domain.proofs.Once.{Gone, delivers_got}
 use Rattle.iox_domain.proofs.PortLawsParts.{part_same, part_on, part_behind, part_last, part_within, part_drop, before_last}
 
--- What holds of a publisher that sent so much, and of the connection of an index that leads to a subscriber, from which so much was taken. What
--- was taken and what waits is part of what was sent, of all but the last while that is still to come there, and nothing before it is tied.
+-- What holds of a publisher that sent so much, and of the connection of an index that leads to a subscriber, from which so much
+-- was taken. What was taken and what waits is part of what was sent, of all but the last while that is still to come there, and
+-- nothing before it is tied.
 pub record Books {T U : Type 0} (index subscriber : ℕ) (sent taken : List (Message T U)) (port : PublisherPort T U) : Type 0 where
   pub history : IsPartOf port.sender.uses.history sent
   pub last : (message : Message T U) → port.sender.uses.sending ≡ Some message → (before : List (Message T U)) × (sent ≡ before ++ message ∷ [])

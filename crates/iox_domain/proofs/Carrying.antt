@@ -32,8 +32,8 @@ use Rattle.iox_domain.specs.SizeLaws.{made_for}
 use Rattle.iox_domain.specs.PortsPublishing as publishing
 use Rattle.std.proofs.lemmas.List.{length-drop}
 
--- What holds from a publisher before each such step to it after the step, and from step to step: where no connection, tie, reader or size changes,
--- and where other messages wait at a connection that goes on, no more than may.
+-- What holds from a publisher before each such step to it after the step, and from step to step: where no connection, tie, reader
+-- or size changes, and where other messages wait at a connection that goes on, no more than may.
 pub record Carries {T U : Type 0} (R : PublisherPort T U → PublisherPort T U → Type 0) : Type 0 where
   pub is : (old new : PublisherPort T U) → new ≡ old → R old new
   pub on : (old between new : PublisherPort T U) → R old between → R between new → R old new

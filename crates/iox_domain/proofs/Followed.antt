@@ -26,8 +26,8 @@ use Rattle.iox_domain.proofs.TiedWell.{MadeAt, connects_made, leads_both, gone_t
 abbrev IsUnlisted : List (Option (Member SubscriberEntry)) → ℕ → Type 0
 IsUnlisted places subscriber = (place : ℕ) (member : Member SubscriberEntry) → get_or places place None ≡ Some member → member.value.subscriber ≢ subscriber
 
--- What holds of a publisher at which no send waits, and of a connection, in the middle of an update: where it isn't there, nothing was taken from
--- it or its subscriber isn't listed.
+-- What holds of a publisher at which no send waits, and of a connection, in the middle of an update: where it isn't there,
+-- nothing was taken from it or its subscriber isn't listed.
 record Midway {T U : Type 0} (places : List (Option (Member SubscriberEntry))) (index subscriber : ℕ) (sent taken : List (Message T U)) (port : PublisherPort T U) : Type 0 where
   history : IsPartOf port.sender.uses.history sent
   part : leads_at index subscriber port ≡ true → IsPartOf (taken ++ (connection_of index port).waiting) sent

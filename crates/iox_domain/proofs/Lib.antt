@@ -67,6 +67,8 @@ mod Entries
 mod Listed
 pub mod StayRoomy
 pub mod Bounds
+pub mod Lent
+pub mod Putting
 pub use Rattle.iox_domain_subscriber.proofs.Container as Container
 pub use Rattle.iox_describe_base.proofs as DescribeBase
 pub use Rattle.iox_domain_subscriber.proofs.DomainPublisher as DomainPublisher

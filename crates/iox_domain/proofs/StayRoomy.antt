@@ -84,7 +84,8 @@ stays_same {T} {U} old new is roomy = subst (λ (one : ServicePorts T U). Stays 
 stays_to : {T U : Type 0} (new other : ServicePorts T U) → new ≡ other → Stays other → Stays new
 stays_to {T} {U} new other is stays = subst (λ (one : ServicePorts T U). Stays one) (sym is) stays
 
--- What sees to it that a subscriber reads apart still: it is listed where it was, reads where it did, and no publisher is listed at another place.
+-- What sees to it that a subscriber reads apart still: it is listed where it was, reads where it did, and no publisher is listed
+-- at another place.
 record Around {T U : Type 0} (old new : ServicePorts T U) (number : ℕ) (port : SubscriberPort) : Type 0 where
   listed : (member : Member SubscriberEntry) → get_or old.subscriber_list.places port.place None ≡ Some member → member.value.subscriber ≡ number → get_or new.subscriber_list.places port.place None ≡ Some member
   attached : (one : Attached) → IsAttached number one old.publishers → IsAttached number one new.publishers

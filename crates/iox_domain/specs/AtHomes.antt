@@ -14,11 +14,15 @@ dropped_if true without home = without home
 -- A port of a domain leaves: nothing happens where the domain isn't here.
 abbrev pub LeavesDomain : {P H : Type 0} → (P → H) → (H → H) → (P → Bool → P → Type 0) → Option P → H → Bool → H → Type 0
 LeavesDomain with_ports without step None old answer new = (answer ≡ false) × (new ≡ old)
-LeavesDomain {P} with_ports without step (Some ports) old answer new = (after : P) × step ports answer after × (new ≡ dropped_if answer without (with_ports after))
+LeavesDomain {P} with_ports without step (Some ports) old answer new = (after : P) × step ports answer after
+    × (new ≡ dropped_if answer without (with_ports after))
 
--- A port comes to a domain, and who decides for it is kept under its number; where it is refused nothing happens, nor where the domain isn't here.
-abbrev pub MakesAt : {P H E : Type 0} → (P → H) → (ℕ → H → H) → (P → ℕ → P → Type 0) → (P → E) → Option P → H → Option (Result ℕ E) → H → Type 0
+-- A port comes to a domain, and who decides for it is kept under its number; where it is refused nothing happens, nor where the
+-- domain isn't here.
+abbrev pub MakesAt : {P H E : Type 0} → (P → H) → (ℕ → H → H) → (P → ℕ → P → Type 0) → (P → E) → Option P → H → Option (Result ℕ E) → H
+    → Type 0
 MakesAt with_ports keeping step refusal None old answer new = (answer ≡ None) × (new ≡ old)
 MakesAt with_ports keeping step refusal (Some ports) old None new = ⊥
 MakesAt with_ports keeping step refusal (Some ports) old (Some (Err error)) new = (error ≡ refusal ports) × (new ≡ old)
-MakesAt {P} with_ports keeping step refusal (Some ports) old (Some (Ok number)) new = (after : P) × step ports number after × (new ≡ keeping number (with_ports after))
+MakesAt {P} with_ports keeping step refusal (Some ports) old (Some (Ok number)) new = (after : P) × step ports number after
+    × (new ≡ keeping number (with_ports after))

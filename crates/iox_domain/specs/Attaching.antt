@@ -39,8 +39,8 @@ keys_at (Some key ∷ places) = key ∷ keys_at places
 abbrev pub keys_of : SubscriberPort → List ℕ
 keys_of port = keys_at port.places.items ++ port.expired.items
 
--- The keys of a subscriber are in order: one that holds a connection is that of one place, or expired, once; any other is free; and there are as
--- many keys as there may be places and expired connections.
+-- The keys of a subscriber are in order: one that holds a connection is that of one place, or expired, once; any other is free;
+-- and there are as many keys as there may be places and expired connections.
 pub record KeysFit (port : SubscriberPort) : Type 0 where
   pub used : (key : ℕ) → how_often key (keys_of port) ≡ (if is_some (attached_at key port) then 1 else 0)
   pub free : (key : ℕ) → 0 < how_often key port.connections.free → (key < length port.connections.values) × (attached_at key port ≡ None)
@@ -50,22 +50,30 @@ pub record KeysFit (port : SubscriberPort) : Type 0 where
   pub expired : length port.expired.items ≤ port.expired.room
 
 -- No connection has to be made: each publisher that is listed stands, and has one that leads to the subscriber.
-pub record ConnectsListed {T U : Type 0} (listed : List (Option (Member PublisherEntry))) (subscriber : ℕ) (ports : List (ℕ × PublisherPort T U)) : Type 0 where
-  pub stands : (place : ℕ) (member : Member PublisherEntry) → get_or listed place None ≡ Some member → stands_in member.value.publisher ports ≡ true
-  pub connected : (place : ℕ) (member : Member PublisherEntry) → get_or listed place None ≡ Some member → lacks_connection subscriber (port_of member.value.publisher ports) ≡ false
+pub record ConnectsListed {T U : Type 0} (listed : List (Option (Member PublisherEntry))) (subscriber : ℕ) (ports : List (ℕ
+    × PublisherPort T U)) : Type 0 where
+  pub stands : (place : ℕ) (member : Member PublisherEntry) → get_or listed place None ≡ Some member
+      → stands_in member.value.publisher ports ≡ true
+  pub connected : (place : ℕ) (member : Member PublisherEntry) → get_or listed place None ≡ Some member
+      → lacks_connection subscriber (port_of member.value.publisher ports) ≡ false
 
--- Where no connection has to be made, no update of a subscriber fails for want of memory, nor does it so before a receive or the question for
--- data, whatever its handler would say. Its keys are in order from the first on, and stay so.
+-- Where no connection has to be made, no update of a subscriber fails for want of memory, nor does it so before a receive or the
+-- question for data, whatever its handler would say. Its keys are in order from the first on, and stay so.
 pub record AttachesWithoutMemory (T U : Type 0) (may : DegradationInfo → DegradationAction → Type 0) : Type 0 where
-  pub begins : (identity : PortIdentity) (buffer_size most_connections most_expired : ℕ) → KeysFit (new_subscriber identity buffer_size most_connections most_expired)
-  pub update : (listed : List (Option (Member PublisherEntry))) (changes : ℕ) (port new : SubscriberPort) (ports new_ports : List (ℕ × PublisherPort T U)) (answer : Result (Unit {0}) ConnectionFailure)
+  pub begins : (identity : PortIdentity) (buffer_size most_connections most_expired : ℕ)
+      → KeysFit (new_subscriber identity buffer_size most_connections most_expired)
+  pub update : (listed : List (Option (Member PublisherEntry))) (changes : ℕ) (port new : SubscriberPort) (ports new_ports : List (ℕ
+      × PublisherPort T U)) (answer : Result (Unit {0}) ConnectionFailure)
       → KeysFit port → length listed ≤ port.places.room → ConnectsListed listed port.number ports → Updates may listed changes port ports answer new new_ports → answer ≢ Err no_memory
-  pub has_samples : (listed : List (Option (Member PublisherEntry))) (changes : ℕ) (port new : SubscriberPort) (ports new_ports : List (ℕ × PublisherPort T U)) (answer : Result Bool ConnectionFailure)
+  pub has_samples : (listed : List (Option (Member PublisherEntry))) (changes : ℕ) (port new : SubscriberPort)
+      (ports new_ports : List (ℕ × PublisherPort T U)) (answer : Result Bool ConnectionFailure)
       → KeysFit port → length listed ≤ port.places.room → ConnectsListed listed port.number ports → HasSamples may listed changes port ports answer new new_ports → answer ≢ Err no_memory
-  pub receive : (listed : List (Option (Member PublisherEntry))) (changes : ℕ) (port new : SubscriberPort) (ports new_ports : List (ℕ × PublisherPort T U)) (answer : Result (Option Taken) ReceiveError)
+  pub receive : (listed : List (Option (Member PublisherEntry))) (changes : ℕ) (port new : SubscriberPort) (ports new_ports : List (ℕ
+      × PublisherPort T U)) (answer : Result (Option Taken) ReceiveError)
       → KeysFit port → length listed ≤ port.places.room → ConnectsListed listed port.number ports → ReceivesNext may listed changes port ports answer new new_ports
       → answer ≢ Err (receiving.ConnectionFailure no_memory)
-  pub goes_on : (listed : List (Option (Member PublisherEntry))) (changes : ℕ) (port new : SubscriberPort) (ports new_ports : List (ℕ × PublisherPort T U)) (answer : Result (Unit {0}) ConnectionFailure)
+  pub goes_on : (listed : List (Option (Member PublisherEntry))) (changes : ℕ) (port new : SubscriberPort) (ports new_ports : List (ℕ
+      × PublisherPort T U)) (answer : Result (Unit {0}) ConnectionFailure)
       → KeysFit port → length listed ≤ port.places.room → Updates may listed changes port ports answer new new_ports → KeysFit new × (new.places.room ≡ port.places.room)
   pub takes : (port new : SubscriberPort) (ports new_ports : List (ℕ × PublisherPort T U)) (answer : Result (Option Taken) ReceiveError)
       → KeysFit port → Receives port ports answer new new_ports → KeysFit new × (new.places.room ≡ port.places.room)
@@ -80,8 +88,10 @@ pub record AreKeyed {T U : Type 0} (ports : ServicePorts T U) : Type 0 where
   pub keyed : All (IsKeyedEntry ports.sizes.max_publishers) ports.subscribers
 
 -- So it is with a new service, and as each call leaves it; and so each subscriber has a place for all that are listed.
-pub record KeysStay (T U : Type 0) (overrides : ℕ → ℕ → Type 0) (may : DegradationInfo → DegradationAction → Type 0) (decide : BackpressureInfo → BackpressureDecision → Type 0) : Type 0 where
+pub record KeysStay (T U : Type 0) (overrides : ℕ → ℕ → Type 0) (may : DegradationInfo → DegradationAction
+    → Type 0) (decide : BackpressureInfo → BackpressureDecision → Type 0) : Type 0 where
   pub begins : (service : ℕ) (sizes : ServiceSizes) → AreKeyed {T = T} {U = U} (no_ports service sizes)
   pub goes_on : (call : PortCall T U) (old new : ServicePorts T U) → Happens overrides may decide call old new → AreKeyed old → AreKeyed new
-  pub each : (ports : ServicePorts T U) (number : ℕ) (port : SubscriberPort) (listed : List (Option (Member PublisherEntry))) → AreKeyed ports → subscriber_of number ports.subscribers ≡ Some port → IsListOf listed ports.publisher_list
+  pub each : (ports : ServicePorts T U) (number : ℕ) (port : SubscriberPort) (listed : List (Option (Member PublisherEntry)))
+      → AreKeyed ports → subscriber_of number ports.subscribers ≡ Some port → IsListOf listed ports.publisher_list
       → KeysFit port × (length listed ≤ port.places.room)

@@ -48,21 +48,26 @@ pub data PortCall (T U : Type 0) : Type 0 where
   SubscriberLeaves : (subscriber : ℕ) (answer : Bool) → PortCall T U
 
 -- What a call does, as its contract says: an override and handlers answer as they may.
-abbrev pub Happens : {T U : Type 0} → (ℕ → ℕ → Type 0) → (DegradationInfo → DegradationAction → Type 0) → (BackpressureInfo → BackpressureDecision → Type 0) → PortCall T U → ServicePorts T U → ServicePorts T U → Type 0
+abbrev pub Happens : {T U : Type 0} → (ℕ → ℕ → Type 0) → (DegradationInfo → DegradationAction → Type 0)
+    → (BackpressureInfo → BackpressureDecision → Type 0) → PortCall T U → ServicePorts T U → ServicePorts T U → Type 0
 Happens overrides may decide (PublisherComes config user_header answer) old new =
     CreatesPublisher overrides may config user_header (slots_needed config old) (publisher_place old) old answer new
 Happens overrides may decide (SubscriberComes owner buffer_size answer) old new =
     CreatesSubscriber may owner (buffer_of buffer_size old.sizes) (subscriber_place old) old answer new
-Happens overrides may decide (Lends number values elements answer) old new = AtPublisher number (LoansOne values elements) (port_of number old.publishers) old answer new
+Happens overrides may decide (Lends number values elements answer) old new
+    = AtPublisher number (LoansOne values elements) (port_of number old.publishers) old answer new
 Happens overrides may decide (Writes number slot test change) old new = new ≡ written_in number test slot change old
 Happens overrides may decide (GivesLoanUp number slot) old new = new ≡ gave_up_in number slot old
 Happens overrides may decide (PublisherUpdates number answer) old new =
     AtPublisher number (publishing.UpdatesOne may old.subscriber_list) (port_of number old.publishers) old answer new
 Happens overrides may decide (Sends number slot answer) old new =
     AtPublisher number (SendsOne may decide old.subscriber_list slot) (port_of number old.publishers) old answer new
-Happens overrides may decide (Retries number elapsed answer) old new = AtPublisher number (RetriesOne decide elapsed) (port_of number old.publishers) old answer new
-Happens overrides may decide (GivesSendUp number answer) old new = AtPublisher number GivesUpOne (port_of number old.publishers) old answer new
-Happens overrides may decide (PublisherLeaves number answer) old new = publishing.LeavesAt number (port_of number old.publishers) old answer new
+Happens overrides may decide (Retries number elapsed answer) old new
+    = AtPublisher number (RetriesOne decide elapsed) (port_of number old.publishers) old answer new
+Happens overrides may decide (GivesSendUp number answer) old new
+    = AtPublisher number GivesUpOne (port_of number old.publishers) old answer new
+Happens overrides may decide (PublisherLeaves number answer) old new
+    = publishing.LeavesAt number (port_of number old.publishers) old answer new
 Happens overrides may decide (SubscriberUpdates number answer) old new =
     AtSubscriber number (subscribing.UpdatesOne may old.publisher_list) (subscriber_of number old.subscribers) old answer new
 Happens overrides may decide (AsksForSamples number answer) old new =
@@ -70,4 +75,5 @@ Happens overrides may decide (AsksForSamples number answer) old new =
 Happens overrides may decide (Receives number answer) old new =
     AtSubscriber number (ReceivesOne may old.publisher_list) (subscriber_of number old.subscribers) old answer new
 Happens overrides may decide (Releases number sample answer) old new = subscribing.Releases number sample old answer new
-Happens overrides may decide (SubscriberLeaves number answer) old new = subscribing.LeavesAt number (subscriber_of number old.subscribers) old answer new
+Happens overrides may decide (SubscriberLeaves number answer) old new
+    = subscribing.LeavesAt number (subscriber_of number old.subscribers) old answer new

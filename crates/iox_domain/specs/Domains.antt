@@ -11,7 +11,8 @@ use Rattle.iox_domain.specs.declared.state.DomainState.{DomainState}
 use Rattle.iox_domain.specs.declared.domain_id.DomainId.{DomainId}
 
 -- A domain without ports, of the sizes that are agreed in the settings of a publish-subscribe service.
-pub record IsNewDomain {T U B D : Type 0} (which : DomainId) (expired_connection_buffer : ℕ) (settings : Settings) (domain : Domain T U B D) : Type 0 where
+pub record IsNewDomain {T U B D : Type 0} (which : DomainId) (expired_connection_buffer : ℕ) (settings : Settings)
+    (domain : Domain T U B D) : Type 0 where
   pub id : domain.id ≡ which
   pub agreed : settings ≡ PublishSubscribe domain.agreed
   pub ports : domain.state.ports ≡ no_ports which.service (sizes expired_connection_buffer domain.agreed)

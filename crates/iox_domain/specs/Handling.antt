@@ -18,11 +18,13 @@ abbrev pub waits : BackpressureInfo → BackpressureDecision → Type 0
 waits info decision = decision ≡ Retry
 
 -- what may be answered where a connection of a port failed: what may be by who is kept for it, and a warning where nobody is
-abbrev pub kept_degrades : {H : Type 0} → (H → DegradationCause → DegradationInfo → DegradationAction → Type 0) → Option H → DegradationInfo → DegradationAction → Type 0
+abbrev pub kept_degrades : {H : Type 0} → (H → DegradationCause → DegradationInfo → DegradationAction → Type 0) → Option H
+    → DegradationInfo → DegradationAction → Type 0
 kept_degrades degrades None = passes_over FailedToEstablishConnection
 kept_degrades degrades (Some kept) = degrades kept FailedToEstablishConnection
 
 -- what may be decided where a mailbox is full: what may be by who is kept for the publisher, and the send waits where nobody is
-abbrev pub kept_decides : {H : Type 0} → (H → BackpressureInfo → BackpressureDecision → Type 0) → Option H → BackpressureInfo → BackpressureDecision → Type 0
+abbrev pub kept_decides : {H : Type 0} → (H → BackpressureInfo → BackpressureDecision → Type 0) → Option H → BackpressureInfo
+    → BackpressureDecision → Type 0
 kept_decides decides None = waits
 kept_decides decides (Some kept) = decides kept

@@ -21,26 +21,31 @@ one_id a b same = both (a.hub == b.hub) (a.service == b.service) refl refl same
     both false false hub service same = cc
 
 module _ {T U B D : Type 0} where
-  found_where : (here : Bool) (id : DomainId) (step : DomainState T U B D → DomainState T U B D) (home : Domain T U B D) → same_id home.id id ≡ here
+  found_where : (here : Bool) (id : DomainId) (step : DomainState T U B D → DomainState T U B D) (home : Domain T U B D)
+      → same_id home.id id ≡ here
       → own_state id (cond here (in_state step home) home) ≡ option_map step (cond here (Some home.state) None)
   found_where true id step home is = rw is refl
   found_where false id step home is = rw is refl
 
   -- what was changed is found so
-  pub changed_found : (id : DomainId) (step : DomainState T U B D → DomainState T U B D) (home : Domain T U B D) → own_state id (own_changed id step home) ≡ option_map step (own_state id home)
+  pub changed_found : (id : DomainId) (step : DomainState T U B D → DomainState T U B D) (home : Domain T U B D)
+      → own_state id (own_changed id step home) ≡ option_map step (own_state id home)
   changed_found id step home = found_where (same_id home.id id) id step home refl
 
-  others_where : (here there : Bool) (id other : DomainId) (step : DomainState T U B D → DomainState T U B D) (home : Domain T U B D) → same_id home.id id ≡ here → same_id home.id other ≡ there → (id ≡ other → ⊥)
+  others_where : (here there : Bool) (id other : DomainId) (step : DomainState T U B D → DomainState T U B D) (home : Domain T U B D)
+      → same_id home.id id ≡ here → same_id home.id other ≡ there → (id ≡ other → ⊥)
       → own_state other (cond here (in_state step home) home) ≡ own_state other home
   others_where true true id other step home is also apart = absurd (apart (sym (one_id home.id id is) ∙ one_id home.id other also))
   others_where true false id other step home is also apart = rw also refl
   others_where false there id other step home is also apart = refl
 
   -- the other domains stay as they were
-  pub others_stay : (id other : DomainId) (step : DomainState T U B D → DomainState T U B D) (home : Domain T U B D) → (id ≡ other → ⊥) → own_state other (own_changed id step home) ≡ own_state other home
+  pub others_stay : (id other : DomainId) (step : DomainState T U B D → DomainState T U B D) (home : Domain T U B D) → (id ≡ other → ⊥)
+      → own_state other (own_changed id step home) ≡ own_state other home
   others_stay id other step home apart = others_where (same_id home.id id) (same_id home.id other) id other step home refl refl apart
 
-  alike_where : (here : Bool) (one other : DomainState T U B D → DomainState T U B D) (home : Domain T U B D) → option_map one (cond here (Some home.state) None) ≡ option_map other (cond here (Some home.state) None)
+  alike_where : (here : Bool) (one other : DomainState T U B D → DomainState T U B D) (home : Domain T U B D)
+      → option_map one (cond here (Some home.state) None) ≡ option_map other (cond here (Some home.state) None)
       → cond here (in_state one home) home ≡ cond here (in_state other home) home
   alike_where true one other home same = ap (λ state. record home { state = state }) (one_value same)
     where
@@ -53,7 +58,8 @@ module _ {T U B D : Type 0} where
   alike_where false one other home same = refl
 
   -- steps that make the same of what is there are one
-  pub alike : (id : DomainId) (one other : DomainState T U B D → DomainState T U B D) (home : Domain T U B D) → option_map one (own_state id home) ≡ option_map other (own_state id home) → own_changed id one home ≡ own_changed id other home
+  pub alike : (id : DomainId) (one other : DomainState T U B D → DomainState T U B D) (home : Domain T U B D)
+      → option_map one (own_state id home) ≡ option_map other (own_state id home) → own_changed id one home ≡ own_changed id other home
   alike id one other home same = alike_where (same_id home.id id) one other home same
 
   unchanged_where : (here : Bool) (home : Domain T U B D) → cond here (in_state (λ state. state) home) home ≡ home
@@ -64,11 +70,13 @@ module _ {T U B D : Type 0} where
   pub unchanged : (id : DomainId) (home : Domain T U B D) → own_changed id (λ state. state) home ≡ home
   unchanged id home = unchanged_where (same_id home.id id) home
 
-  again_where : (here : Bool) (id : DomainId) (first second : DomainState T U B D → DomainState T U B D) (home : Domain T U B D) → same_id home.id id ≡ here
+  again_where : (here : Bool) (id : DomainId) (first second : DomainState T U B D → DomainState T U B D) (home : Domain T U B D)
+      → same_id home.id id ≡ here
       → own_changed id second (cond here (in_state first home) home) ≡ cond here (in_state (λ state. second (first state)) home) home
   again_where true id first second home is = rw is refl
   again_where false id first second home is = rw is refl
 
   -- two steps are one
-  pub again : (id : DomainId) (first second : DomainState T U B D → DomainState T U B D) (home : Domain T U B D) → own_changed id second (own_changed id first home) ≡ own_changed id (λ state. second (first state)) home
+  pub again : (id : DomainId) (first second : DomainState T U B D → DomainState T U B D) (home : Domain T U B D)
+      → own_changed id second (own_changed id first home) ≡ own_changed id (λ state. second (first state)) home
   again id first second home = again_where (same_id home.id id) id first second home refl

@@ -37,13 +37,16 @@ module _ {T U B D H : Type 0} where
   without_subscriber changed id number home = changed id (state.subscriber_forgotten number) home
 
   -- what may be answered where a connection of a publisher failed
-  abbrev pub publisher_degrades : (B → DegradationCause → DegradationInfo → DegradationAction → Type 0) → (DomainId → H → Option (DomainState T U B D)) → DomainId → ℕ → H → DegradationInfo → DegradationAction → Type 0
+  abbrev pub publisher_degrades : (B → DegradationCause → DegradationInfo → DegradationAction → Type 0)
+      → (DomainId → H → Option (DomainState T U B D)) → DomainId → ℕ → H → DegradationInfo → DegradationAction → Type 0
   publisher_degrades degrades domain_of id number home = kept_degrades degrades (state.publisher_handlers_in number (domain_of id home))
 
   -- what may be decided where a mailbox of a publisher is full
-  abbrev pub publisher_decides : (B → BackpressureInfo → BackpressureDecision → Type 0) → (DomainId → H → Option (DomainState T U B D)) → DomainId → ℕ → H → BackpressureInfo → BackpressureDecision → Type 0
+  abbrev pub publisher_decides : (B → BackpressureInfo → BackpressureDecision → Type 0) → (DomainId → H → Option (DomainState T U B D))
+      → DomainId → ℕ → H → BackpressureInfo → BackpressureDecision → Type 0
   publisher_decides decides domain_of id number home = kept_decides decides (state.publisher_handlers_in number (domain_of id home))
 
   -- what may be answered where a connection of a subscriber failed
-  abbrev pub subscriber_degrades : (D → DegradationCause → DegradationInfo → DegradationAction → Type 0) → (DomainId → H → Option (DomainState T U B D)) → DomainId → ℕ → H → DegradationInfo → DegradationAction → Type 0
+  abbrev pub subscriber_degrades : (D → DegradationCause → DegradationInfo → DegradationAction → Type 0)
+      → (DomainId → H → Option (DomainState T U B D)) → DomainId → ℕ → H → DegradationInfo → DegradationAction → Type 0
   subscriber_degrades degrades domain_of id number home = kept_degrades degrades (state.subscriber_handler_in number (domain_of id home))

@@ -7,10 +7,19 @@ use Rattle.iox_domain.specs.States.{publisher_handlers_in, subscriber_handler_in
 use Rattle.iox_domain.specs.declared.state.DomainState.{DomainState}
 
 -- Who decides for a port has no part in the ports of any domain of a home, and other ports in one change nothing about who decides.
-pub record AreApart {T U B D H : Type 0} (domain_of : DomainId → H → Option (DomainState T U B D)) (changed : DomainId → (DomainState T U B D → DomainState T U B D) → H → H) : Type 0 where
-  pub ports_with_publisher : (id other : DomainId) (number : ℕ) (handlers : B) (home : H) → ports_of domain_of other (with_publisher changed id number handlers home) ≡ ports_of domain_of other home
-  pub ports_with_subscriber : (id other : DomainId) (number : ℕ) (handler : D) (home : H) → ports_of domain_of other (with_subscriber changed id number handler home) ≡ ports_of domain_of other home
-  pub ports_without_publisher : (id other : DomainId) (number : ℕ) (home : H) → ports_of domain_of other (without_publisher changed id number home) ≡ ports_of domain_of other home
-  pub ports_without_subscriber : (id other : DomainId) (number : ℕ) (home : H) → ports_of domain_of other (without_subscriber changed id number home) ≡ ports_of domain_of other home
-  pub same_publisher : (id other : DomainId) (number : ℕ) (ports : ServicePorts T U) (home : H) → publisher_handlers_in number (domain_of other (with_ports changed id ports home)) ≡ publisher_handlers_in number (domain_of other home)
-  pub same_subscriber : (id other : DomainId) (number : ℕ) (ports : ServicePorts T U) (home : H) → subscriber_handler_in number (domain_of other (with_ports changed id ports home)) ≡ subscriber_handler_in number (domain_of other home)
+pub record AreApart {T U B D H : Type 0} (domain_of : DomainId → H → Option (DomainState T U B D)) (changed : DomainId
+    → (DomainState T U B D → DomainState T U B D) → H → H) : Type 0 where
+  pub ports_with_publisher : (id other : DomainId) (number : ℕ) (handlers : B) (home : H)
+      → ports_of domain_of other (with_publisher changed id number handlers home) ≡ ports_of domain_of other home
+  pub ports_with_subscriber : (id other : DomainId) (number : ℕ) (handler : D) (home : H)
+      → ports_of domain_of other (with_subscriber changed id number handler home) ≡ ports_of domain_of other home
+  pub ports_without_publisher : (id other : DomainId) (number : ℕ) (home : H)
+      → ports_of domain_of other (without_publisher changed id number home) ≡ ports_of domain_of other home
+  pub ports_without_subscriber : (id other : DomainId) (number : ℕ) (home : H)
+      → ports_of domain_of other (without_subscriber changed id number home) ≡ ports_of domain_of other home
+  pub same_publisher : (id other : DomainId) (number : ℕ) (ports : ServicePorts T U) (home : H)
+      → publisher_handlers_in number (domain_of other (with_ports changed id ports home))
+      ≡ publisher_handlers_in number (domain_of other home)
+  pub same_subscriber : (id other : DomainId) (number : ℕ) (ports : ServicePorts T U) (home : H)
+      → subscriber_handler_in number (domain_of other (with_ports changed id ports home))
+      ≡ subscriber_handler_in number (domain_of other home)

@@ -18,7 +18,8 @@ pub record TypesFit (asked_payload asked_user_header : Detail) (types : MessageT
 
 -- Types fit exactly if that holds.
 abbrev pub FitMeans : Type 0
-FitMeans = (payload user_header : Detail) (types : MessageTypeDetails) → FitTypes payload user_header types ↔ TypesFit payload user_header types
+FitMeans = (payload user_header : Detail) (types : MessageTypeDetails) → FitTypes payload user_header types
+    ↔ TypesFit payload user_header types
 
 -- What fits has sizes, whatever is asked for expired connections.
 abbrev pub WhatFitsHasSizes : Type 0

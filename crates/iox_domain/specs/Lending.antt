@@ -29,7 +29,8 @@ passes number test ports = passes_port test (port_of number ports.publishers)
 
 -- the loan in a slot of the publisher of a number changes where that passes a test
 abbrev pub written_in : {T U : Type 0} → ℕ → (PublisherPort T U → Bool) → ℕ → (Loan T U → Loan T U) → ServicePorts T U → ServicePorts T U
-written_in number test slot change ports = record ports { publishers = changed number (λ port. changed_if (test port) slot change port) ports.publishers }
+written_in number test slot change ports
+    = record ports { publishers = changed number (λ port. changed_if (test port) slot change port) ports.publishers }
 
 -- the loan in a slot of a publisher; none without one
 abbrev pub loan_at_port : {T U : Type 0} → ℕ → Option (PublisherPort T U) → Option (Loan T U)

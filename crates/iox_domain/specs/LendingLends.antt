@@ -9,8 +9,11 @@ use Rattle.iox_domain.specs.contracts.ports.service_ports.ServicePorts.{the_row}
 module _ (T U : RattleType) where
   -- the last value behind the reference is written at a place of the loan in a slot; where none was lent nothing has changed
   abbrev pub LendsValue : MutBor (ServicePorts T.Denot U.Denot) → ℕ → ℕ → ℕ → Option (MutBor T.Denot) → Fml
-  LendsValue ports number slot place answer = LendsIf (the_row T U) T ports answer (λ value. loan_changed_in number slot (write_value place value) ports.now) ports.now
+  LendsValue ports number slot place answer
+      = LendsIf (the_row T U) T ports answer (λ value. loan_changed_in number slot (write_value place value) ports.now) ports.now
 
   -- the last user header behind the reference is that of the loan in a slot; where none was lent nothing has changed
   abbrev pub LendsUserHeader : MutBor (ServicePorts T.Denot U.Denot) → ℕ → ℕ → Option (MutBor U.Denot) → Fml
-  LendsUserHeader ports number slot answer = LendsIf (the_row T U) U ports answer (λ user_header. loan_changed_in number slot (write_user_header user_header) ports.now) ports.now
+  LendsUserHeader ports number slot answer
+      = LendsIf (the_row T U) U ports answer (λ user_header. loan_changed_in number slot (write_user_header user_header) ports.now)
+      ports.now

@@ -20,6 +20,7 @@ pub mod PortsSubscribing
 pub mod Making
 pub mod Lending
 pub mod LendingLends
+pub mod Putting
 pub mod Reading
 pub mod Living
 pub mod Steps

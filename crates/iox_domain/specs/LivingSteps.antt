@@ -61,19 +61,27 @@ GivingUpTakes number None old new = AsMuchLives old new
 GivingUpTakes number (Some delivered) old new = OneLessLives number old new
 
 -- What each call at a publisher adds to what lives of its owner, and takes from it.
-pub record PublisherSteps (T U : Type 0) (may_degrade : DegradationInfo → DegradationAction → Type 0) (may : BackpressureInfo → BackpressureDecision → Type 0) : Type 0 where
-  pub loan : (number values elements : ℕ) (port : PublisherPort T U) (old new : ServicePorts T U) (answer : Option (Result ℕ LoanError)) → port_of number old.publishers ≡ Some port
+pub record PublisherSteps (T U : Type 0) (may_degrade : DegradationInfo → DegradationAction → Type 0) (may : BackpressureInfo
+    → BackpressureDecision → Type 0) : Type 0 where
+  pub loan : (number values elements : ℕ) (port : PublisherPort T U) (old new : ServicePorts T U) (answer : Option (Result ℕ LoanError))
+      → port_of number old.publishers ≡ Some port
       → AtPublisher number (LoansOne values elements) (Some port) old answer new → LoanAdds port.owner.number answer old new
-  pub write : (number slot : ℕ) (test : PublisherPort T U → Bool) (change : Loan T U → Loan T U) (old : ServicePorts T U) → AsMuchLives old (written_in number test slot change old)
-  pub drop : (number slot : ℕ) (port : PublisherPort T U) (old : ServicePorts T U) → port_of number old.publishers ≡ Some port → is_some (place_of slot port) ≡ true
+  pub write : (number slot : ℕ) (test : PublisherPort T U → Bool) (change : Loan T U → Loan T U) (old : ServicePorts T U)
+      → AsMuchLives old (written_in number test slot change old)
+  pub drop : (number slot : ℕ) (port : PublisherPort T U) (old : ServicePorts T U) → port_of number old.publishers ≡ Some port
+      → is_some (place_of slot port) ≡ true
       → OneLessLives port.owner.number old (gave_up_in number slot old)
-  pub update : (number : ℕ) (port : PublisherPort T U) (old new : ServicePorts T U) (answer : Option (Result (Unit {0}) ConnectionFailure)) → port_of number old.publishers ≡ Some port
+  pub update : (number : ℕ) (port : PublisherPort T U) (old new : ServicePorts T U)
+      (answer : Option (Result (Unit {0}) ConnectionFailure)) → port_of number old.publishers ≡ Some port
       → AtPublisher number (UpdatesOne may_degrade old.subscriber_list) (Some port) old answer new → AsMuchLives old new
-  pub send : (number slot : ℕ) (port : PublisherPort T U) (old new : ServicePorts T U) (answer : Option (Result Sent SendError)) → port_of number old.publishers ≡ Some port
+  pub send : (number slot : ℕ) (port : PublisherPort T U) (old new : ServicePorts T U) (answer : Option (Result Sent SendError))
+      → port_of number old.publishers ≡ Some port
       → AtPublisher number (SendsOne may_degrade may old.subscriber_list slot) (Some port) old answer new → SendTakes port.owner.number answer old new
-  pub retry : (number elapsed : ℕ) (port : PublisherPort T U) (old new : ServicePorts T U) (answer : Option (Result Sent SendError)) → port_of number old.publishers ≡ Some port
+  pub retry : (number elapsed : ℕ) (port : PublisherPort T U) (old new : ServicePorts T U) (answer : Option (Result Sent SendError))
+      → port_of number old.publishers ≡ Some port
       → AtPublisher number (RetriesOne may elapsed) (Some port) old answer new → SendTakes port.owner.number answer old new
-  pub give_up : (number : ℕ) (port : PublisherPort T U) (old new : ServicePorts T U) (answer : Option ℕ) → port_of number old.publishers ≡ Some port
+  pub give_up : (number : ℕ) (port : PublisherPort T U) (old new : ServicePorts T U) (answer : Option ℕ)
+      → port_of number old.publishers ≡ Some port
       → AtPublisher number GivesUpOne (Some port) old answer new → GivingUpTakes port.owner.number answer old new
   pub leave : (number : ℕ) (port : PublisherPort T U) (old new : ServicePorts T U) → port_of number old.publishers ≡ Some port
       → LeavesAt number (Some port) old true new → OneLessLives port.owner.number old new
@@ -87,20 +95,26 @@ ReceivingAdds number (Some (Ok (Some taken))) old new = OneMoreLives number old 
 
 -- What each call at a subscriber adds to what lives of its owner, and takes from it. What is held is counted up to 2^64 - 1.
 pub record SubscriberSteps (T U : Type 0) (may : DegradationInfo → DegradationAction → Type 0) : Type 0 where
-  pub update : (number : ℕ) (port : SubscriberPort) (old new : ServicePorts T U) (answer : Option (Result (Unit {0}) ConnectionFailure)) → subscriber_of number old.subscribers ≡ Some port
+  pub update : (number : ℕ) (port : SubscriberPort) (old new : ServicePorts T U) (answer : Option (Result (Unit {0}) ConnectionFailure))
+      → subscriber_of number old.subscribers ≡ Some port
       → AtSubscriber number (subscribing.UpdatesOne may old.publisher_list) (Some port) old answer new → AsMuchLives old new
-  pub has_samples : (number : ℕ) (port : SubscriberPort) (old new : ServicePorts T U) (answer : Option (Result Bool ConnectionFailure)) → subscriber_of number old.subscribers ≡ Some port
+  pub has_samples : (number : ℕ) (port : SubscriberPort) (old new : ServicePorts T U) (answer : Option (Result Bool ConnectionFailure))
+      → subscriber_of number old.subscribers ≡ Some port
       → AtSubscriber number (HasSamplesOne may old.publisher_list) (Some port) old answer new → AsMuchLives old new
-  pub receive : (number : ℕ) (port : SubscriberPort) (old new : ServicePorts T U) (answer : Option (Result (Option Taken) ReceiveError)) → subscriber_of number old.subscribers ≡ Some port
+  pub receive : (number : ℕ) (port : SubscriberPort) (old new : ServicePorts T U) (answer : Option (Result (Option Taken) ReceiveError))
+      → subscriber_of number old.subscribers ≡ Some port
       → port.held + 1 < 2 ^ 64 → AtSubscriber number (ReceivesOne may old.publisher_list) (Some port) old answer new → ReceivingAdds port.owner.number answer old new
-  pub release : (number : ℕ) (sample : Taken) (port : SubscriberPort) (old new : ServicePorts T U) → subscriber_of number old.subscribers ≡ Some port → 0 < port.held
+  pub release : (number : ℕ) (sample : Taken) (port : SubscriberPort) (old new : ServicePorts T U)
+      → subscriber_of number old.subscribers ≡ Some port → 0 < port.held
       → Releases number sample old true new → OneLessLives port.owner.number old new
   pub leave : (number : ℕ) (port : SubscriberPort) (old new : ServicePorts T U) → subscriber_of number old.subscribers ≡ Some port
       → subscribing.LeavesAt number (Some port) old true new → OneLessLives port.owner.number old new
 
 -- A port that comes, under a number that is new, is one more.
 pub record CreatingSteps (T U : Type 0) (overrides : ℕ → ℕ → Type 0) (may : DegradationInfo → DegradationAction → Type 0) : Type 0 where
-  pub publisher : (config : PublisherConfig) (user_header : U) (needed place : Option ℕ) (number : ℕ) (old new : ServicePorts T U) → port_of old.next_port old.publishers ≡ None
+  pub publisher : (config : PublisherConfig) (user_header : U) (needed place : Option ℕ) (number : ℕ) (old new : ServicePorts T U)
+      → port_of old.next_port old.publishers ≡ None
       → CreatesPublisher overrides may config user_header needed place old (Ok number) new → OneMoreLives config.owner.number old new
-  pub subscriber : (owner : PortOwner) (buffer_size : Result ℕ SubscriberCreateError) (place : Option ℕ) (number : ℕ) (old new : ServicePorts T U) → subscriber_of old.next_port old.subscribers ≡ None
+  pub subscriber : (owner : PortOwner) (buffer_size : Result ℕ SubscriberCreateError) (place : Option ℕ) (number : ℕ)
+      (old new : ServicePorts T U) → subscriber_of old.next_port old.subscribers ≡ None
       → CreatesSubscriber may owner buffer_size place old (Ok number) new → OneMoreLives owner.number old new

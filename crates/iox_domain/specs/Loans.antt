@@ -37,11 +37,14 @@ abbrev pub brought_by : {T U : Type 0} → PortCall T U → ℕ
 brought_by (PublisherComes config user_header (Ok number)) = config.max_loaned_samples
 brought_by call = 0
 
--- In a new service no loan may be made. After each call at most as many may still be made as before, and as many more as it may have ended and as
--- the publisher that came by it may make, less the one that the call made. What a publisher that leaves could still make may no longer be made.
-pub record LoansLeft (T U : Type 0) (overrides : ℕ → ℕ → Type 0) (may : DegradationInfo → DegradationAction → Type 0) (decide : BackpressureInfo → BackpressureDecision → Type 0) : Type 0 where
+-- In a new service no loan may be made. After each call at most as many may still be made as before, and as many more as it may
+-- have ended and as the publisher that came by it may make, less the one that the call made. What a publisher that leaves could
+-- still make may no longer be made.
+pub record LoansLeft (T U : Type 0) (overrides : ℕ → ℕ → Type 0) (may : DegradationInfo → DegradationAction
+    → Type 0) (decide : BackpressureInfo → BackpressureDecision → Type 0) : Type 0 where
   pub begins : (service : ℕ) (sizes : ServiceSizes) → loans_left {T = T} {U = U} (no_ports service sizes) ≡ 0
   pub goes_on : (call : PortCall T U) (old new : ServicePorts T U) → Happens overrides may decide call old new
       → loans_left new + lent_by call ≤ loans_left old + ended_by call + brought_by call
-  pub leaves : (number : ℕ) (port : PublisherPort T U) (old new : ServicePorts T U) → port_of number old.publishers ≡ Some port → LeavesAt number (Some port) old true new
+  pub leaves : (number : ℕ) (port : PublisherPort T U) (old new : ServicePorts T U) → port_of number old.publishers ≡ Some port
+      → LeavesAt number (Some port) old true new
       → loans_left new + spare_loans port ≡ loans_left old

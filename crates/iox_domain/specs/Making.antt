@@ -71,7 +71,8 @@ abbrev pub identity_of : {T U : Type 0} → PortOwner → ℕ → ServicePorts T
 identity_of owner place ports = record { service = ports.service; number = ports.next_port; owner = owner; place = place }
 
 -- A publisher comes at a place, with so many slots, as one that followed the list of subscribers; without memory nothing changes.
-abbrev pub AddsPublisher : {T U : Type 0} → (DegradationInfo → DegradationAction → Type 0) → PublisherConfig → U → ℕ → ℕ → ServicePorts T U → Result ℕ AllocError → ServicePorts T U → Type 0
+abbrev pub AddsPublisher : {T U : Type 0} → (DegradationInfo → DegradationAction → Type 0) → PublisherConfig → U → ℕ → ℕ
+    → ServicePorts T U → Result ℕ AllocError → ServicePorts T U → Type 0
 AddsPublisher may config user_header place slots old (Err error) new = new ≡ old
 AddsPublisher {T} {U} may config user_header place slots old (Ok number) new =
     (listed : List (Option (Member SubscriberEntry))) × IsListOf listed old.subscriber_list × (outcome : Result (Unit {0}) ConnectionFailure) × (port : PublisherPort T U)
@@ -95,15 +96,19 @@ publisher_refusal (Some needed) None = publishing.ExceedsMaxSupportedPublishers
 publisher_refusal (Some needed) (Some place) = publishing.UnableToCreateDataSegment
 
 -- A publisher is made where it needs so many slots, and a place is free; it gets as many as an answer comes to that is allowed.
-abbrev pub CreatesPublisher : {T U : Type 0} → (ℕ → ℕ → Type 0) → (DegradationInfo → DegradationAction → Type 0) → PublisherConfig → U → Option ℕ → Option ℕ → ServicePorts T U → Result ℕ PublisherCreateError → ServicePorts T U → Type 0
-CreatesPublisher overrides may config user_header None place old answer new = (answer ≡ Err publishing.UnableToCreateDataSegment) × (new ≡ old)
-CreatesPublisher overrides may config user_header (Some needed) None old answer new = (answer ≡ Err publishing.ExceedsMaxSupportedPublishers) × (new ≡ old)
+abbrev pub CreatesPublisher : {T U : Type 0} → (ℕ → ℕ → Type 0) → (DegradationInfo → DegradationAction → Type 0) → PublisherConfig → U
+    → Option ℕ → Option ℕ → ServicePorts T U → Result ℕ PublisherCreateError → ServicePorts T U → Type 0
+CreatesPublisher overrides may config user_header None place old answer new = (answer ≡ Err publishing.UnableToCreateDataSegment)
+    × (new ≡ old)
+CreatesPublisher overrides may config user_header (Some needed) None old answer new
+    = (answer ≡ Err publishing.ExceedsMaxSupportedPublishers) × (new ≡ old)
 CreatesPublisher overrides may config user_header (Some needed) (Some place) old answer new =
     (slots : ℕ) × overrides (max needed 1) slots × (outcome : Result ℕ AllocError)
     × AddsPublisher may config user_header place (places (max needed 1) slots) old outcome new × (answer ≡ publisher_answer outcome)
 
 -- the subscriber of a number follows the list of publishers, if there is one
-abbrev pub FollowsFirst : {T U : Type 0} → (DegradationInfo → DegradationAction → Type 0) → ℕ → Option SubscriberPort → ServicePorts T U → ServicePorts T U → Type 0
+abbrev pub FollowsFirst : {T U : Type 0} → (DegradationInfo → DegradationAction → Type 0) → ℕ → Option SubscriberPort → ServicePorts T U
+    → ServicePorts T U → Type 0
 FollowsFirst may number None old new = new ≡ old
 FollowsFirst {T} {U} may number (Some port) old new =
     (listed : List (Option (Member PublisherEntry))) × IsListOf listed old.publisher_list × (outcome : Result (Unit {0}) ConnectionFailure)
@@ -115,7 +120,8 @@ abbrev pub with_new : {T U : Type 0} → SubscriberPort → ServicePorts T U →
 with_new port ports = record ports { subscribers = subscriber_added ports.next_port port ports.subscribers }
 
 -- A subscriber comes at a place, and follows the list of publishers; without memory nothing changes.
-abbrev pub AddsSubscriber : {T U : Type 0} → (DegradationInfo → DegradationAction → Type 0) → PortOwner → ℕ → ℕ → ServicePorts T U → Result ℕ AllocError → ServicePorts T U → Type 0
+abbrev pub AddsSubscriber : {T U : Type 0} → (DegradationInfo → DegradationAction → Type 0) → PortOwner → ℕ → ℕ → ServicePorts T U
+    → Result ℕ AllocError → ServicePorts T U → Type 0
 AddsSubscriber may owner place buffer_size old (Err error) new = new ≡ old
 AddsSubscriber {T} {U} may owner place buffer_size old (Ok number) new =
     (between : ServicePorts T U)
@@ -129,15 +135,16 @@ abbrev pub subscriber_answer : Result ℕ AllocError → Result ℕ SubscriberCr
 subscriber_answer (Ok number) = Ok number
 subscriber_answer (Err error) = Err subscribing.OutOfMemory
 
--- why a subscriber isn't made for whom so many messages may wait, or that is refused for it, and that gets this place: for want of memory, where
--- there are such
+-- why a subscriber isn't made for whom so many messages may wait, or that is refused for it, and that gets this place: for want
+-- of memory, where there are such
 abbrev pub subscriber_refusal : Result ℕ SubscriberCreateError → Option ℕ → SubscriberCreateError
 subscriber_refusal (Err refusal) place = refusal
 subscriber_refusal (Ok buffer_size) None = subscribing.ExceedsMaxSupportedSubscribers
 subscriber_refusal (Ok buffer_size) (Some place) = subscribing.OutOfMemory
 
 -- A subscriber is made where as many messages may wait for it as it names, and a place is free.
-abbrev pub CreatesSubscriber : {T U : Type 0} → (DegradationInfo → DegradationAction → Type 0) → PortOwner → Result ℕ SubscriberCreateError → Option ℕ → ServicePorts T U → Result ℕ SubscriberCreateError → ServicePorts T U → Type 0
+abbrev pub CreatesSubscriber : {T U : Type 0} → (DegradationInfo → DegradationAction → Type 0) → PortOwner
+    → Result ℕ SubscriberCreateError → Option ℕ → ServicePorts T U → Result ℕ SubscriberCreateError → ServicePorts T U → Type 0
 CreatesSubscriber may owner (Err refusal) place old answer new = (answer ≡ Err refusal) × (new ≡ old)
 CreatesSubscriber may owner (Ok buffer_size) None old answer new = (answer ≡ Err subscribing.ExceedsMaxSupportedSubscribers) × (new ≡ old)
 CreatesSubscriber may owner (Ok buffer_size) (Some place) old answer new =

@@ -31,19 +31,25 @@ use Rattle.iox_domain.specs.declared.ports.service_ports.ServicePorts.{ServicePo
 
 -- each port has a number that was given out
 abbrev pub IsNumbered : {T U : Type 0} → ServicePorts T U → Type 0
-IsNumbered ports = All (λ number. number < ports.next_port) (keys_of ports.publishers) × All (λ number. number < ports.next_port) (keys_of ports.subscribers)
+IsNumbered ports = All (λ number. number < ports.next_port) (keys_of ports.publishers)
+    × All (λ number. number < ports.next_port) (keys_of ports.subscribers)
 
 -- Each port of a new service, and after each call, has a number that was given out: the number that comes next is nobody's.
-pub record NumbersStay (T U : Type 0) (overrides : ℕ → ℕ → Type 0) (may_degrade : DegradationInfo → DegradationAction → Type 0) (may : BackpressureInfo → BackpressureDecision → Type 0) : Type 0 where
+pub record NumbersStay (T U : Type 0) (overrides : ℕ → ℕ → Type 0) (may_degrade : DegradationInfo → DegradationAction
+    → Type 0) (may : BackpressureInfo → BackpressureDecision → Type 0) : Type 0 where
   pub new : (service : ℕ) (sizes : ServiceSizes) → IsNumbered {T = T} {U = U} (no_ports service sizes)
-  pub next : (ports : ServicePorts T U) → IsNumbered ports → (port_of ports.next_port ports.publishers ≡ None) × (subscriber_of ports.next_port ports.subscribers ≡ None)
-  pub create_publisher : (config : PublisherConfig) (user_header : U) (needed place : Option ℕ) (old new : ServicePorts T U) (answer : Result ℕ PublisherCreateError) → IsNumbered old
+  pub next : (ports : ServicePorts T U) → IsNumbered ports → (port_of ports.next_port ports.publishers ≡ None)
+      × (subscriber_of ports.next_port ports.subscribers ≡ None)
+  pub create_publisher : (config : PublisherConfig) (user_header : U) (needed place : Option ℕ) (old new : ServicePorts T U)
+      (answer : Result ℕ PublisherCreateError) → IsNumbered old
       → CreatesPublisher overrides may_degrade config user_header needed place old answer new → IsNumbered new
-  pub create_subscriber : (owner : PortOwner) (buffer_size : Result ℕ SubscriberCreateError) (place : Option ℕ) (old new : ServicePorts T U) (answer : Result ℕ SubscriberCreateError) → IsNumbered old
+  pub create_subscriber : (owner : PortOwner) (buffer_size : Result ℕ SubscriberCreateError) (place : Option ℕ)
+      (old new : ServicePorts T U) (answer : Result ℕ SubscriberCreateError) → IsNumbered old
       → CreatesSubscriber may_degrade owner buffer_size place old answer new → IsNumbered new
   pub loan : (number values elements : ℕ) (old new : ServicePorts T U) (answer : Option (Result ℕ LoanError)) → IsNumbered old
       → AtPublisher number (LoansOne values elements) (port_of number old.publishers) old answer new → IsNumbered new
-  pub write : (number slot : ℕ) (test : PublisherPort T U → Bool) (change : Loan T U → Loan T U) (old : ServicePorts T U) → IsNumbered old → IsNumbered (written_in number test slot change old)
+  pub write : (number slot : ℕ) (test : PublisherPort T U → Bool) (change : Loan T U → Loan T U) (old : ServicePorts T U)
+      → IsNumbered old → IsNumbered (written_in number test slot change old)
   pub drop_loan : (number slot : ℕ) (old : ServicePorts T U) → IsNumbered old → IsNumbered (gave_up_in number slot old)
   pub update_publisher : (number : ℕ) (old new : ServicePorts T U) (answer : Option (Result (Unit {0}) ConnectionFailure)) → IsNumbered old
       → AtPublisher number (publishing.UpdatesOne may_degrade old.subscriber_list) (port_of number old.publishers) old answer new → IsNumbered new
@@ -51,13 +57,17 @@ pub record NumbersStay (T U : Type 0) (overrides : ℕ → ℕ → Type 0) (may_
       → AtPublisher number (SendsOne may_degrade may old.subscriber_list slot) (port_of number old.publishers) old answer new → IsNumbered new
   pub retry : (number elapsed : ℕ) (old new : ServicePorts T U) (answer : Option (Result Sent SendError)) → IsNumbered old
       → AtPublisher number (RetriesOne may elapsed) (port_of number old.publishers) old answer new → IsNumbered new
-  pub give_up : (number : ℕ) (old new : ServicePorts T U) (answer : Option ℕ) → IsNumbered old → AtPublisher number GivesUpOne (port_of number old.publishers) old answer new → IsNumbered new
-  pub leave_publisher : (number : ℕ) (old new : ServicePorts T U) (answer : Bool) → IsNumbered old → publishing.LeavesAt number (port_of number old.publishers) old answer new → IsNumbered new
+  pub give_up : (number : ℕ) (old new : ServicePorts T U) (answer : Option ℕ) → IsNumbered old
+      → AtPublisher number GivesUpOne (port_of number old.publishers) old answer new → IsNumbered new
+  pub leave_publisher : (number : ℕ) (old new : ServicePorts T U) (answer : Bool) → IsNumbered old
+      → publishing.LeavesAt number (port_of number old.publishers) old answer new → IsNumbered new
   pub update_subscriber : (number : ℕ) (old new : ServicePorts T U) (answer : Option (Result (Unit {0}) ConnectionFailure)) → IsNumbered old
       → AtSubscriber number (subscribing.UpdatesOne may_degrade old.publisher_list) (subscriber_of number old.subscribers) old answer new → IsNumbered new
   pub has_samples : (number : ℕ) (old new : ServicePorts T U) (answer : Option (Result Bool ConnectionFailure)) → IsNumbered old
       → AtSubscriber number (HasSamplesOne may_degrade old.publisher_list) (subscriber_of number old.subscribers) old answer new → IsNumbered new
   pub receive : (number : ℕ) (old new : ServicePorts T U) (answer : Option (Result (Option Taken) ReceiveError)) → IsNumbered old
       → AtSubscriber number (ReceivesOne may_degrade old.publisher_list) (subscriber_of number old.subscribers) old answer new → IsNumbered new
-  pub release : (number : ℕ) (sample : Taken) (old new : ServicePorts T U) (answer : Bool) → IsNumbered old → Releases number sample old answer new → IsNumbered new
-  pub leave_subscriber : (number : ℕ) (old new : ServicePorts T U) (answer : Bool) → IsNumbered old → subscribing.LeavesAt number (subscriber_of number old.subscribers) old answer new → IsNumbered new
+  pub release : (number : ℕ) (sample : Taken) (old new : ServicePorts T U) (answer : Bool) → IsNumbered old
+      → Releases number sample old answer new → IsNumbered new
+  pub leave_subscriber : (number : ℕ) (old new : ServicePorts T U) (answer : Bool) → IsNumbered old
+      → subscribing.LeavesAt number (subscriber_of number old.subscribers) old answer new → IsNumbered new

@@ -53,7 +53,8 @@ message_of (Some loan) = sent_as loan ∷ []
 
 -- what a call makes a publisher send: the message of the loan in the slot that is sent
 abbrev pub sent_by : {T U : Type 0} → ℕ → PortCall T U → ServicePorts T U → List (Message T U)
-sent_by publisher (Sends number slot answer) old = if (publisher == number) && has_begun answer then message_of (loan_in number slot old) else []
+sent_by publisher (Sends number slot answer) old = if (publisher == number)
+    && has_begun answer then message_of (loan_in number slot old) else []
 sent_by publisher call old = []
 
 -- whether the answer of a receive names a connection
@@ -80,27 +81,35 @@ account_on publisher index subscriber call old account = record {
 }
 
 -- the account after calls, each with the ports after it
-abbrev pub account_after : {T U : Type 0} → ℕ → ℕ → ℕ → List (PortCall T U × ServicePorts T U) → ServicePorts T U → Account T U → Account T U
+abbrev pub account_after : {T U : Type 0} → ℕ → ℕ → ℕ → List (PortCall T U × ServicePorts T U) → ServicePorts T U → Account T U
+    → Account T U
 account_after publisher index subscriber [] old account = account
 account_after publisher index subscriber ((call, next) ∷ calls) old account =
     account_after publisher index subscriber calls next (account_on publisher index subscriber call old account)
 
 -- Calls happen one after the other, each with the ports after it.
-abbrev pub Happen : {T U : Type 0} → (ℕ → ℕ → Type 0) → (DegradationInfo → DegradationAction → Type 0) → (BackpressureInfo → BackpressureDecision → Type 0) → List (PortCall T U × ServicePorts T U) → ServicePorts T U → ServicePorts T U → Type 0
+abbrev pub Happen : {T U : Type 0} → (ℕ → ℕ → Type 0) → (DegradationInfo → DegradationAction → Type 0)
+    → (BackpressureInfo → BackpressureDecision → Type 0) → List (PortCall T U × ServicePorts T U) → ServicePorts T U → ServicePorts T U
+    → Type 0
 Happen overrides may decide [] old new = new ≡ old
-Happen overrides may decide ((call, next) ∷ calls) old new = Happens overrides may decide call old next × Happen overrides may decide calls next new
+Happen overrides may decide ((call, next) ∷ calls) old new = Happens overrides may decide call old next
+    × Happen overrides may decide calls next new
 
 -- nothing was sent, and nothing taken
 abbrev pub nothing_yet : {T U : Type 0} → Account T U
 nothing_yet = record { sent = []; taken = [] }
 
--- Of any calls from a new service on: what was taken from a connection since it was made, and then what waits there, is part of what its publisher
--- sent, in the order of sending and each at most once. And what a receive takes is one message, whose slot its answer names.
-pub record InOrder (T U : Type 0) (overrides : ℕ → ℕ → Type 0) (may : DegradationInfo → DegradationAction → Type 0) (decide : BackpressureInfo → BackpressureDecision → Type 0) : Type 0 where
-  pub order : (service : ℕ) (sizes : ServiceSizes) (calls : List (PortCall T U × ServicePorts T U)) (new : ServicePorts T U) (publisher index subscriber : ℕ)
+-- Of any calls from a new service on: what was taken from a connection since it was made, and then what waits there, is part of
+-- what its publisher sent, in the order of sending and each at most once. And what a receive takes is one message, whose slot its
+-- answer names.
+pub record InOrder (T U : Type 0) (overrides : ℕ → ℕ → Type 0) (may : DegradationInfo → DegradationAction
+    → Type 0) (decide : BackpressureInfo → BackpressureDecision → Type 0) : Type 0 where
+  pub order : (service : ℕ) (sizes : ServiceSizes) (calls : List (PortCall T U
+      × ServicePorts T U)) (new : ServicePorts T U) (publisher index subscriber : ℕ)
       → Happen overrides may decide calls (no_ports service sizes) new → leads_in publisher index subscriber new ≡ true
       → IsPartOf ((account_after publisher index subscriber calls (no_ports service sizes) nothing_yet).taken ++ (connection_in publisher index new.publishers).waiting)
       (account_after publisher index subscriber calls (no_ports service sizes) nothing_yet).sent
-  pub names : (service : ℕ) (sizes : ServiceSizes) (calls : List (PortCall T U × ServicePorts T U)) (old new : ServicePorts T U) (subscriber : ℕ) (taken : Taken)
+  pub names : (service : ℕ) (sizes : ServiceSizes) (calls : List (PortCall T U
+      × ServicePorts T U)) (old new : ServicePorts T U) (subscriber : ℕ) (taken : Taken)
       → Happen overrides may decide calls (no_ports service sizes) old → Happens overrides may decide (Receives subscriber (Some (Ok (Some taken)))) old new
       → (message : Message T U) × (taken_by taken.publisher taken.index (Receives subscriber (Some (Ok (Some taken)))) old ≡ message ∷ []) × (taken.slot ≡ message.slot)

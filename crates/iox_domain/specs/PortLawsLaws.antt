@@ -51,10 +51,12 @@ gives_back sample call = false
 
 -- A sample that is held reads the same after each call but the one that gives it back, whoever calls; of a service that is sound, as a
 -- new one is and as each call leaves it.
-pub record HeldStays (T U : Type 0) (overrides : ℕ → ℕ → Type 0) (may : DegradationInfo → DegradationAction → Type 0) (decide : BackpressureInfo → BackpressureDecision → Type 0) : Type 0 where
+pub record HeldStays (T U : Type 0) (overrides : ℕ → ℕ → Type 0) (may : DegradationInfo → DegradationAction
+    → Type 0) (decide : BackpressureInfo → BackpressureDecision → Type 0) : Type 0 where
   pub begins : (service : ℕ) (sizes : ServiceSizes) (ports : ServicePorts T U) → ports ≡ no_ports service sizes → IsSound ports
   pub goes_on : (call : PortCall T U) (old new : ServicePorts T U) → Happens overrides may decide call old new → IsSound old → IsSound new
-  pub held : (call : PortCall T U) (old new : ServicePorts T U) (sample : Taken) (message : Message T U) → Happens overrides may decide call old new → IsSound old
+  pub held : (call : PortCall T U) (old new : ServicePorts T U) (sample : Taken) (message : Message T U)
+      → Happens overrides may decide call old new → IsSound old
       → gives_back sample call ≡ false → sample_in sample old ≡ Some message → sample_in sample new ≡ Some message
 
 -- What a subscriber receives is held then: it can be read at once.
@@ -65,11 +67,13 @@ ReceivedIsHeld T U may =
 
 -- no two places of the list of subscribers are tied to one connection
 abbrev pub AreTiesApart : {T U : Type 0} → PublisherPort T U → Type 0
-AreTiesApart port = (one other index : ℕ) → get_or port.ties.items one None ≡ Some index → get_or port.ties.items other None ≡ Some index → one ≡ other
+AreTiesApart port = (one other index : ℕ) → get_or port.ties.items one None ≡ Some index
+    → get_or port.ties.items other None ≡ Some index → one ≡ other
 
 -- no subscriber is listed twice, and each goes by a number that was given out
 pub record IsListApart (next : ℕ) (places : List (Option (Member SubscriberEntry))) : Type 0 where
-  pub apart : (one other : ℕ) (first second : Member SubscriberEntry) → get_or places one None ≡ Some first → get_or places other None ≡ Some second
+  pub apart : (one other : ℕ) (first second : Member SubscriberEntry) → get_or places one None ≡ Some first
+      → get_or places other None ≡ Some second
       → first.value.subscriber ≡ second.value.subscriber → one ≡ other
   pub below : (place : ℕ) (member : Member SubscriberEntry) → get_or places place None ≡ Some member → member.value.subscriber < next
 
@@ -104,14 +108,18 @@ GotAtMostOnce {T} {U} index old new =
 
 -- The ties of each publisher that stands are apart, of a service that is, as a new one is and as each call leaves it, also in the middle of
 -- a send after its update; so a send, and one that is tried again, comes to each mailbox at most once.
-pub record AtMostOnce (T U : Type 0) (overrides : ℕ → ℕ → Type 0) (may : DegradationInfo → DegradationAction → Type 0) (decide : BackpressureInfo → BackpressureDecision → Type 0) : Type 0 where
+pub record AtMostOnce (T U : Type 0) (overrides : ℕ → ℕ → Type 0) (may : DegradationInfo → DegradationAction
+    → Type 0) (decide : BackpressureInfo → BackpressureDecision → Type 0) : Type 0 where
   pub begins : (service : ℕ) (sizes : ServiceSizes) (ports : ServicePorts T U) → ports ≡ no_ports service sizes → IsApart ports
   pub goes_on : (call : PortCall T U) (old new : ServicePorts T U) → Happens overrides may decide call old new → IsApart old → IsApart new
-  pub apart : (ports : ServicePorts T U) (number : ℕ) (port : PublisherPort T U) → IsApart ports → port_of number ports.publishers ≡ Some port → port.stands ≡ true → AreTiesApart port
-  pub update : (ports : ServicePorts T U) (number : ℕ) (port updated : PublisherPort T U) (listed : List (Option (Member SubscriberEntry))) (outcome : Result (Unit {0}) ConnectionFailure)
+  pub apart : (ports : ServicePorts T U) (number : ℕ) (port : PublisherPort T U) → IsApart ports
+      → port_of number ports.publishers ≡ Some port → port.stands ≡ true → AreTiesApart port
+  pub update : (ports : ServicePorts T U) (number : ℕ) (port updated : PublisherPort T U)
+      (listed : List (Option (Member SubscriberEntry))) (outcome : Result (Unit {0}) ConnectionFailure)
       → IsApart ports → port_of number ports.publishers ≡ Some port → port.stands ≡ true → IsListOf listed ports.subscriber_list
       → Updates may listed ports.subscriber_list.changes port outcome updated → AreTiesApart updated
-  pub once : (old new : PublisherPort T U) (answer : Result Sent SendError) (index : ℕ) → AreTiesApart old → Finishes decide old answer new → GotAtMostOnce index old new
+  pub once : (old new : PublisherPort T U) (answer : Result Sent SendError) (index : ℕ) → AreTiesApart old
+      → Finishes decide old answer new → GotAtMostOnce index old new
 
 -- each subscriber that is listed has a connection at a publisher
 abbrev pub ConnectsAll : {T U : Type 0} → ServicePorts T U → PublisherPort T U → Type 0
@@ -120,9 +128,12 @@ ConnectsAll ports port =
 
 -- A publisher that has a connection to each listed subscriber follows the list without memory: its update never fails, and its send is
 -- never refused for it, whatever its handlers would say.
-pub record NeedsNoMemory (T U : Type 0) (may : DegradationInfo → DegradationAction → Type 0) (decide : BackpressureInfo → BackpressureDecision → Type 0) : Type 0 where
-  pub update : (ports : ServicePorts T U) (number : ℕ) (port after : PublisherPort T U) (outcome : Result (Unit {0}) ConnectionFailure) → IsApart ports → port_of number ports.publishers ≡ Some port
+pub record NeedsNoMemory (T U : Type 0) (may : DegradationInfo → DegradationAction → Type 0) (decide : BackpressureInfo
+    → BackpressureDecision → Type 0) : Type 0 where
+  pub update : (ports : ServicePorts T U) (number : ℕ) (port after : PublisherPort T U) (outcome : Result (Unit {0}) ConnectionFailure)
+      → IsApart ports → port_of number ports.publishers ≡ Some port
       → ConnectsAll ports port → UpdatesOne may ports.subscriber_list port (Some outcome) after → outcome ≡ Ok tt
-  pub send : (ports : ServicePorts T U) (number slot : ℕ) (port after : PublisherPort T U) (outcome : Result Sent SendError) (failure : ConnectionFailure) → IsApart ports
+  pub send : (ports : ServicePorts T U) (number slot : ℕ) (port after : PublisherPort T U) (outcome : Result Sent SendError)
+      (failure : ConnectionFailure) → IsApart ports
       → port_of number ports.publishers ≡ Some port → ConnectsAll ports port → SendsOne may decide ports.subscriber_list slot port (Some outcome) after
       → outcome ≢ Err (sending.ConnectionError failure)

@@ -27,16 +27,21 @@ with_publisher number port ports = record ports { publishers = publishers.settle
 
 -- the subscriber of a number and the publishers are as after a step
 abbrev pub with_both : {T U : Type 0} → ℕ → SubscriberPort → List (ℕ × PublisherPort T U) → ServicePorts T U → ServicePorts T U
-with_both number port publishers_after ports = record ports { subscribers = with_subscriber number ports.subscribers port; publishers = publishers_after }
+with_both number port publishers_after ports
+    = record ports { subscribers = with_subscriber number ports.subscribers port; publishers = publishers_after }
 
 -- What a call does at a publisher: nothing happens where there is none, and where the call answers none.
-abbrev pub AtPublisher : {T U A : Type 0} → ℕ → (PublisherPort T U → Option A → PublisherPort T U → Type 0) → Option (PublisherPort T U) → ServicePorts T U → Option A → ServicePorts T U → Type 0
+abbrev pub AtPublisher : {T U A : Type 0} → ℕ → (PublisherPort T U → Option A → PublisherPort T U → Type 0) → Option (PublisherPort T U)
+    → ServicePorts T U → Option A → ServicePorts T U → Type 0
 AtPublisher number step None old answer new = (answer ≡ None) × (new ≡ old)
 AtPublisher {T} {U} number step (Some port) old None new = (after : PublisherPort T U) × step port None after × (new ≡ old)
-AtPublisher {T} {U} number step (Some port) old (Some value) new = (after : PublisherPort T U) × step port (Some value) after × (new ≡ with_publisher number after old)
+AtPublisher {T} {U} number step (Some port) old (Some value) new = (after : PublisherPort T U) × step port (Some value) after
+    × (new ≡ with_publisher number after old)
 
 -- What a call does at a subscriber, with the publishers: nothing happens where there is none, and where the call answers none.
-abbrev pub AtSubscriber : {T U A : Type 0} → ℕ → (SubscriberPort → List (ℕ × PublisherPort T U) → Option A → SubscriberPort → List (ℕ × PublisherPort T U) → Type 0) → Option SubscriberPort → ServicePorts T U → Option A → ServicePorts T U → Type 0
+abbrev pub AtSubscriber : {T U A : Type 0} → ℕ
+    → (SubscriberPort → List (ℕ × PublisherPort T U) → Option A → SubscriberPort → List (ℕ × PublisherPort T U) → Type 0)
+    → Option SubscriberPort → ServicePorts T U → Option A → ServicePorts T U → Type 0
 AtSubscriber number step None old answer new = (answer ≡ None) × (new ≡ old)
 AtSubscriber {T} {U} number step (Some port) old None new =
     (after : SubscriberPort) × (publishers_after : List (ℕ × PublisherPort T U)) × step port old.publishers None after publishers_after × (new ≡ old)

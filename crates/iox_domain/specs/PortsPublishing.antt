@@ -27,29 +27,35 @@ abbrev pub is_free : {T U : Type 0} → PublisherPort T U → Bool
 is_free port = port.stands && not (is_blocked port)
 
 -- a publisher that is free follows the list of subscribers; another doesn't
-abbrev pub UpdatesIf : {T U : Type 0} → Bool → (DegradationInfo → DegradationAction → Type 0) → RollState SubscriberEntry → PublisherPort T U → Option (Result (Unit {0}) ConnectionFailure) → PublisherPort T U → Type 0
+abbrev pub UpdatesIf : {T U : Type 0} → Bool → (DegradationInfo → DegradationAction → Type 0) → RollState SubscriberEntry
+    → PublisherPort T U → Option (Result (Unit {0}) ConnectionFailure) → PublisherPort T U → Type 0
 UpdatesIf false may list port answer after = (answer ≡ None) × (after ≡ port)
 UpdatesIf true may list port answer after =
     (listed : List (Option (Member SubscriberEntry))) × IsListOf listed list
     × (outcome : Result (Unit {0}) ConnectionFailure) × Updates may listed list.changes port outcome after × (answer ≡ Some outcome)
 
 -- A publisher follows the list of subscribers.
-abbrev pub UpdatesOne : {T U : Type 0} → (DegradationInfo → DegradationAction → Type 0) → RollState SubscriberEntry → PublisherPort T U → Option (Result (Unit {0}) ConnectionFailure) → PublisherPort T U → Type 0
+abbrev pub UpdatesOne : {T U : Type 0} → (DegradationInfo → DegradationAction → Type 0) → RollState SubscriberEntry → PublisherPort T U
+    → Option (Result (Unit {0}) ConnectionFailure) → PublisherPort T U → Type 0
 UpdatesOne may list port answer after = UpdatesIf (is_free port) may list port answer after
 
 -- A publisher sends the loan in a slot, over the list of subscribers.
-abbrev pub SendsOne : {T U : Type 0} → (DegradationInfo → DegradationAction → Type 0) → (BackpressureInfo → BackpressureDecision → Type 0) → RollState SubscriberEntry → ℕ → PublisherPort T U → Option (Result Sent SendError) → PublisherPort T U → Type 0
+abbrev pub SendsOne : {T U : Type 0} → (DegradationInfo → DegradationAction → Type 0)
+    → (BackpressureInfo → BackpressureDecision → Type 0) → RollState SubscriberEntry → ℕ → PublisherPort T U
+    → Option (Result Sent SendError) → PublisherPort T U → Type 0
 SendsOne may_degrade may list slot port answer after =
     (listed : List (Option (Member SubscriberEntry))) × IsListOf listed list × Sends may_degrade may listed list.changes (ready_loan slot port) port answer after
 
 -- the send that waits is tried again, if one waits
-abbrev pub RetriesIf : {T U : Type 0} → Bool → (BackpressureInfo → BackpressureDecision → Type 0) → ℕ → PublisherPort T U → Option (Result Sent SendError) → PublisherPort T U → Type 0
+abbrev pub RetriesIf : {T U : Type 0} → Bool → (BackpressureInfo → BackpressureDecision → Type 0) → ℕ → PublisherPort T U
+    → Option (Result Sent SendError) → PublisherPort T U → Type 0
 RetriesIf false may elapsed port answer after = (answer ≡ None) × (after ≡ port)
 RetriesIf true may elapsed port answer after =
     (outcome : Result Sent SendError) × Finishes may (with_progress (tried_again elapsed port.progress) port) outcome after × (answer ≡ Some outcome)
 
 -- The send of a publisher that waits is tried again.
-abbrev pub RetriesOne : {T U : Type 0} → (BackpressureInfo → BackpressureDecision → Type 0) → ℕ → PublisherPort T U → Option (Result Sent SendError) → PublisherPort T U → Type 0
+abbrev pub RetriesOne : {T U : Type 0} → (BackpressureInfo → BackpressureDecision → Type 0) → ℕ → PublisherPort T U
+    → Option (Result Sent SendError) → PublisherPort T U → Type 0
 RetriesOne may elapsed port answer after = RetriesIf (is_blocked port) may elapsed port answer after
 
 -- the send that waits ends, if one waits

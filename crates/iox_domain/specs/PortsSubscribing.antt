@@ -18,25 +18,31 @@ use Rattle.iox_domain.specs.Subscribers.{subscriber_of, with_subscriber, settled
 use Rattle.iox_domain.specs.declared.ports.service_ports.ServicePorts.{ServicePorts}
 
 -- a subscriber that stands follows the list of publishers; another doesn't
-abbrev pub UpdatesIf : {T U : Type 0} → Bool → (DegradationInfo → DegradationAction → Type 0) → RollState PublisherEntry → SubscriberPort → List (ℕ × PublisherPort T U) → Option (Result (Unit {0}) ConnectionFailure) → SubscriberPort → List (ℕ × PublisherPort T U) → Type 0
+abbrev pub UpdatesIf : {T U : Type 0} → Bool → (DegradationInfo → DegradationAction → Type 0) → RollState PublisherEntry
+    → SubscriberPort → List (ℕ × PublisherPort T U) → Option (Result (Unit {0}) ConnectionFailure) → SubscriberPort
+    → List (ℕ × PublisherPort T U) → Type 0
 UpdatesIf false may list port ports answer after ports_after = (answer ≡ None) × (after ≡ port) × (ports_after ≡ ports)
 UpdatesIf true may list port ports answer after ports_after =
     (listed : List (Option (Member PublisherEntry))) × IsListOf listed list
     × (outcome : Result (Unit {0}) ConnectionFailure) × Updates may listed list.changes port ports outcome after ports_after × (answer ≡ Some outcome)
 
 -- A subscriber follows the list of publishers.
-abbrev pub UpdatesOne : {T U : Type 0} → (DegradationInfo → DegradationAction → Type 0) → RollState PublisherEntry → SubscriberPort → List (ℕ × PublisherPort T U) → Option (Result (Unit {0}) ConnectionFailure) → SubscriberPort → List (ℕ × PublisherPort T U) → Type 0
+abbrev pub UpdatesOne : {T U : Type 0} → (DegradationInfo → DegradationAction → Type 0) → RollState PublisherEntry → SubscriberPort
+    → List (ℕ × PublisherPort T U) → Option (Result (Unit {0}) ConnectionFailure) → SubscriberPort → List (ℕ × PublisherPort T U) → Type 0
 UpdatesOne may list port ports answer after ports_after = UpdatesIf port.stands may list port ports answer after ports_after
 
 -- of a subscriber that stands it is told whether some connection has data; of another it isn't
-abbrev pub HasSamplesIf : {T U : Type 0} → Bool → (DegradationInfo → DegradationAction → Type 0) → RollState PublisherEntry → SubscriberPort → List (ℕ × PublisherPort T U) → Option (Result Bool ConnectionFailure) → SubscriberPort → List (ℕ × PublisherPort T U) → Type 0
+abbrev pub HasSamplesIf : {T U : Type 0} → Bool → (DegradationInfo → DegradationAction → Type 0) → RollState PublisherEntry
+    → SubscriberPort → List (ℕ × PublisherPort T U) → Option (Result Bool ConnectionFailure) → SubscriberPort
+    → List (ℕ × PublisherPort T U) → Type 0
 HasSamplesIf false may list port ports answer after ports_after = (answer ≡ None) × (after ≡ port) × (ports_after ≡ ports)
 HasSamplesIf true may list port ports answer after ports_after =
     (listed : List (Option (Member PublisherEntry))) × IsListOf listed list
     × (outcome : Result Bool ConnectionFailure) × HasSamples may listed list.changes port ports outcome after ports_after × (answer ≡ Some outcome)
 
 -- It is told whether some connection of a subscriber has data, after an update.
-abbrev pub HasSamplesOne : {T U : Type 0} → (DegradationInfo → DegradationAction → Type 0) → RollState PublisherEntry → SubscriberPort → List (ℕ × PublisherPort T U) → Option (Result Bool ConnectionFailure) → SubscriberPort → List (ℕ × PublisherPort T U) → Type 0
+abbrev pub HasSamplesOne : {T U : Type 0} → (DegradationInfo → DegradationAction → Type 0) → RollState PublisherEntry → SubscriberPort
+    → List (ℕ × PublisherPort T U) → Option (Result Bool ConnectionFailure) → SubscriberPort → List (ℕ × PublisherPort T U) → Type 0
 HasSamplesOne may list port ports answer after ports_after = HasSamplesIf port.stands may list port ports answer after ports_after
 
 -- a sample that came is held, besides those that are; what is held is counted up to 2^64 - 1
@@ -46,7 +52,9 @@ counted_by (Ok None) port = port
 counted_by (Err error) port = port
 
 -- a subscriber that stands receives; another doesn't
-abbrev pub ReceivesIf : {T U : Type 0} → Bool → (DegradationInfo → DegradationAction → Type 0) → RollState PublisherEntry → SubscriberPort → List (ℕ × PublisherPort T U) → Option (Result (Option Taken) ReceiveError) → SubscriberPort → List (ℕ × PublisherPort T U) → Type 0
+abbrev pub ReceivesIf : {T U : Type 0} → Bool → (DegradationInfo → DegradationAction → Type 0) → RollState PublisherEntry
+    → SubscriberPort → List (ℕ × PublisherPort T U) → Option (Result (Option Taken) ReceiveError) → SubscriberPort
+    → List (ℕ × PublisherPort T U) → Type 0
 ReceivesIf false may list port ports answer after ports_after = (answer ≡ None) × (after ≡ port) × (ports_after ≡ ports)
 ReceivesIf true may list port ports answer after ports_after =
     (listed : List (Option (Member PublisherEntry))) × IsListOf listed list
@@ -54,7 +62,8 @@ ReceivesIf true may list port ports answer after ports_after =
     × (after ≡ counted_by outcome received) × (answer ≡ Some outcome)
 
 -- A subscriber receives, after an update; a sample that came is held.
-abbrev pub ReceivesOne : {T U : Type 0} → (DegradationInfo → DegradationAction → Type 0) → RollState PublisherEntry → SubscriberPort → List (ℕ × PublisherPort T U) → Option (Result (Option Taken) ReceiveError) → SubscriberPort → List (ℕ × PublisherPort T U) → Type 0
+abbrev pub ReceivesOne : {T U : Type 0} → (DegradationInfo → DegradationAction → Type 0) → RollState PublisherEntry → SubscriberPort
+    → List (ℕ × PublisherPort T U) → Option (Result (Option Taken) ReceiveError) → SubscriberPort → List (ℕ × PublisherPort T U) → Type 0
 ReceivesOne may list port ports answer after ports_after = ReceivesIf port.stands may list port ports answer after ports_after
 
 -- a subscriber holds one sample less
@@ -87,13 +96,15 @@ abbrev pub Releases : {T U : Type 0} → ℕ → Taken → ServicePorts T U → 
 Releases number sample old answer new = ReleasesOf (taker_of number sample old.subscribers) number sample old answer new
 
 -- a subscriber that stands leaves; another doesn't
-abbrev pub LeavesIf : {T U : Type 0} → Bool → SubscriberPort → List (ℕ × PublisherPort T U) → Option ℕ → SubscriberPort → List (ℕ × PublisherPort T U) → Type 0
+abbrev pub LeavesIf : {T U : Type 0} → Bool → SubscriberPort → List (ℕ × PublisherPort T U) → Option ℕ → SubscriberPort
+    → List (ℕ × PublisherPort T U) → Type 0
 LeavesIf false port ports answer after ports_after = (answer ≡ None) × (after ≡ port) × (ports_after ≡ ports)
 LeavesIf true port ports answer after ports_after =
     (answer ≡ Some port.place) × (after ≡ record port { stands = false }) × (ports_after ≡ left_all port.connections.values ports)
 
 -- A subscriber leaves; the answer is the place where it was listed.
-abbrev pub LeavesOne : {T U : Type 0} → SubscriberPort → List (ℕ × PublisherPort T U) → Option ℕ → SubscriberPort → List (ℕ × PublisherPort T U) → Type 0
+abbrev pub LeavesOne : {T U : Type 0} → SubscriberPort → List (ℕ × PublisherPort T U) → Option ℕ → SubscriberPort
+    → List (ℕ × PublisherPort T U) → Type 0
 LeavesOne port ports answer after ports_after = LeavesIf port.stands port ports answer after ports_after
 
 -- a subscriber that stands leaves its connections and the list; of another nothing happens

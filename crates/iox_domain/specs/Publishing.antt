@@ -9,8 +9,10 @@ use Rattle.iox_domain.specs.States.{with_ports}
 use Rattle.iox_domain.specs.Kept.{kept, forgotten}
 use Rattle.iox_domain.specs.declared.state.DomainState.{DomainState}
 
--- A publisher comes, and who decides for it is kept under its number, which comes next; a refusal is told for what the ports are, and nothing has changed.
-abbrev pub MakesPublisher : {T U B D : Type 0} → (ℕ → ℕ → Type 0) → (DegradationInfo → DegradationAction → Type 0) → PublisherConfig → U → B → DomainState T U B D → Result ℕ PublisherCreateError → DomainState T U B D → Type 0
+-- A publisher comes, and who decides for it is kept under its number, which comes next; a refusal is told for what the ports are,
+-- and nothing has changed.
+abbrev pub MakesPublisher : {T U B D : Type 0} → (ℕ → ℕ → Type 0) → (DegradationInfo → DegradationAction → Type 0) → PublisherConfig → U
+    → B → DomainState T U B D → Result ℕ PublisherCreateError → DomainState T U B D → Type 0
 MakesPublisher overrides may config user_header handlers old (Err error) new =
     (error ≡ publisher_refusal (slots_needed config old.ports) (publisher_place old.ports)) × (new ≡ old)
 MakesPublisher overrides may config user_header handlers old (Ok number) new =

@@ -27,7 +27,8 @@ changed_to places roll = record { places = places; changes = roll.changes + 1 }
 
 -- a port is listed at a place; its member is numbered by the changes
 abbrev pub entered : {V : Type 0} → ℕ → V → RollState V → RollState V
-entered place port roll = changed_to (slice_set roll.places place (Some (record { number = roll.changes + 1; owner = 1; value = port }))) roll
+entered place port roll = changed_to
+    (slice_set roll.places place (Some (record { number = roll.changes + 1; owner = 1; value = port }))) roll
 
 -- whether a place lists a port
 abbrev pub is_listed : {V : Type 0} → ℕ → RollState V → Bool
@@ -35,7 +36,8 @@ is_listed place roll = is_some (get_or roll.places place None)
 
 -- the port at a place isn't listed any longer
 abbrev pub left : {V : Type 0} → ℕ → RollState V → RollState V
-left place roll = if may_change roll then (if is_listed place roll then changed_to (slice_set roll.places place None) roll else roll) else roll
+left place roll = if may_change roll then (if is_listed place roll then changed_to (slice_set roll.places place None) roll else roll)
+    else roll
 
 -- a list of who is at each place, which may end behind the last that lists somebody
 abbrev pub IsListOf : {V : Type 0} → List (Option (Member V)) → RollState V → Type 0

@@ -21,7 +21,8 @@ use Rattle.iox_domain.specs.Tries.{how_often}
 
 -- no publisher is listed twice, and each goes by a number that was given out
 pub record IsListOnce (next : ℕ) (places : List (Option (Member PublisherEntry))) : Type 0 where
-  pub apart : (one other : ℕ) (first second : Member PublisherEntry) → get_or places one None ≡ Some first → get_or places other None ≡ Some second
+  pub apart : (one other : ℕ) (first second : Member PublisherEntry) → get_or places one None ≡ Some first
+      → get_or places other None ≡ Some second
       → first.value.publisher ≡ second.value.publisher → one ≡ other
   pub below : (place : ℕ) (member : Member PublisherEntry) → get_or places place None ≡ Some member → member.value.publisher < next
 
@@ -32,7 +33,8 @@ pub record IsReadBy {T U : Type 0} (subscriber index : ℕ) (port : PublisherPor
 
 -- the publisher that a subscriber is attached to is there, and the subscriber reads there
 abbrev pub IsAttached : {T U : Type 0} → ℕ → Attached → List (ℕ × PublisherPort T U) → Type 0
-IsAttached {T} {U} subscriber attached ports = (port : PublisherPort T U) × (port_of attached.publisher ports ≡ Some port) × IsReadBy subscriber attached.index port
+IsAttached {T} {U} subscriber attached ports = (port : PublisherPort T U) × (port_of attached.publisher ports ≡ Some port)
+    × IsReadBy subscriber attached.index port
 
 -- each connection of a publisher that leads to somebody goes on
 abbrev pub LeadsOn : {T U : Type 0} → PublisherPort T U → Type 0
@@ -47,13 +49,16 @@ pub record ReadsApart {T U : Type 0} (ports : ServicePorts T U) (number : ℕ) (
   -- it goes by its number
   pub named : port.number ≡ number
   -- it is listed at its place
-  pub listed : (member : Member SubscriberEntry) × (get_or ports.subscriber_list.places port.place None ≡ Some member) × (member.value.subscriber ≡ number)
+  pub listed : (member : Member SubscriberEntry) × (get_or ports.subscriber_list.places port.place None ≡ Some member)
+      × (member.value.subscriber ≡ number)
   -- it reads from each connection that it has
   pub reads : (key : ℕ) (attached : Attached) → attached_at key port ≡ Some attached → IsAttached number attached ports.publishers
   -- no two of its keys are for one connection
-  pub apart : (key other : ℕ) (attached : Attached) → attached_at key port ≡ Some attached → attached_at other port ≡ Some attached → key ≡ other
+  pub apart : (key other : ℕ) (attached : Attached) → attached_at key port ≡ Some attached → attached_at other port ≡ Some attached
+      → key ≡ other
   -- the key of a connection to a publisher that is listed is that of the place where it is listed
-  pub placed : (key place : ℕ) (attached : Attached) (member : Member PublisherEntry) → attached_at key port ≡ Some attached → get_or ports.publisher_list.places place None ≡ Some member
+  pub placed : (key place : ℕ) (attached : Attached) (member : Member PublisherEntry) → attached_at key port ≡ Some attached
+      → get_or ports.publisher_list.places place None ≡ Some member
       → attached.publisher ≡ member.value.publisher → get_or port.places.items place None ≡ Some key
 
 -- so it is with a subscriber that stands

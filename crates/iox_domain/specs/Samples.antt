@@ -27,7 +27,8 @@ spare_samples most port ports = if port.stands then spare_of most port.connectio
 
 -- how many all subscribers of a service may
 abbrev pub samples_left : {T U : Type 0} → ServicePorts T U → ℕ
-samples_left ports = sum_by (λ port. spare_samples ports.sizes.subscriber_max_borrowed_samples port ports.publishers) (values_of ports.subscribers)
+samples_left ports = sum_by (λ port. spare_samples ports.sizes.subscriber_max_borrowed_samples port ports.publishers)
+    (values_of ports.subscribers)
 
 -- how many samples a subscriber may hold at once: so many of each connection that it has room for; none once it left
 abbrev pub most_held : ℕ → SubscriberPort → ℕ

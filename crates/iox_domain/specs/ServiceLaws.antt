@@ -13,5 +13,6 @@ pub record SameService {T U : Type 0} (old new : ServicePorts T U) : Type 0 wher
   pub sizes : new.sizes ≡ old.sizes
 
 -- No call of a port changes which service the ports are of, nor how much it allows.
-pub record ServiceStays (T U : Type 0) (overrides : ℕ → ℕ → Type 0) (may : DegradationInfo → DegradationAction → Type 0) (decide : BackpressureInfo → BackpressureDecision → Type 0) : Type 0 where
+pub record ServiceStays (T U : Type 0) (overrides : ℕ → ℕ → Type 0) (may : DegradationInfo → DegradationAction
+    → Type 0) (decide : BackpressureInfo → BackpressureDecision → Type 0) : Type 0 where
   pub stays : (call : PortCall T U) (old new : ServicePorts T U) → Happens overrides may decide call old new → SameService old new

@@ -14,7 +14,8 @@ use Rattle.iox_domain.specs.declared.ports.service_ports.ServicePorts.{ServicePo
 use Rattle.iox_domain.specs.Calls.{PortCall, Happens}
 use Rattle.iox_domain.specs.Order.{Happen}
 
--- Whether a full mailbox lets its oldest message go, how many messages are kept for subscribers that come later, and how many of a connection may wait and be borrowed.
+-- Whether a full mailbox lets its oldest message go, how many messages are kept for subscribers that come later, and how many of
+-- a connection may wait and be borrowed.
 pub record MadeFor : Type 0 where
   pub overflows : Bool
   pub history : ℕ
@@ -39,9 +40,11 @@ allowed_by sizes = record {
   most_borrowed = sizes.subscriber_max_borrowed_samples;
 }
 
--- no more messages wait at a connection than it is made for, it is made for no more than may wait, and no more of it are borrowed than may be
+-- no more messages wait at a connection than it is made for, it is made for no more than may wait, and no more of it are borrowed
+-- than may be
 abbrev pub IsWithin : {X : Type 0} → MadeFor → Connection X → Type 0
-IsWithin sizes connection = (length connection.waiting ≤ connection.limit) × (connection.limit ≤ sizes.most_waiting) × (length connection.borrowed ≤ sizes.most_borrowed)
+IsWithin sizes connection = (length connection.waiting ≤ connection.limit) × (connection.limit ≤ sizes.most_waiting)
+    × (length connection.borrowed ≤ sizes.most_borrowed)
 
 -- a publisher, under its number, is made for just this, and each of its connections keeps within it
 abbrev pub IsMadeFor : {T U : Type 0} → MadeFor → ℕ × PublisherPort T U → Type 0
@@ -51,9 +54,12 @@ IsMadeFor sizes (number, port) = (made_for port ≡ sizes) × ((index : ℕ) →
 abbrev pub AreAllowed : {T U : Type 0} → ServicePorts T U → Type 0
 AreAllowed ports = All (IsMadeFor (allowed_by ports.sizes)) ports.publishers
 
--- Each publisher of a new service, and after each call, and so after any calls, is made for just what the service allows, and keeps within it; and what the service allows never changes.
-pub record SizesAgree (T U : Type 0) (overrides : ℕ → ℕ → Type 0) (may : DegradationInfo → DegradationAction → Type 0) (decide : BackpressureInfo → BackpressureDecision → Type 0) : Type 0 where
+-- Each publisher of a new service, and after each call, and so after any calls, is made for just what the service allows, and
+-- keeps within it; and what the service allows never changes.
+pub record SizesAgree (T U : Type 0) (overrides : ℕ → ℕ → Type 0) (may : DegradationInfo → DegradationAction
+    → Type 0) (decide : BackpressureInfo → BackpressureDecision → Type 0) : Type 0 where
   pub begins : (service : ℕ) (sizes : ServiceSizes) → AreAllowed {T = T} {U = U} (no_ports service sizes)
-  pub goes_on : (call : PortCall T U) (old new : ServicePorts T U) → Happens overrides may decide call old new → AreAllowed old → AreAllowed new
+  pub goes_on : (call : PortCall T U) (old new : ServicePorts T U) → Happens overrides may decide call old new → AreAllowed old
+      → AreAllowed new
   pub agree : (service : ℕ) (sizes : ServiceSizes) (calls : List (PortCall T U × ServicePorts T U)) (new : ServicePorts T U)
       → Happen overrides may decide calls (no_ports service sizes) new → (new.sizes ≡ sizes) × AreAllowed new

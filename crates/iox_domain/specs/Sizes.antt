@@ -21,6 +21,7 @@ sizes expired_connection_buffer config = record {
 
 -- The numbers of settings, if they are those of a publish-subscribe service and within the limits of a description.
 abbrev pub SizesOf : ℕ → Settings → Option ServiceSizes → Type 0
-SizesOf expired_connection_buffer settings None = (config : StaticConfig) → settings ≡ PublishSubscribe config → AreWithinLimits settings → ⊥
+SizesOf expired_connection_buffer settings None = (config : StaticConfig) → settings ≡ PublishSubscribe config
+    → AreWithinLimits settings → ⊥
 SizesOf expired_connection_buffer settings (Some found) =
     (config : StaticConfig) × (settings ≡ PublishSubscribe config) × AreWithinLimits settings × (found ≡ sizes expired_connection_buffer config)

@@ -1,5 +1,5 @@
 -- What each call of a port does to the ports of its service, by the port's number.
-use Rattle.std.specs.Prelude.{ℕ, Bool, Option, Result, Ok}
+use Rattle.std.specs.Prelude.{ℕ, Bool, List, Option, Result, Ok}
 use Rattle.iox_domain.specs.DomainValues.declared.backpressure.BackpressureDecision.{BackpressureDecision}
 use Rattle.iox_domain.specs.DomainValues.declared.backpressure.BackpressureInfo.{BackpressureInfo}
 use Rattle.iox_domain.specs.DomainValues.Sizes.{buffer_of}
@@ -18,6 +18,7 @@ use Rattle.iox_domain.specs.Lending.{LoansOne}
 use Rattle.iox_domain.specs.Making.{slots_needed, publisher_place, publisher_refusal, CreatesPublisher, subscriber_place, subscriber_refusal, CreatesSubscriber}
 use Rattle.iox_domain.specs.Ports.{AtPublisher, AtSubscriber}
 use Rattle.iox_domain.specs.PortsPublishing as publishing
+use Rattle.iox_domain.specs.Putting.{PutsOne}
 use Rattle.iox_domain.specs.Subscribers.{subscriber_of}
 use Rattle.iox_domain.specs.PortsSubscribing as subscribing
 use Rattle.iox_domain.specs.declared.ports.making.PublisherConfig.{PublisherConfig}
@@ -29,16 +30,30 @@ abbrev pub LoansBy : {T U : Type 0} → ℕ → ℕ → ℕ → ServicePorts T U
 LoansBy number values elements old answer new = AtPublisher number (LoansOne values elements) (port_of number old.publishers) old answer new
 
 -- The publisher of a number follows the list of subscribers.
-abbrev pub UpdatesBy : {T U : Type 0} → (DegradationInfo → DegradationAction → Type 0) → ℕ → ServicePorts T U → Option (Result (Unit {0}) ConnectionFailure) → ServicePorts T U → Type 0
-UpdatesBy may number old answer new = AtPublisher number (publishing.UpdatesOne may old.subscriber_list) (port_of number old.publishers) old answer new
+abbrev pub UpdatesBy : {T U : Type 0} → (DegradationInfo → DegradationAction → Type 0) → ℕ → ServicePorts T U
+    → Option (Result (Unit {0}) ConnectionFailure) → ServicePorts T U → Type 0
+UpdatesBy may number old answer new
+    = AtPublisher number (publishing.UpdatesOne may old.subscriber_list) (port_of number old.publishers) old answer new
 
 -- The publisher of a number sends the written loan in a slot.
-abbrev pub SendsBy : {T U : Type 0} → (DegradationInfo → DegradationAction → Type 0) → (BackpressureInfo → BackpressureDecision → Type 0) → ℕ → ℕ → ServicePorts T U → Option (Result Sent SendError) → ServicePorts T U → Type 0
-SendsBy may_degrade may number slot old answer new = AtPublisher number (publishing.SendsOne may_degrade may old.subscriber_list slot) (port_of number old.publishers) old answer new
+abbrev pub SendsBy : {T U : Type 0} → (DegradationInfo → DegradationAction → Type 0)
+    → (BackpressureInfo → BackpressureDecision → Type 0) → ℕ → ℕ → ServicePorts T U → Option (Result Sent SendError) → ServicePorts T U
+    → Type 0
+SendsBy may_degrade may number slot old answer new
+    = AtPublisher number (publishing.SendsOne may_degrade may old.subscriber_list slot) (port_of number old.publishers) old answer new
+
+-- The publisher of a number lends as many values, writes them and sends them.
+abbrev pub PutsBy : {T U : Type 0} → (DegradationInfo → DegradationAction → Type 0)
+    → (BackpressureInfo → BackpressureDecision → Type 0) → ℕ → List T → ServicePorts T U → Option (Result Sent SendError)
+    → ServicePorts T U → Type 0
+PutsBy may_degrade may number values old answer new
+    = AtPublisher number (PutsOne may_degrade may old.subscriber_list values) (port_of number old.publishers) old answer new
 
 -- The send of the publisher of a number that waits is tried again.
-abbrev pub RetriesBy : {T U : Type 0} → (BackpressureInfo → BackpressureDecision → Type 0) → ℕ → ℕ → ServicePorts T U → Option (Result Sent SendError) → ServicePorts T U → Type 0
-RetriesBy may number elapsed old answer new = AtPublisher number (publishing.RetriesOne may elapsed) (port_of number old.publishers) old answer new
+abbrev pub RetriesBy : {T U : Type 0} → (BackpressureInfo → BackpressureDecision → Type 0) → ℕ → ℕ → ServicePorts T U
+    → Option (Result Sent SendError) → ServicePorts T U → Type 0
+RetriesBy may number elapsed old answer new
+    = AtPublisher number (publishing.RetriesOne may elapsed) (port_of number old.publishers) old answer new
 
 -- The send of the publisher of a number that waits ends.
 abbrev pub GivesUpBy : {T U : Type 0} → ℕ → ServicePorts T U → Option ℕ → ServicePorts T U → Type 0
@@ -49,32 +64,42 @@ abbrev pub PublisherLeaves : {T U : Type 0} → ℕ → ServicePorts T U → Boo
 PublisherLeaves number old answer new = publishing.LeavesAt number (port_of number old.publishers) old answer new
 
 -- The subscriber of a number follows the list of publishers.
-abbrev pub FollowsBy : {T U : Type 0} → (DegradationInfo → DegradationAction → Type 0) → ℕ → ServicePorts T U → Option (Result (Unit {0}) ConnectionFailure) → ServicePorts T U → Type 0
-FollowsBy may number old answer new = AtSubscriber number (subscribing.UpdatesOne may old.publisher_list) (subscriber_of number old.subscribers) old answer new
+abbrev pub FollowsBy : {T U : Type 0} → (DegradationInfo → DegradationAction → Type 0) → ℕ → ServicePorts T U
+    → Option (Result (Unit {0}) ConnectionFailure) → ServicePorts T U → Type 0
+FollowsBy may number old answer new
+    = AtSubscriber number (subscribing.UpdatesOne may old.publisher_list) (subscriber_of number old.subscribers) old answer new
 
 -- It is told whether some connection of the subscriber of a number has data.
-abbrev pub TellsBy : {T U : Type 0} → (DegradationInfo → DegradationAction → Type 0) → ℕ → ServicePorts T U → Option (Result Bool ConnectionFailure) → ServicePorts T U → Type 0
-TellsBy may number old answer new = AtSubscriber number (subscribing.HasSamplesOne may old.publisher_list) (subscriber_of number old.subscribers) old answer new
+abbrev pub TellsBy : {T U : Type 0} → (DegradationInfo → DegradationAction → Type 0) → ℕ → ServicePorts T U
+    → Option (Result Bool ConnectionFailure) → ServicePorts T U → Type 0
+TellsBy may number old answer new = AtSubscriber number (subscribing.HasSamplesOne may old.publisher_list)
+    (subscriber_of number old.subscribers) old answer new
 
 -- The subscriber of a number receives.
-abbrev pub ReceivesBy : {T U : Type 0} → (DegradationInfo → DegradationAction → Type 0) → ℕ → ServicePorts T U → Option (Result (Option Taken) ReceiveError) → ServicePorts T U → Type 0
-ReceivesBy may number old answer new = AtSubscriber number (subscribing.ReceivesOne may old.publisher_list) (subscriber_of number old.subscribers) old answer new
+abbrev pub ReceivesBy : {T U : Type 0} → (DegradationInfo → DegradationAction → Type 0) → ℕ → ServicePorts T U
+    → Option (Result (Option Taken) ReceiveError) → ServicePorts T U → Type 0
+ReceivesBy may number old answer new
+    = AtSubscriber number (subscribing.ReceivesOne may old.publisher_list) (subscriber_of number old.subscribers) old answer new
 
 -- The subscriber of a number leaves.
 abbrev pub SubscriberLeaves : {T U : Type 0} → ℕ → ServicePorts T U → Bool → ServicePorts T U → Type 0
 SubscriberLeaves number old answer new = subscribing.LeavesAt number (subscriber_of number old.subscribers) old answer new
 
 -- A publisher comes, under this number.
-abbrev pub PublisherComes : {T U : Type 0} → (ℕ → ℕ → Type 0) → (DegradationInfo → DegradationAction → Type 0) → PublisherConfig → U → ServicePorts T U → ℕ → ServicePorts T U → Type 0
-PublisherComes overrides may config user_header old number new = CreatesPublisher overrides may config user_header (slots_needed config old) (publisher_place old) old (Ok number) new
+abbrev pub PublisherComes : {T U : Type 0} → (ℕ → ℕ → Type 0) → (DegradationInfo → DegradationAction → Type 0) → PublisherConfig → U
+    → ServicePorts T U → ℕ → ServicePorts T U → Type 0
+PublisherComes overrides may config user_header old number new
+    = CreatesPublisher overrides may config user_header (slots_needed config old) (publisher_place old) old (Ok number) new
 
 -- Why a publisher doesn't come.
 abbrev pub why_no_publisher : {T U : Type 0} → PublisherConfig → ServicePorts T U → PublisherCreateError
 why_no_publisher config ports = publisher_refusal (slots_needed config ports) (publisher_place ports)
 
 -- A subscriber comes, under this number.
-abbrev pub SubscriberComes : {T U : Type 0} → (DegradationInfo → DegradationAction → Type 0) → SubscriberConfig → ServicePorts T U → ℕ → ServicePorts T U → Type 0
-SubscriberComes may config old number new = CreatesSubscriber may config.owner (buffer_of config.buffer_size old.sizes) (subscriber_place old) old (Ok number) new
+abbrev pub SubscriberComes : {T U : Type 0} → (DegradationInfo → DegradationAction → Type 0) → SubscriberConfig → ServicePorts T U → ℕ
+    → ServicePorts T U → Type 0
+SubscriberComes may config old number new
+    = CreatesSubscriber may config.owner (buffer_of config.buffer_size old.sizes) (subscriber_place old) old (Ok number) new
 
 -- Why a subscriber doesn't come.
 abbrev pub why_no_subscriber : {T U : Type 0} → SubscriberConfig → ServicePorts T U → SubscriberCreateError

@@ -10,8 +10,10 @@ use Rattle.iox_domain.specs.States.{with_ports}
 use Rattle.iox_domain.specs.Kept.{kept}
 use Rattle.iox_domain.specs.declared.state.DomainState.{DomainState}
 
--- A subscriber comes, and who decides for it is kept under its number, which comes next; a refusal is told for what the ports are, and nothing has changed.
-abbrev pub MakesSubscriber : {T U B D : Type 0} → (DegradationInfo → DegradationAction → Type 0) → SubscriberConfig → D → DomainState T U B D → Result ℕ SubscriberCreateError → DomainState T U B D → Type 0
+-- A subscriber comes, and who decides for it is kept under its number, which comes next; a refusal is told for what the ports
+-- are, and nothing has changed.
+abbrev pub MakesSubscriber : {T U B D : Type 0} → (DegradationInfo → DegradationAction → Type 0) → SubscriberConfig → D
+    → DomainState T U B D → Result ℕ SubscriberCreateError → DomainState T U B D → Type 0
 MakesSubscriber may config handler old (Err error) new =
     (error ≡ subscriber_refusal (buffer_of config.buffer_size old.ports.sizes) (subscriber_place old.ports)) × (new ≡ old)
 MakesSubscriber may config handler old (Ok number) new =

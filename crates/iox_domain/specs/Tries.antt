@@ -23,8 +23,8 @@ abbrev pub how_often : ℕ → List ℕ → ℕ
 how_often index [] = 0
 how_often index (one ∷ rest) = (if index == one then 1 else 0) + how_often index rest
 
--- The connection of an index took the message that is being sent, at a place that the send went over: it went on, had room for the message or
--- let its oldest go, and the message is the newest that waits there.
+-- The connection of an index took the message that is being sent, at a place that the send went over: it went on, had room for
+-- the message or let its oldest go, and the message is the newest that waits there.
 pub record Took {T U : Type 0} (index : ℕ) (old new : PublisherPort T U) : Type 0 where
   pub place : ℕ
   pub message : Message T U
@@ -60,9 +60,11 @@ pub record Try (T U : Type 0) : Type 0 where
   pub after : PublisherPort T U
 
 -- The tries of a send, one after the other: each goes on where the one before stopped, whatever its connections got and gave in between.
-abbrev pub AreTries : {T U : Type 0} → (BackpressureInfo → BackpressureDecision → Type 0) → PublisherPort T U → List (Try T U) → PublisherPort T U → Type 0
+abbrev pub AreTries : {T U : Type 0} → (BackpressureInfo → BackpressureDecision → Type 0) → PublisherPort T U → List (Try T U)
+    → PublisherPort T U → Type 0
 AreTries decide first [] last = IsSameSend first last
-AreTries decide first (one ∷ rest) last = IsSameSend first one.before × Finishes decide one.before one.answer one.after × AreTries decide one.after rest last
+AreTries decide first (one ∷ rest) last = IsSameSend first one.before × Finishes decide one.before one.answer one.after
+    × AreTries decide one.after rest last
 
 -- in each of the tries took who is listed for it
 abbrev pub TriesComeTo : {T U : Type 0} → List (List ℕ) → List (Try T U) → Type 0
@@ -79,11 +81,13 @@ all_takers (takers ∷ more) = takers ++ all_takers more
 -- A send, with all of its tries: each connection takes its message at most once in all of them, and as many took it as are counted.
 -- A send begins at the first place with none counted; what it answers in the end, and what is told when it is given up, is that count.
 pub record SendReachesOnce (T U : Type 0) (decide : BackpressureInfo → BackpressureDecision → Type 0) : Type 0 where
-  pub begins : (at : ℕ) (loan : Loan T U) (port : PublisherPort T U) → ((begun_by at (Some loan) port).progress.place ≡ 0) × ((begun_by at (Some loan) port).progress.delivered ≡ 0)
+  pub begins : (at : ℕ) (loan : Loan T U) (port : PublisherPort T U) → ((begun_by at (Some loan) port).progress.place ≡ 0)
+      × ((begun_by at (Some loan) port).progress.delivered ≡ 0)
   pub reaches : (first last : PublisherPort T U) (tries : List (Try T U)) → AreTiesApart first → AreTries decide first tries last
       → (takers : List (List ℕ)) × TriesComeTo takers tries × ((index : ℕ) → how_often index (all_takers takers) ≤ 1)
       × (last.progress.delivered ≡ first.progress.delivered + length (all_takers takers))
-  pub answers : (count : ℕ) (old new : PublisherPort T U) → Finishes decide old (Ok (sent.Delivered count)) new → count ≡ new.progress.delivered
+  pub answers : (count : ℕ) (old new : PublisherPort T U) → Finishes decide old (Ok (sent.Delivered count)) new
+      → count ≡ new.progress.delivered
   pub gives_up : (count : ℕ) (port after : PublisherPort T U) → GivesUpOne port (Some count) after → count ≡ port.progress.delivered
 
 -- whether a call goes on with the send of a publisher that waits, or ends it
@@ -93,6 +97,8 @@ goes_on_with publisher (GivesSendUp number answer) = publisher == number
 goes_on_with publisher call = false
 
 -- A send that waits is where it was after each call but those that go on with it, whoever calls.
-pub record SendWaits (T U : Type 0) (overrides : ℕ → ℕ → Type 0) (may : DegradationInfo → DegradationAction → Type 0) (decide : BackpressureInfo → BackpressureDecision → Type 0) : Type 0 where
-  pub waits : (call : PortCall T U) (old new : ServicePorts T U) (publisher : ℕ) (port : PublisherPort T U) → Happens overrides may decide call old new → IsSound old → port_of publisher old.publishers ≡ Some port
+pub record SendWaits (T U : Type 0) (overrides : ℕ → ℕ → Type 0) (may : DegradationInfo → DegradationAction
+    → Type 0) (decide : BackpressureInfo → BackpressureDecision → Type 0) : Type 0 where
+  pub waits : (call : PortCall T U) (old new : ServicePorts T U) (publisher : ℕ) (port : PublisherPort T U)
+      → Happens overrides may decide call old new → IsSound old → port_of publisher old.publishers ≡ Some port
       → is_some port.sender.uses.sending ≡ true → goes_on_with publisher call ≡ false → (after : PublisherPort T U) × (port_of publisher new.publishers ≡ Some after) × IsSameSend port after

@@ -5,7 +5,7 @@ ghost use Rattle.std.specs.Option.{option_copied_mut};
 ghost use Rattle.iox_domain.specs.DomainValues.declared.degradation.DegradationCause.TheVariants.{FailedToEstablishConnection};
 ghost use Rattle.iox_domain.specs.contracts.ports.service_ports.ServicePorts as service_ports;
 ghost use Rattle.iox_domain.specs.AtHomes.{AtDomain, LeavesDomain, MakesAt};
-ghost use Rattle.iox_domain.specs.Steps.{LoansBy, UpdatesBy, SendsBy, RetriesBy, PublisherLeaves, FollowsBy, TellsBy, ReceivesBy, SubscriberLeaves, PublisherComes, SubscriberComes, why_no_publisher, why_no_subscriber};
+ghost use Rattle.iox_domain.specs.Steps.{LoansBy, UpdatesBy, SendsBy, PutsBy, RetriesBy, PublisherLeaves, FollowsBy, TellsBy, ReceivesBy, SubscriberLeaves, PublisherComes, SubscriberComes, why_no_publisher, why_no_subscriber};
 ghost use Rattle.iox_domain.specs.Homes.{ports_of, with_ports, with_publisher, with_subscriber, without_publisher, without_subscriber, publisher_degrades, publisher_decides, subscriber_degrades};
 
 use crate::domain_id::DomainId;
@@ -47,7 +47,8 @@ pub fn ports_mut<'a, T: Copy, U: Copy, H: Home<T, U>>(
 where
     T: 'a,
     U: 'a,
-    ensures* writes_back { sem 𝓛 (LendsIf H.row (service_ports.the_row T.row U.row) home.entry result (λ last. with_ports H.changed id last home.old) home.old) }
+    ensures* writes_back { sem 𝓛 (LendsIf H.row (service_ports.the_row T.row U.row) home.entry result
+        (λ last. with_ports H.changed id last home.old) home.old) }
     ensures value { option_copied_mut result ≡ ports_of H.domain_of id home.old }
 {
     match home.domain_mut(id) {
@@ -68,7 +69,8 @@ pub fn loan<T: Copy, U: Copy, H: Home<T, U>>(
     values: usize,
     elements: u64,
 ) -> Option<Result<usize, LoanError>>
-    ensures { AtDomain (λ after. with_ports H.changed id after home.old) (LoansBy number values elements) (ports_of H.domain_of id home.old) home.old result home.new }
+    ensures { AtDomain (λ after. with_ports H.changed id after home.old) (LoansBy number values elements)
+        (ports_of H.domain_of id home.old) home.old result home.new }
 {
     let domain = home.domain_mut(id)?;
     domain.loan(alloc, number, values, elements)
@@ -84,7 +86,9 @@ pub fn update_publisher<T: Copy, U: Copy, H: Home<T, U>>(
     id: DomainId,
     number: u64,
 ) -> Option<Result<(), ConnectionFailure>>
-    ensures { AtDomain (λ after. with_ports H.changed id after home.old) (UpdatesBy (publisher_degrades (λ kept. H.ForPublishers.degrades kept) H.domain_of id number home.old) number) (ports_of H.domain_of id home.old) home.old result home.new }
+    ensures { AtDomain (λ after. with_ports H.changed id after home.old)
+        (UpdatesBy (publisher_degrades (λ kept. H.ForPublishers.degrades kept) H.domain_of id number home.old) number)
+        (ports_of H.domain_of id home.old) home.old result home.new }
 {
     let domain = home.domain_mut(id)?;
     domain.update_publisher(alloc, number)
@@ -101,10 +105,34 @@ pub fn send<T: Copy, U: Copy, H: Home<T, U>>(
     number: u64,
     slot: usize,
 ) -> Option<Result<Sent, SendError>>
-    ensures { AtDomain (λ after. with_ports H.changed id after home.old) (SendsBy (publisher_degrades (λ kept. H.ForPublishers.degrades kept) H.domain_of id number home.old) (publisher_decides (λ kept. H.ForPublishers.decides kept) H.domain_of id number home.old) number slot) (ports_of H.domain_of id home.old) home.old result home.new }
+    ensures { AtDomain (λ after. with_ports H.changed id after home.old)
+        (SendsBy (publisher_degrades (λ kept. H.ForPublishers.degrades kept) H.domain_of id number home.old)
+        (publisher_decides (λ kept. H.ForPublishers.decides kept) H.domain_of id number home.old) number slot)
+        (ports_of H.domain_of id home.old) home.old result home.new }
 {
     let domain = home.domain_mut(id)?;
     domain.send(alloc, number, slot)
+}
+
+/// A publisher lends as many values, writes them and sends them: `ServicePorts::put` says what that does. None, and nothing happens, also
+/// where the domain isn't here.
+///
+/// Ported from `iceoryx2::port::publisher::Publisher::send_copy`, for slices.
+/// Example: `let sent = calls::put(home, alloc, id, number, &[7, 8]);`
+pub fn put<T: Copy, U: Copy, H: Home<T, U>>(
+    home: &mut H,
+    alloc: Global,
+    id: DomainId,
+    number: u64,
+    values: &[T],
+) -> Option<Result<Sent, SendError>>
+    ensures { AtDomain (λ after. with_ports H.changed id after home.old)
+        (PutsBy (publisher_degrades (λ kept. H.ForPublishers.degrades kept) H.domain_of id number home.old)
+        (publisher_decides (λ kept. H.ForPublishers.decides kept) H.domain_of id number home.old) number values.now)
+        (ports_of H.domain_of id home.old) home.old result home.new }
+{
+    let domain = home.domain_mut(id)?;
+    domain.put(alloc, number, values)
 }
 
 /// The send of a publisher that waits is tried again, after so many nanoseconds: `ServicePorts::retry` says what that does. None, and
@@ -117,7 +145,9 @@ pub fn retry<T: Copy, U: Copy, H: Home<T, U>>(
     number: u64,
     elapsed: u64,
 ) -> Option<Result<Sent, SendError>>
-    ensures { AtDomain (λ after. with_ports H.changed id after home.old) (RetriesBy (publisher_decides (λ kept. H.ForPublishers.decides kept) H.domain_of id number home.old) number elapsed) (ports_of H.domain_of id home.old) home.old result home.new }
+    ensures { AtDomain (λ after. with_ports H.changed id after home.old)
+        (RetriesBy (publisher_decides (λ kept. H.ForPublishers.decides kept) H.domain_of id number home.old) number elapsed)
+        (ports_of H.domain_of id home.old) home.old result home.new }
 {
     let domain = home.domain_mut(id)?;
     domain.retry(number, elapsed)
@@ -132,7 +162,8 @@ pub fn leave_publisher<T: Copy, U: Copy, H: Home<T, U>>(
     id: DomainId,
     number: u64,
 ) -> bool
-    ensures { LeavesDomain (λ after. with_ports H.changed id after home.old) (without_publisher H.changed id number) (PublisherLeaves number) (ports_of H.domain_of id home.old) home.old result home.new }
+    ensures { LeavesDomain (λ after. with_ports H.changed id after home.old) (without_publisher H.changed id number)
+        (PublisherLeaves number) (ports_of H.domain_of id home.old) home.old result home.new }
 {
     let Some(domain) = home.domain_mut(id) else {
         return false;
@@ -150,7 +181,9 @@ pub fn update_subscriber<T: Copy, U: Copy, H: Home<T, U>>(
     id: DomainId,
     number: u64,
 ) -> Option<Result<(), ConnectionFailure>>
-    ensures { AtDomain (λ after. with_ports H.changed id after home.old) (FollowsBy (subscriber_degrades (λ kept. H.ForSubscribers.degrades kept) H.domain_of id number home.old) number) (ports_of H.domain_of id home.old) home.old result home.new }
+    ensures { AtDomain (λ after. with_ports H.changed id after home.old)
+        (FollowsBy (subscriber_degrades (λ kept. H.ForSubscribers.degrades kept) H.domain_of id number home.old) number)
+        (ports_of H.domain_of id home.old) home.old result home.new }
 {
     let domain = home.domain_mut(id)?;
     domain.update_subscriber(alloc, number)
@@ -166,7 +199,9 @@ pub fn has_samples<T: Copy, U: Copy, H: Home<T, U>>(
     id: DomainId,
     number: u64,
 ) -> Option<Result<bool, ConnectionFailure>>
-    ensures { AtDomain (λ after. with_ports H.changed id after home.old) (TellsBy (subscriber_degrades (λ kept. H.ForSubscribers.degrades kept) H.domain_of id number home.old) number) (ports_of H.domain_of id home.old) home.old result home.new }
+    ensures { AtDomain (λ after. with_ports H.changed id after home.old)
+        (TellsBy (subscriber_degrades (λ kept. H.ForSubscribers.degrades kept) H.domain_of id number home.old) number)
+        (ports_of H.domain_of id home.old) home.old result home.new }
 {
     let domain = home.domain_mut(id)?;
     domain.has_samples(alloc, number)
@@ -181,7 +216,9 @@ pub fn receive<T: Copy, U: Copy, H: Home<T, U>>(
     id: DomainId,
     number: u64,
 ) -> Option<Result<Option<Taken>, ReceiveError>>
-    ensures { AtDomain (λ after. with_ports H.changed id after home.old) (ReceivesBy (subscriber_degrades (λ kept. H.ForSubscribers.degrades kept) H.domain_of id number home.old) number) (ports_of H.domain_of id home.old) home.old result home.new }
+    ensures { AtDomain (λ after. with_ports H.changed id after home.old)
+        (ReceivesBy (subscriber_degrades (λ kept. H.ForSubscribers.degrades kept) H.domain_of id number home.old) number)
+        (ports_of H.domain_of id home.old) home.old result home.new }
 {
     let domain = home.domain_mut(id)?;
     domain.receive(alloc, number)
@@ -196,7 +233,8 @@ pub fn leave_subscriber<T: Copy, U: Copy, H: Home<T, U>>(
     id: DomainId,
     number: u64,
 ) -> bool
-    ensures { LeavesDomain (λ after. with_ports H.changed id after home.old) (without_subscriber H.changed id number) (SubscriberLeaves number) (ports_of H.domain_of id home.old) home.old result home.new }
+    ensures { LeavesDomain (λ after. with_ports H.changed id after home.old) (without_subscriber H.changed id number)
+        (SubscriberLeaves number) (ports_of H.domain_of id home.old) home.old result home.new }
 {
     let Some(domain) = home.domain_mut(id) else {
         return false;

@@ -18,8 +18,8 @@ use std::alloc::{AllocError, Global};
 
 /// One publish-subscribe service: its ports, and who decides for them.
 ///
-/// It is one owned value, and a home: each call of a port is handed it. Who decides is a type of its own for publishers and for subscribers, so that a
-/// domain has no `dyn` in it unless these have. Ported from what the ports of an `iceoryx2` service share.
+/// It is one owned value, and a home: each call of a port is handed it. Who decides is a type of its own for publishers and for
+/// subscribers, so that a domain has no `dyn` in it unless these have. Ported from what the ports of an `iceoryx2` service share.
 #[derive(Drop)]
 pub struct Domain<T, U, B = Handlers, D = DegradationHandler> {
     /// Which domain it is.
@@ -37,7 +37,8 @@ impl<T: Words + ZeroCopySend, U: Copy + ZeroCopySend, B: Drop, D: Drop> Domain<T
     /// publish-subscribe service within the limits of a description, and a builder over `T` or `Slice<T>` and `U` finds its types
     /// compatible.
     pub fn fits(description: &Description) -> bool
-        ensures { IsTrue result ↔ Fits (detail FixedSize T.name T.size T.alignment) (detail FixedSize U.name U.size U.alignment) description.now.settings }
+        ensures { IsTrue result ↔ Fits (detail FixedSize T.name T.size T.alignment) (detail FixedSize U.name U.size U.alignment)
+            description.now.settings }
     {
         fits::<T, U>(description)
     }

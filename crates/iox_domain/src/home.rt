@@ -27,37 +27,47 @@ pub trait Home<T, U> {
     ghost domain_of: { DomainId → Self → Option (DomainState T U Self.ForPublishers Self.ForSubscribers) };
 
     // a home after one step of what the domain of an id lends, if it is here
-    ghost changed: { DomainId → (DomainState T U Self.ForPublishers Self.ForSubscribers → DomainState T U Self.ForPublishers Self.ForSubscribers) → Self → Self };
+    ghost changed: { DomainId → (DomainState T U Self.ForPublishers Self.ForSubscribers
+        → DomainState T U Self.ForPublishers Self.ForSubscribers) → Self → Self };
 
-    /// The domain of this id, if it is here.
+    /// The state of the domain of this id, if it is here.
     fn domain(
         &self,
         id: DomainId,
     ) -> Option<&DomainState<T, U, Self::ForPublishers, Self::ForSubscribers>>
         ensures { option_copied result ≡ domain_of id self.now };
 
-    /// The domain of this id, if it is here, to be changed in its place.
+    /// The state of the domain of this id, if it is here, to be changed in its place.
     fn domain_mut(
         &mut self,
         id: DomainId,
     ) -> Option<&mut DomainState<T, U, Self::ForPublishers, Self::ForSubscribers>>
-        ensures* writes_back { sem 𝓛 (LendsIf Self.row (lent.the_row T.row U.row Self.ForPublishers.row Self.ForSubscribers.row) self.entry result (λ last. changed id (λ before. last) self.old) self.old) }
+        ensures* writes_back { sem 𝓛 (LendsIf Self.row (lent.the_row T.row U.row Self.ForPublishers.row Self.ForSubscribers.row)
+            self.entry result (λ last. changed id (λ before. last) self.old) self.old) }
         ensures value { option_copied_mut result ≡ domain_of id self.old };
 
     // what was changed is found so
-    ghost changed_found: { (id : DomainId) (step : DomainState T U Self.ForPublishers Self.ForSubscribers → DomainState T U Self.ForPublishers Self.ForSubscribers) (home : Self) → domain_of id (changed id step home) ≡ option_map step (domain_of id home) };
+    ghost changed_found: { (id : DomainId) (step : DomainState T U Self.ForPublishers Self.ForSubscribers
+        → DomainState T U Self.ForPublishers Self.ForSubscribers) (home : Self)
+        → domain_of id (changed id step home) ≡ option_map step (domain_of id home) };
 
     // the other domains stay as they were
-    ghost others_stay: { (id other : DomainId) (step : DomainState T U Self.ForPublishers Self.ForSubscribers → DomainState T U Self.ForPublishers Self.ForSubscribers) (home : Self) → (id ≡ other → ⊥) → domain_of other (changed id step home) ≡ domain_of other home };
+    ghost others_stay: { (id other : DomainId) (step : DomainState T U Self.ForPublishers Self.ForSubscribers
+        → DomainState T U Self.ForPublishers Self.ForSubscribers) (home : Self) → (id ≡ other → ⊥)
+        → domain_of other (changed id step home) ≡ domain_of other home };
 
     // steps that make the same of what is there are one
-    ghost alike: { (id : DomainId) (one other : DomainState T U Self.ForPublishers Self.ForSubscribers → DomainState T U Self.ForPublishers Self.ForSubscribers) (home : Self) → option_map one (domain_of id home) ≡ option_map other (domain_of id home) → changed id one home ≡ changed id other home };
+    ghost alike: { (id : DomainId) (one other : DomainState T U Self.ForPublishers Self.ForSubscribers
+        → DomainState T U Self.ForPublishers Self.ForSubscribers) (home : Self)
+        → option_map one (domain_of id home) ≡ option_map other (domain_of id home) → changed id one home ≡ changed id other home };
 
     // a step that changes nothing
     ghost unchanged: { (id : DomainId) (home : Self) → changed id (λ state. state) home ≡ home };
 
     // two steps are one
-    ghost again: { (id : DomainId) (first second : DomainState T U Self.ForPublishers Self.ForSubscribers → DomainState T U Self.ForPublishers Self.ForSubscribers) (home : Self) → changed id second (changed id first home) ≡ changed id (λ state. second (first state)) home };
+    ghost again: { (id : DomainId) (first second : DomainState T U Self.ForPublishers Self.ForSubscribers
+        → DomainState T U Self.ForPublishers Self.ForSubscribers) (home : Self)
+        → changed id second (changed id first home) ≡ changed id (λ state. second (first state)) home };
 }
 
 impl<T: Copy, U: Copy, B: Decides + Degrades, D: Degrades> Home<T, U> for Domain<T, U, B, D> {

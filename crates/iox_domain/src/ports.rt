@@ -5,6 +5,7 @@
 //! - [`service_ports`]: the ports of a service.
 //! - [`making`]: a publisher and a subscriber come.
 //! - [`lending`]: a publisher lends a slot, what is to be sent is written there, and a loan is given up.
+//! - [`putting`]: a publisher lends values, writes and sends them at once.
 //! - [`publishing`]: a publisher follows the subscribers, sends and leaves.
 //! - [`subscribing`]: a subscriber follows the publishers, receives, releases and leaves.
 //! - [`reading`]: what is read of a sample.
@@ -25,6 +26,7 @@ pub mod lending;
 pub mod living;
 pub mod making;
 pub mod publishing;
+pub mod putting;
 pub mod reading;
 pub mod roll;
 pub mod service_ports;

@@ -5,6 +5,7 @@ ghost use Rattle.iox_domain.specs.DomainSubscriber.Publishers.{port_of};
 ghost use Rattle.iox_domain.specs.Lending.{LoansOne};
 ghost use Rattle.iox_domain.specs.Ports.{AtPublisher};
 ghost use Rattle.iox_domain.specs.PortsPublishing.{UpdatesOne, SendsOne, RetriesOne, LeavesAt};
+ghost use Rattle.iox_domain.specs.Putting.{PutsOne};
 ghost use Rattle.iox_domain.specs.States.{with_ports};
 ghost use Rattle.iox_domain.specs.Handling.{kept_degrades, kept_decides};
 ghost use Rattle.iox_domain.specs.Kept.{kept_under};
@@ -70,7 +71,8 @@ impl<T: Copy, U: Copy, B: Decides + Degrades, D: Degrades> DomainState<T, U, B, 
         values: usize,
         elements: u64,
     ) -> Option<Result<usize, LoanError>>
-        ensures loans { AtPublisher number (LoansOne values elements) (port_of number self.old.ports.publishers) self.old.ports result self.new.ports }
+        ensures loans { AtPublisher number (LoansOne values elements) (port_of number self.old.ports.publishers) self.old.ports result
+            self.new.ports }
         ensures rest { self.new ≡ with_ports self.new.ports self.old }
     {
         self.ports.loan(alloc, number, values, elements, self.blank)
@@ -84,7 +86,9 @@ impl<T: Copy, U: Copy, B: Decides + Degrades, D: Degrades> DomainState<T, U, B, 
         alloc: Global,
         number: u64,
     ) -> Option<Result<(), ConnectionFailure>>
-        ensures updates { AtPublisher number (UpdatesOne (kept_degrades (λ kept. B.degrades kept) (kept_under number self.old.publisher_handlers)) self.old.ports.subscriber_list) (port_of number self.old.ports.publishers) self.old.ports result self.new.ports }
+        ensures updates { AtPublisher number
+            (UpdatesOne (kept_degrades (λ kept. B.degrades kept) (kept_under number self.old.publisher_handlers))
+            self.old.ports.subscriber_list) (port_of number self.old.ports.publishers) self.old.ports result self.new.ports }
         ensures rest { self.new ≡ with_ports self.new.ports self.old }
     {
         match self.publisher_handlers.get(number) {
@@ -102,7 +106,10 @@ impl<T: Copy, U: Copy, B: Decides + Degrades, D: Degrades> DomainState<T, U, B, 
         number: u64,
         slot: usize,
     ) -> Option<Result<Sent, SendError>>
-        ensures sends { AtPublisher number (SendsOne (kept_degrades (λ kept. B.degrades kept) (kept_under number self.old.publisher_handlers)) (kept_decides (λ kept. B.decides kept) (kept_under number self.old.publisher_handlers)) self.old.ports.subscriber_list slot) (port_of number self.old.ports.publishers) self.old.ports result self.new.ports }
+        ensures sends { AtPublisher number (SendsOne
+            (kept_degrades (λ kept. B.degrades kept) (kept_under number self.old.publisher_handlers))
+            (kept_decides (λ kept. B.decides kept) (kept_under number self.old.publisher_handlers)) self.old.ports.subscriber_list slot)
+            (port_of number self.old.ports.publishers) self.old.ports result self.new.ports }
         ensures rest { self.new ≡ with_ports self.new.ports self.old }
     {
         match self.publisher_handlers.get(number) {
@@ -111,11 +118,36 @@ impl<T: Copy, U: Copy, B: Decides + Degrades, D: Degrades> DomainState<T, U, B, 
         }
     }
 
+    /// The publisher lends as many values, writes them and sends them: `ServicePorts::put` says what that does and answers.
+    ///
+    /// Ported from `iceoryx2::port::publisher::Publisher::send_copy`, for slices.
+    /// Example: `let sent = state.put(alloc, number, &[7, 8]);`
+    pub fn put(
+        &mut self,
+        alloc: Global,
+        number: u64,
+        values: &[T],
+    ) -> Option<Result<Sent, SendError>>
+        ensures puts { AtPublisher number (PutsOne
+            (kept_degrades (λ kept. B.degrades kept) (kept_under number self.old.publisher_handlers))
+            (kept_decides (λ kept. B.decides kept) (kept_under number self.old.publisher_handlers)) self.old.ports.subscriber_list
+            values.now) (port_of number self.old.ports.publishers) self.old.ports result self.new.ports }
+        ensures rest { self.new ≡ with_ports self.new.ports self.old }
+    {
+        let blank = self.blank;
+        match self.publisher_handlers.get(number) {
+            Some(kept) => self.ports.put(alloc, number, values, blank, kept),
+            None => self.ports.put(alloc, number, values, blank, &Nobody),
+        }
+    }
+
     /// Tries the place again at which the publisher's send waits, after so many nanoseconds: `ServicePorts::retry` says what that does.
     ///
     /// This port's own: `iceoryx2::port::publisher::Publisher::send` waits itself.
     pub fn retry(&mut self, number: u64, elapsed: u64) -> Option<Result<Sent, SendError>>
-        ensures retries { AtPublisher number (RetriesOne (kept_decides (λ kept. B.decides kept) (kept_under number self.old.publisher_handlers)) elapsed) (port_of number self.old.ports.publishers) self.old.ports result self.new.ports }
+        ensures retries { AtPublisher number
+            (RetriesOne (kept_decides (λ kept. B.decides kept) (kept_under number self.old.publisher_handlers)) elapsed)
+            (port_of number self.old.ports.publishers) self.old.ports result self.new.ports }
         ensures rest { self.new ≡ with_ports self.new.ports self.old }
     {
         match self.publisher_handlers.get(number) {
@@ -129,7 +161,8 @@ impl<T: Copy, U: Copy, B: Decides + Degrades, D: Degrades> DomainState<T, U, B, 
     /// Ported from dropping an `iceoryx2::port::publisher::Publisher`.
     pub fn leave_publisher(&mut self, number: u64) -> bool
         ensures leaves { LeavesAt number (port_of number self.old.ports.publishers) self.old.ports result self.new.ports }
-        ensures rest { self.new ≡ record (with_ports self.new.ports self.old) { publisher_handlers = kept_unless result number self.old.publisher_handlers } }
+        ensures rest { self.new ≡ record (with_ports self.new.ports self.old)
+            { publisher_handlers = kept_unless result number self.old.publisher_handlers } }
     {
         let left = self.ports.leave_publisher(number);
         if left {

@@ -58,7 +58,9 @@ impl<T: Copy, U: Copy, B: Decides + Degrades, D: Degrades> DomainState<T, U, B, 
         alloc: Global,
         number: u64,
     ) -> Option<Result<(), ConnectionFailure>>
-        ensures updates { AtSubscriber number (UpdatesOne (kept_degrades (λ kept. D.degrades kept) (kept_under number self.old.subscriber_handlers)) self.old.ports.publisher_list) (subscriber_of number self.old.ports.subscribers) self.old.ports result self.new.ports }
+        ensures updates { AtSubscriber number
+            (UpdatesOne (kept_degrades (λ kept. D.degrades kept) (kept_under number self.old.subscriber_handlers))
+            self.old.ports.publisher_list) (subscriber_of number self.old.ports.subscribers) self.old.ports result self.new.ports }
         ensures rest { self.new ≡ with_ports self.new.ports self.old }
     {
         match self.subscriber_handlers.get(number) {
@@ -75,7 +77,9 @@ impl<T: Copy, U: Copy, B: Decides + Degrades, D: Degrades> DomainState<T, U, B, 
         alloc: Global,
         number: u64,
     ) -> Option<Result<bool, ConnectionFailure>>
-        ensures has { AtSubscriber number (HasSamplesOne (kept_degrades (λ kept. D.degrades kept) (kept_under number self.old.subscriber_handlers)) self.old.ports.publisher_list) (subscriber_of number self.old.ports.subscribers) self.old.ports result self.new.ports }
+        ensures has { AtSubscriber number (HasSamplesOne
+            (kept_degrades (λ kept. D.degrades kept) (kept_under number self.old.subscriber_handlers)) self.old.ports.publisher_list)
+            (subscriber_of number self.old.ports.subscribers) self.old.ports result self.new.ports }
         ensures rest { self.new ≡ with_ports self.new.ports self.old }
     {
         match self.subscriber_handlers.get(number) {
@@ -92,7 +96,9 @@ impl<T: Copy, U: Copy, B: Decides + Degrades, D: Degrades> DomainState<T, U, B, 
         alloc: Global,
         number: u64,
     ) -> Option<Result<Option<Taken>, ReceiveError>>
-        ensures receives { AtSubscriber number (ReceivesOne (kept_degrades (λ kept. D.degrades kept) (kept_under number self.old.subscriber_handlers)) self.old.ports.publisher_list) (subscriber_of number self.old.ports.subscribers) self.old.ports result self.new.ports }
+        ensures receives { AtSubscriber number
+            (ReceivesOne (kept_degrades (λ kept. D.degrades kept) (kept_under number self.old.subscriber_handlers))
+            self.old.ports.publisher_list) (subscriber_of number self.old.ports.subscribers) self.old.ports result self.new.ports }
         ensures rest { self.new ≡ with_ports self.new.ports self.old }
     {
         match self.subscriber_handlers.get(number) {
@@ -106,7 +112,8 @@ impl<T: Copy, U: Copy, B: Decides + Degrades, D: Degrades> DomainState<T, U, B, 
     /// Ported from dropping an `iceoryx2::port::subscriber::Subscriber`.
     pub fn leave_subscriber(&mut self, number: u64) -> bool
         ensures leaves { LeavesAt number (subscriber_of number self.old.ports.subscribers) self.old.ports result self.new.ports }
-        ensures rest { self.new ≡ record (with_ports self.new.ports self.old) { subscriber_handlers = kept_unless result number self.old.subscriber_handlers } }
+        ensures rest { self.new ≡ record (with_ports self.new.ports self.old)
+            { subscriber_handlers = kept_unless result number self.old.subscriber_handlers } }
     {
         let left = self.ports.leave_subscriber(number);
         if left {

@@ -15,7 +15,8 @@ is_live_tie (Some index) port = is_live index port
 -- how many of so many places, from one on, are tied to a connection that goes on
 abbrev pub live_from : {T U : Type 0} → ℕ → ℕ → PublisherPort T U → ℕ
 live_from zero place port = 0
-live_from (suc count) place port = (if is_live_tie (get_or port.ties.items place None) port then 1 else 0) + live_from count (place + 1) port
+live_from (suc count) place port = (if is_live_tie (get_or port.ties.items place None) port then 1 else 0) + live_from count (place + 1)
+    port
 
 -- how many places of the list of subscribers are tied to a connection that goes on
 abbrev pub live_ties : {T U : Type 0} → PublisherPort T U → ℕ
@@ -23,4 +24,5 @@ live_ties port = live_from (length port.ties.items) 0 port
 
 -- Each connection that goes on took the message: a send that answers Ok counts them all, and none was passed over.
 abbrev pub ReachesAll : {T U : Type 0} → Option (Result Sent SendError) → PublisherPort T U → Type 0
-ReachesAll answer new = ((done : Sent) → answer ≡ Some (Ok done) → done ≡ sent.Delivered (live_ties new)) × (answer ≢ Some (Err sending.UnableToDeliver))
+ReachesAll answer new = ((done : Sent) → answer ≡ Some (Ok done) → done ≡ sent.Delivered (live_ties new))
+    × (answer ≢ Some (Err sending.UnableToDeliver))

@@ -12,8 +12,8 @@ span unit elements = elements * max unit 1
 abbrev pub extent : ℕ → ℕ → ℕ → ℕ
 extent unit values elements = max values (span unit elements)
 
--- how much room a new segment for elements of so many values has, if it has room for so many of them: at least that of the loan that it is opened
--- for, and at most 2^32 - 1
+-- how much room a new segment for elements of so many values has, if it has room for so many of them: at least that of the loan
+-- that it is opened for, and at most 2^32 - 1
 abbrev pub room_for : ℕ → ℕ → Option ℕ → Option ℕ
 room_for unit values None = None
 room_for unit values (Some length) = within (extent unit values length)
@@ -29,7 +29,8 @@ pub record CountsElements : Type 0 where
   -- a loan fits where there is room for so many elements exactly if it has no more
   pub fits : (unit elements length : ℕ) → (extent unit (elements * unit) elements ≤ span unit length) ↔ (elements ≤ length)
   -- a segment has room for just as many elements as its strategy opens one for
-  pub opens : (allocation : AllocationStrategy) (unit elements room : ℕ) → SegmentRoom allocation unit (elements * unit) elements (Some room)
+  pub opens : (allocation : AllocationStrategy) (unit elements room : ℕ)
+      → SegmentRoom allocation unit (elements * unit) elements (Some room)
       → (length : ℕ) × SegmentLength allocation elements (Some length) × (room ≡ span unit length) × (room < 2 ^ 32)
   -- none is opened where the strategy opens none, or where these have 2^32 values or more
   pub refuses : (allocation : AllocationStrategy) (unit elements : ℕ) → SegmentRoom allocation unit (elements * unit) elements None

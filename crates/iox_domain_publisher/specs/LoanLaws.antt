@@ -25,28 +25,33 @@ IsFull sender =
 abbrev pub MayBeLent : {T U : Type 0} → AllocationStrategy → ℕ → ℕ → PublisherPort T U → Type 0
 MayBeLent allocation values elements port = allocation ≡ strategy.Static → extent port.unit values elements ≤ port.sender.room
 
--- The loan fits, but each slot is in use; or it is longer than fits, and then no segment was opened for it, or each slot of the new one is in use.
+-- The loan fits, but each slot is in use; or it is longer than fits, and then no segment was opened for it, or each slot of the
+-- new one is in use.
 abbrev pub LacksSlot : {T U : Type 0} → AllocationStrategy → ℕ → ℕ → PublisherPort T U → PublisherPort T U → Type 0
 LacksSlot allocation values elements old new =
     ((extent old.unit values elements ≤ old.sender.room) × IsFull old.sender × (new ≡ old))
     ⊎ ((old.sender.room < extent old.unit values elements)
     × ((new ≡ old) ⊎ ((room : ℕ) × SegmentRoom allocation old.unit values elements (Some room) × (new ≡ with_sender (opened_for room old.sender) old) × IsFull new.sender)))
 
--- A loan was made: none of its values is written, its slot was free, and it fits there; only it came, and if it didn't fit before, a segment.
-pub record IsLent {T U : Type 0} (allocation : AllocationStrategy) (values elements : ℕ) (old : PublisherPort T U) (slot : ℕ) (new : PublisherPort T U) : Type 0 where
+-- A loan was made: none of its values is written, its slot was free, and it fits there; only it came, and if it didn't fit
+-- before, a segment.
+pub record IsLent {T U : Type 0} (allocation : AllocationStrategy) (values elements : ℕ) (old : PublisherPort T U) (slot : ℕ)
+    (new : PublisherPort T U) : Type 0 where
   pub room : length old.sender.uses.loans < old.sender.uses.most_loans
   pub loan : new.sender.uses.loans ≡ old.sender.uses.loans ++ new_loan slot values elements old.sender.user_header ∷ []
   pub free : times slot (in_use (slots_of old.sender)) ≡ 0
   pub current : (new.sender.uses.first ≤ slot) × (slot < new.sender.uses.first + new.sender.uses.size)
   pub fits : extent old.unit values elements ≤ new.sender.room
-  pub stays : extent old.unit values elements ≤ old.sender.room → (new.sender.room ≡ old.sender.room) × (new.sender.segments ≡ old.sender.segments)
+  pub stays : extent old.unit values elements ≤ old.sender.room → (new.sender.room ≡ old.sender.room)
+      × (new.sender.segments ≡ old.sender.segments)
   pub grows : old.sender.room < extent old.unit values elements
       → SegmentRoom allocation old.unit values elements (Some new.sender.room) × (new.sender.segments ≡ old.sender.segments + 1) × (old.sender.segments < old.sender.most_segments)
   pub connections : new.sender.uses.connections ≡ old.sender.uses.connections
   pub history : new.sender.uses.history ≡ old.sender.uses.history
 
 -- What each answer of a loan tells. No two of them can be told of the same publisher, but for want of memory.
-abbrev pub Tells : {T U : Type 0} → AllocationStrategy → ℕ → ℕ → PublisherPort T U → Option (Result ℕ LoanError) → PublisherPort T U → Type 0
+abbrev pub Tells : {T U : Type 0} → AllocationStrategy → ℕ → ℕ → PublisherPort T U → Option (Result ℕ LoanError) → PublisherPort T U
+    → Type 0
 Tells allocation values elements old None new = IsSome old.sender.uses.sending × (new ≡ old)
 Tells allocation values elements old (Some (Err refusal.ExceedsMaxLoanSize)) new =
     (old.sender.uses.sending ≡ None) × (allocation ≡ strategy.Static) × (old.sender.room < extent old.unit values elements) × (new ≡ old)

@@ -26,7 +26,8 @@ first_refusal allocation values elements port =
 
 -- A loan in the current segment, in any slot of it in which nothing in use stands; where there is none it is refused.
 abbrev pub LendsHere : {T U : Type 0} → ℕ → ℕ → PublisherPort T U → Result ℕ LoanError → PublisherPort T U → Type 0
-LendsHere values elements old (Ok slot) new = LoanMade old.sender values elements (Some slot) new.sender × (new ≡ with_sender new.sender old)
+LendsHere values elements old (Ok slot) new = LoanMade old.sender values elements (Some slot) new.sender
+    × (new ≡ with_sender new.sender old)
 LendsHere values elements old (Err error) new =
     (error ≡ refusal.OutOfMemory) × LoanMade old.sender values elements None new.sender × (new ≡ with_sender new.sender old)
 
@@ -46,28 +47,34 @@ LendsBeyond (Some room) false values elements old answer new = LacksMemory old a
 LendsBeyond (Some room) true values elements old answer new = LendsInNew room values elements old answer new
 
 -- A loan that fits in the slots of the current segment is made there, a longer one in a new segment.
-abbrev pub LendsWhere : {T U : Type 0} → Bool → AllocationStrategy → ℕ → ℕ → PublisherPort T U → Result ℕ LoanError → PublisherPort T U → Type 0
+abbrev pub LendsWhere : {T U : Type 0} → Bool → AllocationStrategy → ℕ → ℕ → PublisherPort T U → Result ℕ LoanError → PublisherPort T U
+    → Type 0
 LendsWhere true allocation values elements old answer new = LendsHere values elements old answer new
 LendsWhere false allocation values elements old answer new =
     (room : Option ℕ) × SegmentRoom allocation old.unit values elements room
     × LendsBeyond room (nat_lt old.sender.segments old.sender.most_segments) values elements old answer new
 
 -- A loan, where it isn't refused before any look at the slots.
-abbrev pub LendsUnless : {T U : Type 0} → Option LoanError → AllocationStrategy → ℕ → ℕ → PublisherPort T U → Result ℕ LoanError → PublisherPort T U → Type 0
+abbrev pub LendsUnless : {T U : Type 0} → Option LoanError → AllocationStrategy → ℕ → ℕ → PublisherPort T U → Result ℕ LoanError
+    → PublisherPort T U → Type 0
 LendsUnless (Some error) allocation values elements old answer new = (answer ≡ Err error) × (new ≡ old)
-LendsUnless None allocation values elements old answer new = LendsWhere (nat_le (extent old.unit values elements) old.sender.room) allocation values elements old answer new
+LendsUnless None allocation values elements old answer new
+    = LendsWhere (nat_le (extent old.unit values elements) old.sender.room) allocation values elements old answer new
 
 -- what comes of a loan where no send waits
 abbrev pub Lends : {T U : Type 0} → AllocationStrategy → ℕ → ℕ → PublisherPort T U → Result ℕ LoanError → PublisherPort T U → Type 0
-Lends allocation values elements old answer new = LendsUnless (first_refusal allocation values elements old) allocation values elements old answer new
+Lends allocation values elements old answer new
+    = LendsUnless (first_refusal allocation values elements old) allocation values elements old answer new
 
 -- nothing happens while a send waits
-abbrev pub LoansIf : {T U : Type 0} → Bool → AllocationStrategy → ℕ → ℕ → PublisherPort T U → Option (Result ℕ LoanError) → PublisherPort T U → Type 0
+abbrev pub LoansIf : {T U : Type 0} → Bool → AllocationStrategy → ℕ → ℕ → PublisherPort T U → Option (Result ℕ LoanError)
+    → PublisherPort T U → Type 0
 LoansIf true allocation values elements old answer new = (answer ≡ None) × (new ≡ old)
 LoansIf false allocation values elements old answer new =
     (lent : Result ℕ LoanError) × (answer ≡ Some lent) × Lends allocation values elements old lent new
 
 -- A loan of so many values and elements.
-abbrev pub Loans : {T U : Type 0} → AllocationStrategy → ℕ → ℕ → PublisherPort T U → Option (Result ℕ LoanError) → PublisherPort T U → Type 0
+abbrev pub Loans : {T U : Type 0} → AllocationStrategy → ℕ → ℕ → PublisherPort T U → Option (Result ℕ LoanError) → PublisherPort T U
+    → Type 0
 Loans allocation values elements old answer new =
     LoansIf (is_some old.sender.uses.sending) allocation values elements old answer new

@@ -33,7 +33,8 @@ sent_as loan = record { slot = loan.slot; elements = loan.elements; user_header 
 
 -- a new loan: none of its values is written
 abbrev pub new_loan : {T U : Type 0} → ℕ → ℕ → ℕ → U → Loan T U
-new_loan slot values elements user_header = record { slot = slot; elements = elements; user_header = user_header; values = replicate values None }
+new_loan slot values elements user_header
+    = record { slot = slot; elements = elements; user_header = user_header; values = replicate values None }
 
 -- a value is written at a place
 abbrev pub write_value : {T U : Type 0} → ℕ → T → Loan T U → Loan T U

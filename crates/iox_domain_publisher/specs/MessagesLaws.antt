@@ -14,7 +14,8 @@ different (number ∷ numbers) = if list_any (λ other. eqb number other) number
 -- those of a list that are slots of a segment
 abbrev pub of_segment : ℕ → ℕ → List ℕ → List ℕ
 of_segment first size [] = []
-of_segment first size (slot ∷ slots) = if nat_le first slot && nat_lt slot (first + size) then slot ∷ of_segment first size slots else of_segment first size slots
+of_segment first size (slot ∷ slots) = if nat_le first slot && nat_lt slot (first + size) then slot
+    ∷ of_segment first size slots else of_segment first size slots
 
 -- Something in use stands in each slot of a segment exactly if as many different loans and messages of it are in use as it has slots.
 abbrev pub FullExactlyIf : Type 0
@@ -27,24 +28,34 @@ IsHeld index at message uses = slice_get (connection_at index uses).borrowed at 
 
 -- A message that a subscriber holds stays as it is, at its place, through these steps.
 pub record HeldStays (T U : Type 0) : Type 0 where
-  pub loan : (index at : ℕ) (message : Message T U) (one : Loan T U) (uses : Uses (Loan T U) (Message T U)) → IsHeld index at message uses → IsHeld index at message (loaned one uses)
-  pub write : (index at : ℕ) (message : Message T U) (slot : ℕ) (change : Loan T U → Loan T U) (uses : Uses (Loan T U) (Message T U)) → IsHeld index at message uses
+  pub loan : (index at : ℕ) (message : Message T U) (one : Loan T U) (uses : Uses (Loan T U) (Message T U))
+      → IsHeld index at message uses → IsHeld index at message (loaned one uses)
+  pub write : (index at : ℕ) (message : Message T U) (slot : ℕ) (change : Loan T U → Loan T U) (uses : Uses (Loan T U) (Message T U))
+      → IsHeld index at message uses
       → IsHeld index at message (change_loan slot change uses)
-  pub drop : (index at : ℕ) (message : Message T U) (place : ℕ) (uses : Uses (Loan T U) (Message T U)) → IsHeld index at message uses → IsHeld index at message (dropped place uses)
-  pub begin : (index at : ℕ) (message : Message T U) (place : ℕ) (sent : Message T U) (uses : Uses (Loan T U) (Message T U)) → IsHeld index at message uses → IsHeld index at message (begun place sent uses)
-  pub finish : (index at : ℕ) (message : Message T U) (uses : Uses (Loan T U) (Message T U)) → IsHeld index at message uses → IsHeld index at message (finished uses)
-  pub segment : (index at : ℕ) (message : Message T U) (uses : Uses (Loan T U) (Message T U)) → IsHeld index at message uses → IsHeld index at message (segment_opened uses)
-  pub connect : (index at : ℕ) (message : Message T U) (other limit : ℕ) (uses : Uses (Loan T U) (Message T U)) → connection_at other uses ≡ nobody → IsHeld index at message uses
+  pub drop : (index at : ℕ) (message : Message T U) (place : ℕ) (uses : Uses (Loan T U) (Message T U)) → IsHeld index at message uses
+      → IsHeld index at message (dropped place uses)
+  pub begin : (index at : ℕ) (message : Message T U) (place : ℕ) (sent : Message T U) (uses : Uses (Loan T U) (Message T U))
+      → IsHeld index at message uses → IsHeld index at message (begun place sent uses)
+  pub finish : (index at : ℕ) (message : Message T U) (uses : Uses (Loan T U) (Message T U)) → IsHeld index at message uses
+      → IsHeld index at message (finished uses)
+  pub segment : (index at : ℕ) (message : Message T U) (uses : Uses (Loan T U) (Message T U)) → IsHeld index at message uses
+      → IsHeld index at message (segment_opened uses)
+  pub connect : (index at : ℕ) (message : Message T U) (other limit : ℕ) (uses : Uses (Loan T U) (Message T U))
+      → connection_at other uses ≡ nobody → IsHeld index at message uses
       → IsHeld index at message (record uses { connections = placed other (connected limit) uses.connections })
-  pub offer : (index at : ℕ) (message : Message T U) (other : ℕ) (overflows : Bool) (sent : Message T U) (uses : Uses (Loan T U) (Message T U)) → IsHeld index at message uses
+  pub offer : (index at : ℕ) (message : Message T U) (other : ℕ) (overflows : Bool) (sent : Message T U)
+      (uses : Uses (Loan T U) (Message T U)) → IsHeld index at message uses
       → IsHeld index at message (with_connection other (offered overflows sent (connection_at other uses)) uses)
   pub take : (index at : ℕ) (message : Message T U) (other : ℕ) (uses : Uses (Loan T U) (Message T U)) → IsHeld index at message uses
       → IsHeld index at message (with_connection other (taken (connection_at other uses)) uses)
-  pub give_back : (index at : ℕ) (message : Message T U) (other place : ℕ) (uses : Uses (Loan T U) (Message T U)) → other ≢ index → IsHeld index at message uses
+  pub give_back : (index at : ℕ) (message : Message T U) (other place : ℕ) (uses : Uses (Loan T U) (Message T U)) → other ≢ index
+      → IsHeld index at message uses
       → IsHeld index at message (with_connection other (given_back place (connection_at other uses)) uses)
   pub end : (index at : ℕ) (message : Message T U) (other : ℕ) (uses : Uses (Loan T U) (Message T U)) → IsHeld index at message uses
       → IsHeld index at message (with_connection other (ended (connection_at other uses)) uses)
-  pub welcome : (index at : ℕ) (message : Message T U) (other : ℕ) (history : List (Message T U)) (uses : Uses (Loan T U) (Message T U)) → IsHeld index at message uses
+  pub welcome : (index at : ℕ) (message : Message T U) (other : ℕ) (history : List (Message T U)) (uses : Uses (Loan T U) (Message T U))
+      → IsHeld index at message uses
       → IsHeld index at message (with_connection other (welcomed history (connection_at other uses)) uses)
 
 -- A loan whose values are written all at once is wholly written, and just these values are sent.

@@ -86,7 +86,8 @@ IsIfInSlot message other = other.slot ≡ message.slot → other ≡ message
 pub record StandsAlone {T U : Type 0} (message : Message T U) (uses : Uses (Loan T U) (Message T U)) : Type 0 where
   pub loans : has_loan message.slot uses ≡ false
   pub history : All (IsIfInSlot message) uses.history
-  pub connections : All (λ connection. All (IsIfInSlot message) connection.waiting × All (IsIfInSlot message) connection.borrowed) uses.connections
+  pub connections : All (λ connection. All (IsIfInSlot message) connection.waiting
+      × All (IsIfInSlot message) connection.borrowed) uses.connections
 
 -- whether a loan is written; no loan isn't
 abbrev pub is_written_loan : {T U : Type 0} → Option (Loan T U) → Bool

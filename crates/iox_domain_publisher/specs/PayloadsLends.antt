@@ -7,4 +7,5 @@ use Rattle.iox_domain_publisher.specs.contracts.messages.payloads.Payloads.{the_
 module _ (T : RattleType) where
   -- the value at a place of a slot is the last one behind the reference
   abbrev pub LendsInSlot : MutBor (PayloadsState T.Denot) → ℕ → ℕ → MutBor T.Denot → Fml
-  LendsInSlot payloads slot place answer = Lends (the_row T) T payloads answer (λ value. with_payload slot (set (payload_at slot payloads.now) place value) payloads.now)
+  LendsInSlot payloads slot place answer
+      = Lends (the_row T) T payloads answer (λ value. with_payload slot (set (payload_at slot payloads.now) place value) payloads.now)

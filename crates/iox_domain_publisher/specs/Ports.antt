@@ -27,7 +27,8 @@ is_live index port = goes_on (connection_of index port).stage
 
 -- another connection stands at this index
 abbrev pub with_connection_of : {T U : Type 0} → ℕ → Connection (Message T U) → PublisherPort T U → PublisherPort T U
-with_connection_of index connection port = record port { sender = with_uses (with_connection index connection port.sender.uses) port.sender }
+with_connection_of index connection port
+    = record port { sender = with_uses (with_connection index connection port.sender.uses) port.sender }
 
 -- other connections, and nothing else is changed
 abbrev pub with_connections : {T U : Type 0} → List (Connection (Message T U)) → PublisherPort T U → PublisherPort T U
@@ -54,7 +55,8 @@ Joins subscriber limit None old answer new = Connects limit (record { subscriber
 
 -- the subscriber reads from the connection of this index
 abbrev pub attached_at : {T U : Type 0} → ℕ → ℕ → PublisherPort T U → PublisherPort T U
-attached_at subscriber index port = record port { readers = set port.readers index (Some (record { subscriber = subscriber; attached = true })) }
+attached_at subscriber index port = record port
+    { readers = set port.readers index (Some (record { subscriber = subscriber; attached = true })) }
 
 -- a subscriber attaches to its connection, which is made where there is none; only then memory may be wanting, and nothing changes
 abbrev pub Attaches : {T U : Type 0} → ℕ → ℕ → PublisherPort T U → Result ℕ AllocError → PublisherPort T U → Type 0

@@ -21,4 +21,4 @@ rows_in room (count ∷ lengths) values = take count values ∷ rows_in room len
 
 -- each row has room
 abbrev pub AllWithin : ℕ → List ℕ → Type 0
-AllWithin room lengths = (row : ℕ) → get_or lengths row 0 ≤ room
+AllWithin room lengths = (place : ℕ) → get_or lengths place 0 ≤ room

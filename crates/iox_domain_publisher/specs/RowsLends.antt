@@ -7,4 +7,5 @@ use Rattle.iox_domain_publisher.specs.contracts.messages.rows.Rows.{the_row}
 module _ (T : RattleType) where
   -- the value at a place of a row is the last one behind the reference
   abbrev pub LendsInRow : MutBor (RowsState T.Denot) → ℕ → ℕ → MutBor T.Denot → Fml
-  LendsInRow rows row place answer = Lends (the_row T) T rows answer (λ value. with_row row (set (row_at row rows.now) place value) rows.now)
+  LendsInRow rows row place answer = Lends (the_row T) T rows answer
+      (λ value. with_row row (set (row_at row rows.now) place value) rows.now)

@@ -8,8 +8,10 @@ use Rattle.iox_domain_publisher.specs.contracts.messages.sender.Sender.{the_row}
 module _ (T U : RattleType) where
   -- the last value behind the reference is written at a place of the loan in a slot
   abbrev pub LendsValue : MutBor (SenderState T.Denot U.Denot) → ℕ → ℕ → MutBor T.Denot → Fml
-  LendsValue sender slot place answer = Lends (the_row T U) T sender answer (λ value. with_uses (change_loan slot (write_value place value) sender.now.uses) sender.now)
+  LendsValue sender slot place answer
+      = Lends (the_row T U) T sender answer (λ value. with_uses (change_loan slot (write_value place value) sender.now.uses) sender.now)
 
   -- the last user header behind the reference is that of the loan in a slot
   abbrev pub LendsUserHeader : MutBor (SenderState T.Denot U.Denot) → ℕ → MutBor U.Denot → Fml
-  LendsUserHeader sender slot answer = Lends (the_row T U) U sender answer (λ user_header. with_uses (change_loan slot (write_user_header user_header) sender.now.uses) sender.now)
+  LendsUserHeader sender slot answer = Lends (the_row T U) U sender answer
+      (λ user_header. with_uses (change_loan slot (write_user_header user_header) sender.now.uses) sender.now)

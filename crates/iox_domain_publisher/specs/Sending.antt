@@ -47,7 +47,8 @@ meeting_at place port = if nat_lt place (length port.ties.items) then meeting_by
 -- a message is put into the mailbox of the connection of this index
 abbrev pub with_message : {T U : Type 0} → ℕ → Option (Message T U) → PublisherPort T U → PublisherPort T U
 with_message index None port = port
-with_message index (Some message) port = with_connection_of index (offered port.sender.uses.overflows message (connection_of index port)) port
+with_message index (Some message) port
+    = with_connection_of index (offered port.sender.uses.overflows message (connection_of index port)) port
 
 -- the message that is being sent is put there, if that connection goes on
 abbrev pub put_at : {T U : Type 0} → ℕ → PublisherPort T U → PublisherPort T U
@@ -90,7 +91,8 @@ decided_by decided.DiscardDataAndFail port = with_progress (failing port.progres
 
 -- One place after what came of the message there: the send goes on, or waits there; at a full mailbox as one of the decisions that may
 -- be made says.
-abbrev pub Steps : {T U : Type 0} → (BackpressureInfo → BackpressureDecision → Type 0) → Meeting → PublisherPort T U → Bool → PublisherPort T U → Type 0
+abbrev pub Steps : {T U : Type 0} → (BackpressureInfo → BackpressureDecision → Type 0) → Meeting → PublisherPort T U → Bool
+    → PublisherPort T U → Type 0
 Steps may meeting.Over port went new = (went ≡ false) × (new ≡ port)
 Steps may meeting.Passed port went new = (went ≡ true) × (new ≡ with_progress (passed port.progress) port)
 Steps may meeting.Delivered port went new = (went ≡ true) × (new ≡ with_progress (counted port.progress) port)
@@ -103,7 +105,8 @@ GoesOn false arrived next new further = (arrived ≡ false) × (new ≡ next)
 GoesOn true arrived next new further = further
 
 -- So many places are gone over, one after the other, up to one where the send waits; the answer is whether it came to the end.
-abbrev pub Delivers : {T U : Type 0} → (BackpressureInfo → BackpressureDecision → Type 0) → ℕ → PublisherPort T U → Bool → PublisherPort T U → Type 0
+abbrev pub Delivers : {T U : Type 0} → (BackpressureInfo → BackpressureDecision → Type 0) → ℕ → PublisherPort T U → Bool
+    → PublisherPort T U → Type 0
 Delivers may zero old arrived new = (arrived ≡ true) × (new ≡ old)
 Delivers {T} {U} may (suc places) old arrived new =
     (went : Bool) × (next : PublisherPort T U)
@@ -119,7 +122,8 @@ abbrev pub concluded : {T U : Type 0} → Bool → PublisherPort T U → Publish
 concluded arrived port = if arrived then record port { sender = with_uses (finished port.sender.uses) port.sender } else port
 
 -- A send goes over the places that are left, and answers.
-abbrev pub Finishes : {T U : Type 0} → (BackpressureInfo → BackpressureDecision → Type 0) → PublisherPort T U → Result Sent SendError → PublisherPort T U → Type 0
+abbrev pub Finishes : {T U : Type 0} → (BackpressureInfo → BackpressureDecision → Type 0) → PublisherPort T U → Result Sent SendError
+    → PublisherPort T U → Type 0
 Finishes {T} {U} may old answer new =
     (arrived : Bool) × (gone : PublisherPort T U) × (Delivers may (length old.ties.items - old.progress.place) old arrived gone)
     × (answer ≡ sent_answer arrived gone.progress) × (new ≡ concluded arrived gone)
@@ -147,13 +151,15 @@ abbrev pub dropped_at : {T U : Type 0} → ℕ → PublisherPort T U → Publish
 dropped_at at port = record port { sender = with_uses (dropped at port.sender.uses) port.sender }
 
 -- A send after its update: a failure gives the loan up, else the message goes to the connections.
-abbrev pub SendsAfter : {T U : Type 0} → (BackpressureInfo → BackpressureDecision → Type 0) → ℕ → Result (Unit {0}) ConnectionFailure → PublisherPort T U → Option (Result Sent SendError) → PublisherPort T U → Type 0
+abbrev pub SendsAfter : {T U : Type 0} → (BackpressureInfo → BackpressureDecision → Type 0) → ℕ → Result (Unit {0}) ConnectionFailure
+    → PublisherPort T U → Option (Result Sent SendError) → PublisherPort T U → Type 0
 SendsAfter may at (Err failure) updated answer new = (answer ≡ Some (Err (sending.ConnectionError failure))) × (new ≡ dropped_at at updated)
 SendsAfter may at (Ok done) updated answer new =
     (finished : Result Sent SendError) × (Finishes may (begun_at at updated) finished new) × (answer ≡ Some finished)
 
 -- A send by a publisher that stands, and by one that left: that one gives the loan up.
-abbrev pub SendsIf : {T U : Type 0} → Bool → (DegradationInfo → DegradationAction → Type 0) → (BackpressureInfo → BackpressureDecision → Type 0) → List (Option (Member SubscriberEntry)) → ℕ → ℕ
+abbrev pub SendsIf : {T U : Type 0} → Bool → (DegradationInfo → DegradationAction → Type 0)
+    → (BackpressureInfo → BackpressureDecision → Type 0) → List (Option (Member SubscriberEntry)) → ℕ → ℕ
     → PublisherPort T U → Option (Result Sent SendError) → PublisherPort T U → Type 0
 SendsIf false may_degrade may listed changes at old answer new =
     (answer ≡ Some (Err sending.ConnectionBrokenSinceSenderNoLongerExists)) × (new ≡ dropped_at at old)
@@ -162,7 +168,8 @@ SendsIf {T} {U} true may_degrade may listed changes at old answer new =
     × (SendsAfter may at outcome updated answer new)
 
 -- A send of the loan at this place of the list; without one nothing happens.
-abbrev pub Sends : {T U : Type 0} → (DegradationInfo → DegradationAction → Type 0) → (BackpressureInfo → BackpressureDecision → Type 0) → List (Option (Member SubscriberEntry)) → ℕ → Option ℕ
+abbrev pub Sends : {T U : Type 0} → (DegradationInfo → DegradationAction → Type 0) → (BackpressureInfo → BackpressureDecision → Type 0)
+    → List (Option (Member SubscriberEntry)) → ℕ → Option ℕ
     → PublisherPort T U → Option (Result Sent SendError) → PublisherPort T U → Type 0
 Sends may_degrade may listed changes None old answer new = (answer ≡ None) × (new ≡ old)
 Sends may_degrade may listed changes (Some at) old answer new = SendsIf old.stands may_degrade may listed changes at old answer new

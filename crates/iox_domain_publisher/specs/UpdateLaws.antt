@@ -15,7 +15,9 @@ TellTheSame one other = (place : ℕ) → get_or one place None ≡ get_or other
 -- An update comes to the same over lists that tell the same, wherever they end. Where the list had changed, no place is tied afterwards
 -- that lists nobody, whatever the update answers.
 pub record FollowsWhoIsListed (T U : Type 0) (may : DegradationInfo → DegradationAction → Type 0) : Type 0 where
-  pub same : (one other : List (Option (Member SubscriberEntry))) (changes : ℕ) (old new : PublisherPort T U) (answer : Result (Unit {0}) ConnectionFailure)
+  pub same : (one other : List (Option (Member SubscriberEntry))) (changes : ℕ) (old new : PublisherPort T U)
+      (answer : Result (Unit {0}) ConnectionFailure)
       → TellTheSame one other → Updates may one changes old answer new → Updates may other changes old answer new
-  pub none : (listed : List (Option (Member SubscriberEntry))) (changes place : ℕ) (old new : PublisherPort T U) (answer : Result (Unit {0}) ConnectionFailure)
+  pub none : (listed : List (Option (Member SubscriberEntry))) (changes place : ℕ) (old new : PublisherPort T U)
+      (answer : Result (Unit {0}) ConnectionFailure)
       → old.seen ≢ changes → Updates may listed changes old answer new → get_or listed place None ≡ None → get_or new.ties.items place None ≡ None

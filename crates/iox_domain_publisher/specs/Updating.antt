@@ -56,12 +56,14 @@ Ties {T} {U} place entry old (Ok done) new =
     × (new ≡ tied place index joined)
 
 -- a tie to a subscriber stays; else the old tie is let go of, and a new one made
-abbrev pub FollowsTo : {T U : Type 0} → ℕ → SubscriberEntry → Bool → PublisherPort T U → Result (Unit {0}) AllocError → PublisherPort T U → Type 0
+abbrev pub FollowsTo : {T U : Type 0} → ℕ → SubscriberEntry → Bool → PublisherPort T U → Result (Unit {0}) AllocError
+    → PublisherPort T U → Type 0
 FollowsTo place entry true old answer new = (answer ≡ Ok tt) × (new ≡ old)
 FollowsTo place entry false old answer new = Ties place entry (untied place old) answer new
 
 -- What becomes of a place that lists nobody, or this subscriber.
-abbrev pub Follows : {T U : Type 0} → ℕ → Option (Member SubscriberEntry) → PublisherPort T U → Result (Unit {0}) AllocError → PublisherPort T U → Type 0
+abbrev pub Follows : {T U : Type 0} → ℕ → Option (Member SubscriberEntry) → PublisherPort T U → Result (Unit {0}) AllocError
+    → PublisherPort T U → Type 0
 Follows place None old answer new = (answer ≡ Ok tt) × (new ≡ untied place old)
 Follows place (Some member) old answer new =
     FollowsTo place member.value (is_tie_to member.value.subscriber (get_or old.ties.items place None) old) old answer new
@@ -87,7 +89,8 @@ update_answer None = Ok tt
 update_answer (Some failure) = Err failure
 
 -- What is found after a place: where its connection failed the handler is asked.
-abbrev pub Asks : {T U : Type 0} → (DegradationInfo → DegradationAction → Type 0) → Option (Member SubscriberEntry) → PublisherPort T U → Option ConnectionFailure → Bool → Option ConnectionFailure → Type 0
+abbrev pub Asks : {T U : Type 0} → (DegradationInfo → DegradationAction → Type 0) → Option (Member SubscriberEntry) → PublisherPort T U
+    → Option ConnectionFailure → Bool → Option ConnectionFailure → Type 0
 Asks may listed port found true after = after ≡ found
 Asks may None port found false after = after ≡ found
 Asks may (Some member) port found false after =
@@ -95,23 +98,28 @@ Asks may (Some member) port found false after =
 
 -- The places from one on are followed, one after the other, and those behind the end of the list as places that list nobody; the
 -- answer is the first failure that is to fail the call.
-abbrev pub FollowsAll : {T U : Type 0} → (DegradationInfo → DegradationAction → Type 0) → ℕ → List (Option (Member SubscriberEntry)) → Option ConnectionFailure → PublisherPort T U → Result (Unit {0}) ConnectionFailure → PublisherPort T U → Type 0
-FollowsAll may place [] found old answer new = (answer ≡ update_answer found) × (new ≡ untied_from (length old.ties.items - place) place old)
+abbrev pub FollowsAll : {T U : Type 0} → (DegradationInfo → DegradationAction → Type 0) → ℕ → List (Option (Member SubscriberEntry))
+    → Option ConnectionFailure → PublisherPort T U → Result (Unit {0}) ConnectionFailure → PublisherPort T U → Type 0
+FollowsAll may place [] found old answer new = (answer ≡ update_answer found)
+    × (new ≡ untied_from (length old.ties.items - place) place old)
 FollowsAll {T} {U} may place (listed ∷ rest) found old answer new =
     (outcome : Result (Unit {0}) AllocError) × (next : PublisherPort T U) × (after : Option ConnectionFailure)
     × Follows place listed old outcome next × Asks may listed next found (is_ok outcome) after
     × FollowsAll may (place + 1) rest after next answer new
 
 -- where nothing changed nothing happens, else each place of the list is followed
-abbrev pub UpdatesIf : {T U : Type 0} → Bool → (DegradationInfo → DegradationAction → Type 0) → List (Option (Member SubscriberEntry)) → ℕ → PublisherPort T U → Result (Unit {0}) ConnectionFailure → PublisherPort T U → Type 0
+abbrev pub UpdatesIf : {T U : Type 0} → Bool → (DegradationInfo → DegradationAction → Type 0) → List (Option (Member SubscriberEntry))
+    → ℕ → PublisherPort T U → Result (Unit {0}) ConnectionFailure → PublisherPort T U → Type 0
 UpdatesIf true may listed changes old answer new = (answer ≡ Ok tt) × (new ≡ old)
 UpdatesIf false may listed changes old answer new = FollowsAll may 0 listed None (record old { seen = changes }) answer new
 
 -- An update: where the list of subscribers didn't change since the last one, nothing happens; else each of its places is followed.
-abbrev pub Updates : {T U : Type 0} → (DegradationInfo → DegradationAction → Type 0) → List (Option (Member SubscriberEntry)) → ℕ → PublisherPort T U → Result (Unit {0}) ConnectionFailure → PublisherPort T U → Type 0
+abbrev pub Updates : {T U : Type 0} → (DegradationInfo → DegradationAction → Type 0) → List (Option (Member SubscriberEntry)) → ℕ
+    → PublisherPort T U → Result (Unit {0}) ConnectionFailure → PublisherPort T U → Type 0
 Updates may listed changes old answer new =
     UpdatesIf (old.seen == changes) may listed changes old answer new
 
 -- only connections, ties and readers changed, and what was seen of the list
 abbrev pub OnlyConnections : {T U : Type 0} → PublisherPort T U → PublisherPort T U → Type 0
-OnlyConnections old new = new ≡ record (with_connections new.sender.uses.connections old) { seen = new.seen; ties = new.ties; readers = new.readers }
+OnlyConnections old new = new ≡ record (with_connections new.sender.uses.connections old)
+    { seen = new.seen; ties = new.ties; readers = new.readers }

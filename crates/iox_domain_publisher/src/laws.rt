@@ -7,8 +7,8 @@ ghost use Rattle.iox_domain_publisher.specs.UpdateLaws.{FollowsWhoIsListed};
 
 use iox_domain_values::Degrades;
 
-/// An update of a publisher goes by who is listed at which place, and not by where the list that it is lent ends; after one over a list that
-/// had changed, no place is tied that lists nobody.
+/// An update of a publisher goes by who is listed at which place, and not by where the list that it is lent ends; after one over
+/// a list that had changed, no place is tied that lists nobody.
 pub fn follows_who_is_listed<T, U, D: Degrades>(_handler: &D)
     ensures { FollowsWhoIsListed T U (D.degrades _handler.now cause.FailedToEstablishConnection) }
 {}

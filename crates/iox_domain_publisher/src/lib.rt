@@ -18,7 +18,7 @@
 //! - [`updating`]: it follows the list of subscribers.
 //! - [`sending`]: it sends.
 //!
-//! First calls. `ServicePorts` of `iox_domain_ports` makes them.
+//! First calls. `ServicePorts` of `iox_domain` makes them.
 //!
 //! ```
 //! port.write(slot, place, value);

@@ -14,11 +14,11 @@ impl<T: Copy, U: Copy> PublisherPort<T, U> {
     /// elements. None, and nothing happens, while a send of this publisher waits.
     ///
     /// Refused, in this order, with `ExceedsMaxLoanSize` if the loan is longer than fits and the room stays as it was made; with
-    /// `ExceedsMaxLoans` if as many loans are out as may be; with `OutOfMemory` if each slot of the current segment is in use. Other
-    /// strategies open a new segment for a longer loan, and for nothing else; `OutOfMemory` is then that the segment would be longer
-    /// than 2^32 - 1, that there are as many segments as may be, or a failed allocation. Lengths are those of all values of so many elements,
-    /// and at least of so many values. A loan that fits takes no memory. With as many slots
-    /// as the worst case needs one is always free, and a refusal changes nothing; with fewer a new segment may stay though nothing is
+    /// `ExceedsMaxLoans` if as many loans are out as may be; with `OutOfMemory` if each slot of the current segment is in use.
+    /// Other strategies open a new segment for a longer loan, and for nothing else; `OutOfMemory` is then that the segment would
+    /// be longer than 2^32 - 1, that there are as many segments as may be, or a failed allocation. Lengths are those of all
+    /// values of so many elements, and at least of so many values. A loan that fits takes no memory. With as many slots as the
+    /// worst case needs one is always free, and a refusal changes nothing; with fewer a new segment may stay though nothing is
     /// lent. `blank` fills a new segment.
     ///
     /// Ported from `iceoryx2::port::publisher::Publisher::loan_slice_uninit`.
@@ -31,7 +31,9 @@ impl<T: Copy, U: Copy> PublisherPort<T, U> {
         blank: T,
     ) -> Option<Result<usize, LoanError>>
         ensures loans { Loans allocation values elements self.old result self.new }
-        ensures enough { IsAmple self.old → self.old.sender.uses.sending ≡ None → length self.old.sender.uses.loans < self.old.sender.uses.most_loans → extent self.old.unit values elements ≤ self.old.sender.room → (slot : ℕ) × (result ≡ Some (Ok slot)) }
+        ensures enough { IsAmple self.old → self.old.sender.uses.sending ≡ None
+            → length self.old.sender.uses.loans < self.old.sender.uses.most_loans
+            → extent self.old.unit values elements ≤ self.old.sender.room → (slot : ℕ) × (result ≡ Some (Ok slot)) }
         ensures unchanged { IsAmple self.old → (error : LoanError) → result ≡ Some (Err error) → self.new ≡ self.old }
     {
         if self.sender.is_sending() {
@@ -50,7 +52,9 @@ impl<T: Copy, U: Copy> PublisherPort<T, U> {
         blank: T,
     ) -> Result<usize, LoanError>
         ensures lends { Lends allocation values elements self.old result self.new }
-        ensures enough { IsAmple self.old → self.old.sender.uses.sending ≡ None → length self.old.sender.uses.loans < self.old.sender.uses.most_loans → extent self.old.unit values elements ≤ self.old.sender.room → IsOk result }
+        ensures enough { IsAmple self.old → self.old.sender.uses.sending ≡ None
+            → length self.old.sender.uses.loans < self.old.sender.uses.most_loans
+            → extent self.old.unit values elements ≤ self.old.sender.room → IsOk result }
         ensures unchanged { IsAmple self.old → self.old.sender.uses.sending ≡ None → OnErr result (self.new ≡ self.old) }
     {
         if let Some(refusal) = self.refusal(values, elements, allocation) {

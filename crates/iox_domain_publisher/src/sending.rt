@@ -86,7 +86,8 @@ impl<T: Copy, U: Copy> PublisherPort<T, U> {
 
     // Goes on to the next place; answers false where the send waits at a full mailbox, and where there is no place left.
     fn step<B: Decides>(&mut self, handlers: &B) -> bool
-        ensures { Steps (B.decides handlers.now) (meeting_at self.old.progress.place self.old) (met self.old.progress.place self.old) result self.new }
+        ensures { Steps (B.decides handlers.now) (meeting_at self.old.progress.place self.old) (met self.old.progress.place self.old)
+            result self.new }
     {
         match self.meet() {
             Meeting::Over => false,
@@ -137,7 +138,8 @@ impl<T: Copy, U: Copy> PublisherPort<T, U> {
     // Goes on with the send that is under way.
     fn deliver<B: Decides>(&mut self, handlers: &B) -> Result<Sent, SendError>
         ensures sends { Finishes (B.decides handlers.now) self.old result self.new }
-        ensures all { self.old.sender.uses.overflows ≡ true → is_some self.old.sender.uses.sending ≡ true → self.old.progress ≡ start → result ≡ Ok (sent.Delivered (live_ties self.new)) }
+        ensures all { self.old.sender.uses.overflows ≡ true → is_some self.old.sender.uses.sending ≡ true → self.old.progress ≡ start
+            → result ≡ Ok (sent.Delivered (live_ties self.new)) }
     {
         let arrived = self.go_on(handlers);
         self.conclude(arrived)
@@ -210,8 +212,9 @@ impl<T: Copy, U: Copy> PublisherPort<T, U> {
     /// without it the handlers decide, and the send may wait. None, and nothing happens, where no written loan is there or
     /// another send waits.
     ///
-    /// Refused with `ConnectionBrokenSinceSenderNoLongerExists` if the publisher left, with `ConnectionError` where the list isn't
-    /// followed, which never is where an allocation fails where all that it needs is there; then the loan is given up, and nothing is sent. `UnableToDeliver` where a handler said so; what was delivered stays.
+    /// Refused with `ConnectionBrokenSinceSenderNoLongerExists` if the publisher left, with `ConnectionError` where the list
+    /// isn't followed, which never is where an allocation fails where all that it needs is there; then the loan is given up, and
+    /// nothing is sent. `UnableToDeliver` where a handler said so; what was delivered stays.
     ///
     /// Ported from `iceoryx2::port::publisher::Publisher::send`.
     pub fn send<B: Decides + Degrades>(
@@ -222,9 +225,11 @@ impl<T: Copy, U: Copy> PublisherPort<T, U> {
         changes: u64,
         handlers: &B,
     ) -> Option<Result<Sent, SendError>>
-        ensures sends { Sends (B.degrades handlers.now cause.FailedToEstablishConnection) (B.decides handlers.now) listed.now changes (ready_loan slot self.old) self.old result self.new }
+        ensures sends { Sends (B.degrades handlers.now cause.FailedToEstablishConnection) (B.decides handlers.now) listed.now changes
+            (ready_loan slot self.old) self.old result self.new }
         ensures all { self.old.sender.uses.overflows ≡ true → ReachesAll result self.new }
-        ensures enough { HasRoom listed.now self.old → (failure : ConnectionFailure) → result ≢ Some (Err (sending.ConnectionError failure)) }
+        ensures enough { HasRoom listed.now self.old → (failure : ConnectionFailure)
+            → result ≢ Some (Err (sending.ConnectionError failure)) }
     {
         let at = self.ready(slot)?;
         if !self.stands {

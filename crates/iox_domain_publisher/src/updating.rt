@@ -150,10 +150,11 @@ impl<T: Copy, U: Copy> PublisherPort<T, U> {
         answer_of(found)
     }
 
-    /// Follows the list of subscribers, if it changed since it was last followed: the connections of those that left end, and those
-    /// that came are connected, and get what they may of the history. A place behind the end of the list lists nobody. Where a connection isn't made the handler is asked; the answer is
-    /// the first failure that it degrades and fails, after all places were tried. A connection fails only where an allocation fails, and
-    /// takes none where it is there already; and at a place behind as many subscribers as the publisher was made for.
+    /// Follows the list of subscribers, if it changed since it was last followed: the connections of those that left end, and
+    /// those that came are connected, and get what they may of the history. A place behind the end of the list lists nobody.
+    /// Where a connection isn't made the handler is asked; the answer is the first failure that it degrades and fails, after all
+    /// places were tried. A connection fails only where an allocation fails, and takes none where it is there already; and at a
+    /// place behind as many subscribers as the publisher was made for.
     ///
     /// Ported from `iceoryx2::port::publisher::Publisher::update_connections`.
     pub fn update<D: Degrades>(

@@ -30,7 +30,8 @@ impl<T: Copy, U: Copy> PublisherPort<T, U> {
     /// Ported from `iceoryx2::sample_mut_uninit::SampleMutUninit::write_from_slice`, which panics at another length.
     pub fn write_from_slice(&mut self, slot: usize, values: &[T]) -> bool
         ensures answer { result ≡ has_length slot (length values.now) self.old.sender.uses }
-        ensures after { self.new ≡ changed_if (has_length slot (length values.now) self.old.sender.uses) slot (write_all values.now) self.old }
+        ensures after { self.new ≡ changed_if (has_length slot (length values.now) self.old.sender.uses) slot (write_all values.now)
+            self.old }
     {
         if !self.sender.has_length(slot, values.len()) {
             return false;

@@ -66,7 +66,8 @@ IsFit link = (length link.waiting ≤ link.limit) × (length link.borrowed ≤ l
 
 -- only what waits, is borrowed or came back has changed
 abbrev pub IsSameLink : LinkState → LinkState → Type 0
-IsSameLink old new = (new.ended ≡ old.ended) × (new.overflows ≡ old.overflows) × (new.limit ≡ old.limit) × (new.most_borrowed ≡ old.most_borrowed)
+IsSameLink old new = (new.ended ≡ old.ended) × (new.overflows ≡ old.overflows) × (new.limit ≡ old.limit)
+    × (new.most_borrowed ≡ old.most_borrowed)
 
 -- The connections of a publisher: at each index one or none.
 pub record LinksState : Type 0 where
@@ -138,4 +139,5 @@ IsTally slots sending links = (slot : ℕ) → uses_of slot slots ≡
 
 -- there are so few loans and so short a history that all uses can be counted
 abbrev pub IsSmall : SlotsState → Type 0
-IsSmall slots = (length slots.loans ≤ slots.most_loans) × (slots.most_loans < 2 ^ 32) × (length slots.history ≤ slots.kept) × (slots.kept < 2 ^ 32)
+IsSmall slots = (length slots.loans ≤ slots.most_loans) × (slots.most_loans < 2 ^ 32) × (length slots.history ≤ slots.kept)
+    × (slots.kept < 2 ^ 32)

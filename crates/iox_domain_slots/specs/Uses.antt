@@ -85,7 +85,8 @@ with_connection index connection uses = record uses { connections = set uses.con
 abbrev pub accepts : {X : Type 0} → Bool → Connection X → Bool
 accepts overflows connection = overflows || nat_lt (length connection.waiting) connection.limit
 
--- a message is put behind those that wait; with overflow the oldest leaves if they are too many then, without it a full mailbox stays as it is
+-- a message is put behind those that wait; with overflow the oldest leaves if they are too many then, without it a full mailbox
+-- stays as it is
 abbrev pub offered : {X : Type 0} → Bool → X → Connection X → Connection X
 offered overflows message connection = record connection {
   waiting = if overflows then put_over connection.limit connection.waiting message

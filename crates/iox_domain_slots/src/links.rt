@@ -50,7 +50,8 @@ impl Links {
         requires besides { times slot (all_slots self.old.links) < uses_of slot slots.old }
         requires others { uses_of slot slots.old < 2 ^ 62 + times slot (all_slots self.old.links) }
         ensures answer { result ≡ accepts self.old.overflows (seen (get_or self.old.links index None)) }
-        ensures after { map seen self.new.links ≡ set (map seen self.old.links) index (offered self.old.overflows slot (seen (get_or self.old.links index None))) }
+        ensures after { map seen self.new.links
+            ≡ set (map seen self.old.links) index (offered self.old.overflows slot (seen (get_or self.old.links index None))) }
         ensures same { self.new ≡ record self.old { links = self.new.links } }
         ensures moved { Moves slots.old (all_slots self.old.links) slots.new (all_slots self.new.links) }
     {
@@ -81,7 +82,8 @@ impl Links {
         requires there { is_some (get_or self.old.links index None) ≡ true }
         requires live { (seen (get_or self.old.links index None)).stage ≡ stage.Live }
         requires within { at < length (seen (get_or self.old.links index None)).borrowed }
-        ensures after { map seen self.new.links ≡ set (map seen self.old.links) index (given_back at (seen (get_or self.old.links index None))) }
+        ensures after { map seen self.new.links
+            ≡ set (map seen self.old.links) index (given_back at (seen (get_or self.old.links index None))) }
         ensures same { self.new ≡ record self.old { links = self.new.links } }
         ensures uses { (k : ℕ) → times k (all_slots self.new.links) ≡ times k (all_slots self.old.links) }
     {
@@ -123,7 +125,8 @@ impl Links {
     // Takes a connection that ended away if nothing is borrowed of it.
     fn settle(&mut self, index: usize)
         requires there { is_some (get_or self.old.links index None) ≡ true }
-        ensures after { map seen self.new.links ≡ set (map seen self.old.links) index (settled (seen (get_or self.old.links index None)).stage
+        ensures after { map seen self.new.links
+            ≡ set (map seen self.old.links) index (settled (seen (get_or self.old.links index None)).stage
             (seen (get_or self.old.links index None)).limit (seen (get_or self.old.links index None)).waiting (seen (get_or self.old.links index None)).borrowed) }
         ensures same { self.new ≡ record self.old { links = self.new.links } }
         ensures uses { (k : ℕ) → times k (all_slots self.new.links) ≡ times k (all_slots self.old.links) }
@@ -145,7 +148,8 @@ impl Links {
     fn is_over(&self, index: usize) -> bool
         requires there { is_some (get_or self.now.links index None) ≡ true }
         ensures yes { result ≡ true → IsGone (get_or self.now.links index None) }
-        ensures no { result ≡ false → settled (seen (get_or self.now.links index None)).stage (seen (get_or self.now.links index None)).limit
+        ensures no { result ≡ false → settled (seen (get_or self.now.links index None)).stage
+            (seen (get_or self.now.links index None)).limit
             (seen (get_or self.now.links index None)).waiting (seen (get_or self.now.links index None)).borrowed ≡ seen (get_or self.now.links index None) }
     {
         let Some(link) = &self.items[index] else {
@@ -159,7 +163,8 @@ impl Links {
         requires there { is_some (get_or self.old.links index None) ≡ true }
         requires within { at < length (seen (get_or self.old.links index None)).borrowed }
         requires covered { Covers slots.old (all_slots self.old.links) }
-        ensures after { map seen self.new.links ≡ set (map seen self.old.links) index (given_back at (seen (get_or self.old.links index None))) }
+        ensures after { map seen self.new.links
+            ≡ set (map seen self.old.links) index (given_back at (seen (get_or self.old.links index None))) }
         ensures same { self.new ≡ record self.old { links = self.new.links } }
         ensures moved { Moves slots.old (all_slots self.old.links) slots.new (all_slots self.new.links) }
     {
@@ -244,7 +249,8 @@ impl Links {
         ensures value { result ≡ length self.now.links }
         ensures most { result ≤ 2 ^ 29 }
         ensures countable { (k : ℕ) → times k (all_slots self.now.links) ≤ 2 ^ 62 }
-        ensures few { length (held (map seen self.now.links)) ≤ how_many (map seen self.now.links) * (self.now.most_waiting + self.now.most_borrowed) }
+        ensures few { length (held (map seen self.now.links))
+            ≤ how_many (map seen self.now.links) * (self.now.most_waiting + self.now.most_borrowed) }
     {
         self.items.len()
     }

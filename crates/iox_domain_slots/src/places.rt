@@ -15,11 +15,13 @@ pub(crate) fn hold_all(places: &mut UniqueIndexSet)
 // Frees the places whose slots have no use, if all are held.
 pub(crate) fn settle(places: &mut UniqueIndexSet, all_held: bool, references: &[u64], first: usize)
     requires unlocked { places.old.locked ≡ false }
-    requires marks { (index : ℕ) → index < places.old.capacity → is_held index places.old ≡ (all_held || nat_lt 0 (get_or references.now (first + index) 0)) }
+    requires marks { (index : ℕ) → index < places.old.capacity
+        → is_held index places.old ≡ (all_held || nat_lt 0 (get_or references.now (first + index) 0)) }
     requires slots { first + places.old.capacity ≡ length references.now }
     ensures capacity { places.new.capacity ≡ places.old.capacity }
     ensures unlocked { places.new.locked ≡ false }
-    ensures held { (index : ℕ) → index < places.old.capacity → is_held index places.new ≡ nat_lt 0 (get_or references.now (first + index) 0) }
+    ensures held { (index : ℕ) → index < places.old.capacity
+        → is_held index places.new ≡ nat_lt 0 (get_or references.now (first + index) 0) }
 {
     if all_held {
         free_unused(places, references, first);
@@ -33,7 +35,8 @@ fn free_unused(places: &mut UniqueIndexSet, references: &[u64], first: usize)
     requires slots { first + places.old.capacity ≡ length references.now }
     ensures capacity { places.new.capacity ≡ places.old.capacity }
     ensures unlocked { places.new.locked ≡ false }
-    ensures held { (index : ℕ) → index < places.old.capacity → is_held index places.new ≡ nat_lt 0 (get_or references.now (first + index) 0) }
+    ensures held { (index : ℕ) → index < places.old.capacity
+        → is_held index places.new ≡ nat_lt 0 (get_or references.now (first + index) 0) }
 {
     let size = places.capacity();
     for count in 0..size {

@@ -104,7 +104,8 @@ impl SlotUses {
 
     /// Makes the message that is being sent the newest of the history; of more than may be kept the oldest leaves.
     pub fn remember(&mut self)
-        ensures sent { (slot : ℕ) → self.old.sending ≡ Some slot → self.new ≡ record self.old { history = newest self.old.kept (self.old.history ++ slot ∷ []) } }
+        ensures sent { (slot : ℕ) → self.old.sending ≡ Some slot
+            → self.new ≡ record self.old { history = newest self.old.kept (self.old.history ++ slot ∷ []) } }
         ensures none { self.old.sending ≡ None → self.new ≡ self.old }
     {
         let Some(slot) = self.sending else {
@@ -170,7 +171,8 @@ impl SlotUses {
         requires { limit ≤ self.old.most_waiting }
         ensures vacant { IfOk result (λ index. connection_at index self.old ≡ nobody) }
         ensures within { IfOk result (λ index. index ≤ length self.old.connections) }
-        ensures new { IfOk result (λ index. self.new ≡ record self.old { connections = placed index (connected limit) self.old.connections }) }
+        ensures new { IfOk result (λ index. self.new
+            ≡ record self.old { connections = placed index (connected limit) self.old.connections }) }
         ensures refused { OnErr result (self.new ≡ self.old) }
     {
         self.links.connect(alloc, limit)

@@ -9,7 +9,9 @@ use Rattle.iox_domain_subscriber.specs.declared.subscriber_port.SubscriberPort.{
 
 -- A subscriber receives a message exactly if some connection below the limit of borrows has data, and is then not refused.
 pub record ReceivesIfGiven (T U : Type 0) : Type 0 where
-  pub some : (port new : SubscriberPort) (ports new_ports : List (ℕ × PublisherPort T U)) (answer : Result (Option Taken) ReceiveError) (key : ℕ)
+  pub some : (port new : SubscriberPort) (ports new_ports : List (ℕ
+      × PublisherPort T U)) (answer : Result (Option Taken) ReceiveError) (key : ℕ)
       → Receives port ports answer new new_ports → gives port ports key ≡ true → (taken : Taken) × (answer ≡ Ok (Some taken))
-  pub none : (port new : SubscriberPort) (ports new_ports : List (ℕ × PublisherPort T U)) (answer : Result (Option Taken) ReceiveError) (taken : Taken)
+  pub none : (port new : SubscriberPort) (ports new_ports : List (ℕ
+      × PublisherPort T U)) (answer : Result (Option Taken) ReceiveError) (taken : Taken)
       → Receives port ports answer new new_ports → answer ≡ Ok (Some taken) → (key : ℕ) × (gives port ports key ≡ true)

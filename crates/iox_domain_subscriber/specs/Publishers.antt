@@ -54,12 +54,14 @@ abbrev pub stands_in : {T U : Type 0} → ℕ → List (ℕ × PublisherPort T U
 stands_in number ports = port_stands (port_of number ports)
 
 -- one step of a publisher, if there is one
-abbrev pub changed_at_port : {T U : Type 0} → ℕ → (PublisherPort T U → PublisherPort T U) → Option (PublisherPort T U) → List (ℕ × PublisherPort T U) → List (ℕ × PublisherPort T U)
+abbrev pub changed_at_port : {T U : Type 0} → ℕ → (PublisherPort T U → PublisherPort T U) → Option (PublisherPort T U)
+    → List (ℕ × PublisherPort T U) → List (ℕ × PublisherPort T U)
 changed_at_port number step None ports = ports
 changed_at_port number step (Some port) ports = with_port number ports (step port)
 
 -- one step of the publisher of a number, if there is one
-abbrev pub changed : {T U : Type 0} → ℕ → (PublisherPort T U → PublisherPort T U) → List (ℕ × PublisherPort T U) → List (ℕ × PublisherPort T U)
+abbrev pub changed : {T U : Type 0} → ℕ → (PublisherPort T U → PublisherPort T U) → List (ℕ × PublisherPort T U)
+    → List (ℕ × PublisherPort T U)
 changed number step ports = changed_at_port number step (port_of number ports) ports
 
 -- a connection of a publisher that left ends; one that stands ends its connections itself
@@ -86,7 +88,8 @@ released number index (Some at) ports = settled number (changed number (given_ba
 
 -- a subscriber attaches to its connection at a publisher, for which memory may be wanting only where it isn't there; nothing happens
 -- without a publisher
-abbrev pub AttachesAtPort : {T U : Type 0} → ℕ → ℕ → ℕ → Option (PublisherPort T U) → List (ℕ × PublisherPort T U) → Option (Result ℕ AllocError) → List (ℕ × PublisherPort T U) → Type 0
+abbrev pub AttachesAtPort : {T U : Type 0} → ℕ → ℕ → ℕ → Option (PublisherPort T U) → List (ℕ × PublisherPort T U)
+    → Option (Result ℕ AllocError) → List (ℕ × PublisherPort T U) → Type 0
 AttachesAtPort number subscriber limit None old answer new = (answer ≡ None) × (new ≡ old)
 AttachesAtPort number subscriber limit (Some port) old None new = ⊥
 AttachesAtPort number subscriber limit (Some port) old (Some (Err error)) new = (connection_to subscriber port ≡ None) × (new ≡ old)
@@ -94,5 +97,6 @@ AttachesAtPort {T} {U} number subscriber limit (Some port) old (Some (Ok index))
     (after : PublisherPort T U) × Attaches subscriber (min limit port.sender.uses.most_waiting) port (Ok index) after × (new ≡ with_port number old after)
 
 -- a subscriber attaches to its connection at the publisher of a number
-abbrev pub AttachesTo : {T U : Type 0} → ℕ → ℕ → ℕ → List (ℕ × PublisherPort T U) → Option (Result ℕ AllocError) → List (ℕ × PublisherPort T U) → Type 0
+abbrev pub AttachesTo : {T U : Type 0} → ℕ → ℕ → ℕ → List (ℕ × PublisherPort T U) → Option (Result ℕ AllocError)
+    → List (ℕ × PublisherPort T U) → Type 0
 AttachesTo number subscriber limit old answer new = AttachesAtPort number subscriber limit (port_of number old) old answer new

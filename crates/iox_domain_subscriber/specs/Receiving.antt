@@ -30,7 +30,8 @@ is_idle_at (Some key) port ports = is_idle port ports key
 -- the expired connection at a place of the list ends, and leaves list and map
 abbrev pub dropped_port : ℕ → Option ℕ → SubscriberPort → SubscriberPort
 dropped_port place None port = port
-dropped_port place (Some key) port = record (ended_key key port) { expired = record port.expired { items = remove port.expired.items place } }
+dropped_port place (Some key) port = record (ended_key key port)
+    { expired = record port.expired { items = remove port.expired.items place } }
 
 -- the publishers after the expired connection of a key ended
 abbrev pub dropped_ports : {T U : Type 0} → Option ℕ → SubscriberPort → List (ℕ × PublisherPort T U) → List (ℕ × PublisherPort T U)
@@ -38,7 +39,8 @@ dropped_ports None port ports = ports
 dropped_ports (Some key) port ports = ended_ports (attached_at key port) ports
 
 -- one of them is gone over: an idle one ends, and the next stands at its place then
-abbrev pub SweepsAt : {T U : Type 0} → Bool → ℕ → SubscriberPort → List (ℕ × PublisherPort T U) → ℕ → SubscriberPort → List (ℕ × PublisherPort T U) → Type 0
+abbrev pub SweepsAt : {T U : Type 0} → Bool → ℕ → SubscriberPort → List (ℕ × PublisherPort T U) → ℕ → SubscriberPort
+    → List (ℕ × PublisherPort T U) → Type 0
 SweepsAt true place port ports next port_after ports_after =
     (next ≡ place) × (port_after ≡ dropped_port place (slice_get port.expired.items place) port) × (ports_after ≡ dropped_ports (slice_get port.expired.items place) port ports)
 SweepsAt false place port ports next port_after ports_after = (next ≡ place + 1) × (port_after ≡ port) × (ports_after ≡ ports)
@@ -73,7 +75,8 @@ given_ports (Some key) port ports = taken_ports (attached_at key port) ports
 
 -- The first expired connection that is below the limit of borrows and has data gives its oldest message, else the first of all by
 -- rising key; the expired ones that were met before, or all if none of them gives, end if they are idle.
-abbrev pub Serves : {T U : Type 0} → SubscriberPort → List (ℕ × PublisherPort T U) → Option Taken → SubscriberPort → List (ℕ × PublisherPort T U) → Type 0
+abbrev pub Serves : {T U : Type 0} → SubscriberPort → List (ℕ × PublisherPort T U) → Option Taken → SubscriberPort
+    → List (ℕ × PublisherPort T U) → Type 0
 Serves port ports answer port_after ports_after =
     (met : ℕ) × IsMet (gives port ports) port.expired.items met
     × (giver : Option ℕ) × IsGiver (slice_get port.expired.items met) (gives port ports) giver
@@ -92,7 +95,8 @@ IsReceiveAnswer (Some taken) has_data answer = answer ≡ Ok (Some taken)
 IsReceiveAnswer None has_data answer = (unread : Option ℕ) × IsFirst has_data unread × (answer ≡ nothing_taken unread)
 
 -- A subscriber receives from the connections that it has.
-abbrev pub Receives : {T U : Type 0} → SubscriberPort → List (ℕ × PublisherPort T U) → Result (Option Taken) ReceiveError → SubscriberPort → List (ℕ × PublisherPort T U) → Type 0
+abbrev pub Receives : {T U : Type 0} → SubscriberPort → List (ℕ × PublisherPort T U) → Result (Option Taken) ReceiveError
+    → SubscriberPort → List (ℕ × PublisherPort T U) → Type 0
 Receives port ports answer port_after ports_after =
     (taken : Option Taken) × Serves port ports taken port_after ports_after
     × IsReceiveAnswer taken (has_data port_after ports_after) answer

@@ -13,7 +13,7 @@
 //! - [`living`]: how much lives.
 //! - [`laws`]: what its steps come to, in other words.
 //!
-//! A first call. `ServicePorts` of `iox_domain_ports` makes them.
+//! A first call. `ServicePorts` of `iox_domain` makes them.
 //!
 //! ```
 //! let taken = port.receive(

@@ -148,7 +148,8 @@ impl SubscriberPort {
         publishers: &mut Publishers<T, U>,
     ) -> bool
         ensures answer { result ≡ is_idle_at (slice_get self.old.expired.items place) self.old publishers.old }
-        ensures dropped { OnTrue result ((self.new ≡ dropped_port place (slice_get self.old.expired.items place) self.old) × (publishers.new ≡ dropped_ports (slice_get self.old.expired.items place) self.old publishers.old)) }
+        ensures dropped { OnTrue result ((self.new ≡ dropped_port place (slice_get self.old.expired.items place) self.old)
+            × (publishers.new ≡ dropped_ports (slice_get self.old.expired.items place) self.old publishers.old)) }
         ensures stays { OnFalse result ((self.new ≡ self.old) × (publishers.new ≡ publishers.old)) }
     {
         let Some(key) = self.expired.at(place) else {
@@ -193,7 +194,8 @@ impl SubscriberPort {
         publishers: &mut Publishers<T, U>,
     ) -> usize
         requires { place + 1 < 2 ^ 64 }
-        ensures { SweepsAt (is_idle_at (slice_get self.old.expired.items place) self.old publishers.old) place self.old publishers.old result self.new publishers.new }
+        ensures { SweepsAt (is_idle_at (slice_get self.old.expired.items place) self.old publishers.old) place self.old publishers.old
+            result self.new publishers.new }
     {
         if self.drop_if_idle(place, publishers) {
             place

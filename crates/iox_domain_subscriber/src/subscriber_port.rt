@@ -41,8 +41,8 @@ pub struct SubscriberPort {
 }
 
 impl SubscriberPort {
-    /// A subscriber that is to be listed at its place, without connections and samples: at most so many go on, and so many more may expire. The list of publishers is
-    /// followed at its first update. It fails only where an allocation fails.
+    /// A subscriber that is to be listed at its place, without connections and samples: at most so many go on, and so many more
+    /// may expire. The list of publishers is followed at its first update. It fails only where an allocation fails.
     pub fn new(
         alloc: Global,
         identity: PortIdentity,

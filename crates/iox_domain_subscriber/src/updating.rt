@@ -77,7 +77,8 @@ impl SubscriberPort {
         handler: &D,
         publishers: &mut Publishers<T, U>,
     ) -> Option<ConnectionFailure>
-        ensures { FollowsFrom (D.degrades handler.now cause.FailedToEstablishConnection) 0 listed.now None self.old publishers.old result self.new publishers.new }
+        ensures { FollowsFrom (D.degrades handler.now cause.FailedToEstablishConnection) 0 listed.now None self.old publishers.old
+            result self.new publishers.new }
     {
         let mut found = None;
         for place in 0..listed.len() {
@@ -123,7 +124,8 @@ impl SubscriberPort {
         handler: &D,
         publishers: &mut Publishers<T, U>,
     ) -> Result<(), ConnectionFailure>
-        ensures { FollowsList (D.degrades handler.now cause.FailedToEstablishConnection) listed.now self.old publishers.old result self.new publishers.new }
+        ensures { FollowsList (D.degrades handler.now cause.FailedToEstablishConnection) listed.now self.old publishers.old result
+            self.new publishers.new }
     {
         let found = self.follow_all(alloc, listed, handler, publishers);
         self.follow_nones(listed, publishers);
@@ -145,7 +147,8 @@ impl SubscriberPort {
         handler: &D,
         publishers: &mut Publishers<T, U>,
     ) -> Result<(), ConnectionFailure>
-        ensures { Updates (D.degrades handler.now cause.FailedToEstablishConnection) listed.now changes self.old publishers.old result self.new publishers.new }
+        ensures { Updates (D.degrades handler.now cause.FailedToEstablishConnection) listed.now changes self.old publishers.old result
+            self.new publishers.new }
     {
         if self.seen == changes && !self.again {
             return Ok(());
@@ -166,7 +169,8 @@ impl SubscriberPort {
         handler: &D,
         publishers: &mut Publishers<T, U>,
     ) -> Result<bool, ConnectionFailure>
-        ensures { HasSamples (D.degrades handler.now cause.FailedToEstablishConnection) listed.now changes self.old publishers.old result self.new publishers.new }
+        ensures { HasSamples (D.degrades handler.now cause.FailedToEstablishConnection) listed.now changes self.old publishers.old
+            result self.new publishers.new }
     {
         let updated = self.update(alloc, listed, changes, handler, publishers);
         self.has_samples_after(updated, publishers)
@@ -200,7 +204,8 @@ impl SubscriberPort {
         handler: &D,
         publishers: &mut Publishers<T, U>,
     ) -> Result<Option<Taken>, ReceiveError>
-        ensures { ReceivesNext (D.degrades handler.now cause.FailedToEstablishConnection) listed.now changes self.old publishers.old result self.new publishers.new }
+        ensures { ReceivesNext (D.degrades handler.now cause.FailedToEstablishConnection) listed.now changes self.old publishers.old
+            result self.new publishers.new }
     {
         let updated = self.update(alloc, listed, changes, handler, publishers);
         self.receive_after(updated, publishers)

@@ -8,7 +8,8 @@ use Rattle.iox_domain_values.specs.declared.backpressure_handler.BackpressureHan
 use Rattle.iox_domain_values.specs.declared.backpressure_handler.BackpressureHandler.TheVariants as handler
 
 -- a fixed handler may answer its action alone, whatever it is told; another one what its object allows
-abbrev pub Allowed : {X : Type 0} {F : X → Type 0} → (DynBox X Global F → BackpressureInfo → BackpressureAction → Type 0) → BackpressureHandler X F → BackpressureInfo → BackpressureAction → Type 0
+abbrev pub Allowed : {X : Type 0} {F : X → Type 0} → (DynBox X Global F → BackpressureInfo → BackpressureAction → Type 0)
+    → BackpressureHandler X F → BackpressureInfo → BackpressureAction → Type 0
 Allowed objects (handler.Fixed action) _ answer = answer ≡ action
 Allowed objects (handler.Boxed object) info answer = objects object info answer
 

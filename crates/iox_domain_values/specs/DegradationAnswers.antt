@@ -9,7 +9,9 @@ use Rattle.iox_domain_values.specs.declared.degradation_handler.DegradationHandl
 use Rattle.iox_domain_values.specs.declared.degradation_handler.DegradationHandler.TheVariants as handler
 
 -- a fixed handler may answer its action alone, whatever it is told; another one what its object allows
-abbrev pub Allowed : {X : Type 0} {F : X → Type 0} → (DynBox X Global F → DegradationCause → DegradationInfo → DegradationAction → Type 0) → DegradationHandler X F → DegradationCause → DegradationInfo → DegradationAction → Type 0
+abbrev pub Allowed : {X : Type 0} {F : X → Type 0}
+    → (DynBox X Global F → DegradationCause → DegradationInfo → DegradationAction → Type 0) → DegradationHandler X F → DegradationCause
+    → DegradationInfo → DegradationAction → Type 0
 Allowed objects (handler.Fixed action) _ _ answer = answer ≡ action
 Allowed objects (handler.Boxed object) cause info answer = objects object cause info answer
 

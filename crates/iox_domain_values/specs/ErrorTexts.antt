@@ -25,7 +25,8 @@ zero_copy_creation_name zero_copy.IncompatibleBufferSize = codes "IncompatibleBu
 
 -- the name of the variant, an inner variant in parentheses
 abbrev pub connection_name : ConnectionFailure → List ℕ
-connection_name (connection.FailedToEstablishConnection inner) = codes "FailedToEstablishConnection(" ++ zero_copy_creation_name inner ++ codes ")"
+connection_name (connection.FailedToEstablishConnection inner) = codes "FailedToEstablishConnection(" ++ zero_copy_creation_name inner
+    ++ codes ")"
 connection_name connection.UnableToMapSendersDataSegment = codes "UnableToMapSendersDataSegment"
 
 -- the name of the variant
@@ -59,7 +60,8 @@ publisher_create_name publisher.UnableToCreatePortTag = codes "UnableToCreatePor
 -- the name of the variant
 abbrev pub subscriber_create_name : SubscriberCreateError → List ℕ
 subscriber_create_name subscriber.ExceedsMaxSupportedSubscribers = codes "ExceedsMaxSupportedSubscribers"
-subscriber_create_name subscriber.BufferSizeExceedsMaxSupportedBufferSizeOfService = codes "BufferSizeExceedsMaxSupportedBufferSizeOfService"
+subscriber_create_name subscriber.BufferSizeExceedsMaxSupportedBufferSizeOfService
+    = codes "BufferSizeExceedsMaxSupportedBufferSizeOfService"
 subscriber_create_name subscriber.FailedToDeployThreadsafetyPolicy = codes "FailedToDeployThreadsafetyPolicy"
 subscriber_create_name subscriber.UnableToCreatePortTag = codes "UnableToCreatePortTag"
 subscriber_create_name subscriber.OutOfMemory = codes "OutOfMemory"

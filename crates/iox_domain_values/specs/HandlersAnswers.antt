@@ -15,16 +15,21 @@ use Rattle.iox_domain_values.specs.declared.degradation.DegradationInfo.{Degrada
 use Rattle.iox_domain_values.specs.declared.handlers.Handlers.{Handlers}
 
 -- what a handler may answer; nobody answers where there is none
-abbrev pub MayAnswer : {X : Type 0} {F : X → Type 0} → (DynBox X Global F → BackpressureInfo → BackpressureAction → Type 0) → Option (BackpressureHandler X F) → BackpressureInfo → Option BackpressureAction → Type 0
+abbrev pub MayAnswer : {X : Type 0} {F : X → Type 0} → (DynBox X Global F → BackpressureInfo → BackpressureAction → Type 0)
+    → Option (BackpressureHandler X F) → BackpressureInfo → Option BackpressureAction → Type 0
 MayAnswer objects None info answer = answer ≡ None
 MayAnswer objects (Some handler) info None = ⊥
 MayAnswer objects (Some handler) info (Some action) = Allowed objects handler info action
 
 -- what may become of a send at a full mailbox
-abbrev pub MayDecide : {X Y : Type 0} {F : X → Type 0} {G : Y → Type 0} → (DynBox X Global F → BackpressureInfo → BackpressureAction → Type 0) → Handlers X Y F G → BackpressureInfo → BackpressureDecision → Type 0
+abbrev pub MayDecide : {X Y : Type 0} {F : X → Type 0} {G : Y → Type 0}
+    → (DynBox X Global F → BackpressureInfo → BackpressureAction → Type 0) → Handlers X Y F G → BackpressureInfo → BackpressureDecision
+    → Type 0
 MayDecide objects handlers info decision =
     (answer : Option BackpressureAction) × (MayAnswer objects handlers.backpressure info answer) × (decision ≡ decision_of handlers.strategy answer)
 
 -- what may be answered where a connection of the publisher failed
-abbrev pub may_degrade : {X Y : Type 0} {F : X → Type 0} {G : Y → Type 0} → (DynBox Y Global G → DegradationCause → DegradationInfo → DegradationAction → Type 0) → Handlers X Y F G → DegradationCause → DegradationInfo → DegradationAction → Type 0
+abbrev pub may_degrade : {X Y : Type 0} {F : X → Type 0} {G : Y → Type 0}
+    → (DynBox Y Global G → DegradationCause → DegradationInfo → DegradationAction → Type 0) → Handlers X Y F G → DegradationCause
+    → DegradationInfo → DegradationAction → Type 0
 may_degrade objects handlers cause info answer = degradation.Allowed objects handlers.degradation cause info answer

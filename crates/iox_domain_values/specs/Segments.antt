@@ -15,7 +15,8 @@ SegmentLength strategy.Static values length = length ≡ None
 
 -- A strategy takes one length for a slice, and the slice fits there; a power of two is less than twice as long.
 pub record FitsOneSegment : Type 0 where
-  pub one : (allocation : AllocationStrategy) (values : ℕ) (one other : Option ℕ) → SegmentLength allocation values one → SegmentLength allocation values other → one ≡ other
+  pub one : (allocation : AllocationStrategy) (values : ℕ) (one other : Option ℕ) → SegmentLength allocation values one
+      → SegmentLength allocation values other → one ≡ other
   pub fits : (allocation : AllocationStrategy) (values length : ℕ) → SegmentLength allocation values (Some length) → values ≤ length
   pub least : (values length : ℕ) → 0 < values → SegmentLength strategy.PowerOfTwo values (Some length) → length < values + values
   pub most : (allocation : AllocationStrategy) (values length : ℕ) → SegmentLength allocation values (Some length) → length < 2 ^ 32

@@ -17,4 +17,5 @@ within number = if nat_lt number (2 ^ 32) then Some number else None
 -- allows; just those where it names none.
 abbrev pub buffer_of : Option ℕ → ServiceSizes → Result ℕ SubscriberCreateError
 buffer_of None sizes = Ok sizes.subscriber_max_buffer_size
-buffer_of (Some named) sizes = if nat_le (max named 1) sizes.subscriber_max_buffer_size then Ok (max named 1) else Err BufferSizeExceedsMaxSupportedBufferSizeOfService
+buffer_of (Some named) sizes = if nat_le (max named 1) sizes.subscriber_max_buffer_size then Ok (max named 1) else Err
+    BufferSizeExceedsMaxSupportedBufferSizeOfService

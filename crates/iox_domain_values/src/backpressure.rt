@@ -88,7 +88,9 @@ pub fn decision(
     answer: Option<BackpressureAction>,
 ) -> BackpressureDecision
     ensures decided { result ≡ decision_of strategy answer }
-    ensures retries { (result ≡ decided.Retry) ↔ ((answer ≡ Some action.Retry) ⊎ (strategy ≡ planned.RetryUntilDelivered) × ((answer ≡ None) ⊎ (answer ≡ Some action.FollowBackpressureyStrategy))) }
+    ensures retries { (result ≡ decided.Retry)
+        ↔ ((answer ≡ Some action.Retry) ⊎ (strategy ≡ planned.RetryUntilDelivered)
+        × ((answer ≡ None) ⊎ (answer ≡ Some action.FollowBackpressureyStrategy))) }
     ensures fails { (result ≡ decided.DiscardDataAndFail) ↔ (answer ≡ Some action.DiscardDataAndFail) }
 {
     match answer {

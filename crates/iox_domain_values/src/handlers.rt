@@ -47,7 +47,8 @@ impl Degrades for Handlers {
 
 // What the handler answers, if there is one.
 fn ask(handler: &Option<BackpressureHandler>, info: &BackpressureInfo) -> Option<BackpressureAction>
-    ensures { MayAnswer (λ object. (⟦<dyn BackpressureFn as BackpressureFn>⟧ object.vtable).allows object.value) handler.now info.now result }
+    ensures { MayAnswer (λ object. (⟦<dyn BackpressureFn as BackpressureFn>⟧ object.vtable).allows object.value) handler.now info.now
+        result }
 {
     match handler {
         Some(handler) => Some(handler.call(info)),

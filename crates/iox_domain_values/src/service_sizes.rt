@@ -41,8 +41,8 @@ impl ServiceSizes {
         }
     }
 
-    /// How many messages of one publisher may wait for a subscriber: as many as it names, at least 1, or as many as the service allows where
-    /// it names none.
+    /// How many messages of one publisher may wait for a subscriber: as many as it names, at least 1, or as many as the service
+    /// allows where it names none.
     ///
     /// Refused with `BufferSizeExceedsMaxSupportedBufferSizeOfService` if it names more than the service allows.
     pub fn buffer_size(&self, named: Option<usize>) -> Result<usize, SubscriberCreateError>

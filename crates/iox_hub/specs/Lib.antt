@@ -4,3 +4,15 @@ pub mod Steps
 pub mod Taking
 pub mod Room
 pub mod RunLaws
+-- The definitions that contracts of the names here cite, by the crates that have them.
+pub use Rattle.iox_hub_run.specs.HubCommands.Delivery as Delivery
+pub use Rattle.iox_delivery_factories.specs as DeliveryFactories
+pub use Rattle.iox_hub_run.specs.HubCommands.DescribeBase as DescribeBase
+pub use Rattle.iox_hub_run.specs.HubCommands.DescribeSettings as DescribeSettings
+pub use Rattle.iox_hub_run.specs.HubCommands.Domain as Domain
+pub use Rattle.iox_hub_run.specs.HubCommands.DomainPublisher as DomainPublisher
+pub use Rattle.iox_hub_run.specs.HubCommands.DomainValues as DomainValues
+pub use Rattle.iox_hub_run.specs.HubBase as HubBase
+pub use Rattle.iox_negotiate.specs as Negotiate
+pub use Rattle.iox_hub_run.specs.HubCommands.NegotiateBase as NegotiateBase
+pub use Rattle.iox_queues_base.specs as QueuesBase

@@ -10,6 +10,10 @@ use Rattle.iox_hub.specs.declared.handled_command.HandledCommand.{HandledCommand
 use Rattle.iox_hub.specs.declared.handled_command.HandledCommand.TheVariants as asked
 
 -- A run of commands that name no handler is a run of the machine without handlers, and leaves all of them where they are.
-abbrev pub PlainRunsArePlain : {T U B D X : Type 0} → (HandledCommand T → NumberedHub T U B D × X → Result (Reply T) AllocError → NumberedHub T U B D × X → Type 0) → (Command T → NumberedHub T U B D → Result (Reply T) AllocError → NumberedHub T U B D → Type 0) → Type 0
-PlainRunsArePlain {T} {U} {B} {D} {X} handled plain = (commands : List (Command T)) (old new : NumberedHub T U B D × X) (replies : List (Reply T)) (stopped : Bool) → RunsInRoom handled (map (λ (command : Command T). asked.Plain command) commands) old replies stopped new
+abbrev pub PlainRunsArePlain : {T U B D X : Type 0}
+    → (HandledCommand T → NumberedHub T U B D × X → Result (Reply T) AllocError → NumberedHub T U B D × X → Type 0)
+    → (Command T → NumberedHub T U B D → Result (Reply T) AllocError → NumberedHub T U B D → Type 0) → Type 0
+PlainRunsArePlain {T} {U} {B} {D} {X} handled plain
+    = (commands : List (Command T)) (old new : NumberedHub T U B D × X) (replies : List (Reply T)) (stopped : Bool)
+    → RunsInRoom handled (map (λ (command : Command T). asked.Plain command) commands) old replies stopped new
     → plain_room.RunsInRoom plain commands old.0 replies stopped new.0 × (new.1 ≡ old.1)

@@ -36,18 +36,24 @@ ports_of_factory (Some opened) hub = hub_ports (domain_of_factory opened) hub
 module _ {T U B D P : Type 0} where
   -- A publisher of the service of a factory comes, with the handlers that are named, and they are taken, be it refused or not. Where one of
   -- them isn't there, or the ports of the service aren't, it is skipped, and nothing changes.
-  abbrev pub PublisherTakes : (U → Type 0) → (BackpressureStrategy → Option BackpressureAction → DegradationAction → Option P → Option D → B) → (B → DegradationCause → DegradationInfo → DegradationAction → Type 0)
+  abbrev pub PublisherTakes : (U → Type 0)
+      → (BackpressureStrategy → Option BackpressureAction → DegradationAction → Option P → Option D → B)
+      → (B → DegradationCause → DegradationInfo → DegradationAction → Type 0)
       → Option (Option P) → Option (Option D) → Option (ServicePorts T U) → ℕ → PublisherOptions → List (Option (GivenHandler P D))
       → NumberedHub T U B D × List (Option (GivenHandler P D)) → Reply T → NumberedHub T U B D × List (Option (GivenHandler P D)) → Type 0
-  PublisherTakes is_default handled degrades None at_failure ports factory options fewer old answer new = (answer ≡ reply.Skipped) × (new ≡ old)
-  PublisherTakes is_default handled degrades (Some at_full) None ports factory options fewer old answer new = (answer ≡ reply.Skipped) × (new ≡ old)
-  PublisherTakes is_default handled degrades (Some at_full) (Some at_failure) None factory options fewer old answer new = (answer ≡ reply.Skipped) × (new ≡ old)
+  PublisherTakes is_default handled degrades None at_failure ports factory options fewer old answer new = (answer ≡ reply.Skipped)
+      × (new ≡ old)
+  PublisherTakes is_default handled degrades (Some at_full) None ports factory options fewer old answer new = (answer ≡ reply.Skipped)
+      × (new ≡ old)
+  PublisherTakes is_default handled degrades (Some at_full) (Some at_failure) None factory options fewer old answer new
+      = (answer ≡ reply.Skipped) × (new ≡ old)
   PublisherTakes is_default handled degrades (Some at_full) (Some at_failure) (Some ports) factory options fewer old answer new =
       MakesPublisher is_default (λ strategy action degrading. handled strategy action degrading at_full at_failure) degrades factory options old.0 answer new.0 × (new.1 ≡ fewer)
 
   -- A subscriber of the service of a factory comes, with the handler that is named, and it is taken, be the subscriber refused or
   -- not. Where no such handler is there, or the ports of the service aren't, it is skipped, and nothing changes.
-  abbrev pub SubscriberTakes : (D → DegradationCause → DegradationInfo → DegradationAction → Type 0) → Option D → Option (ServicePorts T U) → ℕ → SubscriberOptions → List (Option (GivenHandler P D))
+  abbrev pub SubscriberTakes : (D → DegradationCause → DegradationInfo → DegradationAction → Type 0) → Option D
+      → Option (ServicePorts T U) → ℕ → SubscriberOptions → List (Option (GivenHandler P D))
       → NumberedHub T U B D × List (Option (GivenHandler P D)) → Reply T → NumberedHub T U B D × List (Option (GivenHandler P D)) → Type 0
   SubscriberTakes degrades None ports factory options fewer old answer new = (answer ≡ reply.Skipped) × (new ≡ old)
   SubscriberTakes degrades (Some handler) None factory options fewer old answer new = (answer ≡ reply.Skipped) × (new ≡ old)
@@ -61,9 +67,12 @@ module _ {T U B D P : Type 0} where
       → (B → DegradationCause → DegradationInfo → DegradationAction → Type 0) → (B → BackpressureInfo → BackpressureDecision → Type 0)
       → (DegradationAction → D) → (D → DegradationCause → DegradationInfo → DegradationAction → Type 0)
       → HandledCommand T → NumberedHub T U B D × List (Option (GivenHandler P D)) → Result (Reply T) AllocError → NumberedHub T U B D × List (Option (GivenHandler P D)) → Type 0
-  HandledStep payload user_header types is_default is_default_header fixed handled degrades decides fixed_reader reader_degrades (asked.Plain command) old answer new =
+  HandledStep payload user_header types is_default is_default_header fixed handled degrades decides fixed_reader reader_degrades
+      (asked.Plain command) old answer new =
       Step payload user_header types is_default is_default_header fixed degrades decides fixed_reader reader_degrades command old.0 answer new.0 × (new.1 ≡ old.1)
-  HandledStep payload user_header types is_default is_default_header fixed handled degrades decides fixed_reader reader_degrades (asked.Publisher factory options at_full at_failure) old answer new =
+  HandledStep payload user_header types is_default is_default_header fixed handled degrades decides fixed_reader reader_degrades
+      (asked.Publisher factory options at_full at_failure) old answer new =
       IsReplied (λ reply. PublisherTakes is_default_header handled degrades (named backpressure_of at_full old.1) (named degradation_of at_failure old.1) (ports_of_factory (publish_subscribe_in (value_at old.0.factories.made factory)) old.0.hub) factory options (emptied_if at_failure (emptied_if at_full old.1)) old reply new) answer
-  HandledStep payload user_header types is_default is_default_header fixed handled degrades decides fixed_reader reader_degrades (asked.Subscriber factory options at_failure) old answer new =
+  HandledStep payload user_header types is_default is_default_header fixed handled degrades decides fixed_reader reader_degrades
+      (asked.Subscriber factory options at_failure) old answer new =
       IsReplied (λ reply. SubscriberTakes reader_degrades (degradation_of (lies_at at_failure old.1)) (ports_of_factory (publish_subscribe_in (value_at old.0.factories.made factory)) old.0.hub) factory options (emptied at_failure old.1) old reply new) answer

@@ -33,7 +33,8 @@ pub trait TakesHandlers<P, D>: PublisherHandlers {
         ensures { result ≡ handled strategy backpressure degradation at_full at_failure };
 
     // without handlers it is who decides by the actions alone
-    ghost unhandled: { (strategy : BackpressureStrategy) (action : Option BackpressureAction) (degrading : DegradationAction) → handled strategy action degrading None None ≡ Self.fixed strategy action degrading };
+    ghost unhandled: { (strategy : BackpressureStrategy) (action : Option BackpressureAction) (degrading : DegradationAction)
+        → handled strategy action degrading None None ≡ Self.fixed strategy action degrading };
 }
 
 impl TakesHandlers<BackpressureHandler, DegradationHandler> for Handlers {

@@ -1,4 +1,5 @@
-//! The hub: a run of commands with handlers that are handed in, and the names that a program needs, by the modules of iceoryx2.
+//! The crate that programs name: all that one of publish and subscribe needs, by the modules of iceoryx2, and runs of commands with handlers
+//! that are handed in.
 //!
 //! A command that makes a port names handlers by their places, and takes them.
 //!
@@ -7,7 +8,7 @@
 //! | `prelude` | what a first program needs |
 //! | `node` | nodes, and the hub that keeps them with all services in one value |
 //! | `service` | names, attributes, descriptions, builders, open services, storages for them, domains, and builders of ports |
-//! | `port` | publishers and subscribers, one publisher with its messages, and what ports take and answer |
+//! | `port` | publishers and subscribers, what they take and answer, and who decides for them |
 //! | `sample_mut_uninit`, `sample_mut`, `sample` | a loan that is to be written, one that is written, and a message that was received |
 //! | `slice` | publishers, subscribers, loans and messages of slices |
 //! | `container` | vectors, strings, queues, options, maps, semantic strings, byte cells |
@@ -21,7 +22,23 @@
 //! | `running` | a list of commands |
 //! | `laws` | what a run comes to in other words |
 //!
-//! First calls, on a hub of `iox_hub_run` whose ports boxed handlers may decide for.
+//! Its `specs/` hand on the definitions that contracts of these names cite: `Rattle.iox_hub.specs.Delivery`, `Domain` and others.
+//!
+//! First calls: a hub with a node, and a publisher of a service.
+//!
+//! ```
+//! use iox_hub::prelude::*;
+//!
+//! let mut hub = Hub::<u64, ()>::new(alloc, config);
+//! let node = hub.new_node()?;
+//! // where the node and the factory are of the hub
+//! let asked = hub.service_builder(&node, name).publish_subscribe::<u64>();
+//! let service = asked.open_or_create_in(alloc, &mut hub, Vec::new(alloc))?;
+//! let builder = hub.publisher_builder(&service)?;
+//! let publisher = builder.create(alloc, &mut hub)?;
+//! ```
+//!
+//! Of commands, on a hub of `iox_hub_run` whose ports boxed handlers may decide for:
 //!
 //! ```
 //! let mut given = GivenHandlers::new(alloc);

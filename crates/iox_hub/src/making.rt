@@ -21,7 +21,8 @@ use std::alloc::Global;
 
 // The domain of the factory that goes by a number, and whose its ports are; None where none of publish-subscribe does.
 fn place(factories: &Factories, factory: u64) -> Option<(DomainId, PortOwner)>
-    ensures { result ≡ option_map (λ opened. (domain_of_factory opened, owner_of_factory opened)) (publish_subscribe_in (value_at factories.now.made factory)) }
+    ensures { result ≡ option_map (λ opened. (domain_of_factory opened, owner_of_factory opened))
+        (publish_subscribe_in (value_at factories.now.made factory)) }
 {
     let factory = factories.publish_subscribe(factory)?;
     let domain = DomainId {
@@ -40,8 +41,10 @@ fn place_here<T: Copy, U: Copy, B: Decides + Degrades, D: Degrades>(
     hub: &NumberedHub<T, U, B, D>,
     factory: u64,
 ) -> Option<(DomainId, PortOwner)>
-    ensures found { IfSome result (λ place. option_map (λ opened. (domain_of_factory opened, owner_of_factory opened)) (publish_subscribe_in (value_at hub.now.factories.made factory)) ≡ Some place) }
-    ensures here { is_some result ≡ is_some (ports_of_factory (publish_subscribe_in (value_at hub.now.factories.made factory)) hub.now.hub) }
+    ensures found { IfSome result (λ place. option_map (λ opened. (domain_of_factory opened, owner_of_factory opened))
+        (publish_subscribe_in (value_at hub.now.factories.made factory)) ≡ Some place) }
+    ensures here { is_some result ≡ is_some
+        (ports_of_factory (publish_subscribe_in (value_at hub.now.factories.made factory)) hub.now.hub) }
 {
     let (domain, owner) = place(&hub.factories, factory)?;
     match calls::ports(&hub.hub, domain) {
@@ -56,7 +59,8 @@ fn publisher_handlers<P, D, B: TakesHandlers<P, D>>(
     at_full: Option<P>,
     at_failure: Option<D>,
 ) -> B
-    ensures { result ≡ publisher_handlers (λ strategy action degrading. B.handled strategy action degrading at_full at_failure) options.now }
+    ensures { result ≡ publisher_handlers (λ strategy action degrading. B.handled strategy action degrading at_full at_failure)
+        options.now }
 {
     let defaults = PublisherSettings::default();
     B::with_handlers(
@@ -83,7 +87,13 @@ pub(crate) fn publisher<T: Copy, U: Copy + Default, B: TakesHandlers<P, D>, D: D
 ) -> Reply<T>
     requires { hub.old.made.publishers.next + 1 < 2 ^ 64 }
     ensures room { KeepsRoom hub.old hub.new }
-    ensures takes { PublisherTakes U.is_default (λ strategy action degrading at_full at_failure. B.handled strategy action degrading at_full at_failure) (λ handlers. B.degrades handlers) (handler_named backpressure_of named.0 given.old.places.items) (handler_named degradation_of named.1 given.old.places.items) (ports_of_factory (publish_subscribe_in (value_at hub.old.factories.made factory)) hub.old.hub) factory options.now (emptied_if named.1 (emptied_if named.0 given.old.places.items)) (hub.old, given.old.places.items) result (hub.new, given.new.places.items) }
+    ensures takes { PublisherTakes U.is_default
+        (λ strategy action degrading at_full at_failure. B.handled strategy action degrading at_full at_failure)
+        (λ handlers. B.degrades handlers) (handler_named backpressure_of named.0 given.old.places.items)
+        (handler_named degradation_of named.1 given.old.places.items)
+        (ports_of_factory (publish_subscribe_in (value_at hub.old.factories.made factory)) hub.old.hub) factory options.now
+        (emptied_if named.1 (emptied_if named.0 given.old.places.items)) (hub.old, given.old.places.items) result
+        (hub.new, given.new.places.items) }
 {
     let (at_full, at_failure) = named;
     if !given.holds_backpressure(at_full) {
@@ -113,7 +123,9 @@ pub(crate) fn subscriber<T: Copy, U: Copy, B: Decides + Degrades, D: Degrades, P
 ) -> Reply<T>
     requires { hub.old.made.subscribers.next + 1 < 2 ^ 64 }
     ensures room { KeepsRoom hub.old hub.new }
-    ensures takes { SubscriberTakes (λ handler. D.degrades handler) (degradation_of (lies_at named given.old.places.items)) (ports_of_factory (publish_subscribe_in (value_at hub.old.factories.made factory)) hub.old.hub) factory options.now (emptied named given.old.places.items) (hub.old, given.old.places.items) result (hub.new, given.new.places.items) }
+    ensures takes { SubscriberTakes (λ handler. D.degrades handler) (degradation_of (lies_at named given.old.places.items))
+        (ports_of_factory (publish_subscribe_in (value_at hub.old.factories.made factory)) hub.old.hub) factory options.now
+        (emptied named given.old.places.items) (hub.old, given.old.places.items) result (hub.new, given.new.places.items) }
 {
     if !given.holds_degradation(Some(named)) {
         return Reply::Skipped;

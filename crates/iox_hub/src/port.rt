@@ -1,15 +1,14 @@
-//! Ports of publish-subscribe: publishers and subscribers as values, one publisher with its messages and connections, and what
-//! ports take and answer.
+//! Ports of publish-subscribe: publishers and subscribers as values, what they take and answer, and who may decide for them.
 pub mod publisher;
 pub mod subscriber;
 
-pub use iox_delivery::PortId;
-pub use iox_domain_publisher::messages::{Sender, SenderConfig};
-pub use iox_domain_publisher::{PublisherPort, Sent, SubscriberEntry};
+pub use iox_delivery::{PortId, UpdateConnections};
+pub use iox_domain::Nobody;
 pub use iox_domain_values::{
-    AllocationStrategy, BackpressureAction, BackpressureDecision, BackpressureHandler,
-    BackpressureInfo, BackpressureStrategy, BackpressureToReceiverAction, ConnectionFailure,
-    DataSegmentType, DegradationAction, DegradationCause, DegradationHandler, DegradationInfo,
-    Handlers, LoanError, PreallocatedSamplesOverride, PublisherCreateError, ReceiveError,
-    SendError, SubscriberCreateError, ZeroCopyCreationError,
+    AllocationStrategy, BackpressureAction, BackpressureDecision, BackpressureFn,
+    BackpressureHandler, BackpressureInfo, BackpressureStrategy, BackpressureToReceiverAction,
+    ConnectionFailure, DataSegmentType, Decides, DegradationAction, DegradationCause,
+    DegradationFn, DegradationHandler, DegradationInfo, Degrades, Handlers, LoanError, Overrides,
+    PortIdentity, PortOwner, PreallocatedSamplesFn, PreallocatedSamplesOverride,
+    PublisherCreateError, ReceiveError, SendError, SubscriberCreateError, ZeroCopyCreationError,
 };

@@ -1,11 +1,40 @@
-//! What a first program needs.
+//! What a first program of publish and subscribe needs.
+//!
+//! Ports of slices have the names of those of single values, so they are named by their module: `slice::Publisher`.
+//!
+//! ```
+//! use iox_hub::prelude::*;
+//!
+//! let asked = hub.service_builder(&node, ServiceName::new(b"odometry")?).publish_subscribe::<Slice<u64>>();
+//! let service = asked.open_or_create_in(alloc, &mut hub, Vec::new(alloc))?;
+//! let builder = hub.publisher_builder(&service)?.initial_max_slice_len(8);
+//! let publisher = builder.create_slice(alloc, &mut hub)?;
+//! ```
+pub use crate::slice;
+pub use iox_command::HubError;
 pub use iox_container::CallbackProgression;
+pub use iox_delivery::{
+    BlockedSend, PortId, Publisher, Sample, SampleMut, SampleMutUninit, Sent, Subscriber,
+    UpdateConnections,
+};
+pub use iox_delivery_factories::{PortFactoryPublisher, PortFactorySubscriber};
+pub use iox_describe::pattern::PublishSubscribe;
 pub use iox_describe::{
-    AttributeSpecifier, AttributeVerifier, MessagingPattern, ServiceName, ZeroCopySend,
+    AttributeSpecifier, AttributeVerifier, Header, MessagingPattern, ServiceName, TypeDetail,
+    TypeVariant, ZeroCopySend,
 };
+pub use iox_domain::{Home, Nobody};
 pub use iox_domain_values::{
-    AllocationStrategy, BackpressureStrategy, LoanError, ReceiveError, SendError,
+    AllocationStrategy, BackpressureAction, BackpressureHandler, BackpressureStrategy,
+    ConnectionFailure, DegradationAction, DegradationHandler, Handlers, LoanError,
+    PreallocatedSamplesOverride, PublisherCreateError, ReceiveError, SendError,
+    SubscriberCreateError,
 };
-pub use iox_hub_base::{Hub, HubBuilder, HubConfig};
-pub use iox_negotiate::{Builder, Payload, PortFactory, Slice};
-pub use iox_negotiate_table::Table;
+pub use iox_hub_base::{Hub, HubBuilder, HubConfig, NodeHandle, NotClosed, PortFactory};
+pub use iox_negotiate::{Payload, ServiceBuilder, Slice};
+pub use iox_negotiate_base::errors::{
+    CloseError, PublishSubscribeCreateError, PublishSubscribeOpenError,
+    PublishSubscribeOpenOrCreateError,
+};
+pub use iox_queues_base::Words;
+pub use std::alloc::Global;

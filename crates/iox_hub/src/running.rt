@@ -29,8 +29,8 @@ use std::alloc::Global;
 /// commands may make. Those that make ports take the handlers that they name by their places; those that no port took are left in their
 /// places.
 ///
-/// It stops before the first command, where an allocation fails for that room, and then only room may have grown; or at a command that receives
-/// or reads, where an allocation fails for the values of its reply, and those before it are replied to.
+/// It stops before the first command, where an allocation fails for that room, and then only room may have grown; or at a command
+/// that receives or reads, where an allocation fails for the values of its reply, and those before it are replied to.
 /// Example: `let report = run(&mut hub, alloc, commands, &mut given);`
 pub fn run<
     T: Words + ZeroCopySend + Default,
@@ -45,8 +45,14 @@ pub fn run<
     given: &mut GivenHandlers<P, D>,
 ) -> RunReport<T>
     requires { numbers_used hub.old + length commands.items < 2 ^ 64 }
-    ensures ran { RunsInRoom (HandledStep (detail FixedSize T.name T.size T.alignment) (detail FixedSize U.name U.size U.alignment) (types_of T.name T.size T.alignment U.name U.size U.alignment) T.is_default U.is_default B.fixed (λ strategy action degrading at_full at_failure. B.handled strategy action degrading at_full at_failure) (λ handlers. B.degrades handlers) (λ handlers. B.decides handlers) D.fixed (λ handler. D.degrades handler)) commands.entry.items (hub.old, given.old.places.items) result.replies.items result.stopped (hub.new, given.new.places.items) }
-    ensures stops { result.stopped ≡ true → StopsInTime commands.entry.items (hub.old, given.old.places.items) (length result.replies.items) (hub.new, given.new.places.items) }
+    ensures ran { RunsInRoom (HandledStep (detail FixedSize T.name T.size T.alignment) (detail FixedSize U.name U.size U.alignment)
+        (types_of T.name T.size T.alignment U.name U.size U.alignment) T.is_default U.is_default B.fixed
+        (λ strategy action degrading at_full at_failure. B.handled strategy action degrading at_full at_failure)
+        (λ handlers. B.degrades handlers) (λ handlers. B.decides handlers) D.fixed (λ handler. D.degrades handler)) commands.entry.items
+        (hub.old, given.old.places.items) result.replies.items result.stopped (hub.new, given.new.places.items) }
+    ensures stops { result.stopped ≡ true
+        → StopsInTime commands.entry.items (hub.old, given.old.places.items) (length result.replies.items)
+        (hub.new, given.new.places.items) }
     ensures counts { numbers_used hub.new ≤ numbers_used hub.old + length commands.entry.items }
     ensures room { KeepsRoom hub.old hub.new }
     ensures goes_on { NumbersGoOn hub.old hub.new }
@@ -73,8 +79,14 @@ fn carry_out_in_room<
     given: &mut GivenHandlers<P, D>,
 ) -> RunReport<T>
     requires { numbers_used hub.old + length commands.items < 2 ^ 64 }
-    ensures ran { RunsInRoom (HandledStep (detail FixedSize T.name T.size T.alignment) (detail FixedSize U.name U.size U.alignment) (types_of T.name T.size T.alignment U.name U.size U.alignment) T.is_default U.is_default B.fixed (λ strategy action degrading at_full at_failure. B.handled strategy action degrading at_full at_failure) (λ handlers. B.degrades handlers) (λ handlers. B.decides handlers) D.fixed (λ handler. D.degrades handler)) commands.entry.items (hub.old, given.old.places.items) result.replies.items result.stopped (hub.new, given.new.places.items) }
-    ensures stops { result.stopped ≡ true → StopsInTime commands.entry.items (hub.old, given.old.places.items) (length result.replies.items) (hub.new, given.new.places.items) }
+    ensures ran { RunsInRoom (HandledStep (detail FixedSize T.name T.size T.alignment) (detail FixedSize U.name U.size U.alignment)
+        (types_of T.name T.size T.alignment U.name U.size U.alignment) T.is_default U.is_default B.fixed
+        (λ strategy action degrading at_full at_failure. B.handled strategy action degrading at_full at_failure)
+        (λ handlers. B.degrades handlers) (λ handlers. B.decides handlers) D.fixed (λ handler. D.degrades handler)) commands.entry.items
+        (hub.old, given.old.places.items) result.replies.items result.stopped (hub.new, given.new.places.items) }
+    ensures stops { result.stopped ≡ true
+        → StopsInTime commands.entry.items (hub.old, given.old.places.items) (length result.replies.items)
+        (hub.new, given.new.places.items) }
     ensures counts { numbers_used hub.new ≤ numbers_used hub.old + length commands.entry.items }
     ensures room { KeepsRoom hub.old hub.new }
 {
@@ -103,8 +115,14 @@ fn carry_out_all<
 ) -> RunReport<T>
     requires numbers { numbers_used hub.old + length commands.items < 2 ^ 64 }
     requires room { FitsAll (loans_in commands.items) (samples_in commands.items) hub.old.made }
-    ensures ran { IsRun (HandledStep (detail FixedSize T.name T.size T.alignment) (detail FixedSize U.name U.size U.alignment) (types_of T.name T.size T.alignment U.name U.size U.alignment) T.is_default U.is_default B.fixed (λ strategy action degrading at_full at_failure. B.handled strategy action degrading at_full at_failure) (λ handlers. B.degrades handlers) (λ handlers. B.decides handlers) D.fixed (λ handler. D.degrades handler)) commands.entry.items (hub.old, given.old.places.items) result.replies.items result.stopped (hub.new, given.new.places.items) }
-    ensures stops { result.stopped ≡ true → StopsInTime commands.entry.items (hub.old, given.old.places.items) (length result.replies.items) (hub.new, given.new.places.items) }
+    ensures ran { IsRun (HandledStep (detail FixedSize T.name T.size T.alignment) (detail FixedSize U.name U.size U.alignment)
+        (types_of T.name T.size T.alignment U.name U.size U.alignment) T.is_default U.is_default B.fixed
+        (λ strategy action degrading at_full at_failure. B.handled strategy action degrading at_full at_failure)
+        (λ handlers. B.degrades handlers) (λ handlers. B.decides handlers) D.fixed (λ handler. D.degrades handler)) commands.entry.items
+        (hub.old, given.old.places.items) result.replies.items result.stopped (hub.new, given.new.places.items) }
+    ensures stops { result.stopped ≡ true
+        → StopsInTime commands.entry.items (hub.old, given.old.places.items) (length result.replies.items)
+        (hub.new, given.new.places.items) }
     ensures counts { numbers_used hub.new ≤ numbers_used hub.old + length commands.entry.items }
     ensures room { KeepsRoom hub.old hub.new }
 {

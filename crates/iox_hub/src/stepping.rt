@@ -43,7 +43,11 @@ pub fn step<
     given: &mut GivenHandlers<P, D>,
 ) -> Result<Reply<T>, AllocError>
     requires { numbers_used hub.old + 1 < 2 ^ 64 }
-    ensures steps { HandledStep (detail FixedSize T.name T.size T.alignment) (detail FixedSize U.name U.size U.alignment) (types_of T.name T.size T.alignment U.name U.size U.alignment) T.is_default U.is_default B.fixed (λ strategy action degrading at_full at_failure. B.handled strategy action degrading at_full at_failure) (λ handlers. B.degrades handlers) (λ handlers. B.decides handlers) D.fixed (λ handler. D.degrades handler) command.entry (hub.old, given.old.places.items) result (hub.new, given.new.places.items) }
+    ensures steps { HandledStep (detail FixedSize T.name T.size T.alignment) (detail FixedSize U.name U.size U.alignment)
+        (types_of T.name T.size T.alignment U.name U.size U.alignment) T.is_default U.is_default B.fixed
+        (λ strategy action degrading at_full at_failure. B.handled strategy action degrading at_full at_failure)
+        (λ handlers. B.degrades handlers) (λ handlers. B.decides handlers) D.fixed (λ handler. D.degrades handler) command.entry
+        (hub.old, given.old.places.items) result (hub.new, given.new.places.items) }
     ensures counts { numbers_used hub.new ≤ numbers_used hub.old + 1 }
     ensures one { ChangesOneThing hub.old hub.new }
     ensures grows { GrowsOn hub.old.hub hub.new.hub }
@@ -72,7 +76,11 @@ fn carry_out<
     requires { numbers_used hub.old + 1 < 2 ^ 64 }
     ensures room { KeepsRoom hub.old hub.new }
     ensures lacks { HasRoom hub.old → OnErr result (HandledLacks command.entry hub.old hub.new) }
-    ensures steps { HandledStep (detail FixedSize T.name T.size T.alignment) (detail FixedSize U.name U.size U.alignment) (types_of T.name T.size T.alignment U.name U.size U.alignment) T.is_default U.is_default B.fixed (λ strategy action degrading at_full at_failure. B.handled strategy action degrading at_full at_failure) (λ handlers. B.degrades handlers) (λ handlers. B.decides handlers) D.fixed (λ handler. D.degrades handler) command.entry (hub.old, given.old.places.items) result (hub.new, given.new.places.items) }
+    ensures steps { HandledStep (detail FixedSize T.name T.size T.alignment) (detail FixedSize U.name U.size U.alignment)
+        (types_of T.name T.size T.alignment U.name U.size U.alignment) T.is_default U.is_default B.fixed
+        (λ strategy action degrading at_full at_failure. B.handled strategy action degrading at_full at_failure)
+        (λ handlers. B.degrades handlers) (λ handlers. B.decides handlers) D.fixed (λ handler. D.degrades handler) command.entry
+        (hub.old, given.old.places.items) result (hub.new, given.new.places.items) }
 {
     match command {
         HandledCommand::Plain(command) => hub.step(alloc, command),

@@ -10,11 +10,14 @@ use Rattle.iox_command.specs.DomainValues.declared.handlers.Handlers.{Handlers}
 use Rattle.iox_command.specs.DomainValues.declared.samples_override.PreallocatedSamplesOverride.{PreallocatedSamplesOverride}
 
 -- what makes publishers of a domain for a node and an owner, of values of this size, if the domain is here
-abbrev pub publishers_of : {T U B D X Y Z : Type 0} {F : X → Type 0} {G : Y → Type 0} {K : Z → Type 0} → ℕ → ℕ → ℕ → Option (Domain T U B D) → Option (PortFactoryPublisher T U (Handlers X Y F G) (PreallocatedSamplesOverride Z K))
+abbrev pub publishers_of : {T U B D X Y Z : Type 0} {F : X → Type 0} {G : Y → Type 0} {K : Z → Type 0} → ℕ → ℕ → ℕ
+    → Option (Domain T U B D) → Option (PortFactoryPublisher T U (Handlers X Y F G) (PreallocatedSamplesOverride Z K))
 publishers_of size node owner None = None
-publishers_of size node owner (Some domain) = Some (new_publisher_builder domain.id (values_each domain.agreed.types.payload.size size) node owner)
+publishers_of size node owner (Some domain)
+    = Some (new_publisher_builder domain.id (values_each domain.agreed.types.payload.size size) node owner)
 
 -- what makes subscribers of a domain for a node and an owner, if the domain is here
-abbrev pub subscribers_of : {T U B D Y : Type 0} {G : Y → Type 0} → ℕ → ℕ → Option (Domain T U B D) → Option (PortFactorySubscriber T U (DegradationHandler Y G))
+abbrev pub subscribers_of : {T U B D Y : Type 0} {G : Y → Type 0} → ℕ → ℕ → Option (Domain T U B D)
+    → Option (PortFactorySubscriber T U (DegradationHandler Y G))
 subscribers_of node owner None = None
 subscribers_of node owner (Some domain) = Some (new_subscriber_builder domain.id node owner)

@@ -46,12 +46,14 @@ spent (Ok done) = Ok tt
 spent (Err error) = Err (error, None)
 
 -- A factory is closed in the table, and its service has one less; while it is in use it is handed back, and nothing has changed.
-abbrev pub ClosesIf : {T U B D F : Type 0} → Bool → Membership → F → Hub T U B D → Result (Unit {0}) (CloseError × Option F) → Hub T U B D → Type 0
+abbrev pub ClosesIf : {T U B D F : Type 0} → Bool → Membership → F → Hub T U B D → Result (Unit {0}) (CloseError × Option F)
+    → Hub T U B D → Type 0
 ClosesIf true member factory old result new = (result ≡ Err (StillInUse, Some factory)) × (new ≡ old)
 ClosesIf false member factory old result new = (closed : Result (Unit {0}) CloseError)
     × Does Sight old.table (λ accesses. ClosesIn member.service.description.service_hash member.service.number member.node accesses closed) new.table
     × (result ≡ spent closed) × (new ≡ less_one member.service.number (record old { table = new.table }))
 
 -- a factory of a hub is closed
-abbrev pub Closes : {T U B D F : Type 0} → Membership → ℕ → F → Hub T U B D → Result (Unit {0}) (CloseError × Option F) → Hub T U B D → Type 0
+abbrev pub Closes : {T U B D F : Type 0} → Membership → ℕ → F → Hub T U B D → Result (Unit {0}) (CloseError × Option F) → Hub T U B D
+    → Type 0
 Closes member owner factory old result new = ClosesIf (in_use member.service.number owner old) member factory old result new

@@ -16,7 +16,8 @@ told (Err lacking) = Err OutOfMemory
 
 -- the steps are done in turn, up to the first that finds no memory
 abbrev pub ActsInTurn : ServiceHash → List ForeignStep → Contents → Result (Unit {0}) HubError → Contents → Type 0
-ActsInTurn hash steps old result new = (happened : Result (Unit {0}) AllocError) × ActsAll hash steps old happened new × (result ≡ told happened)
+ActsInTurn hash steps old result new = (happened : Result (Unit {0}) AllocError) × ActsAll hash steps old happened new
+    × (result ≡ told happened)
 
 -- the steps are done on the table of a hub, and all else stays
 abbrev pub ActsOn : {T U B D : Type 0} → ServiceHash → List ForeignStep → Hub T U B D → Result (Unit {0}) HubError → Hub T U B D → Type 0

@@ -39,13 +39,15 @@ Enters payload user_header member old (Err was_new) new = (was_new ≡ member.se
 
 -- What the negotiation came to is what the hub answers, if a factory is made; the error of wanted memory depends on whether the
 -- service had been created.
-abbrev pub Settles : {T U B D E : Type 0} → Detail → Detail → (Bool → E) → Result Membership E → Hub T U B D → Result Made E → Hub T U B D → Type 0
+abbrev pub Settles : {T U B D E : Type 0} → Detail → Detail → (Bool → E) → Result Membership E → Hub T U B D → Result Made E
+    → Hub T U B D → Type 0
 Settles payload user_header lacking (Err error) old result new = (result ≡ Err error) × (new ≡ old)
 Settles payload user_header lacking (Ok member) old result new =
     (entered : Result Made Bool) × Enters payload user_header member old entered new × (result ≡ result_map_both (λ made. made) lacking entered)
 
 -- The service is negotiated over the hub's table, with these lists of foreign steps before the accesses.
-pub record OpensInHub {T U B D E : Type 0} (payload user_header : Detail) (lacking : Bool → E) (negotiates : Steps → Result Membership E → Steps → Type 0) (lists : List (List ForeignStep))
+pub record OpensInHub {T U B D E : Type 0} (payload user_header : Detail) (lacking : Bool → E) (negotiates : Steps → Result Membership E
+    → Steps → Type 0) (lists : List (List ForeignStep))
     (old : Hub T U B D) (result : Result Made E) (new : Hub T U B D) : Type 0 where
   pub answer : Result Membership E
   pub mid : Steps

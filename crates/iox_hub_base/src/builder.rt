@@ -57,7 +57,14 @@ pub trait HubBuilder<P: Negotiated>: Sized {
         steps: Vec<StepList>,
     ) -> Result<PortFactory<P>, P::CreateError>
         requires { hub_of self ≡ hub.old.table.id }
-        ensures { OpensInHub (detail FixedSize T.name T.size T.alignment) (detail FixedSize U.name U.size U.alignment) (λ was_new. P.create_error uncreated.OutOfMemory) (λ old answer new. Creates SteppedSight old.table.id (service_hash_of P.pattern (name_of self)) (node_of self) (agreement (name_of self) (service_hash_of P.pattern (name_of self)) (P.settings (P.adjusted (P.asked (requirement_of self)))) (P.attributes (requirement_of self)).pairs) (P.IsWithinLimits (P.adjusted (P.asked (requirement_of self)))) (P.IsHistoryTooLong (P.adjusted (P.asked (requirement_of self)))) P.create_error old answer new) steps.items hub.old (result_map_both (λ factory. (factory.service.membership, factory.owner)) (λ error. error) result) hub.new };
+        ensures { OpensInHub (detail FixedSize T.name T.size T.alignment) (detail FixedSize U.name U.size U.alignment)
+            (λ was_new. P.create_error uncreated.OutOfMemory)
+            (λ old answer new. Creates SteppedSight old.table.id (service_hash_of P.pattern (name_of self)) (node_of self)
+            (agreement (name_of self) (service_hash_of P.pattern (name_of self))
+            (P.settings (P.adjusted (P.asked (requirement_of self)))) (P.attributes (requirement_of self)).pairs)
+            (P.IsWithinLimits (P.adjusted (P.asked (requirement_of self))))
+            (P.IsHistoryTooLong (P.adjusted (P.asked (requirement_of self)))) P.create_error old answer new) steps.items hub.old
+            (result_map_both (λ factory. (factory.service.membership, factory.owner)) (λ error. error) result) hub.new };
 
     /// Creates the service with these attributes.
     ///
@@ -71,7 +78,14 @@ pub trait HubBuilder<P: Negotiated>: Sized {
         steps: Vec<StepList>,
     ) -> Result<PortFactory<P>, P::CreateError>
         requires { hub_of self ≡ hub.old.table.id }
-        ensures { OpensInHub (detail FixedSize T.name T.size T.alignment) (detail FixedSize U.name U.size U.alignment) (λ was_new. P.create_error uncreated.OutOfMemory) (λ old answer new. Creates SteppedSight old.table.id (service_hash_of P.pattern (name_of self)) (node_of self) (agreement (name_of self) (service_hash_of P.pattern (name_of self)) (P.settings (P.adjusted (P.asked (requirement_of self)))) attributes.now) (P.IsWithinLimits (P.adjusted (P.asked (requirement_of self)))) (P.IsHistoryTooLong (P.adjusted (P.asked (requirement_of self)))) P.create_error old answer new) steps.items hub.old (result_map_both (λ factory. (factory.service.membership, factory.owner)) (λ error. error) result) hub.new };
+        ensures { OpensInHub (detail FixedSize T.name T.size T.alignment) (detail FixedSize U.name U.size U.alignment)
+            (λ was_new. P.create_error uncreated.OutOfMemory)
+            (λ old answer new. Creates SteppedSight old.table.id (service_hash_of P.pattern (name_of self)) (node_of self)
+            (agreement (name_of self) (service_hash_of P.pattern (name_of self))
+            (P.settings (P.adjusted (P.asked (requirement_of self)))) attributes.now)
+            (P.IsWithinLimits (P.adjusted (P.asked (requirement_of self))))
+            (P.IsHistoryTooLong (P.adjusted (P.asked (requirement_of self)))) P.create_error old answer new) steps.items hub.old
+            (result_map_both (λ factory. (factory.service.membership, factory.owner)) (λ error. error) result) hub.new };
 
     /// Opens the service, whatever its attributes. See `open_with_attributes_in`.
     /// Example: `let factory = builder.open_in(alloc, &mut hub, Vec::new(alloc))?;`
@@ -82,7 +96,12 @@ pub trait HubBuilder<P: Negotiated>: Sized {
         steps: Vec<StepList>,
     ) -> Result<PortFactory<P>, P::OpenError>
         requires { hub_of self ≡ hub.old.table.id }
-        ensures { OpensInHub (detail FixedSize T.name T.size T.alignment) (detail FixedSize U.name U.size U.alignment) (λ was_new. P.open_error unopened.OutOfMemory) (λ old answer new. Negotiates SteppedSight old.table.id (node_of self) P.open_error (λ made answer. Opens (service_hash_of P.pattern (name_of self)) (node_of self) (λ given. P.verdict (requirement_of self) given) made answer) old answer new) steps.items hub.old (result_map_both (λ factory. (factory.service.membership, factory.owner)) (λ error. error) result) hub.new };
+        ensures { OpensInHub (detail FixedSize T.name T.size T.alignment) (detail FixedSize U.name U.size U.alignment)
+            (λ was_new. P.open_error unopened.OutOfMemory)
+            (λ old answer new. Negotiates SteppedSight old.table.id (node_of self) P.open_error
+            (λ made answer. Opens (service_hash_of P.pattern (name_of self)) (node_of self)
+            (λ given. P.verdict (requirement_of self) given) made answer) old answer new) steps.items hub.old
+            (result_map_both (λ factory. (factory.service.membership, factory.owner)) (λ error. error) result) hub.new };
 
     /// Opens the service if it has these attributes too.
     ///
@@ -96,7 +115,12 @@ pub trait HubBuilder<P: Negotiated>: Sized {
         steps: Vec<StepList>,
     ) -> Result<PortFactory<P>, P::OpenError>
         requires { hub_of self ≡ hub.old.table.id }
-        ensures { OpensInHub (detail FixedSize T.name T.size T.alignment) (detail FixedSize U.name U.size U.alignment) (λ was_new. P.open_error unopened.OutOfMemory) (λ old answer new. Negotiates SteppedSight old.table.id (node_of self) P.open_error (λ made answer. Opens (service_hash_of P.pattern (name_of self)) (node_of self) (λ given. P.verdict (P.with_attributes (requirement_of self) attributes) given) made answer) old answer new) steps.items hub.old (result_map_both (λ factory. (factory.service.membership, factory.owner)) (λ error. error) result) hub.new };
+        ensures { OpensInHub (detail FixedSize T.name T.size T.alignment) (detail FixedSize U.name U.size U.alignment)
+            (λ was_new. P.open_error unopened.OutOfMemory)
+            (λ old answer new. Negotiates SteppedSight old.table.id (node_of self) P.open_error
+            (λ made answer. Opens (service_hash_of P.pattern (name_of self)) (node_of self)
+            (λ given. P.verdict (P.with_attributes (requirement_of self) attributes) given) made answer) old answer new) steps.items
+            hub.old (result_map_both (λ factory. (factory.service.membership, factory.owner)) (λ error. error) result) hub.new };
 
     /// Opens the service, whatever its attributes, or creates it with none. See `open_or_create_with_attributes_in`.
     /// Example: `let factory = builder.open_or_create_in(alloc, &mut hub, Vec::new(alloc))?;`
@@ -107,7 +131,15 @@ pub trait HubBuilder<P: Negotiated>: Sized {
         steps: Vec<StepList>,
     ) -> Result<PortFactory<P>, P::OpenOrCreateError>
         requires { hub_of self ≡ hub.old.table.id }
-        ensures { OpensInHub (detail FixedSize T.name T.size T.alignment) (detail FixedSize U.name U.size U.alignment) (λ was_new. P.open_or_create_error (lacking_either was_new)) (λ old answer new. Either SteppedSight old.table.id (service_hash_of P.pattern (name_of self)) (node_of self) (λ given. P.verdict (requirement_of self) given) (agreement (name_of self) (service_hash_of P.pattern (name_of self)) (P.settings (P.adjusted (P.asked (requirement_of self)))) (P.attributes (requirement_of self)).pairs) (P.IsWithinLimits (P.adjusted (P.asked (requirement_of self)))) (P.IsHistoryTooLong (P.adjusted (P.asked (requirement_of self)))) P.open_or_create_error old answer new) steps.items hub.old (result_map_both (λ factory. (factory.service.membership, factory.owner)) (λ error. error) result) hub.new };
+        ensures { OpensInHub (detail FixedSize T.name T.size T.alignment) (detail FixedSize U.name U.size U.alignment)
+            (λ was_new. P.open_or_create_error (lacking_either was_new))
+            (λ old answer new. Either SteppedSight old.table.id (service_hash_of P.pattern (name_of self)) (node_of self)
+            (λ given. P.verdict (requirement_of self) given)
+            (agreement (name_of self) (service_hash_of P.pattern (name_of self))
+            (P.settings (P.adjusted (P.asked (requirement_of self)))) (P.attributes (requirement_of self)).pairs)
+            (P.IsWithinLimits (P.adjusted (P.asked (requirement_of self))))
+            (P.IsHistoryTooLong (P.adjusted (P.asked (requirement_of self)))) P.open_or_create_error old answer new) steps.items hub.old
+            (result_map_both (λ factory. (factory.service.membership, factory.owner)) (λ error. error) result) hub.new };
 
     /// Opens the service if it has these attributes too, or creates it with the required pairs where none exists.
     ///
@@ -126,7 +158,17 @@ pub trait HubBuilder<P: Negotiated>: Sized {
         steps: Vec<StepList>,
     ) -> Result<PortFactory<P>, P::OpenOrCreateError>
         requires { hub_of self ≡ hub.old.table.id }
-        ensures { OpensInHub (detail FixedSize T.name T.size T.alignment) (detail FixedSize U.name U.size U.alignment) (λ was_new. P.open_or_create_error (lacking_either was_new)) (λ old answer new. Either SteppedSight old.table.id (service_hash_of P.pattern (name_of self)) (node_of self) (λ given. P.verdict (P.with_attributes (requirement_of self) attributes) given) (agreement (name_of self) (service_hash_of P.pattern (name_of self)) (P.settings (P.adjusted (P.asked (P.with_attributes (requirement_of self) attributes)))) (P.attributes (P.with_attributes (requirement_of self) attributes)).pairs) (P.IsWithinLimits (P.adjusted (P.asked (P.with_attributes (requirement_of self) attributes)))) (P.IsHistoryTooLong (P.adjusted (P.asked (P.with_attributes (requirement_of self) attributes)))) P.open_or_create_error old answer new) steps.items hub.old (result_map_both (λ factory. (factory.service.membership, factory.owner)) (λ error. error) result) hub.new };
+        ensures { OpensInHub (detail FixedSize T.name T.size T.alignment) (detail FixedSize U.name U.size U.alignment)
+            (λ was_new. P.open_or_create_error (lacking_either was_new))
+            (λ old answer new. Either SteppedSight old.table.id (service_hash_of P.pattern (name_of self)) (node_of self)
+            (λ given. P.verdict (P.with_attributes (requirement_of self) attributes) given)
+            (agreement (name_of self) (service_hash_of P.pattern (name_of self))
+            (P.settings (P.adjusted (P.asked (P.with_attributes (requirement_of self) attributes))))
+            (P.attributes (P.with_attributes (requirement_of self) attributes)).pairs)
+            (P.IsWithinLimits (P.adjusted (P.asked (P.with_attributes (requirement_of self) attributes))))
+            (P.IsHistoryTooLong (P.adjusted (P.asked (P.with_attributes (requirement_of self) attributes)))) P.open_or_create_error old
+            answer new) steps.items hub.old
+            (result_map_both (λ factory. (factory.service.membership, factory.owner)) (λ error. error) result) hub.new };
 }
 
 impl<P: Negotiated> HubBuilder<P> for ServiceBuilder<P> {

@@ -21,7 +21,8 @@ impl<T: Copy, U: Copy, B: Drop, D: Drop> Hub<T, U, B, D> {
     /// Example: `let closed = hub.close(factory);`
     pub fn close<P: Pattern>(&mut self, factory: PortFactory<P>) -> Result<(), NotClosed<P>>
         requires { factory.service.membership.storage ≡ self.old.table.id }
-        ensures { Closes factory.service.membership factory.owner factory self.old (result_map_both (λ done. done) (λ refused. (refused.error, refused.factory)) result) self.new }
+        ensures { Closes factory.service.membership factory.owner factory self.old
+            (result_map_both (λ done. done) (λ refused. (refused.error, refused.factory)) result) self.new }
     {
         let number = factory.number();
         if self.is_kept_open(number, factory.owner()) {

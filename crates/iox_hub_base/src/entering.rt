@@ -50,7 +50,9 @@ impl<T: Words + ZeroCopySend, U: Copy + ZeroCopySend, B: Drop, D: Drop> Hub<T, U
         service: negotiated::PortFactory<P>,
     ) -> Result<PortFactory<P>, NoRoom>
         requires { service.membership.storage ≡ self.old.table.id }
-        ensures { Enters (detail FixedSize T.name T.size T.alignment) (detail FixedSize U.name U.size U.alignment) service.membership self.old (result_map_both (λ factory. (factory.service.membership, factory.owner)) (λ no_room. no_room.was_new) result) self.new }
+        ensures { Enters (detail FixedSize T.name T.size T.alignment) (detail FixedSize U.name U.size U.alignment) service.membership
+            self.old (result_map_both (λ factory. (factory.service.membership, factory.owner)) (λ no_room. no_room.was_new) result)
+            self.new }
     {
         let number = service.number();
         let count = self.factory_counts.get(number).copied().unwrap_or(0);

@@ -73,7 +73,8 @@ impl<T: Copy + ZeroCopySend, U: Copy, B: Drop, D: Drop> Hub<T, U, B, D> {
         factory: &PortFactory<PublishSubscribe>,
     ) -> Option<PortFactoryPublisher<T, U>>
         requires { factory.now.service.membership.storage ≡ self.now.table.id }
-        ensures { result ≡ publishers_of T.size factory.now.service.membership.node factory.now.owner (domain_of factory.now.service.membership.service.number self.now.services.domains) }
+        ensures { result ≡ publishers_of T.size factory.now.service.membership.node factory.now.owner
+            (domain_of factory.now.service.membership.service.number self.now.services.domains) }
     {
         let domain = self.services.domain(factory.number())?;
         Some(PortFactoryPublisher {
@@ -109,7 +110,8 @@ impl<T: Copy, U: Copy, B: Drop, D: Drop> Hub<T, U, B, D> {
         factory: &PortFactory<PublishSubscribe>,
     ) -> Option<PortFactorySubscriber<T, U>>
         requires { factory.now.service.membership.storage ≡ self.now.table.id }
-        ensures { result ≡ subscribers_of factory.now.service.membership.node factory.now.owner (domain_of factory.now.service.membership.service.number self.now.services.domains) }
+        ensures { result ≡ subscribers_of factory.now.service.membership.node factory.now.owner
+            (domain_of factory.now.service.membership.service.number self.now.services.domains) }
     {
         let domain = self.services.domain(factory.number())?;
         Some(PortFactorySubscriber {

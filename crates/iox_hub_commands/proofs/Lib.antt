@@ -4,6 +4,9 @@ pub mod Misfit
 pub mod Answering
 pub mod PortsRefused
 pub mod Written
+mod Put
+mod Skipping
+mod Uncreated
 pub mod Unused
 pub mod Found
 pub mod Accesses

@@ -20,18 +20,22 @@ Leaves member old closed new =
     × (new ≡ less_one member.service.number (record old { table = new.table }))
 
 -- A factory that is in use stays, and nothing happens; else it is closed, and its number is spent, whatever the table answers.
-abbrev pub ClosesUnless : {T U B D : Type 0} → Bool → ℕ → Membership → FactoryTable → Hub T U B D → Option (Result (Unit {0}) CloseError) → FactoryTable → Hub T U B D → Type 0
+abbrev pub ClosesUnless : {T U B D : Type 0} → Bool → ℕ → Membership → FactoryTable → Hub T U B D
+    → Option (Result (Unit {0}) CloseError) → FactoryTable → Hub T U B D → Type 0
 ClosesUnless true number member table old answer after new = (answer ≡ Some (Err StillInUse)) × (after ≡ table) × (new ≡ old)
 ClosesUnless false number member table old answer after new =
     (closed : Result (Unit {0}) CloseError) × Leaves member old closed new × (answer ≡ Some closed) × (after ≡ removed table number)
 
 -- A factory of another hub goes for none.
-abbrev pub ClosesIfOf : {T U B D : Type 0} → Bool → ℕ → MadeFactory → FactoryTable → Hub T U B D → Option (Result (Unit {0}) CloseError) → FactoryTable → Hub T U B D → Type 0
+abbrev pub ClosesIfOf : {T U B D : Type 0} → Bool → ℕ → MadeFactory → FactoryTable → Hub T U B D → Option (Result (Unit {0}) CloseError)
+    → FactoryTable → Hub T U B D → Type 0
 ClosesIfOf false number made table old answer after new = IsSkipped table old answer after new
 ClosesIfOf true number made table old answer after new =
     ClosesUnless (in_use (parts_of made).0.service.number (parts_of made).1 old) number (parts_of made).0 table old answer after new
 
 -- The factory that goes by a number is closed; nothing happens where none does.
-abbrev pub ClosesNumbered : {T U B D : Type 0} → ℕ → Option MadeFactory → FactoryTable → Hub T U B D → Option (Result (Unit {0}) CloseError) → FactoryTable → Hub T U B D → Type 0
+abbrev pub ClosesNumbered : {T U B D : Type 0} → ℕ → Option MadeFactory → FactoryTable → Hub T U B D
+    → Option (Result (Unit {0}) CloseError) → FactoryTable → Hub T U B D → Type 0
 ClosesNumbered number None table old answer after new = IsSkipped table old answer after new
-ClosesNumbered number (Some made) table old answer after new = ClosesIfOf (nat_eq (parts_of made).0.storage old.table.id) number made table old answer after new
+ClosesNumbered number (Some made) table old answer after new
+    = ClosesIfOf (nat_eq (parts_of made).0.storage old.table.id) number made table old answer after new

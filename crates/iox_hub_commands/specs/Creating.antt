@@ -19,8 +19,10 @@ use Rattle.iox_hub_commands.specs.NegotiateBase.EventErrors as event
 use Rattle.iox_hub_commands.specs.NegotiateBase.PublishSubscribeErrors as publish_subscribe
 use Rattle.iox_hub_commands.specs.NegotiateBase.RequestResponseErrors as request_response
 use Rattle.iox_hub_commands.specs.NegotiateBase.declared.errors.event.EventCreateError.TheVariants as event_error
-use Rattle.iox_hub_commands.specs.NegotiateBase.declared.errors.publish_subscribe.PublishSubscribeCreateError.TheVariants as publish_subscribe_error
-use Rattle.iox_hub_commands.specs.NegotiateBase.declared.errors.request_response.RequestResponseCreateError.TheVariants as request_response_error
+use Rattle.iox_hub_commands.specs.NegotiateBase.declared.errors.publish_subscribe.PublishSubscribeCreateError.TheVariants as
+    publish_subscribe_error
+use Rattle.iox_hub_commands.specs.NegotiateBase.declared.errors.request_response.RequestResponseCreateError.TheVariants as
+    request_response_error
 use Rattle.iox_hub_commands.specs.NegotiateBase.declared.failure.CreateFailure.{CreateFailure}
 use Rattle.iox_hub_commands.specs.NegotiateBase.declared.failure.CreateFailure.TheVariants.{OutOfMemory}
 use Rattle.iox_hub_commands.specs.NegotiateTable.Stepped.{SteppedSight}
@@ -31,7 +33,8 @@ use Rattle.iox_hub_commands.specs.ServicesTables.{FactoryTable}
 use Rattle.iox_hub_commands.specs.declared.services.asked.ServiceAsked.{ServiceAsked}
 
 -- a node creates the service of a hash, to be agreed as this; a failure is told as this error
-abbrev pub CreatesAgreed : {T U B D E : Type 0} → Detail → Detail → (CreateFailure → E) → ServiceHash → ℕ → Agreement → List (List ForeignStep) → Hub T U B D → Result Made E → Hub T U B D → Type 0
+abbrev pub CreatesAgreed : {T U B D E : Type 0} → Detail → Detail → (CreateFailure → E) → ServiceHash → ℕ → Agreement
+    → List (List ForeignStep) → Hub T U B D → Result Made E → Hub T U B D → Type 0
 CreatesAgreed payload user_header error hash node agreed lists old opened new =
     OpensInHub payload user_header (λ was_new. error OutOfMemory)
     (λ before came after. Creates SteppedSight before.table.id hash node agreed (AreWithinLimits agreed.settings) (IsHistoryTooLong agreed.settings) error before came after)
@@ -39,7 +42,8 @@ CreatesAgreed payload user_header error hash node agreed lists old opened new =
 
 -- a service is created as these options ask, with these attributes, and its factory gets a number; a failure is told as the error
 -- of the pattern
-abbrev pub CreatesAs : {T U B D : Type 0} → ServiceOptions → Detail → Detail → MessageTypeDetails → ℕ → List ℕ → List Attribute → List (List ForeignStep) → FactoryTable → Hub T U B D → Result ℕ Refusal → FactoryTable → Hub T U B D → Type 0
+abbrev pub CreatesAs : {T U B D : Type 0} → ServiceOptions → Detail → Detail → MessageTypeDetails → ℕ → List ℕ → List Attribute
+    → List (List ForeignStep) → FactoryTable → Hub T U B D → Result ℕ Refusal → FactoryTable → Hub T U B D → Type 0
 CreatesAs (options.PublishSubscribe named) payload user_header types node name attributes lists table old answer after new =
     GetsNumber pattern.PublishSubscribe refusal.PublishSubscribeCreate
     (CreatesAgreed payload user_header publish_subscribe.create_error (hash_of name (options.PublishSubscribe named)) node (agreed_of name (options.PublishSubscribe named) types attributes) lists) table old answer after new
@@ -57,13 +61,17 @@ create_lacking (options.Event named) = refusal.EventCreate event_error.OutOfMemo
 create_lacking (options.RequestResponse named) = refusal.RequestResponseCreate request_response_error.OutOfMemory
 
 -- what follows once there are lists of steps and room, or no memory was found for them
-abbrev pub CreatesPrepared : {T U B D : Type 0} → Result (List (List ForeignStep)) AllocError → Detail → Detail → MessageTypeDetails → ServiceAsked → List Attribute → FactoryTable → Hub T U B D → Result ℕ Refusal → FactoryTable → Hub T U B D → Type 0
-CreatesPrepared (Err lacking) payload user_header types asked attributes table old answer after new = IsRefusedWith (create_lacking asked.options) table old answer after new
-CreatesPrepared (Ok lists) payload user_header types asked attributes table old answer after new = CreatesAs asked.options payload user_header types asked.node asked.name attributes lists table old answer after new
+abbrev pub CreatesPrepared : {T U B D : Type 0} → Result (List (List ForeignStep)) AllocError → Detail → Detail → MessageTypeDetails
+    → ServiceAsked → List Attribute → FactoryTable → Hub T U B D → Result ℕ Refusal → FactoryTable → Hub T U B D → Type 0
+CreatesPrepared (Err lacking) payload user_header types asked attributes table old answer after new
+    = IsRefusedWith (create_lacking asked.options) table old answer after new
+CreatesPrepared (Ok lists) payload user_header types asked attributes table old answer after new
+    = CreatesAs asked.options payload user_header types asked.node asked.name attributes lists table old answer after new
 
 -- The service that is asked for is created with these attributes, with these steps of foreign nodes before the accesses, and its
 -- factory gets a number. Nothing happens where the node isn't there.
-abbrev pub CreatesNumbered : {T U B D : Type 0} → Bool → Detail → Detail → MessageTypeDetails → ServiceAsked → List Attribute → List StepBefore → FactoryTable → Hub T U B D → Option (Result ℕ Refusal) → FactoryTable → Hub T U B D → Type 0
+abbrev pub CreatesNumbered : {T U B D : Type 0} → Bool → Detail → Detail → MessageTypeDetails → ServiceAsked → List Attribute
+    → List StepBefore → FactoryTable → Hub T U B D → Option (Result ℕ Refusal) → FactoryTable → Hub T U B D → Type 0
 CreatesNumbered false payload user_header types asked attributes steps table old answer after new = IsSkipped table old answer after new
 CreatesNumbered true payload user_header types asked attributes steps table old answer after new =
     (prepared : Result (List (List ForeignStep)) AllocError) × (roomier : FactoryTable) × (reply : Result ℕ Refusal)

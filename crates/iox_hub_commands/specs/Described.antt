@@ -17,9 +17,11 @@ use Rattle.iox_hub_commands.specs.Asked.{asked_event, asked_publish_subscribe, a
 
 -- the settings that are named, each other one at its default, and a 0 that can't serve made 1
 abbrev pub settings_of : ServiceOptions → MessageTypeDetails → Settings
-settings_of (options.PublishSubscribe named) types = PublishSubscribe (publish_subscribe_settings.adjusted (publish_subscribe_clauses.asked (asked_publish_subscribe named types)))
+settings_of (options.PublishSubscribe named) types
+    = PublishSubscribe (publish_subscribe_settings.adjusted (publish_subscribe_clauses.asked (asked_publish_subscribe named types)))
 settings_of (options.Event named) types = Event (event_settings.adjusted (event_clauses.asked (asked_event named)))
-settings_of (options.RequestResponse named) types = RequestResponse (request_response_settings.adjusted (request_response_clauses.asked (asked_request_response named types)))
+settings_of (options.RequestResponse named) types
+    = RequestResponse (request_response_settings.adjusted (request_response_clauses.asked (asked_request_response named types)))
 
 -- the service of a name with these settings and no attributes, under the hash of its pattern and name
 abbrev pub described : List ℕ → ServiceOptions → MessageTypeDetails → Agreement

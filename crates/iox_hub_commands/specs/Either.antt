@@ -24,9 +24,11 @@ use Rattle.iox_hub_commands.specs.NegotiateBase.PublishSubscribeErrors as publis
 use Rattle.iox_hub_commands.specs.NegotiateBase.RequestResponseErrors as request_response
 use Rattle.iox_hub_commands.specs.NegotiateBase.declared.errors.event.EventOpenError.TheVariants as event_unopened
 use Rattle.iox_hub_commands.specs.NegotiateBase.declared.errors.event.EventOpenOrCreateError.TheVariants.{EventOpenError}
-use Rattle.iox_hub_commands.specs.NegotiateBase.declared.errors.publish_subscribe.PublishSubscribeOpenError.TheVariants as publish_subscribe_unopened
+use Rattle.iox_hub_commands.specs.NegotiateBase.declared.errors.publish_subscribe.PublishSubscribeOpenError.TheVariants as
+    publish_subscribe_unopened
 use Rattle.iox_hub_commands.specs.NegotiateBase.declared.errors.publish_subscribe.PublishSubscribeOpenOrCreateError.TheVariants.{PublishSubscribeOpenError}
-use Rattle.iox_hub_commands.specs.NegotiateBase.declared.errors.request_response.RequestResponseOpenError.TheVariants as request_response_unopened
+use Rattle.iox_hub_commands.specs.NegotiateBase.declared.errors.request_response.RequestResponseOpenError.TheVariants as
+    request_response_unopened
 use Rattle.iox_hub_commands.specs.NegotiateBase.declared.errors.request_response.RequestResponseOpenOrCreateError.TheVariants.{RequestResponseOpenError}
 use Rattle.iox_hub_commands.specs.NegotiateBase.declared.failure.OpenOrCreateFailure.{OpenOrCreateFailure}
 use Rattle.iox_hub_commands.specs.NegotiateTable.Stepped.{SteppedSight}
@@ -37,7 +39,8 @@ use Rattle.iox_hub_commands.specs.ServicesTables.{FactoryTable}
 use Rattle.iox_hub_commands.specs.declared.services.asked.ServiceAsked.{ServiceAsked}
 
 -- a node opens the service of a hash, if it meets what is asked, or creates it, to be agreed as this; a failure is told as this error
-abbrev pub EitherJudged : {T U B D V E : Type 0} → Detail → Detail → (OpenOrCreateFailure V → E) → ServiceHash → ℕ → (Agreement → Result (Unit {0}) V) → Agreement → List (List ForeignStep) → Hub T U B D → Result Made E → Hub T U B D → Type 0
+abbrev pub EitherJudged : {T U B D V E : Type 0} → Detail → Detail → (OpenOrCreateFailure V → E) → ServiceHash → ℕ
+    → (Agreement → Result (Unit {0}) V) → Agreement → List (List ForeignStep) → Hub T U B D → Result Made E → Hub T U B D → Type 0
 EitherJudged payload user_header error hash node verdict agreed lists old opened new =
     OpensInHub payload user_header (λ was_new. error (lacking_either was_new))
     (λ before came after. Either SteppedSight before.table.id hash node verdict agreed (AreWithinLimits agreed.settings) (IsHistoryTooLong agreed.settings) error before came after)
@@ -45,7 +48,8 @@ EitherJudged payload user_header error hash node verdict agreed lists old opened
 
 -- a service is opened if it is as these options ask and has these attributes, or created so, and its factory gets a number; a
 -- failure is told as the error of the pattern
-abbrev pub EitherAs : {T U B D : Type 0} → ServiceOptions → Detail → Detail → MessageTypeDetails → ℕ → List ℕ → Required → List (List ForeignStep) → FactoryTable → Hub T U B D → Result ℕ Refusal → FactoryTable → Hub T U B D → Type 0
+abbrev pub EitherAs : {T U B D : Type 0} → ServiceOptions → Detail → Detail → MessageTypeDetails → ℕ → List ℕ → Required
+    → List (List ForeignStep) → FactoryTable → Hub T U B D → Result ℕ Refusal → FactoryTable → Hub T U B D → Type 0
 EitherAs (options.PublishSubscribe named) payload user_header types node name attributes lists table old answer after new =
     GetsNumber pattern.PublishSubscribe refusal.PublishSubscribeOpenOrCreate
     (EitherJudged payload user_header publish_subscribe.open_or_create_error (hash_of name (options.PublishSubscribe named)) node (λ given. first_unmet (publish_subscribe_clauses.clauses (required_publish_subscribe named types attributes) given))
@@ -61,18 +65,24 @@ EitherAs (options.RequestResponse named) payload user_header types node name att
 
 -- the refusal where no memory was found before the first access: as at the first look
 abbrev pub either_lacking : ServiceOptions → Refusal
-either_lacking (options.PublishSubscribe named) = refusal.PublishSubscribeOpenOrCreate (PublishSubscribeOpenError publish_subscribe_unopened.OutOfMemory)
+either_lacking (options.PublishSubscribe named)
+    = refusal.PublishSubscribeOpenOrCreate (PublishSubscribeOpenError publish_subscribe_unopened.OutOfMemory)
 either_lacking (options.Event named) = refusal.EventOpenOrCreate (EventOpenError event_unopened.OutOfMemory)
-either_lacking (options.RequestResponse named) = refusal.RequestResponseOpenOrCreate (RequestResponseOpenError request_response_unopened.OutOfMemory)
+either_lacking (options.RequestResponse named)
+    = refusal.RequestResponseOpenOrCreate (RequestResponseOpenError request_response_unopened.OutOfMemory)
 
 -- what follows once there are lists of steps and room, or no memory was found for them
-abbrev pub EitherPrepared : {T U B D : Type 0} → Result (List (List ForeignStep)) AllocError → Detail → Detail → MessageTypeDetails → ServiceAsked → Required → FactoryTable → Hub T U B D → Result ℕ Refusal → FactoryTable → Hub T U B D → Type 0
-EitherPrepared (Err lacking) payload user_header types asked attributes table old answer after new = IsRefusedWith (either_lacking asked.options) table old answer after new
-EitherPrepared (Ok lists) payload user_header types asked attributes table old answer after new = EitherAs asked.options payload user_header types asked.node asked.name attributes lists table old answer after new
+abbrev pub EitherPrepared : {T U B D : Type 0} → Result (List (List ForeignStep)) AllocError → Detail → Detail → MessageTypeDetails
+    → ServiceAsked → Required → FactoryTable → Hub T U B D → Result ℕ Refusal → FactoryTable → Hub T U B D → Type 0
+EitherPrepared (Err lacking) payload user_header types asked attributes table old answer after new
+    = IsRefusedWith (either_lacking asked.options) table old answer after new
+EitherPrepared (Ok lists) payload user_header types asked attributes table old answer after new
+    = EitherAs asked.options payload user_header types asked.node asked.name attributes lists table old answer after new
 
 -- The service that is asked for is opened if it has these attributes, or created with the required pairs, with these steps of
 -- foreign nodes before the accesses, and its factory gets a number. Nothing happens where the node isn't there.
-abbrev pub EitherNumbered : {T U B D : Type 0} → Bool → Detail → Detail → MessageTypeDetails → ServiceAsked → Required → List StepBefore → FactoryTable → Hub T U B D → Option (Result ℕ Refusal) → FactoryTable → Hub T U B D → Type 0
+abbrev pub EitherNumbered : {T U B D : Type 0} → Bool → Detail → Detail → MessageTypeDetails → ServiceAsked → Required → List StepBefore
+    → FactoryTable → Hub T U B D → Option (Result ℕ Refusal) → FactoryTable → Hub T U B D → Type 0
 EitherNumbered false payload user_header types asked attributes steps table old answer after new = IsSkipped table old answer after new
 EitherNumbered true payload user_header types asked attributes steps table old answer after new =
     (prepared : Result (List (List ForeignStep)) AllocError) × (roomier : FactoryTable) × (reply : Result ℕ Refusal)

@@ -30,7 +30,8 @@ OthersStay number old new = (other : ℕ) → other ≢ number → value_at new 
 -- A number that is answered stood for nothing, and stands for a factory of this pattern; with a refusal, or no answer, every
 -- number stands for what it stood for.
 abbrev pub IsFound : MessagingPattern → FactoryTable → Option (Result ℕ Refusal) → FactoryTable → Type 0
-IsFound pattern old (Some (Ok number)) new = (value_at old number ≡ None) × (option_map pattern_in (value_at new number) ≡ Some pattern) × OthersStay number old new
+IsFound pattern old (Some (Ok number)) new = (value_at old number ≡ None) × (option_map pattern_in (value_at new number) ≡ Some pattern)
+    × OthersStay number old new
 IsFound pattern old (Some (Err refusal)) new = AllStay old new
 IsFound pattern old None new = AllStay old new
 
@@ -42,14 +43,18 @@ IsGone number old (Some other) new = (value_at new number ≡ None) × OthersSta
 
 -- Factories are found under the numbers that are answered, until they are closed.
 pub record FoundUntilClosed (T U B D : Type 0) : Type 0 where
-  pub created : (is_there : Bool) (payload user_header : Detail) (types : MessageTypeDetails) (asked : ServiceAsked) (attributes : List Attribute) (steps : List StepBefore)
+  pub created : (is_there : Bool) (payload user_header : Detail) (types : MessageTypeDetails) (asked : ServiceAsked)
+      (attributes : List Attribute) (steps : List StepBefore)
       (table : FactoryTable) (old : Hub T U B D) (answer : Option (Result ℕ Refusal)) (after : FactoryTable) (new : Hub T U B D)
       → Rises 1 table.entries table.next → CreatesNumbered is_there payload user_header types asked attributes steps table old answer after new → IsFound (pattern_of asked.options) table answer after
-  pub opened : (is_there : Bool) (payload user_header : Detail) (types : MessageTypeDetails) (asked : ServiceAsked) (attributes : Required) (steps : List StepBefore)
+  pub opened : (is_there : Bool) (payload user_header : Detail) (types : MessageTypeDetails) (asked : ServiceAsked)
+      (attributes : Required) (steps : List StepBefore)
       (table : FactoryTable) (old : Hub T U B D) (answer : Option (Result ℕ Refusal)) (after : FactoryTable) (new : Hub T U B D)
       → Rises 1 table.entries table.next → OpensNumbered is_there payload user_header types asked attributes steps table old answer after new → IsFound (pattern_of asked.options) table answer after
-  pub opened_or_created : (is_there : Bool) (payload user_header : Detail) (types : MessageTypeDetails) (asked : ServiceAsked) (attributes : Required) (steps : List StepBefore)
+  pub opened_or_created : (is_there : Bool) (payload user_header : Detail) (types : MessageTypeDetails) (asked : ServiceAsked)
+      (attributes : Required) (steps : List StepBefore)
       (table : FactoryTable) (old : Hub T U B D) (answer : Option (Result ℕ Refusal)) (after : FactoryTable) (new : Hub T U B D)
       → Rises 1 table.entries table.next → EitherNumbered is_there payload user_header types asked attributes steps table old answer after new → IsFound (pattern_of asked.options) table answer after
-  pub closed : (number : ℕ) (table : FactoryTable) (old : Hub T U B D) (answer : Option (Result (Unit {0}) CloseError)) (after : FactoryTable) (new : Hub T U B D)
+  pub closed : (number : ℕ) (table : FactoryTable) (old : Hub T U B D) (answer : Option (Result (Unit {0}) CloseError))
+      (after : FactoryTable) (new : Hub T U B D)
       → Rises 1 table.entries table.next → ClosesNumbered number (value_at table number) table old answer after new → IsGone number table answer after

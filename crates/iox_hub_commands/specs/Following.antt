@@ -16,7 +16,9 @@ use Rattle.iox_hub_commands.specs.Maps.NumberTable.{value_at}
 use Rattle.iox_hub_commands.specs.Replies.{updated_reply, has_reply, done_reply}
 
 -- A publisher or a subscriber follows the list of the others.
-abbrev pub UpdateStep : {T U H : Type 0} → (DomainId → H → Option (ServicePorts T U)) → (DomainId → ServicePorts T U → H → H) → (DomainId → ℕ → H → DegradationInfo → DegradationAction → Type 0) → (DomainId → ℕ → H → DegradationInfo → DegradationAction → Type 0) → PortNumber → Made → H → Reply T → H → Type 0
+abbrev pub UpdateStep : {T U H : Type 0} → (DomainId → H → Option (ServicePorts T U)) → (DomainId → ServicePorts T U → H → H)
+    → (DomainId → ℕ → H → DegradationInfo → DegradationAction → Type 0)
+    → (DomainId → ℕ → H → DegradationInfo → DegradationAction → Type 0) → PortNumber → Made → H → Reply T → H → Type 0
 UpdateStep ports_of with_ports degrades subscriber_degrades (port.Publisher number) made old answer new =
     (outcome : Option (Result (Unit {0}) ConnectionFailure)) × AtPort (Follows ports_of with_ports degrades) (port_under (value_at made.publishers number)) old outcome new
     × (answer ≡ updated_reply outcome)
@@ -25,13 +27,15 @@ UpdateStep ports_of with_ports degrades subscriber_degrades (port.Subscriber num
     × (answer ≡ updated_reply outcome)
 
 -- It is told whether some connection of a subscriber has data.
-abbrev pub HasStep : {T U H : Type 0} → (DomainId → H → Option (ServicePorts T U)) → (DomainId → ServicePorts T U → H → H) → (DomainId → ℕ → H → DegradationInfo → DegradationAction → Type 0) → ℕ → Made → H → Reply T → H → Type 0
+abbrev pub HasStep : {T U H : Type 0} → (DomainId → H → Option (ServicePorts T U)) → (DomainId → ServicePorts T U → H → H)
+    → (DomainId → ℕ → H → DegradationInfo → DegradationAction → Type 0) → ℕ → Made → H → Reply T → H → Type 0
 HasStep ports_of with_ports degrades subscriber made old answer new =
     (outcome : Option (Result Bool ConnectionFailure)) × AtPort (Tells ports_of with_ports degrades) (value_at made.subscribers subscriber) old outcome new
     × (answer ≡ has_reply outcome)
 
 -- A publisher or a subscriber leaves, and its number is spent.
-abbrev pub LeaveStep : {T U H : Type 0} → (DomainId → H → Option (ServicePorts T U)) → (DomainId → ServicePorts T U → H → H) → (DomainId → ℕ → H → H) → (DomainId → ℕ → H → H) → PortNumber → Made → H → Reply T → Made → H → Type 0
+abbrev pub LeaveStep : {T U H : Type 0} → (DomainId → H → Option (ServicePorts T U)) → (DomainId → ServicePorts T U → H → H)
+    → (DomainId → ℕ → H → H) → (DomainId → ℕ → H → H) → PortNumber → Made → H → Reply T → Made → H → Type 0
 LeaveStep ports_of with_ports without without_reader (port.Publisher number) made old answer made_after new =
     (done : Bool) × AtPortIf (PublisherGoes ports_of with_ports without) (port_under (value_at made.publishers number)) old done new
     × (made_after ≡ removed_if done (without_publisher number) made) × (answer ≡ done_reply done)

@@ -12,7 +12,8 @@ use Rattle.iox_hub_commands.specs.Steps.{list_of}
 
 -- The steps are done in turn on the service of this pattern and name; or steps are named, and no memory is found for their list,
 -- and nothing happens.
-abbrev pub ActsNamed : {T U B D : Type 0} → MessagingPattern → List ℕ → MessageTypeDetails → List Named → Hub T U B D → Result (Unit {0}) HubError → Hub T U B D → Type 0
+abbrev pub ActsNamed : {T U B D : Type 0} → MessagingPattern → List ℕ → MessageTypeDetails → List Named → Hub T U B D
+    → Result (Unit {0}) HubError → Hub T U B D → Type 0
 ActsNamed pattern name types steps old answer new =
     ActsOn (service_hash_of pattern name) (list_of name types steps) old answer new
     ⊎ ((steps ≡ [] → ⊥) × (answer ≡ Err OutOfMemory) × (new ≡ old))

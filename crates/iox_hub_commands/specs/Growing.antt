@@ -8,4 +8,5 @@ use Rattle.iox_hub_commands.specs.declared.ports.made.Made.{Made}
 -- where the table is full.
 abbrev pub GrowsFirst : {H A : Type 0} → Type 0 → (Made → H → A → Made → H → Type 0) → Made → H → Result A AllocError → Made → H → Type 0
 GrowsFirst is_full call made old (Err error) made_after new = is_full × (made_after ≡ made) × (new ≡ old)
-GrowsFirst is_full call made old (Ok answer) made_after new = (roomier : Made) × IsRoomier made roomier × call roomier old answer made_after new
+GrowsFirst is_full call made old (Ok answer) made_after new = (roomier : Made) × IsRoomier made roomier
+    × call roomier old answer made_after new

@@ -25,21 +25,25 @@ lent_reply (Ok lent) = Ok (loan_reply lent)
 lent_reply (Err lacking) = Err lacking
 
 -- A publisher lends so many elements, none of which is written.
-abbrev pub LoanUninitStep : {T U H : Type 0} → (DomainId → H → Option (ServicePorts T U)) → (DomainId → ServicePorts T U → H → H) → ℕ → ℕ → Made → H → Result (Reply T) AllocError → Made → H → Type 0
+abbrev pub LoanUninitStep : {T U H : Type 0} → (DomainId → H → Option (ServicePorts T U)) → (DomainId → ServicePorts T U → H → H) → ℕ
+    → ℕ → Made → H → Result (Reply T) AllocError → Made → H → Type 0
 LoanUninitStep ports_of with_ports publisher elements made old answer made_after new =
     (lent : Result (Option (Result ℕ LoanError)) AllocError)
     × GrowsFirst (IsFull made.loans) (LendsNumbered ports_of with_ports elements (lender elements (value_at made.publishers publisher))) made old lent made_after new
     × (answer ≡ lent_reply lent)
 
 -- A publisher lends so many elements, each of which is written: a default.
-abbrev pub LoanStep : {T U H : Type 0} → (DomainId → H → Option (ServicePorts T U)) → (DomainId → ServicePorts T U → H → H) → (T → Type 0) → ℕ → ℕ → Made → H → Result (Reply T) AllocError → Made → H → Type 0
+abbrev pub LoanStep : {T U H : Type 0} → (DomainId → H → Option (ServicePorts T U)) → (DomainId → ServicePorts T U → H → H)
+    → (T → Type 0) → ℕ → ℕ → Made → H → Result (Reply T) AllocError → Made → H → Type 0
 LoanStep {T} ports_of with_ports is_default publisher elements made old answer made_after new =
     (value : T) × is_default value × (lent : Result (Option (Result ℕ LoanError)) AllocError)
     × GrowsFirst (IsFull made.loans) (LendsWrittenNumbered ports_of with_ports elements value (ready ports_of (lender elements (value_at made.publishers publisher)) old)) made old lent made_after new
     × (answer ≡ lent_reply lent)
 
 -- A publisher sends these values.
-abbrev pub PutStep : {T U H : Type 0} → (DomainId → H → Option (ServicePorts T U)) → (DomainId → ServicePorts T U → H → H) → (DomainId → ℕ → H → DegradationInfo → DegradationAction → Type 0) → (DomainId → ℕ → H → BackpressureInfo → BackpressureDecision → Type 0) → ℕ → List T → Made → H → Reply T → H → Type 0
+abbrev pub PutStep : {T U H : Type 0} → (DomainId → H → Option (ServicePorts T U)) → (DomainId → ServicePorts T U → H → H)
+    → (DomainId → ℕ → H → DegradationInfo → DegradationAction → Type 0)
+    → (DomainId → ℕ → H → BackpressureInfo → BackpressureDecision → Type 0) → ℕ → List T → Made → H → Reply T → H → Type 0
 PutStep ports_of with_ports degrades decides publisher values made old answer new =
     (sent : Option (Result Sent SendError))
     × AtPort (Puts ports_of with_ports degrades decides values) (ready ports_of (lender (length values) (value_at made.publishers publisher)) old) old sent new

@@ -17,6 +17,7 @@ pub mod Laws
 pub mod ServicesTables
 pub mod ServicesNumbering
 pub mod Asking
+pub mod Refusing
 pub mod Creating
 pub mod Opening
 pub mod Either

@@ -24,7 +24,8 @@ loan_under ports_of (Some made) home = loan_found made.port.number made.slot (po
 
 -- what a home ends as once the ports of the loan that goes by a number changed; nothing changes where none goes by it, or its
 -- domain isn't here
-abbrev pub changed_under : {T U H : Type 0} → (DomainId → H → Option (ServicePorts T U)) → (DomainId → ServicePorts T U → H → H) → (ℕ → ℕ → ServicePorts T U → ServicePorts T U) → Option MadeLoan → H → H
+abbrev pub changed_under : {T U H : Type 0} → (DomainId → H → Option (ServicePorts T U)) → (DomainId → ServicePorts T U → H → H)
+    → (ℕ → ℕ → ServicePorts T U → ServicePorts T U) → Option MadeLoan → H → H
 changed_under ports_of with_ports change None home = home
 changed_under ports_of with_ports change (Some made) home =
     changed_at (λ after. with_ports made.port.domain after home) (change made.port.number made.slot) (ports_of made.port.domain home) home
@@ -35,7 +36,8 @@ is_set place loan = is_written_loan loan && is_some (value_at place loan)
 
 -- the value at a place of the loan in a slot is written
 abbrev pub set_in : {T U : Type 0} → ℕ → T → ℕ → ℕ → ServicePorts T U → ServicePorts T U
-set_in place value number slot ports = written_in number (λ port. has_place slot place port.sender.uses) slot (write_value place value) ports
+set_in place value number slot ports
+    = written_in number (λ port. has_place slot place port.sender.uses) slot (write_value place value) ports
 
 -- whether the loan in a slot has as many values as these; none has where its domain isn't here
 abbrev pub fits_in : {T U : Type 0} → List T → ℕ → ℕ → Option (ServicePorts T U) → Bool
@@ -49,9 +51,14 @@ is_filled ports_of values (Some made) home = fits_in values made.port.number mad
 
 -- all values of the loan in a slot are written, if there are as many
 abbrev pub filled_in : {T U : Type 0} → List T → ℕ → ℕ → ServicePorts T U → ServicePorts T U
-filled_in values number slot ports = written_in number (λ port. has_length slot (length values) port.sender.uses) slot (write_all values) ports
+filled_in values number slot ports = written_in number (λ port. has_length slot (length values) port.sender.uses) slot
+    (write_all values) ports
 
 -- The loan that goes by a number is sent: nothing happens where none does.
-abbrev pub SendsUnder : {T U H : Type 0} → (DomainId → H → Option (ServicePorts T U)) → (DomainId → ServicePorts T U → H → H) → (DomainId → ℕ → H → DegradationInfo → DegradationAction → Type 0) → (DomainId → ℕ → H → BackpressureInfo → BackpressureDecision → Type 0) → Option MadeLoan → H → Option (Result Sent SendError) → H → Type 0
+abbrev pub SendsUnder : {T U H : Type 0} → (DomainId → H → Option (ServicePorts T U)) → (DomainId → ServicePorts T U → H → H)
+    → (DomainId → ℕ → H → DegradationInfo → DegradationAction → Type 0)
+    → (DomainId → ℕ → H → BackpressureInfo → BackpressureDecision → Type 0) → Option MadeLoan → H → Option (Result Sent SendError) → H
+    → Type 0
 SendsUnder ports_of with_ports degrades decides None old answer new = (answer ≡ None) × (new ≡ old)
-SendsUnder ports_of with_ports degrades decides (Some made) old answer new = Sends ports_of with_ports degrades decides made.slot made.port old answer new
+SendsUnder ports_of with_ports degrades decides (Some made) old answer new
+    = Sends ports_of with_ports degrades decides made.slot made.port old answer new

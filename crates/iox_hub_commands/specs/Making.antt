@@ -21,12 +21,14 @@ NumbersPort numbered next (Some (Err error)) old answer new = (answer ≡ Some (
 NumbersPort numbered next (Some (Ok number)) old answer new = (answer ≡ Some (Ok next)) × (new ≡ numbered number old)
 
 -- A port comes in a home, and gets a number.
-abbrev pub MakesNumbered : {H E : Type 0} → (H → Option (Result ℕ E) → H → Type 0) → (ℕ → Made → Made) → ℕ → Made → H → Option (Result ℕ E) → Made → H → Type 0
+abbrev pub MakesNumbered : {H E : Type 0} → (H → Option (Result ℕ E) → H → Type 0) → (ℕ → Made → Made) → ℕ → Made → H
+    → Option (Result ℕ E) → Made → H → Type 0
 MakesNumbered {H} {E} comes numbered next made old answer made_after new =
     (came : Option (Result ℕ E)) × comes old came new × NumbersPort numbered next came made answer made_after
 
 -- A port comes in a home, and gets a number, once there is room for it, which changes nothing else. Where no memory is found for
 -- that the port is refused as for any want of memory.
-abbrev pub MakesRoomFirst : {H E : Type 0} → (H → Option (Result ℕ E) → H → Type 0) → (ℕ → Made → Made) → ℕ → Made → H → Option (Result ℕ E) → Made → H → Type 0
+abbrev pub MakesRoomFirst : {H E : Type 0} → (H → Option (Result ℕ E) → H → Type 0) → (ℕ → Made → Made) → ℕ → Made → H
+    → Option (Result ℕ E) → Made → H → Type 0
 MakesRoomFirst comes numbered next made old answer made_after new =
     (roomier : Made) × IsRoomier made roomier × MakesNumbered comes numbered next roomier old answer made_after new

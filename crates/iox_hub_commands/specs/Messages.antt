@@ -25,40 +25,47 @@ use Rattle.iox_hub_commands.specs.Maps.NumberTable.{value_at}
 use Rattle.iox_hub_commands.specs.Replies.{sent_reply, given_up_reply, done_reply}
 
 -- One value of a written loan is written.
-abbrev pub SetStep : {T U H : Type 0} → (DomainId → H → Option (ServicePorts T U)) → (DomainId → ServicePorts T U → H → H) → ℕ → ℕ → T → Made → H → Reply T → H → Type 0
+abbrev pub SetStep : {T U H : Type 0} → (DomainId → H → Option (ServicePorts T U)) → (DomainId → ServicePorts T U → H → H) → ℕ → ℕ → T
+    → Made → H → Reply T → H → Type 0
 SetStep ports_of with_ports loan place value made old answer new =
     (done : Bool) × (done ≡ is_set place (loan_under ports_of (value_at made.loans loan) old))
     × (new ≡ (if done then changed_under ports_of with_ports (set_in place value) (value_at made.loans loan) old else old))
     × (answer ≡ done_reply done)
 
 -- All values of a loan are written.
-abbrev pub FillStep : {T U H : Type 0} → (DomainId → H → Option (ServicePorts T U)) → (DomainId → ServicePorts T U → H → H) → ℕ → List T → Made → H → Reply T → H → Type 0
+abbrev pub FillStep : {T U H : Type 0} → (DomainId → H → Option (ServicePorts T U)) → (DomainId → ServicePorts T U → H → H) → ℕ → List T
+    → Made → H → Reply T → H → Type 0
 FillStep ports_of with_ports loan values made old answer new =
     (done : Bool) × (done ≡ is_filled ports_of values (value_at made.loans loan) old)
     × (new ≡ changed_under ports_of with_ports (filled_in values) (value_at made.loans loan) old)
     × (answer ≡ done_reply done)
 
 -- A loan is given up.
-abbrev pub DropStep : {T U H : Type 0} → (DomainId → H → Option (ServicePorts T U)) → (DomainId → ServicePorts T U → H → H) → ℕ → Made → H → Reply T → Made → H → Type 0
+abbrev pub DropStep : {T U H : Type 0} → (DomainId → H → Option (ServicePorts T U)) → (DomainId → ServicePorts T U → H → H) → ℕ → Made
+    → H → Reply T → Made → H → Type 0
 DropStep ports_of with_ports loan made old answer made_after new =
     (done : Bool) × (done ≡ is_some (loan_under ports_of (value_at made.loans loan) old))
     × (new ≡ (if done then changed_under ports_of with_ports gave_up_in (value_at made.loans loan) old else old))
     × (made_after ≡ removed_if done (without_loan loan) made) × (answer ≡ done_reply done)
 
 -- A loan is sent.
-abbrev pub SendStep : {T U H : Type 0} → (DomainId → H → Option (ServicePorts T U)) → (DomainId → ServicePorts T U → H → H) → (DomainId → ℕ → H → DegradationInfo → DegradationAction → Type 0) → (DomainId → ℕ → H → BackpressureInfo → BackpressureDecision → Type 0) → ℕ → Made → H → Reply T → Made → H → Type 0
+abbrev pub SendStep : {T U H : Type 0} → (DomainId → H → Option (ServicePorts T U)) → (DomainId → ServicePorts T U → H → H)
+    → (DomainId → ℕ → H → DegradationInfo → DegradationAction → Type 0)
+    → (DomainId → ℕ → H → BackpressureInfo → BackpressureDecision → Type 0) → ℕ → Made → H → Reply T → Made → H → Type 0
 SendStep ports_of with_ports degrades decides loan made old answer made_after new =
     (sent : Option (Result Sent SendError)) × SendsUnder ports_of with_ports degrades decides (value_at made.loans loan) old sent new
     × (made_after ≡ removed_if (is_some sent) (without_loan loan) made) × (answer ≡ sent_reply sent)
 
 -- A send that waits is tried again.
-abbrev pub RetryStep : {T U H : Type 0} → (DomainId → H → Option (ServicePorts T U)) → (DomainId → ServicePorts T U → H → H) → (DomainId → ℕ → H → BackpressureInfo → BackpressureDecision → Type 0) → ℕ → ℕ → Made → H → Reply T → H → Type 0
+abbrev pub RetryStep : {T U H : Type 0} → (DomainId → H → Option (ServicePorts T U)) → (DomainId → ServicePorts T U → H → H)
+    → (DomainId → ℕ → H → BackpressureInfo → BackpressureDecision → Type 0) → ℕ → ℕ → Made → H → Reply T → H → Type 0
 RetryStep ports_of with_ports decides publisher elapsed made old answer new =
     (sent : Option (Result Sent SendError)) × AtPort (Retries ports_of with_ports decides elapsed) (port_under (value_at made.publishers publisher)) old sent new
     × (answer ≡ sent_reply sent)
 
 -- A send that waits ends.
-abbrev pub GiveUpStep : {T U H : Type 0} → (DomainId → H → Option (ServicePorts T U)) → (DomainId → ServicePorts T U → H → H) → ℕ → Made → H → Reply T → H → Type 0
+abbrev pub GiveUpStep : {T U H : Type 0} → (DomainId → H → Option (ServicePorts T U)) → (DomainId → ServicePorts T U → H → H) → ℕ → Made
+    → H → Reply T → H → Type 0
 GiveUpStep ports_of with_ports publisher made old answer new =
     (count : Option ℕ) × AtPort (GivesUp ports_of with_ports) (port_under (value_at made.publishers publisher)) old count new
     × (answer ≡ given_up_reply count)
@@ -79,7 +86,8 @@ ReadStep ports_of sample made old (Ok answer) = IsReadReply (values_under ports_
 ReadStep ports_of sample made old (Err lacking) = SomeValues (values_under ports_of (value_at made.samples sample) old)
 
 -- A sample is released.
-abbrev pub ReleaseStep : {T U H : Type 0} → (DomainId → H → Option (ServicePorts T U)) → (DomainId → ServicePorts T U → H → H) → ℕ → Made → H → Reply T → Made → H → Type 0
+abbrev pub ReleaseStep : {T U H : Type 0} → (DomainId → H → Option (ServicePorts T U)) → (DomainId → ServicePorts T U → H → H) → ℕ
+    → Made → H → Reply T → Made → H → Type 0
 ReleaseStep ports_of with_ports sample made old answer made_after new =
     (done : Bool) × (done ≡ is_held ports_of (value_at made.samples sample) old)
     × ReleasesUnder ports_of with_ports (value_at made.samples sample) old done new

@@ -28,7 +28,8 @@ publisher_config owner options = record {
 }
 
 -- who decides for a publisher: without a strategy a send waits, and without an action a failed connection is passed over with a warning
-abbrev pub publisher_handlers : {B : Type 0} → (BackpressureStrategy → Option BackpressureAction → DegradationAction → B) → PublisherOptions → B
+abbrev pub publisher_handlers : {B : Type 0} → (BackpressureStrategy → Option BackpressureAction → DegradationAction → B)
+    → PublisherOptions → B
 publisher_handlers fixed options =
     fixed (unwrap_or options.backpressure_strategy publisher_defaults.strategy) options.backpressure_handler (unwrap_or options.degradation_handler Warn)
 

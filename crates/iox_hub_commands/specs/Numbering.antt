@@ -33,24 +33,30 @@ NumbersLoan None (Some (Ok slot)) old answer new = ⊥
 NumbersLoan (Some port) (Some (Ok slot)) old answer new = (answer ≡ Some (Ok old.loans.next)) × (new ≡ with_loan port slot old)
 
 -- A publisher lends a slot for so many elements, and the loan gets a number.
-abbrev pub LendsNumbered : {T U H : Type 0} → (DomainId → H → Option (ServicePorts T U)) → (DomainId → ServicePorts T U → H → H) → ℕ → Option PortId → Made → H → Option (Result ℕ LoanError) → Made → H → Type 0
+abbrev pub LendsNumbered : {T U H : Type 0} → (DomainId → H → Option (ServicePorts T U)) → (DomainId → ServicePorts T U → H → H) → ℕ
+    → Option PortId → Made → H → Option (Result ℕ LoanError) → Made → H → Type 0
 LendsNumbered ports_of with_ports elements port made old answer made_after new =
     (lent : Option (Result ℕ LoanError)) × AtPort (Lends ports_of with_ports elements) port old lent new × NumbersLoan port lent made answer made_after
 
 -- A publisher lends a slot for so many elements, each of which is written: all the same; and the loan gets a number.
-abbrev pub LendsWrittenNumbered : {T U H : Type 0} → (DomainId → H → Option (ServicePorts T U)) → (DomainId → ServicePorts T U → H → H) → ℕ → T → Option PortId → Made → H → Option (Result ℕ LoanError) → Made → H → Type 0
+abbrev pub LendsWrittenNumbered : {T U H : Type 0} → (DomainId → H → Option (ServicePorts T U)) → (DomainId → ServicePorts T U → H → H)
+    → ℕ → T → Option PortId → Made → H → Option (Result ℕ LoanError) → Made → H → Type 0
 LendsWrittenNumbered ports_of with_ports elements value port made old answer made_after new =
     (lent : Option (Result ℕ LoanError)) × AtPort (LendsWritten ports_of with_ports elements value) port old lent new × NumbersLoan port lent made answer made_after
 
 -- A sample that was received gets the next number, which is answered; else nothing gets one.
-abbrev pub NumbersSample : Option PortId → Option (Result (Option Taken) ReceiveError) → Made → Option (Result (Option ℕ) ReceiveError) → Made → Type 0
+abbrev pub NumbersSample : Option PortId → Option (Result (Option Taken) ReceiveError) → Made → Option (Result (Option ℕ) ReceiveError)
+    → Made → Type 0
 NumbersSample port None old answer new = (answer ≡ None) × (new ≡ old)
 NumbersSample port (Some (Err error)) old answer new = (answer ≡ Some (Err error)) × (new ≡ old)
 NumbersSample port (Some (Ok None)) old answer new = (answer ≡ Some (Ok None)) × (new ≡ old)
 NumbersSample None (Some (Ok (Some taken))) old answer new = ⊥
-NumbersSample (Some port) (Some (Ok (Some taken))) old answer new = (answer ≡ Some (Ok (Some old.samples.next))) × (new ≡ with_sample port taken old)
+NumbersSample (Some port) (Some (Ok (Some taken))) old answer new = (answer ≡ Some (Ok (Some old.samples.next)))
+    × (new ≡ with_sample port taken old)
 
 -- A subscriber receives, and a sample that came gets a number.
-abbrev pub ReceivesNumbered : {T U H : Type 0} → (DomainId → H → Option (ServicePorts T U)) → (DomainId → ServicePorts T U → H → H) → (DomainId → ℕ → H → DegradationInfo → DegradationAction → Type 0) → Option PortId → Made → H → Option (Result (Option ℕ) ReceiveError) → Made → H → Type 0
+abbrev pub ReceivesNumbered : {T U H : Type 0} → (DomainId → H → Option (ServicePorts T U)) → (DomainId → ServicePorts T U → H → H)
+    → (DomainId → ℕ → H → DegradationInfo → DegradationAction → Type 0) → Option PortId → Made → H
+    → Option (Result (Option ℕ) ReceiveError) → Made → H → Type 0
 ReceivesNumbered ports_of with_ports degrades port made old answer made_after new =
     (received : Option (Result (Option Taken) ReceiveError)) × AtPort (Receives ports_of with_ports degrades) port old received new × NumbersSample port received made answer made_after

@@ -23,8 +23,10 @@ use Rattle.iox_hub_commands.specs.NegotiateBase.EventErrors as event
 use Rattle.iox_hub_commands.specs.NegotiateBase.PublishSubscribeErrors as publish_subscribe
 use Rattle.iox_hub_commands.specs.NegotiateBase.RequestResponseErrors as request_response
 use Rattle.iox_hub_commands.specs.NegotiateBase.declared.errors.event.EventOpenError.TheVariants as event_error
-use Rattle.iox_hub_commands.specs.NegotiateBase.declared.errors.publish_subscribe.PublishSubscribeOpenError.TheVariants as publish_subscribe_error
-use Rattle.iox_hub_commands.specs.NegotiateBase.declared.errors.request_response.RequestResponseOpenError.TheVariants as request_response_error
+use Rattle.iox_hub_commands.specs.NegotiateBase.declared.errors.publish_subscribe.PublishSubscribeOpenError.TheVariants as
+    publish_subscribe_error
+use Rattle.iox_hub_commands.specs.NegotiateBase.declared.errors.request_response.RequestResponseOpenError.TheVariants as
+    request_response_error
 use Rattle.iox_hub_commands.specs.NegotiateBase.Opening.{Opens}
 use Rattle.iox_hub_commands.specs.NegotiateBase.declared.failure.OpenFailure.{OpenFailure}
 use Rattle.iox_hub_commands.specs.NegotiateBase.declared.failure.OpenFailure.TheVariants.{OutOfMemory}
@@ -36,7 +38,8 @@ use Rattle.iox_hub_commands.specs.ServicesTables.{FactoryTable}
 use Rattle.iox_hub_commands.specs.declared.services.asked.ServiceAsked.{ServiceAsked}
 
 -- a node opens the service of a hash, if it meets what is asked; a failure is told as this error
-abbrev pub OpensJudged : {T U B D V E : Type 0} → Detail → Detail → (OpenFailure V → E) → ServiceHash → ℕ → (Agreement → Result (Unit {0}) V) → List (List ForeignStep) → Hub T U B D → Result Made E → Hub T U B D → Type 0
+abbrev pub OpensJudged : {T U B D V E : Type 0} → Detail → Detail → (OpenFailure V → E) → ServiceHash → ℕ
+    → (Agreement → Result (Unit {0}) V) → List (List ForeignStep) → Hub T U B D → Result Made E → Hub T U B D → Type 0
 OpensJudged payload user_header error hash node verdict lists old opened new =
     OpensInHub payload user_header (λ was_new. error OutOfMemory)
     (λ before came after. Negotiates SteppedSight before.table.id node error (λ made answer. Opens hash node verdict made answer) before came after)
@@ -44,7 +47,8 @@ OpensJudged payload user_header error hash node verdict lists old opened new =
 
 -- a service is opened if it is as these options ask and has these attributes, and its factory gets a number; a failure is told as
 -- the error of the pattern
-abbrev pub OpensAs : {T U B D : Type 0} → ServiceOptions → Detail → Detail → MessageTypeDetails → ℕ → List ℕ → Required → List (List ForeignStep) → FactoryTable → Hub T U B D → Result ℕ Refusal → FactoryTable → Hub T U B D → Type 0
+abbrev pub OpensAs : {T U B D : Type 0} → ServiceOptions → Detail → Detail → MessageTypeDetails → ℕ → List ℕ → Required
+    → List (List ForeignStep) → FactoryTable → Hub T U B D → Result ℕ Refusal → FactoryTable → Hub T U B D → Type 0
 OpensAs (options.PublishSubscribe named) payload user_header types node name attributes lists table old answer after new =
     GetsNumber pattern.PublishSubscribe refusal.PublishSubscribeOpen
     (OpensJudged payload user_header publish_subscribe.open_error (hash_of name (options.PublishSubscribe named)) node (λ given. first_unmet (publish_subscribe_clauses.clauses (required_publish_subscribe named types attributes) given)) lists) table old answer after new
@@ -62,13 +66,17 @@ open_lacking (options.Event named) = refusal.EventOpen event_error.OutOfMemory
 open_lacking (options.RequestResponse named) = refusal.RequestResponseOpen request_response_error.OutOfMemory
 
 -- what follows once there are lists of steps and room, or no memory was found for them
-abbrev pub OpensPrepared : {T U B D : Type 0} → Result (List (List ForeignStep)) AllocError → Detail → Detail → MessageTypeDetails → ServiceAsked → Required → FactoryTable → Hub T U B D → Result ℕ Refusal → FactoryTable → Hub T U B D → Type 0
-OpensPrepared (Err lacking) payload user_header types asked attributes table old answer after new = IsRefusedWith (open_lacking asked.options) table old answer after new
-OpensPrepared (Ok lists) payload user_header types asked attributes table old answer after new = OpensAs asked.options payload user_header types asked.node asked.name attributes lists table old answer after new
+abbrev pub OpensPrepared : {T U B D : Type 0} → Result (List (List ForeignStep)) AllocError → Detail → Detail → MessageTypeDetails
+    → ServiceAsked → Required → FactoryTable → Hub T U B D → Result ℕ Refusal → FactoryTable → Hub T U B D → Type 0
+OpensPrepared (Err lacking) payload user_header types asked attributes table old answer after new
+    = IsRefusedWith (open_lacking asked.options) table old answer after new
+OpensPrepared (Ok lists) payload user_header types asked attributes table old answer after new
+    = OpensAs asked.options payload user_header types asked.node asked.name attributes lists table old answer after new
 
 -- The service that is asked for is opened if it has these attributes, with these steps of foreign nodes before the accesses, and
 -- its factory gets a number. Nothing happens where the node isn't there.
-abbrev pub OpensNumbered : {T U B D : Type 0} → Bool → Detail → Detail → MessageTypeDetails → ServiceAsked → Required → List StepBefore → FactoryTable → Hub T U B D → Option (Result ℕ Refusal) → FactoryTable → Hub T U B D → Type 0
+abbrev pub OpensNumbered : {T U B D : Type 0} → Bool → Detail → Detail → MessageTypeDetails → ServiceAsked → Required → List StepBefore
+    → FactoryTable → Hub T U B D → Option (Result ℕ Refusal) → FactoryTable → Hub T U B D → Type 0
 OpensNumbered false payload user_header types asked attributes steps table old answer after new = IsSkipped table old answer after new
 OpensNumbered true payload user_header types asked attributes steps table old answer after new =
     (prepared : Result (List (List ForeignStep)) AllocError) × (roomier : FactoryTable) × (reply : Result ℕ Refusal)

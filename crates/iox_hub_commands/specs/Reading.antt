@@ -17,7 +17,8 @@ is_held ports_of None home = false
 is_held ports_of (Some held) home = holds_message held.port.number held.taken (ports_of held.port.domain home)
 
 -- The sample that goes by a number is released; else nothing happens.
-abbrev pub ReleasesUnder : {T U H : Type 0} → (DomainId → H → Option (ServicePorts T U)) → (DomainId → ServicePorts T U → H → H) → Option MadeSample → H → Bool → H → Type 0
+abbrev pub ReleasesUnder : {T U H : Type 0} → (DomainId → H → Option (ServicePorts T U)) → (DomainId → ServicePorts T U → H → H)
+    → Option MadeSample → H → Bool → H → Type 0
 ReleasesUnder ports_of with_ports held old false new = new ≡ old
 ReleasesUnder ports_of with_ports None old true new = ⊥
 ReleasesUnder ports_of with_ports (Some held) old true new = ReleasesSample ports_of with_ports held.port held.taken old new

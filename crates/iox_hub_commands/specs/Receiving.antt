@@ -45,13 +45,15 @@ HasCome read (Some (Ok None)) = ⊥
 HasCome read (Some (Ok (Some sample))) = SomeValues (read sample)
 
 -- what is replied: nothing where no memory was found for one more number, or for the values of a sample that came
-abbrev pub IsTold : {T : Type 0} → (ℕ → Option (List T)) → Result (Option (Result (Option ℕ) ReceiveError)) AllocError → Result (Reply T) AllocError → Type 0
+abbrev pub IsTold : {T : Type 0} → (ℕ → Option (List T)) → Result (Option (Result (Option ℕ) ReceiveError)) AllocError
+    → Result (Reply T) AllocError → Type 0
 IsTold read (Err lacking) answer = answer ≡ Err lacking
 IsTold read (Ok received) (Ok told) = IsReceiveReply read received told
 IsTold read (Ok received) (Err lacking) = HasCome read received
 
 -- A subscriber receives, and a sample that came gets the next number.
-abbrev pub ReceiveStep : {T U H : Type 0} → (DomainId → H → Option (ServicePorts T U)) → (DomainId → ServicePorts T U → H → H) → (DomainId → ℕ → H → DegradationInfo → DegradationAction → Type 0) → ℕ → Made → H → Result (Reply T) AllocError → Made → H → Type 0
+abbrev pub ReceiveStep : {T U H : Type 0} → (DomainId → H → Option (ServicePorts T U)) → (DomainId → ServicePorts T U → H → H)
+    → (DomainId → ℕ → H → DegradationInfo → DegradationAction → Type 0) → ℕ → Made → H → Result (Reply T) AllocError → Made → H → Type 0
 ReceiveStep ports_of with_ports degrades subscriber made old answer made_after new =
     (received : Result (Option (Result (Option ℕ) ReceiveError)) AllocError)
     × GrowsFirst (IsFull made.samples) (ReceivesNumbered ports_of with_ports degrades (value_at made.subscribers subscriber)) made old received made_after new

@@ -1,5 +1,5 @@
 -- How a factory gets a number, and what is made ready before the first access.
-use Rattle.std.specs.Prelude.{ℕ, ◌≡◌, ◌<◌, ◌≤◌, List, [], length, Option, None, Some, Result, Ok, Err}
+use Rattle.std.specs.Prelude.{ℕ, ◌≡◌, ◌<◌, ◌≤◌, ◌⊎◌, List, [], length, Option, None, Some, Result, Ok, Err}
 use Rattle.std.specs.declared.alloc.AllocError.{AllocError}
 use Rattle.iox_hub_commands.specs.Command.declared.refusal.Refusal.{Refusal}
 use Rattle.iox_hub_commands.specs.Command.declared.step.StepBefore.{StepBefore}
@@ -18,23 +18,28 @@ abbrev pub MakesRoom : FactoryTable → Result (Unit {0}) AllocError → Factory
 MakesRoom old (Ok done) new = SameNumbers old new × (length new.entries < new.room)
 MakesRoom old (Err lacking) new = (new ≡ old) × (old.room ≤ length old.entries)
 
--- There is room for one factory more, and the lists of steps are there; or no memory was found for either, as steps are named or
--- there was no room.
-abbrev pub Prepares : List ℕ → MessageTypeDetails → List StepBefore → FactoryTable → Result (List (List ForeignStep)) AllocError → FactoryTable → Type 0
-Prepares name types steps old (Ok lists) new = SameNumbers old new × (lists ≡ lists_of name types steps) × (length new.entries < new.room)
+-- There is room for one factory more, or nothing was done for that, and the lists of steps are there; or no memory was found for either, as
+-- steps are named or there was no room.
+abbrev pub Prepares : List ℕ → MessageTypeDetails → List StepBefore → FactoryTable → Result (List (List ForeignStep)) AllocError
+    → FactoryTable → Type 0
+Prepares name types steps old (Ok lists) new = SameNumbers old new × (lists ≡ lists_of name types steps)
+    × ((length new.entries < new.room) ⊎ (new ≡ old))
 Prepares name types steps old (Err lacking) new = SameNumbers old new × (steps ≡ [] → old.room ≤ length old.entries)
 
 -- A factory that was opened, of a service of this pattern, gets the next number, which is answered, and carries a description,
 -- whatever its numbers; a refusal is told, and no factory gets one.
-abbrev pub Numbers : {E : Type 0} → MessagingPattern → (E → Refusal) → Result Made E → FactoryTable → Result ℕ Refusal → FactoryTable → Type 0
+abbrev pub Numbers : {E : Type 0} → MessagingPattern → (E → Refusal) → Result Made E → FactoryTable → Result ℕ Refusal → FactoryTable
+    → Type 0
 Numbers pattern refusal (Ok parts) old answer new =
     (factory : MadeFactory) × (pattern_in factory ≡ pattern) × (parts_of factory ≡ parts) × (new ≡ inserted old factory) × (answer ≡ Ok old.next)
     × HasForm parts.0.service.description
 Numbers pattern refusal (Err error) old answer new = (answer ≡ Err (refusal error)) × (new ≡ old)
 
 -- A service is opened in this way, and its factory gets the next number.
-abbrev pub GetsNumber : {H E : Type 0} → MessagingPattern → (E → Refusal) → (H → Result Made E → H → Type 0) → FactoryTable → H → Result ℕ Refusal → FactoryTable → H → Type 0
-GetsNumber {H} {E} pattern refusal opens table old answer after new = (opened : Result Made E) × opens old opened new × Numbers pattern refusal opened table answer after
+abbrev pub GetsNumber : {H E : Type 0} → MessagingPattern → (E → Refusal) → (H → Result Made E → H → Type 0) → FactoryTable → H
+    → Result ℕ Refusal → FactoryTable → H → Type 0
+GetsNumber {H} {E} pattern refusal opens table old answer after new = (opened : Result Made E) × opens old opened new
+    × Numbers pattern refusal opened table answer after
 
 -- nothing happens, and nothing is answered
 abbrev pub IsSkipped : {H A : Type 0} → FactoryTable → H → Option A → FactoryTable → H → Type 0

@@ -19,7 +19,8 @@ SameNumbers old new = (new.entries ≡ old.entries) × (new.next ≡ old.next) �
 
 -- Nothing changed but that there may be more room.
 abbrev pub IsRoomier : Made → Made → Type 0
-IsRoomier old new = SameNumbers old.publishers new.publishers × SameNumbers old.subscribers new.subscribers × SameNumbers old.loans new.loans × SameNumbers old.samples new.samples
+IsRoomier old new = SameNumbers old.publishers new.publishers × SameNumbers old.subscribers new.subscribers
+    × SameNumbers old.loans new.loans × SameNumbers old.samples new.samples
 
 -- There is no room for one value more.
 abbrev pub IsFull : {V : Type 0} → NumberTable V → Type 0

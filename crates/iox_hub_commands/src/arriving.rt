@@ -27,7 +27,9 @@ pub fn publisher<T: Copy, U: Copy + Default, H: Home<T, U>>(
     handlers: H::ForPublishers,
 ) -> Reply<T>
     requires { made.old.publishers.next + 1 < 2 ^ 64 }
-    ensures { PublisherStep (homes.ports_of H.domain_of) (homes.with_ports H.changed) (homes.with_publisher H.changed) (λ handlers. H.ForPublishers.degrades handlers) U.is_default domain (publisher_config owner options.now) options.now.preallocated_samples handlers made.old home.old result made.new home.new }
+    ensures { PublisherStep (homes.ports_of H.domain_of) (homes.with_ports H.changed) (homes.with_publisher H.changed)
+        (λ handlers. H.ForPublishers.degrades handlers) U.is_default domain (publisher_config owner options.now)
+        options.now.preallocated_samples handlers made.old home.old result made.new home.new }
 {
     let slots = naming::named_slots(options);
     let parts = PublisherParts {
@@ -48,7 +50,10 @@ pub fn publisher_refused<T: Copy, U: Copy + Default, H: Home<T, U>>(
     owner: PortOwner,
     options: &PublisherOptions,
 ) -> Reply<T>
-    ensures { (made : Made) (handlers : H.ForPublishers) → PublisherStep (homes.ports_of H.domain_of) (homes.with_ports H.changed) (homes.with_publisher H.changed) (λ handlers. H.ForPublishers.degrades handlers) U.is_default domain (publisher_config owner options.now) options.now.preallocated_samples handlers made home.now result made home.now }
+    ensures { (made : Made) (handlers : H.ForPublishers)
+        → PublisherStep (homes.ports_of H.domain_of) (homes.with_ports H.changed) (homes.with_publisher H.changed)
+        (λ handlers. H.ForPublishers.degrades handlers) U.is_default domain (publisher_config owner options.now)
+        options.now.preallocated_samples handlers made home.now result made home.now }
 {
     let _user_header = U::default();
     let config = naming::publisher_config(owner, options);
@@ -79,7 +84,9 @@ pub fn subscriber<T: Copy, U: Copy, H: Home<T, U>>(
     handler: H::ForSubscribers,
 ) -> Reply<T>
     requires { made.old.subscribers.next + 1 < 2 ^ 64 }
-    ensures { SubscriberStep (homes.ports_of H.domain_of) (homes.with_ports H.changed) (homes.with_subscriber H.changed) (λ handler. H.ForSubscribers.degrades handler) domain (subscriber_config owner options.now) handler made.old home.old result made.new home.new }
+    ensures { SubscriberStep (homes.ports_of H.domain_of) (homes.with_ports H.changed) (homes.with_subscriber H.changed)
+        (λ handler. H.ForSubscribers.degrades handler) domain (subscriber_config owner options.now) handler made.old home.old result
+        made.new home.new }
 {
     let config = naming::subscriber_config(owner, options);
     subscriber_reply(made.make_subscriber(alloc, home, domain, config, handler))
@@ -93,7 +100,10 @@ pub fn subscriber_refused<T: Copy, U: Copy, H: Home<T, U>>(
     owner: PortOwner,
     options: &SubscriberOptions,
 ) -> Reply<T>
-    ensures { (made : Made) (handler : H.ForSubscribers) → SubscriberStep (homes.ports_of H.domain_of) (homes.with_ports H.changed) (homes.with_subscriber H.changed) (λ handler. H.ForSubscribers.degrades handler) domain (subscriber_config owner options.now) handler made home.now result made home.now }
+    ensures { (made : Made) (handler : H.ForSubscribers)
+        → SubscriberStep (homes.ports_of H.domain_of) (homes.with_ports H.changed) (homes.with_subscriber H.changed)
+        (λ handler. H.ForSubscribers.degrades handler) domain (subscriber_config owner options.now) handler made home.now result made
+        home.now }
 {
     let config = naming::subscriber_config(owner, options);
     subscriber_reply(why_no_subscriber(home, domain, &config))

@@ -17,7 +17,9 @@ pub fn update<T: Copy, U: Copy, H: Home<T, U>>(
     home: &mut H,
     port: PortNumber,
 ) -> Reply<T>
-    ensures { UpdateStep (homes.ports_of H.domain_of) (homes.with_ports H.changed) (homes.publisher_degrades (λ kept. H.ForPublishers.degrades kept) H.domain_of) (homes.subscriber_degrades (λ kept. H.ForSubscribers.degrades kept) H.domain_of) port made.now home.old result home.new }
+    ensures { UpdateStep (homes.ports_of H.domain_of) (homes.with_ports H.changed)
+        (homes.publisher_degrades (λ kept. H.ForPublishers.degrades kept) H.domain_of)
+        (homes.subscriber_degrades (λ kept. H.ForSubscribers.degrades kept) H.domain_of) port made.now home.old result home.new }
 {
     match port {
         PortNumber::Publisher(number) => updated_reply(made.update_publisher(alloc, home, number)),
@@ -36,7 +38,8 @@ pub fn has<T: Copy, U: Copy, H: Home<T, U>>(
     home: &mut H,
     subscriber: u64,
 ) -> Reply<T>
-    ensures { HasStep (homes.ports_of H.domain_of) (homes.with_ports H.changed) (homes.subscriber_degrades (λ kept. H.ForSubscribers.degrades kept) H.domain_of) subscriber made.now home.old result home.new }
+    ensures { HasStep (homes.ports_of H.domain_of) (homes.with_ports H.changed)
+        (homes.subscriber_degrades (λ kept. H.ForSubscribers.degrades kept) H.domain_of) subscriber made.now home.old result home.new }
 {
     has_reply(made.has_samples(alloc, home, subscriber))
 }
@@ -48,7 +51,8 @@ pub fn leave<T: Copy, U: Copy, H: Home<T, U>>(
     home: &mut H,
     port: PortNumber,
 ) -> Reply<T>
-    ensures { LeaveStep (homes.ports_of H.domain_of) (homes.with_ports H.changed) (homes.without_publisher H.changed) (homes.without_subscriber H.changed) port made.old home.old result made.new home.new }
+    ensures { LeaveStep (homes.ports_of H.domain_of) (homes.with_ports H.changed) (homes.without_publisher H.changed)
+        (homes.without_subscriber H.changed) port made.old home.old result made.new home.new }
 {
     match port {
         PortNumber::Publisher(number) => done_reply(made.leave_publisher(home, number)),

@@ -1,7 +1,11 @@
 //! The commands that lend, and the one that sends values at once, over the tables of what goes by numbers and any home.
 ghost use Rattle.iox_domain.specs.Homes as homes;
-ghost use Rattle.std.specs.Prelude.{◌+◌, ◌<◌, ◌^◌};
+ghost use Rattle.std.specs.Prelude.{◌≡◌, ◌+◌, ◌<◌, ◌^◌, None, Ok};
+ghost use Rattle.iox_command.specs.declared.reply.Reply.TheVariants as reply;
+ghost use Rattle.iox_maps.specs.NumberTable.{value_at};
+ghost use Rattle.iox_hub_commands.specs.Calls.{ready};
 ghost use Rattle.iox_hub_commands.specs.Lending.{LoanStep, LoanUninitStep, PutStep};
+ghost use Rattle.iox_hub_commands.specs.Tables.{lender};
 
 use crate::ports::Made;
 use crate::replies::{loan_reply, sent_reply};
@@ -11,7 +15,9 @@ use std::alloc::{AllocError, Global};
 
 /// A publisher lends so many elements, none of which is written. Skipped as `Made::loan_uninit` answers None, and refused as that is.
 ///
-/// Fails only where the table of loans is full and no memory is found for one more number; then nothing has changed.
+/// Fails only where the table of loans is full and no memory is found for one more number; then nothing has changed. It is skipped, whatever
+/// memory there is, where no publisher goes by the number, and where its messages are single values and not one element is asked for.
+/// Example: `let reply = loan_uninit(alloc, &mut made, &mut home, publisher, 4)?;`
 pub fn loan_uninit<T: Copy, U: Copy, H: Home<T, U>>(
     alloc: Global,
     made: &mut Made,
@@ -20,7 +26,9 @@ pub fn loan_uninit<T: Copy, U: Copy, H: Home<T, U>>(
     elements: u64,
 ) -> Result<Reply<T>, AllocError>
     requires { made.old.loans.next + 1 < 2 ^ 64 }
-    ensures { LoanUninitStep (homes.ports_of H.domain_of) (homes.with_ports H.changed) publisher elements made.old home.old result made.new home.new }
+    ensures lends { LoanUninitStep (homes.ports_of H.domain_of) (homes.with_ports H.changed) publisher elements made.old home.old result
+        made.new home.new }
+    ensures skips { lender elements (value_at made.old.publishers publisher) ≡ None → result ≡ Ok reply.Skipped }
 {
     match made.loan_uninit_growing(alloc, home, publisher, elements) {
         Ok(lent) => Ok(loan_reply(lent)),
@@ -30,7 +38,9 @@ pub fn loan_uninit<T: Copy, U: Copy, H: Home<T, U>>(
 
 /// A publisher lends so many elements, each of which is written: a default. Skipped as `Made::loan` answers None, and refused as that is.
 ///
-/// Fails only where the table of loans is full and no memory is found for one more number; then nothing has changed.
+/// Fails only where the table of loans is full and no memory is found for one more number; then nothing has changed. It is skipped where
+/// `Made::loan` answers None, whatever memory there is.
+/// Example: `let reply = loan(alloc, &mut made, &mut home, publisher, 4)?;`
 pub fn loan<T: Copy + Default, U: Copy, H: Home<T, U>>(
     alloc: Global,
     made: &mut Made,
@@ -39,7 +49,10 @@ pub fn loan<T: Copy + Default, U: Copy, H: Home<T, U>>(
     elements: u64,
 ) -> Result<Reply<T>, AllocError>
     requires { made.old.loans.next + 1 < 2 ^ 64 }
-    ensures { LoanStep (homes.ports_of H.domain_of) (homes.with_ports H.changed) T.is_default publisher elements made.old home.old result made.new home.new }
+    ensures lends { LoanStep (homes.ports_of H.domain_of) (homes.with_ports H.changed) T.is_default publisher elements made.old home.old
+        result made.new home.new }
+    ensures skips { ready (homes.ports_of H.domain_of) (lender elements (value_at made.old.publishers publisher)) home.old ≡ None
+        → result ≡ Ok reply.Skipped }
 {
     match made.loan_growing(alloc, home, publisher, elements, T::default()) {
         Ok(lent) => Ok(loan_reply(lent)),
@@ -55,7 +68,10 @@ pub fn put<T: Copy, U: Copy, H: Home<T, U>>(
     publisher: u64,
     values: &[T],
 ) -> Reply<T>
-    ensures { PutStep (homes.ports_of H.domain_of) (homes.with_ports H.changed) (homes.publisher_degrades (λ kept. H.ForPublishers.degrades kept) H.domain_of) (homes.publisher_decides (λ kept. H.ForPublishers.decides kept) H.domain_of) publisher values.now made.now home.old result home.new }
+    ensures { PutStep (homes.ports_of H.domain_of) (homes.with_ports H.changed)
+        (homes.publisher_degrades (λ kept. H.ForPublishers.degrades kept) H.domain_of)
+        (homes.publisher_decides (λ kept. H.ForPublishers.decides kept) H.domain_of) publisher values.now made.now home.old result
+        home.new }
 {
     sent_reply(made.put(alloc, home, publisher, values))
 }

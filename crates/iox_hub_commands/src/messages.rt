@@ -56,7 +56,9 @@ pub fn send<T: Copy, U: Copy, H: Home<T, U>>(
     home: &mut H,
     loan: u64,
 ) -> Reply<T>
-    ensures { SendStep (homes.ports_of H.domain_of) (homes.with_ports H.changed) (homes.publisher_degrades (λ kept. H.ForPublishers.degrades kept) H.domain_of) (homes.publisher_decides (λ kept. H.ForPublishers.decides kept) H.domain_of) loan made.old home.old result made.new home.new }
+    ensures { SendStep (homes.ports_of H.domain_of) (homes.with_ports H.changed)
+        (homes.publisher_degrades (λ kept. H.ForPublishers.degrades kept) H.domain_of)
+        (homes.publisher_decides (λ kept. H.ForPublishers.decides kept) H.domain_of) loan made.old home.old result made.new home.new }
 {
     sent_reply(made.send(alloc, home, loan))
 }
@@ -69,7 +71,9 @@ pub fn retry<T: Copy, U: Copy, H: Home<T, U>>(
     publisher: u64,
     nanoseconds: u64,
 ) -> Reply<T>
-    ensures { RetryStep (homes.ports_of H.domain_of) (homes.with_ports H.changed) (homes.publisher_decides (λ kept. H.ForPublishers.decides kept) H.domain_of) publisher nanoseconds made.now home.old result home.new }
+    ensures { RetryStep (homes.ports_of H.domain_of) (homes.with_ports H.changed)
+        (homes.publisher_decides (λ kept. H.ForPublishers.decides kept) H.domain_of) publisher nanoseconds made.now home.old result
+        home.new }
 {
     sent_reply(made.retry(home, publisher, nanoseconds))
 }

@@ -1,6 +1,7 @@
 //! The command that receives, over the tables of what goes by numbers and any home.
 ghost use Rattle.iox_domain.specs.Homes as homes;
-ghost use Rattle.std.specs.Prelude.{◌+◌, ◌<◌, ◌^◌, IsSome};
+ghost use Rattle.std.specs.Prelude.{◌≡◌, ◌+◌, ◌<◌, ◌^◌, IsSome, None, Ok};
+ghost use Rattle.iox_command.specs.declared.reply.Reply.TheVariants as reply;
 ghost use Rattle.iox_hub_commands.specs.Receiving.{IsShown, ReceiveStep};
 ghost use Rattle.iox_hub_commands.specs.Reading.{values_under};
 ghost use Rattle.iox_hub_commands.specs.Maps.NumberTable.{value_at};
@@ -15,7 +16,9 @@ use std::alloc::{AllocError, Global};
 /// `Made::receive` answers None, and refused as that is.
 ///
 /// Fails where the table of samples is full and no memory is found for one more number, and then nothing has changed; and where no memory
-/// is found for the values of a sample that came, if it has any; it is held then under its number.
+/// is found for the values of a sample that came, if it has any; it is held then under its number. It is skipped, whatever memory there is,
+/// where no subscriber goes by the number.
+/// Example: `let reply = receive(alloc, &mut made, &mut home, subscriber)?;`
 pub fn receive<T: Copy, U: Copy, H: Home<T, U>>(
     alloc: Global,
     made: &mut Made,
@@ -23,7 +26,10 @@ pub fn receive<T: Copy, U: Copy, H: Home<T, U>>(
     subscriber: u64,
 ) -> Result<Reply<T>, AllocError>
     requires { made.old.samples.next + 1 < 2 ^ 64 }
-    ensures { ReceiveStep (homes.ports_of H.domain_of) (homes.with_ports H.changed) (homes.subscriber_degrades (λ kept. H.ForSubscribers.degrades kept) H.domain_of) subscriber made.old home.old result made.new home.new }
+    ensures receives { ReceiveStep (homes.ports_of H.domain_of) (homes.with_ports H.changed)
+        (homes.subscriber_degrades (λ kept. H.ForSubscribers.degrades kept) H.domain_of) subscriber made.old home.old result made.new
+        home.new }
+    ensures skips { value_at made.old.subscribers subscriber ≡ None → result ≡ Ok reply.Skipped }
 {
     let sample = made.samples.next_number();
     match made.receive_growing(alloc, home, subscriber) {

@@ -6,6 +6,7 @@
 //! | `made` | a service that is open, whatever its pattern |
 //! | `factories` | the table: which factory goes by a number |
 //! | `asked` | which service is asked for |
+//! | `refusing` | which services aren't created, whatever stands already |
 //! | `creating` | services are created |
 //! | `opening` | services are opened |
 //! | `either` | services are opened, or created |
@@ -29,6 +30,7 @@ pub mod factories;
 pub mod laws;
 pub mod made;
 pub mod opening;
+pub mod refusing;
 pub mod requests;
 
 pub use acting::foreign;

@@ -70,6 +70,7 @@ module _ {E : Type 0} (node : ℕ) where
           record {
             refusal = creates.refusal;
             refused = creates.refused;
+            within = creates.within;
             negotiated = record {
               answer = creates.negotiated.answer;
               done = record { made = done.made; went = went; told = done.told };
@@ -119,6 +120,7 @@ module _ {E : Type 0} (node : ℕ) where
           record {
             refusal = either.refusal;
             refused = either.refused;
+            within = either.within;
             negotiated = record {
               answer = either.negotiated.answer;
               done = record { made = done.made; went = went; told = done.told };

@@ -262,7 +262,7 @@ module _ {T U B D : Type 0} (hash : ServiceHash) (mine : ℕ → Bool) (payload 
         let roomy = roomy_table other_table in
         let (there, hub, done, tables, hubs) =
         create_as roomier after roomy (roomier_same service_of mine table roomier roomy numbers.0 numbers.1 same) (rises_as table roomier numbers.0 numbers.1 rises) other_rises asked.options types asked.node asked.name attributes lists reply under does in
-        (there, hub, (Ok lists, roomy, reply, ((refl, refl), is_lists, has_room other_table), done, is), tables, hubs)
+        (there, hub, (Ok lists, roomy, reply, ((refl, refl), is_lists, inl (has_room other_table)), done, is), tables, hubs)
 
     open_numbered : (is_node : Bool) (types : MessageTypeDetails) (asked : ServiceAsked) (attributes : Required) (steps : List StepBefore) (answer : Option (Result ℕ Refusal)) (table after other_table : FactoryTable) → hash_of asked.name asked.options ≡ hash
         → (answer ≡ Some (Err (open_lacking asked.options)) → ⊥) → SameOf service_of mine table other_table → Rises 1 table.entries table.next → Rises 1 other_table.entries other_table.next
@@ -276,7 +276,7 @@ module _ {T U B D : Type 0} (hash : ServiceHash) (mine : ℕ → Bool) (payload 
         let roomy = roomy_table other_table in
         let (there, hub, done, tables, hubs) =
         open_as roomier after roomy (roomier_same service_of mine table roomier roomy numbers.0 numbers.1 same) (rises_as table roomier numbers.0 numbers.1 rises) other_rises asked.options types asked.node asked.name attributes lists reply under does in
-        (there, hub, (Ok lists, roomy, reply, ((refl, refl), is_lists, has_room other_table), done, is), tables, hubs)
+        (there, hub, (Ok lists, roomy, reply, ((refl, refl), is_lists, inl (has_room other_table)), done, is), tables, hubs)
 
     either_numbered : (is_node : Bool) (types : MessageTypeDetails) (asked : ServiceAsked) (attributes : Required) (steps : List StepBefore) (answer : Option (Result ℕ Refusal)) (table after other_table : FactoryTable) → hash_of asked.name asked.options ≡ hash
         → (answer ≡ Some (Err (either_lacking asked.options)) → ⊥) → SameOf service_of mine table other_table → Rises 1 table.entries table.next → Rises 1 other_table.entries other_table.next
@@ -290,7 +290,7 @@ module _ {T U B D : Type 0} (hash : ServiceHash) (mine : ℕ → Bool) (payload 
         let roomy = roomy_table other_table in
         let (there, hub, done, tables, hubs) =
         either_as roomier after roomy (roomier_same service_of mine table roomier roomy numbers.0 numbers.1 same) (rises_as table roomier numbers.0 numbers.1 rises) other_rises asked.options types asked.node asked.name attributes lists reply under does in
-        (there, hub, (Ok lists, roomy, reply, ((refl, refl), is_lists, has_room other_table), done, is), tables, hubs)
+        (there, hub, (Ok lists, roomy, reply, ((refl, refl), is_lists, inl (has_room other_table)), done, is), tables, hubs)
 
 -- ---- each command
 

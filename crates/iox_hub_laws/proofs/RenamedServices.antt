@@ -1,5 +1,6 @@
 -- Commands of services in a hub whose lives and counted factories go by other numbers.
 use Rattle.std.proofs.Common.{◌≡◌, ◌∙◌, ◌+◌, ◌-◌, ◌^◌, ◌<◌, ◌≤◌, ◌++◌, ℕ, nat_eq, nat_lt, Bool, true, false, List, [], ◌∷◌, map, Option, None, Some, option_map, Result, Ok, Err, inl, inr, refl, sym, ap, subst, arith, if◌then◌else◌}
+use Rattle.std.proofs.Math.Logic.{⊎_elim}
 use Rattle.std.proofs.lemmas.Map.Lookups.{exact_unsigned}
 use Rattle.std.specs.BTreeMap.{insert_entry, is_at}
 use Rattle.std.specs.List.{AllByRecursion}
@@ -165,7 +166,7 @@ module _ (by : Renaming) (order : AreInOrder by.services) where
 
   prepares_as : (name : List ℕ) (types : MessageTypeDetails) (steps : List StepBefore) (old new : FactoryTable) (prepared : Result (List (List ForeignStep)) AllocError) → Prepares name types steps old prepared new → Prepares name types steps (table_there old) prepared (table_there new)
   prepares_as name types steps old new (Ok lists) ((entries, next), is, room) =
-      ((ap (map (λ (entry : ℕ × MadeFactory). (entry.0, renamed_factory by entry.1))) entries, next), is, subst (λ count. count < new.room) (sym (map_long (λ (entry : ℕ × MadeFactory). (entry.0, renamed_factory by entry.1)) new.entries)) room)
+      ((ap (map (λ (entry : ℕ × MadeFactory). (entry.0, renamed_factory by entry.1))) entries, next), is, ⊎_elim (λ more. inl (subst (λ count. count < new.room) (sym (map_long (λ (entry : ℕ × MadeFactory). (entry.0, renamed_factory by entry.1)) new.entries)) more)) (λ same. inr (ap table_there same)) room)
   prepares_as name types steps old new (Err lacking) ((entries, next), few) =
       ((ap (map (λ (entry : ℕ × MadeFactory). (entry.0, renamed_factory by entry.1))) entries, next), λ none. subst (λ count. old.room ≤ count) (sym (map_long (λ (entry : ℕ × MadeFactory). (entry.0, renamed_factory by entry.1)) old.entries)) (few none))
 
@@ -204,7 +205,7 @@ module _ (by : Renaming) (order : AreInOrder by.services) (end fewer : ℕ) wher
   creates_as node hash agreed limits is_too_long error next before after came goes within creates =
       let (later, negotiated, go_on) =
       negotiates_as node error (λ made answer. CreatesIf hash node agreed creates.refusal made answer) (λ made answer told. creates_if by.services hash node agreed creates.refusal made answer told) next before after came goes within creates.negotiated in
-      (later, record { refusal = creates.refusal; refused = creates.refused; negotiated = negotiated }, go_on)
+      (later, record { refusal = creates.refusal; refused = creates.refused; within = creates.within; negotiated = negotiated }, go_on)
 
   opens_as : {V E : Type 0} (node : ℕ) (hash : ServiceHash) (verdict : Agreement → Result (Unit {0}) V) (error : OpenFailure V → E)
       → AsNegotiated (λ before came after. Negotiates SteppedSight before.table.id node error (λ made answer. Opens hash node verdict made answer) before came after)
@@ -216,7 +217,7 @@ module _ (by : Renaming) (order : AreInOrder by.services) (end fewer : ℕ) wher
       let (later, negotiated, go_on) =
       negotiates_as node error (λ made answer. OpensOrCreates hash node verdict agreed does.refusal made answer) (λ made answer told. opens_or_creates by.services hash node verdict agreed does.refusal made answer told) next before after came goes within
       does.negotiated in
-      (later, record { refusal = does.refusal; refused = does.refused; negotiated = negotiated }, go_on)
+      (later, record { refusal = does.refusal; refused = does.refused; within = does.within; negotiated = negotiated }, go_on)
 
 module _ {T U B D : Type 0} (by : Renaming) (order : AreInOrder by.services) (own_order : AreInOrder by.owners) (end fewer last without : ℕ) where
   abbrev there : ℕ → ℕ → Hub T U B D → Hub T U B D

@@ -226,7 +226,7 @@ module _ {T U B D : Type 0} (by : Renaming) where
         (rises_as table roomier numbers.0 numbers.1 rises) other_rises (subst (λ n. after.next ≡ n + 1 → NewBy by.factories n other.next) (sym numbers.1) comes) does in (
           there,
           Some told,
-          (Ok lists, roomy, told, ((refl, refl), is_lists, has_room other), done, refl),
+          (Ok lists, roomy, told, ((refl, refl), is_lists, inl (has_room other)), done, refl),
           later,
           subst (λ n. ((after.next ≡ n) × (there.next ≡ other.next)) ⊎ ((after.next ≡ n + 1) × (there.next ≡ other.next + 1))) numbers.1 alike,
           same ∙ ap (λ a. renamed_answer by.factories a) (sym is),
@@ -247,7 +247,7 @@ module _ {T U B D : Type 0} (by : Renaming) where
         (rises_as table roomier numbers.0 numbers.1 rises) other_rises (subst (λ n. after.next ≡ n + 1 → NewBy by.factories n other.next) (sym numbers.1) comes) does in (
           there,
           Some told,
-          (Ok lists, roomy, told, ((refl, refl), is_lists, has_room other), done, refl),
+          (Ok lists, roomy, told, ((refl, refl), is_lists, inl (has_room other)), done, refl),
           later,
           subst (λ n. ((after.next ≡ n) × (there.next ≡ other.next)) ⊎ ((after.next ≡ n + 1) × (there.next ≡ other.next + 1))) numbers.1 alike,
           same ∙ ap (λ a. renamed_answer by.factories a) (sym is),
@@ -268,7 +268,7 @@ module _ {T U B D : Type 0} (by : Renaming) where
         (rises_as table roomier numbers.0 numbers.1 rises) other_rises (subst (λ n. after.next ≡ n + 1 → NewBy by.factories n other.next) (sym numbers.1) comes) does in (
           there,
           Some told,
-          (Ok lists, roomy, told, ((refl, refl), is_lists, has_room other), done, refl),
+          (Ok lists, roomy, told, ((refl, refl), is_lists, inl (has_room other)), done, refl),
           later,
           subst (λ n. ((after.next ≡ n) × (there.next ≡ other.next)) ⊎ ((after.next ≡ n + 1) × (there.next ≡ other.next + 1))) numbers.1 alike,
           same ∙ ap (λ a. renamed_answer by.factories a) (sym is),

@@ -69,6 +69,7 @@ module _ {T U B D : Type 0} (step : Command T → NumberedHub T U B D → Result
   -- be replied to just so in a run of a new hub without the others, if only the numbers that the others took are passed over. In the end
   -- both hubs have the same of the service. No memory is wanted to create or to open it, there as here.
   abbrev pub IsAsIfAlone : Type 0
-  IsAsIfAlone = (config : HubConfig) (hash : ServiceHash) (mine : ℕ → Bool) (commands : List (Bool × Command T)) (first alone new : NumberedHub T U B D) (replies : List (Reply T))
+  IsAsIfAlone = (config : HubConfig) (hash : ServiceHash) (mine : ℕ
+      → Bool) (commands : List (Bool × Command T)) (first alone new : NumberedHub T U B D) (replies : List (Reply T))
       → IsNew config first → IsNew config alone → RunsAmongOthers hash mine step commands first replies new
       → (after : NumberedHub T U B D) × RunsAlone (StepWithMemory step) commands alone replies after × AgreeOn hash mine new after

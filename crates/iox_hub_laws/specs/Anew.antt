@@ -26,7 +26,8 @@ module _ {T U B D : Type 0} (step : Command T → NumberedHub T U B D → Result
   RunsAnew by ((true, asked) ∷ commands) old replies new =
       (reply : Reply T) × (mid : NumberedHub T U B D) × (rest : List (Reply T)) × step (renamed by asked) old (Ok (renamed_reply by reply)) mid
       × RunsAnew by commands mid rest new × (replies ≡ reply ∷ rest)
-  RunsAnew by ((false, asked) ∷ commands) old replies new = (mid : NumberedHub T U B D) × PassesLives old mid × RunsAnew by commands mid replies new
+  RunsAnew by ((false, asked) ∷ commands) old replies new = (mid : NumberedHub T U B D) × PassesLives old mid
+      × RunsAnew by commands mid replies new
 
   -- What runs alone in a new hub, where numbers of factories, ports, loans and samples are passed over, runs so where none is, if what goes
   -- by numbers goes by others.
@@ -38,14 +39,16 @@ module _ {T U B D : Type 0} (step : Command T → NumberedHub T U B D → Result
   -- So it is with the commands of a service in any run of a new hub: what was replied to them among the others may be replied to them
   -- alone, by the service's own numbers.
   abbrev pub IsAloneAnew : Type 0
-  IsAloneAnew = (config : HubConfig) (hash : ServiceHash) (mine : ℕ → Bool) (commands : List (Bool × Command T)) (first alone new : NumberedHub T U B D) (replies : List (Reply T))
+  IsAloneAnew = (config : HubConfig) (hash : ServiceHash) (mine : ℕ
+      → Bool) (commands : List (Bool × Command T)) (first alone new : NumberedHub T U B D) (replies : List (Reply T))
       → IsNew config first → IsNew config alone → RunsAmongOthers hash mine step commands first replies new
       → (by : Renaming) × (later : NumberedHub T U B D) × RunsAnew by commands alone replies later
 
   -- Whatever run of a new hub in which no memory is wanted to create or open a service, and whatever service: it can be told which commands
   -- are the service's, and which are of others, and those of the service may be replied to alone as they were, by its own numbers.
   abbrev pub EachServiceIsAloneAnew : Type 0
-  EachServiceIsAloneAnew = (config : HubConfig) (hash : ServiceHash) (commands : List (Command T)) (first alone new : NumberedHub T U B D) (replies : List (Reply T))
+  EachServiceIsAloneAnew = (config : HubConfig) (hash : ServiceHash) (commands : List (Command T))
+      (first alone new : NumberedHub T U B D) (replies : List (Reply T))
       → IsNew config first → IsNew config alone → Runs (StepWithMemory step) commands first replies new
       → (mine : ℕ → Bool) × (told : List (Bool × Command T)) × (by : Renaming) × (later : NumberedHub T U B D)
       × (commands_told told ≡ commands) × RunsAmongOthers hash mine step told first (replies_told told replies) new × RunsAnew by told alone (replies_told told replies) later

@@ -67,7 +67,8 @@ module _ {T U B D : Type 0} where
     -- In every run of a new hub, and wherever it stops, the hub has nothing of a life that didn't begin yet: the next life takes the number
     -- that comes next, and later ones take later numbers.
     abbrev pub NothingAhead : Type 0
-    NothingAhead = (config : HubConfig) (first new : NumberedHub T U B D) (commands : List (Command T)) (replies : List (Reply T)) (stopped : Bool) (number : ℕ)
+    NothingAhead = (config : HubConfig) (first new : NumberedHub T U B D) (commands : List (Command T)) (replies : List (Reply T))
+        (stopped : Bool) (number : ℕ)
         → IsNew config first → IsRun step commands first replies stopped new → new.hub.table.next ≤ number → HasNothingOf number new
 
     -- In a run of a new hub: if after a command a domain stands under a number under which none stood, the command creates or opens a
@@ -83,6 +84,7 @@ module _ {T U B D : Type 0} where
     -- Of two moments of a run of a new hub, also where it stops: numbers of lives that come next don't fall, and what lies under
     -- a name at the later one is of the life that lay there at the earlier one, or of a life of which the hub had nothing then.
     abbrev pub LivesBeginAnew : Type 0
-    LivesBeginAnew = (config : HubConfig) (first old new : NumberedHub T U B D) (before commands : List (Command T)) (told replies : List (Reply T)) (stopped : Bool)
+    LivesBeginAnew = (config : HubConfig) (first old new : NumberedHub T U B D) (before commands : List (Command T))
+        (told replies : List (Reply T)) (stopped : Bool)
         → IsNew config first → Runs step before first told old → IsRun step commands old replies stopped new
         → (old.hub.table.next ≤ new.hub.table.next) × ((hash : ServiceHash) (entry : Entry) → entry_at hash new.hub.table ≡ Some entry → IsOldOrNew hash (number_of entry) old)

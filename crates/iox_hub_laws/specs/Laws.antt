@@ -34,7 +34,8 @@ module _ {T U B D : Type 0} where
 
     -- A command that asks nothing of a service leaves all of it as it was, whatever is replied.
     abbrev pub LeavesOthers : Type 0
-    LeavesOthers = (hash : ServiceHash) (number : ℕ) (asked : Command T) (old new : NumberedHub T U B D) (answer : Result (Reply T) AllocError)
+    LeavesOthers = (hash : ServiceHash) (number : ℕ) (asked : Command T) (old new : NumberedHub T U B D)
+        (answer : Result (Reply T) AllocError)
         → NumbersRise old → AreOfOneAgreement old.factories.made old.hub → IsService hash number old.hub.table
         → StepBeside hash number asked old answer new → IsLeft hash number old new
 

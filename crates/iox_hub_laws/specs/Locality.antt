@@ -47,7 +47,8 @@ IsOpening asked = ⊥
 abbrev pub IsMemoryWanted : {T : Type 0} → Command T → Reply T → Type 0
 IsMemoryWanted (command.Create node name options attributes steps) reply = reply ≡ factory_reply (Some (Err (create_lacking options)))
 IsMemoryWanted (command.Open node name options requirements steps) reply = reply ≡ factory_reply (Some (Err (open_lacking options)))
-IsMemoryWanted (command.OpenOrCreate node name options requirements steps) reply = reply ≡ factory_reply (Some (Err (either_lacking options)))
+IsMemoryWanted (command.OpenOrCreate node name options requirements steps) reply = reply
+    ≡ factory_reply (Some (Err (either_lacking options)))
 IsMemoryWanted asked reply = ⊥
 
 -- A command that has nodes of others do steps on a service.
@@ -128,7 +129,8 @@ module _ {T U B D : Type 0} where
     -- Of two hubs that agree on a service: as the one may reply to any list of commands of its ports, and of nodes, so may the other, to
     -- each of them, and then they agree on it again.
     abbrev pub RunsAnswerAlike : Type 0
-    RunsAnswerAlike = (hash : ServiceHash) (mine : ℕ → Bool) (commands : List (Command T)) (one new other : NumberedHub T U B D) (replies : List (Reply T))
+    RunsAnswerAlike = (hash : ServiceHash) (mine : ℕ
+        → Bool) (commands : List (Command T)) (one new other : NumberedHub T U B D) (replies : List (Reply T))
         → NumbersRise one → NumbersRise other → AgreeOn hash mine one other
         → Runs (StepOf mine) commands one replies new
         → (after : NumberedHub T U B D) × Runs step commands other replies after × AgreeOn hash mine new after

@@ -23,9 +23,11 @@ InOrder hub = AreRising hub.services.domains × AreRising hub.factory_counts
 module _ {T U B D : Type 0} (step : Command T → NumberedHub T U B D → Result (Reply T) AllocError → NumberedHub T U B D → Type 0) where
   -- Whatever a command does, and where it isn't replied to: what was in order is in order.
   abbrev pub StaysInOrder : Type 0
-  StaysInOrder = (asked : Command T) (old new : NumberedHub T U B D) (answer : Result (Reply T) AllocError) → step asked old answer new → InOrder old.hub → InOrder new.hub
+  StaysInOrder = (asked : Command T) (old new : NumberedHub T U B D) (answer : Result (Reply T) AllocError) → step asked old answer new
+      → InOrder old.hub → InOrder new.hub
 
   -- In each run of a new hub all is in order, also where the run stops; so no number stands twice.
   abbrev pub RunsAreInOrder : Type 0
-  RunsAreInOrder = (config : HubConfig) (first new : NumberedHub T U B D) (commands : List (Command T)) (replies : List (Reply T)) (stopped : Bool)
+  RunsAreInOrder = (config : HubConfig) (first new : NumberedHub T U B D) (commands : List (Command T)) (replies : List (Reply T))
+      (stopped : Bool)
       → IsNew config first → IsRun step commands first replies stopped new → InOrder new.hub × NumbersOnce new.hub

@@ -34,14 +34,16 @@ module _ {T U B D : Type 0} (step : Command T → NumberedHub T U B D → Result
   -- make nodes, are a run of a new hub: each with what it names under its other number, and replied to as it was, with the other
   -- number where one was given. No number is passed over, of any kind.
   abbrev pub EachServiceIsAlone : Type 0
-  EachServiceIsAlone = (config : HubConfig) (hash : ServiceHash) (commands : List (Command T)) (first alone new : NumberedHub T U B D) (replies : List (Reply T))
+  EachServiceIsAlone = (config : HubConfig) (hash : ServiceHash) (commands : List (Command T)) (first alone new : NumberedHub T U B D)
+      (replies : List (Reply T))
       → IsNew config first → IsNew config alone → Runs (StepWithMemory step) commands first replies new → HasNumbersLeft new
       → (mine : ℕ → Bool) × (told : List (Bool × Command T)) × (by : Renaming) × (later : NumberedHub T U B D)
       × (commands_told told ≡ commands) × RunsAmongOthers hash mine step told first (replies_told told replies) new
       × Runs step (own_commands by told) alone (map (renamed_reply by) (replies_told told replies)) later
 
 -- What a command does to a hub whose ports are decided for by fixed actions, as in the program.
-abbrev pub FixedStep : {T U : Type 0} → Detail → Detail → MessageTypeDetails → (T → Type 0) → (U → Type 0) → Command T → NumberedHub T U FixedHandlers FixedDegradation → Result (Reply T) AllocError → NumberedHub T U FixedHandlers FixedDegradation → Type 0
+abbrev pub FixedStep : {T U : Type 0} → Detail → Detail → MessageTypeDetails → (T → Type 0) → (U → Type 0) → Command T
+    → NumberedHub T U FixedHandlers FixedDegradation → Result (Reply T) AllocError → NumberedHub T U FixedHandlers FixedDegradation → Type 0
 FixedStep payload user_header types is_default is_default_header =
     Step payload user_header types is_default is_default_header
     (λ strategy backpressure degradation. record { strategy = strategy; backpressure = backpressure; degradation = degradation })

@@ -63,7 +63,8 @@ renamed_factory by (made.RequestResponse factory) =
 module _ {T U B D : Type 0} where
   -- the domain of a life under its other number; who decides in it is the same
   abbrev pub renamed_domain : Renaming → Domain T U B D → Domain T U B D
-  renamed_domain by domain = record domain { id = renamed_id by domain.id; state = record domain.state { ports = renamed_ports by domain.state.ports } }
+  renamed_domain by domain = record domain
+      { id = renamed_id by domain.id; state = record domain.state { ports = renamed_ports by domain.state.ports } }
 
   -- a domain that is here or out, of a life under its other number
   abbrev pub renamed_presence : Renaming → Presence T U B D → Presence T U B D
@@ -72,7 +73,8 @@ module _ {T U B D : Type 0} where
 
   -- the domains of a hub, each under the other number of its life
   abbrev pub renamed_services : Renaming → OpenServices T U B D → OpenServices T U B D
-  renamed_services by services = record services { domains = map (λ entry. (by.services entry.0, renamed_presence by entry.1)) services.domains }
+  renamed_services by services = record services
+      { domains = map (λ entry. (by.services entry.0, renamed_presence by entry.1)) services.domains }
 
   -- A hub whose lives and counted factories go by other numbers: this number of a life comes next there, and so many factories
   -- were counted.

@@ -22,7 +22,8 @@ use Rattle.iox_hub_laws.specs.NegotiateRenamedRenaming.{AreInOrder, GoBy}
 use Rattle.iox_hub_laws.specs.RenamedRenaming.{renamed_numbered}
 
 -- Who decides doesn't look at the number of the service: of infos that differ in it alone the same may be answered.
-pub record LooksAtNoService (B D : Type 0) (degrades : B → DegradationCause → DegradationInfo → DegradationAction → Type 0) (decides : B → BackpressureInfo → BackpressureDecision → Type 0)
+pub record LooksAtNoService (B D : Type 0) (degrades : B → DegradationCause → DegradationInfo → DegradationAction → Type 0) (decides : B
+    → BackpressureInfo → BackpressureDecision → Type 0)
     (reader_degrades : D → DegradationCause → DegradationInfo → DegradationAction → Type 0) : Type 0 where
   pub publishers : (handlers : B) (cause : DegradationCause) → DegradesWhateverService (degrades handlers cause)
   pub sends : (handlers : B) → DecidesWhateverService (decides handlers)
@@ -50,7 +51,8 @@ HasNumbers by factory = (0 < by.services (parts_of factory).0.service.number) ×
 
 -- so it is with a hub, and with each factory that a command can name
 abbrev pub GoesBy : {T U B D : Type 0} → Renaming → ℕ → ℕ → ℕ → ℕ → ℕ → ℕ → NumberedHub T U B D → Type 0
-GoesBy by end fewer next last without count numbered = HubGoesBy by end fewer next last without count numbered.hub × AllByRecursion (λ entry. HasNumbers by entry.1) numbered.factories.made.entries
+GoesBy by end fewer next last without count numbered = HubGoesBy by end fewer next last without count numbered.hub
+    × AllByRecursion (λ entry. HasNumbers by entry.1) numbered.factories.made.entries
 
 -- a command that makes a port, or names one, a loan or a sample
 abbrev pub IsOfPorts : {T : Type 0} → Command T → Type 0
@@ -67,7 +69,8 @@ module _ {T U B D : Type 0} (step : Command T → NumberedHub T U B D → Result
   -- order: it is replied to in the same way, and in the end the hub is what it is, but for the numbers. Whichever numbers come
   -- next there.
   abbrev pub GoesByAnyNumber : Type 0
-  GoesByAnyNumber = (by : Renaming) (next count : ℕ) (asked : Command T) (old new : NumberedHub T U B D) (answer : Result (Reply T) AllocError)
+  GoesByAnyNumber = (by : Renaming) (next count : ℕ) (asked : Command T) (old new : NumberedHub T U B D)
+      (answer : Result (Reply T) AllocError)
       → AreInOrder by.services → HaveNumbers by old.hub.services.domains → IsOfPorts asked → step asked old answer new
       → step asked (renamed_numbered by next count old) answer (renamed_numbered by next count new)
 
@@ -75,12 +78,14 @@ module _ {T U B D : Type 0} (step : Command T → NumberedHub T U B D → Result
   -- replied to in the same way, and the hub is what it is, but for the numbers, which all have others again. So it is as long as
   -- no more lives begin than have numbers, and no more factories are counted.
   abbrev pub EachGoesByOtherNumbers : Type 0
-  EachGoesByOtherNumbers = (by : Renaming) (end fewer next last without count : ℕ) (asked : Command T) (old new : NumberedHub T U B D) (answer : Result (Reply T) AllocError)
+  EachGoesByOtherNumbers = (by : Renaming) (end fewer next last without count : ℕ) (asked : Command T) (old new : NumberedHub T U B D)
+      (answer : Result (Reply T) AllocError)
       → AreInOrder by.services → AreInOrder by.owners → IsReached old.hub.table → GoesBy by end fewer next last without count old → new.hub.table.next ≤ end → new.hub.factories ≤ last → step asked old answer new
       → (later counted : ℕ) × step asked (renamed_numbered by next count old) answer (renamed_numbered by later counted new) × GoesBy by end fewer later last without counted new
 
   -- So it is with commands of ports, one after the other.
   abbrev pub RunGoesByAnyNumber : Type 0
-  RunGoesByAnyNumber = (by : Renaming) (next count : ℕ) (commands : List (Command T)) (old new : NumberedHub T U B D) (replies : List (Reply T))
+  RunGoesByAnyNumber = (by : Renaming) (next count : ℕ) (commands : List (Command T)) (old new : NumberedHub T U B D)
+      (replies : List (Reply T))
       → AreInOrder by.services → HaveNumbers by old.hub.services.domains → AllByRecursion IsOfPorts commands → Runs step commands old replies new
       → Runs step commands (renamed_numbered by next count old) replies (renamed_numbered by next count new)

@@ -16,7 +16,8 @@ use Rattle.iox_hub_laws.specs.Renaming.{Renaming, renamed_publisher, renamed_por
 
 -- What may be answered of one failed connection may be answered of another that differs in the number of the service alone.
 abbrev pub DegradesWhateverService : (DegradationInfo → DegradationAction → Type 0) → Type 0
-DegradesWhateverService may = (info : DegradationInfo) (service : ℕ) (action : DegradationAction) → may info action → may (record info { service_id = service }) action
+DegradesWhateverService may = (info : DegradationInfo) (service : ℕ) (action : DegradationAction) → may info action
+    → may (record info { service_id = service }) action
 
 -- What may be decided at one full mailbox may be decided at another that differs in the number of the service alone.
 abbrev pub DecidesWhateverService : (BackpressureInfo → BackpressureDecision → Type 0) → Type 0
@@ -40,7 +41,8 @@ module _ {T U : Type 0} where
 
 -- Where who decides doesn't look at the number of the service: calls of ports, one after another, may be answered under any names
 -- as they are, and the ports are in the end what they are, but for the names.
-abbrev pub CallsGoByAnyName : (T U : Type 0) → (ℕ → ℕ → Type 0) → (DegradationInfo → DegradationAction → Type 0) → (BackpressureInfo → BackpressureDecision → Type 0) → Type 0
+abbrev pub CallsGoByAnyName : (T U : Type 0) → (ℕ → ℕ → Type 0) → (DegradationInfo → DegradationAction → Type 0)
+    → (BackpressureInfo → BackpressureDecision → Type 0) → Type 0
 CallsGoByAnyName T U overrides may decide = (by : Renaming) (calls : List (PortCall T U × ServicePorts T U)) (old new : ServicePorts T U)
     → DegradesWhateverService may → DecidesWhateverService decide → AllTestAlike by calls → Happen overrides may decide calls old new
     → Happen overrides may decide (renamed_calls by calls) (renamed_ports by old) (renamed_ports by new)
@@ -48,9 +50,12 @@ CallsGoByAnyName T U overrides may decide = (by : Renaming) (calls : List (PortC
 -- What is read is the same under other names: the loan in a slot, the message and the header of a sample; and as much lives, of
 -- all and of each owner who shares the other number with none.
 pub record ReadsAlike (T U : Type 0) : Type 0 where
-  pub loan : (by : Renaming) (number slot : ℕ) (ports : ServicePorts T U) → loan_in number slot (renamed_ports by ports) ≡ loan_in number slot ports
-  pub sample : (by : Renaming) (sample : Taken) (ports : ServicePorts T U) → sample_in sample (renamed_ports by ports) ≡ sample_in sample ports
-  pub header : (by : Renaming) (sample : Taken) (ports : ServicePorts T U) → header_in sample (renamed_ports by ports) ≡ header_in sample ports
+  pub loan : (by : Renaming) (number slot : ℕ) (ports : ServicePorts T U)
+      → loan_in number slot (renamed_ports by ports) ≡ loan_in number slot ports
+  pub sample : (by : Renaming) (sample : Taken) (ports : ServicePorts T U)
+      → sample_in sample (renamed_ports by ports) ≡ sample_in sample ports
+  pub header : (by : Renaming) (sample : Taken) (ports : ServicePorts T U)
+      → header_in sample (renamed_ports by ports) ≡ header_in sample ports
   pub lives : (by : Renaming) (ports : ServicePorts T U) → living None (renamed_ports by ports) ≡ living None ports
   pub lives_of : (by : Renaming) (owner : ℕ) (ports : ServicePorts T U) → ((other : ℕ) → by.owners owner ≡ by.owners other → owner ≡ other)
       → living (Some (by.owners owner)) (renamed_ports by ports) ≡ living (Some owner) ports

@@ -26,6 +26,7 @@ module _ {T U B D : Type 0} (step : Command T → NumberedHub T U B D → Result
   -- Whatever run of a new hub, and whatever service: of each command it can be told whether it is of the service or of others, and of each
   -- life whether it is the service's.
   abbrev pub EachRunCanBeTold : Type 0
-  EachRunCanBeTold = (config : HubConfig) (hash : ServiceHash) (commands : List (Command T)) (first new : NumberedHub T U B D) (replies : List (Reply T))
+  EachRunCanBeTold = (config : HubConfig) (hash : ServiceHash) (commands : List (Command T)) (first new : NumberedHub T U B D)
+      (replies : List (Reply T))
       → IsNew config first → Runs (StepWithMemory step) commands first replies new
       → (mine : ℕ → Bool) × (told : List (Bool × Command T)) × (commands_told told ≡ commands) × RunsAmongOthers hash mine step told first (replies_told told replies) new

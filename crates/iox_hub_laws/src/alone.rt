@@ -26,8 +26,12 @@ pub fn a_service_is_as_if_alone<
     B: PublisherHandlers,
     D: SubscriberHandler,
 >()
-    ensures alone { IsAsIfAlone (Step (detail FixedSize T.name T.size T.alignment) (detail FixedSize U.name U.size U.alignment) (types_of T.name T.size T.alignment U.name U.size U.alignment) T.is_default U.is_default B.fixed (λ handlers. B.degrades handlers) (λ handlers. B.decides handlers) D.fixed (λ handler. D.degrades handler)) }
-    ensures told { EachRunCanBeTold (Step (detail FixedSize T.name T.size T.alignment) (detail FixedSize U.name U.size U.alignment) (types_of T.name T.size T.alignment U.name U.size U.alignment) T.is_default U.is_default B.fixed (λ handlers. B.degrades handlers) (λ handlers. B.decides handlers) D.fixed (λ handler. D.degrades handler)) }
+    ensures alone { IsAsIfAlone (Step (detail FixedSize T.name T.size T.alignment) (detail FixedSize U.name U.size U.alignment)
+        (types_of T.name T.size T.alignment U.name U.size U.alignment) T.is_default U.is_default B.fixed
+        (λ handlers. B.degrades handlers) (λ handlers. B.decides handlers) D.fixed (λ handler. D.degrades handler)) }
+    ensures told { EachRunCanBeTold (Step (detail FixedSize T.name T.size T.alignment) (detail FixedSize U.name U.size U.alignment)
+        (types_of T.name T.size T.alignment U.name U.size U.alignment) T.is_default U.is_default B.fixed
+        (λ handlers. B.degrades handlers) (λ handlers. B.decides handlers) D.fixed (λ handler. D.degrades handler)) }
 {}
 
 /// A life of a service's name starts with nothing. In every run of a new hub, the hub has nothing of a life that didn't begin yet: no
@@ -41,7 +45,13 @@ pub fn a_life_starts_with_nothing<
     B: PublisherHandlers,
     D: SubscriberHandler,
 >()
-    ensures ahead { NothingAhead (Step (detail FixedSize T.name T.size T.alignment) (detail FixedSize U.name U.size U.alignment) (types_of T.name T.size T.alignment U.name U.size U.alignment) T.is_default U.is_default B.fixed (λ handlers. B.degrades handlers) (λ handlers. B.decides handlers) D.fixed (λ handler. D.degrades handler)) }
-    ensures empty { DomainsStartEmpty (Step (detail FixedSize T.name T.size T.alignment) (detail FixedSize U.name U.size U.alignment) (types_of T.name T.size T.alignment U.name U.size U.alignment) T.is_default U.is_default B.fixed (λ handlers. B.degrades handlers) (λ handlers. B.decides handlers) D.fixed (λ handler. D.degrades handler)) }
-    ensures anew { LivesBeginAnew (Step (detail FixedSize T.name T.size T.alignment) (detail FixedSize U.name U.size U.alignment) (types_of T.name T.size T.alignment U.name U.size U.alignment) T.is_default U.is_default B.fixed (λ handlers. B.degrades handlers) (λ handlers. B.decides handlers) D.fixed (λ handler. D.degrades handler)) }
+    ensures ahead { NothingAhead (Step (detail FixedSize T.name T.size T.alignment) (detail FixedSize U.name U.size U.alignment)
+        (types_of T.name T.size T.alignment U.name U.size U.alignment) T.is_default U.is_default B.fixed
+        (λ handlers. B.degrades handlers) (λ handlers. B.decides handlers) D.fixed (λ handler. D.degrades handler)) }
+    ensures empty { DomainsStartEmpty (Step (detail FixedSize T.name T.size T.alignment) (detail FixedSize U.name U.size U.alignment)
+        (types_of T.name T.size T.alignment U.name U.size U.alignment) T.is_default U.is_default B.fixed
+        (λ handlers. B.degrades handlers) (λ handlers. B.decides handlers) D.fixed (λ handler. D.degrades handler)) }
+    ensures anew { LivesBeginAnew (Step (detail FixedSize T.name T.size T.alignment) (detail FixedSize U.name U.size U.alignment)
+        (types_of T.name T.size T.alignment U.name U.size U.alignment) T.is_default U.is_default B.fixed
+        (λ handlers. B.degrades handlers) (λ handlers. B.decides handlers) D.fixed (λ handler. D.degrades handler)) }
 {}

@@ -19,6 +19,7 @@ pub fn ports_go_by_any_name<T, U, O: Overrides, B: Decides + Degrades>(
     _overriding: &O,
     _handlers: &B,
 )
-    ensures calls { CallsGoByAnyName T U (O.overrides _overriding.now) (B.degrades _handlers.now cause.FailedToEstablishConnection) (B.decides _handlers.now) }
+    ensures calls { CallsGoByAnyName T U (O.overrides _overriding.now) (B.degrades _handlers.now cause.FailedToEstablishConnection)
+        (B.decides _handlers.now) }
     ensures reads { ReadsAlike T U }
 {}

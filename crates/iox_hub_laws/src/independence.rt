@@ -26,6 +26,10 @@ pub fn services_are_beside_one_another<
     D: SubscriberHandler,
 >()
     ensures found { LeftIsFound T U B D }
-    ensures steps { LeavesOthers (Step (detail FixedSize T.name T.size T.alignment) (detail FixedSize U.name U.size U.alignment) (types_of T.name T.size T.alignment U.name U.size U.alignment) T.is_default U.is_default B.fixed (λ handlers. B.degrades handlers) (λ handlers. B.decides handlers) D.fixed (λ handler. D.degrades handler)) }
-    ensures runs { RunsLeaveOthers (Step (detail FixedSize T.name T.size T.alignment) (detail FixedSize U.name U.size U.alignment) (types_of T.name T.size T.alignment U.name U.size U.alignment) T.is_default U.is_default B.fixed (λ handlers. B.degrades handlers) (λ handlers. B.decides handlers) D.fixed (λ handler. D.degrades handler)) }
+    ensures steps { LeavesOthers (Step (detail FixedSize T.name T.size T.alignment) (detail FixedSize U.name U.size U.alignment)
+        (types_of T.name T.size T.alignment U.name U.size U.alignment) T.is_default U.is_default B.fixed
+        (λ handlers. B.degrades handlers) (λ handlers. B.decides handlers) D.fixed (λ handler. D.degrades handler)) }
+    ensures runs { RunsLeaveOthers (Step (detail FixedSize T.name T.size T.alignment) (detail FixedSize U.name U.size U.alignment)
+        (types_of T.name T.size T.alignment U.name U.size U.alignment) T.is_default U.is_default B.fixed
+        (λ handlers. B.degrades handlers) (λ handlers. B.decides handlers) D.fixed (λ handler. D.degrades handler)) }
 {}

@@ -26,11 +26,26 @@ pub fn commands_look_at_their_service<
     B: PublisherHandlers,
     D: SubscriberHandler,
 >()
-    ensures ports { PortsAnswerAlike (Step (detail FixedSize T.name T.size T.alignment) (detail FixedSize U.name U.size U.alignment) (types_of T.name T.size T.alignment U.name U.size U.alignment) T.is_default U.is_default B.fixed (λ handlers. B.degrades handlers) (λ handlers. B.decides handlers) D.fixed (λ handler. D.degrades handler)) }
-    ensures foreign { ForeignAnswersAlike (Step (detail FixedSize T.name T.size T.alignment) (detail FixedSize U.name U.size U.alignment) (types_of T.name T.size T.alignment U.name U.size U.alignment) T.is_default U.is_default B.fixed (λ handlers. B.degrades handlers) (λ handlers. B.decides handlers) D.fixed (λ handler. D.degrades handler)) }
-    ensures close { CloseAnswersAlike (Step (detail FixedSize T.name T.size T.alignment) (detail FixedSize U.name U.size U.alignment) (types_of T.name T.size T.alignment U.name U.size U.alignment) T.is_default U.is_default B.fixed (λ handlers. B.degrades handlers) (λ handlers. B.decides handlers) D.fixed (λ handler. D.degrades handler)) }
-    ensures opens { OpensAnswerAlike (Step (detail FixedSize T.name T.size T.alignment) (detail FixedSize U.name U.size U.alignment) (types_of T.name T.size T.alignment U.name U.size U.alignment) T.is_default U.is_default B.fixed (λ handlers. B.degrades handlers) (λ handlers. B.decides handlers) D.fixed (λ handler. D.degrades handler)) }
-    ensures order { StaysInOrder (Step (detail FixedSize T.name T.size T.alignment) (detail FixedSize U.name U.size U.alignment) (types_of T.name T.size T.alignment U.name U.size U.alignment) T.is_default U.is_default B.fixed (λ handlers. B.degrades handlers) (λ handlers. B.decides handlers) D.fixed (λ handler. D.degrades handler)) }
-    ensures run_order { RunsAreInOrder (Step (detail FixedSize T.name T.size T.alignment) (detail FixedSize U.name U.size U.alignment) (types_of T.name T.size T.alignment U.name U.size U.alignment) T.is_default U.is_default B.fixed (λ handlers. B.degrades handlers) (λ handlers. B.decides handlers) D.fixed (λ handler. D.degrades handler)) }
-    ensures runs { RunsAnswerAlike (Step (detail FixedSize T.name T.size T.alignment) (detail FixedSize U.name U.size U.alignment) (types_of T.name T.size T.alignment U.name U.size U.alignment) T.is_default U.is_default B.fixed (λ handlers. B.degrades handlers) (λ handlers. B.decides handlers) D.fixed (λ handler. D.degrades handler)) }
+    ensures ports { PortsAnswerAlike (Step (detail FixedSize T.name T.size T.alignment) (detail FixedSize U.name U.size U.alignment)
+        (types_of T.name T.size T.alignment U.name U.size U.alignment) T.is_default U.is_default B.fixed
+        (λ handlers. B.degrades handlers) (λ handlers. B.decides handlers) D.fixed (λ handler. D.degrades handler)) }
+    ensures foreign { ForeignAnswersAlike
+        (Step (detail FixedSize T.name T.size T.alignment) (detail FixedSize U.name U.size U.alignment)
+        (types_of T.name T.size T.alignment U.name U.size U.alignment) T.is_default U.is_default B.fixed
+        (λ handlers. B.degrades handlers) (λ handlers. B.decides handlers) D.fixed (λ handler. D.degrades handler)) }
+    ensures close { CloseAnswersAlike (Step (detail FixedSize T.name T.size T.alignment) (detail FixedSize U.name U.size U.alignment)
+        (types_of T.name T.size T.alignment U.name U.size U.alignment) T.is_default U.is_default B.fixed
+        (λ handlers. B.degrades handlers) (λ handlers. B.decides handlers) D.fixed (λ handler. D.degrades handler)) }
+    ensures opens { OpensAnswerAlike (Step (detail FixedSize T.name T.size T.alignment) (detail FixedSize U.name U.size U.alignment)
+        (types_of T.name T.size T.alignment U.name U.size U.alignment) T.is_default U.is_default B.fixed
+        (λ handlers. B.degrades handlers) (λ handlers. B.decides handlers) D.fixed (λ handler. D.degrades handler)) }
+    ensures order { StaysInOrder (Step (detail FixedSize T.name T.size T.alignment) (detail FixedSize U.name U.size U.alignment)
+        (types_of T.name T.size T.alignment U.name U.size U.alignment) T.is_default U.is_default B.fixed
+        (λ handlers. B.degrades handlers) (λ handlers. B.decides handlers) D.fixed (λ handler. D.degrades handler)) }
+    ensures run_order { RunsAreInOrder (Step (detail FixedSize T.name T.size T.alignment) (detail FixedSize U.name U.size U.alignment)
+        (types_of T.name T.size T.alignment U.name U.size U.alignment) T.is_default U.is_default B.fixed
+        (λ handlers. B.degrades handlers) (λ handlers. B.decides handlers) D.fixed (λ handler. D.degrades handler)) }
+    ensures runs { RunsAnswerAlike (Step (detail FixedSize T.name T.size T.alignment) (detail FixedSize U.name U.size U.alignment)
+        (types_of T.name T.size T.alignment U.name U.size U.alignment) T.is_default U.is_default B.fixed
+        (λ handlers. B.degrades handlers) (λ handlers. B.decides handlers) D.fixed (λ handler. D.degrades handler)) }
 {}

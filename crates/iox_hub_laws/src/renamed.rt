@@ -25,9 +25,18 @@ pub fn commands_go_by_any_number<
     B: PublisherHandlers,
     D: SubscriberHandler,
 >()
-    ensures each { LooksAtNoService B D B.degrades B.decides D.degrades → GoesByAnyNumber (Step (detail FixedSize T.name T.size T.alignment) (detail FixedSize U.name U.size U.alignment) (types_of T.name T.size T.alignment U.name U.size U.alignment) T.is_default U.is_default B.fixed (λ handlers. B.degrades handlers) (λ handlers. B.decides handlers) D.fixed (λ handler. D.degrades handler)) }
-    ensures runs { LooksAtNoService B D B.degrades B.decides D.degrades → RunGoesByAnyNumber (Step (detail FixedSize T.name T.size T.alignment) (detail FixedSize U.name U.size U.alignment) (types_of T.name T.size T.alignment U.name U.size U.alignment) T.is_default U.is_default B.fixed (λ handlers. B.degrades handlers) (λ handlers. B.decides handlers) D.fixed (λ handler. D.degrades handler)) }
-    ensures all { LooksAtNoService B D B.degrades B.decides D.degrades → EachGoesByOtherNumbers (Step (detail FixedSize T.name T.size T.alignment) (detail FixedSize U.name U.size U.alignment) (types_of T.name T.size T.alignment U.name U.size U.alignment) T.is_default U.is_default B.fixed (λ handlers. B.degrades handlers) (λ handlers. B.decides handlers) D.fixed (λ handler. D.degrades handler)) }
+    ensures each { LooksAtNoService B D B.degrades B.decides D.degrades
+        → GoesByAnyNumber (Step (detail FixedSize T.name T.size T.alignment) (detail FixedSize U.name U.size U.alignment)
+        (types_of T.name T.size T.alignment U.name U.size U.alignment) T.is_default U.is_default B.fixed
+        (λ handlers. B.degrades handlers) (λ handlers. B.decides handlers) D.fixed (λ handler. D.degrades handler)) }
+    ensures runs { LooksAtNoService B D B.degrades B.decides D.degrades
+        → RunGoesByAnyNumber (Step (detail FixedSize T.name T.size T.alignment) (detail FixedSize U.name U.size U.alignment)
+        (types_of T.name T.size T.alignment U.name U.size U.alignment) T.is_default U.is_default B.fixed
+        (λ handlers. B.degrades handlers) (λ handlers. B.decides handlers) D.fixed (λ handler. D.degrades handler)) }
+    ensures all { LooksAtNoService B D B.degrades B.decides D.degrades
+        → EachGoesByOtherNumbers (Step (detail FixedSize T.name T.size T.alignment) (detail FixedSize U.name U.size U.alignment)
+        (types_of T.name T.size T.alignment U.name U.size U.alignment) T.is_default U.is_default B.fixed
+        (λ handlers. B.degrades handlers) (λ handlers. B.decides handlers) D.fixed (λ handler. D.degrades handler)) }
 {}
 
 /// In any run of a new hub, the commands of a service, with those that make nodes, are a run of a new hub by themselves, with the
@@ -40,7 +49,10 @@ pub fn all_numbers_are_counted_anew<
     B: PublisherHandlers,
     D: SubscriberHandler,
 >()
-    ensures { LooksAtNoService B D B.degrades B.decides D.degrades → EachServiceIsAlone (Step (detail FixedSize T.name T.size T.alignment) (detail FixedSize U.name U.size U.alignment) (types_of T.name T.size T.alignment U.name U.size U.alignment) T.is_default U.is_default B.fixed (λ handlers. B.degrades handlers) (λ handlers. B.decides handlers) D.fixed (λ handler. D.degrades handler)) }
+    ensures { LooksAtNoService B D B.degrades B.decides D.degrades
+        → EachServiceIsAlone (Step (detail FixedSize T.name T.size T.alignment) (detail FixedSize U.name U.size U.alignment)
+        (types_of T.name T.size T.alignment U.name U.size U.alignment) T.is_default U.is_default B.fixed
+        (λ handlers. B.degrades handlers) (λ handlers. B.decides handlers) D.fixed (λ handler. D.degrades handler)) }
 {}
 
 /// So it is in the program's hub, whose ports are decided for by fixed actions: these look at no number of a service. It is the
@@ -49,5 +61,6 @@ pub fn fixed_actions_look_at_no_service<
     T: Words + ZeroCopySend + Default,
     U: Copy + ZeroCopySend + Default,
 >()
-    ensures { EachServiceIsAlone (FixedStep (detail FixedSize T.name T.size T.alignment) (detail FixedSize U.name U.size U.alignment) (types_of T.name T.size T.alignment U.name U.size U.alignment) T.is_default U.is_default) }
+    ensures { EachServiceIsAlone (FixedStep (detail FixedSize T.name T.size T.alignment) (detail FixedSize U.name U.size U.alignment)
+        (types_of T.name T.size T.alignment U.name U.size U.alignment) T.is_default U.is_default) }
 {}

@@ -1,5 +1,5 @@
-//! Handlers that commands name by their places: what is asked of them, and which are left.
-ghost use Rattle.std.specs.Prelude.{◌≡◌, ◌+◌, ◌<◌, ◌≤◌, ◌^◌, length};
+//! Handlers that commands name by their places: what is asked of them, how often, and which are left.
+ghost use Rattle.std.specs.Prelude.{◌+◌, ◌<◌, ◌≤◌, ◌^◌, ⊤, length};
 ghost use Rattle.iox_hub_run.specs.Numbers.{numbers_used};
 
 use iox_command::{Command, Reply};
@@ -11,6 +11,7 @@ use iox_hub::{GivenHandler, GivenHandlers, HandledCommand, run, step};
 use iox_hub_run::{HubConfig, NumberedHub};
 use iox_line::{Scratch, print_reply, read_command};
 use std::alloc::{AllocError, Global};
+use std::cell::Cell;
 use std::process::Abort;
 
 // A hub of messages of numbers, for whose ports boxed handlers may decide.
@@ -25,31 +26,45 @@ const CONFIG: HubConfig = HubConfig {
     id: 0,
 };
 
-// An object that answers this action at each full mailbox.
+// Two actions, of which the first is the answer at first, and then each in turn: so answers show how often it was asked.
 #[derive(Drop)]
-struct AtFull {
-    action: BackpressureAction,
+struct InTurn<A> {
+    actions: (A, A),
+    is_second: Cell<bool>,
 }
 
-impl BackpressureFn for AtFull {
-    ghost allows = { λ object info answer. answer ≡ object.action };
+impl<A: Copy> InTurn<A> {
+    fn new(actions: (A, A)) -> Self {
+        InTurn {
+            actions,
+            is_second: Cell::new(false),
+        }
+    }
 
-    fn call(&self, info: &BackpressureInfo) -> BackpressureAction {
-        self.action
+    fn next(&self) -> A {
+        let is_second = self.is_second.get();
+        self.is_second.set(!is_second);
+        if is_second {
+            self.actions.1
+        } else {
+            self.actions.0
+        }
     }
 }
 
-// An object that answers this action wherever a connection failed.
-#[derive(Drop)]
-struct AtFailure {
-    action: DegradationAction,
+impl BackpressureFn for InTurn<BackpressureAction> {
+    ghost allows = { λ _ _ _. ⊤ };
+
+    fn call(&self, info: &BackpressureInfo) -> BackpressureAction {
+        self.next()
+    }
 }
 
-impl DegradationFn for AtFailure {
-    ghost allows = { λ object cause info answer. answer ≡ object.action };
+impl DegradationFn for InTurn<DegradationAction> {
+    ghost allows = { λ _ _ _ _. ⊤ };
 
     fn call(&self, cause: DegradationCause, info: &DegradationInfo) -> DegradationAction {
-        self.action
+        self.next()
     }
 }
 
@@ -57,9 +72,9 @@ impl DegradationFn for AtFailure {
 fn hand_full(
     alloc: Global,
     given: &mut Given,
-    action: BackpressureAction,
+    actions: (BackpressureAction, BackpressureAction),
 ) -> Result<(), AllocError> {
-    let object = Box::new(alloc, AtFull { action })?;
+    let object = Box::new(alloc, InTurn::new(actions))?;
     given.hand_in(GivenHandler::Backpressure(BackpressureHandler::boxed(object)))?;
     Ok(())
 }
@@ -68,28 +83,46 @@ fn hand_full(
 fn hand_failure(
     alloc: Global,
     given: &mut Given,
-    action: DegradationAction,
+    actions: (DegradationAction, DegradationAction),
 ) -> Result<(), AllocError> {
-    let object = Box::new(alloc, AtFailure { action })?;
+    let object = Box::new(alloc, InTurn::new(actions))?;
     given.hand_in(GivenHandler::Degradation(DegradationHandler::boxed(object)))?;
     Ok(())
 }
 
 // What those for full mailboxes do, at places 1 to 4.
-const AT_FULL: [BackpressureAction; 4] = [
-    BackpressureAction::Retry,
-    BackpressureAction::DiscardData,
-    BackpressureAction::DiscardDataAndFail,
-    BackpressureAction::FollowBackpressureyStrategy,
+const AT_FULL: [(BackpressureAction, BackpressureAction); 4] = [
+    (BackpressureAction::Retry, BackpressureAction::DiscardData),
+    (
+        BackpressureAction::DiscardData,
+        BackpressureAction::DiscardDataAndFail,
+    ),
+    (
+        BackpressureAction::DiscardDataAndFail,
+        BackpressureAction::DiscardData,
+    ),
+    (
+        BackpressureAction::FollowBackpressureyStrategy,
+        BackpressureAction::DiscardDataAndFail,
+    ),
 ];
 
-// Hands in six objects: at places 1 to 4 for full mailboxes, at places 5 and 6 for connections that failed, which fail, and pass it over.
+// What those for connections that failed do, at places 5 and 6.
+const AT_FAILURE: [(DegradationAction, DegradationAction); 2] = [
+    (DegradationAction::Ignore, DegradationAction::DegradeAndFail),
+    (
+        DegradationAction::DegradeAndFail,
+        DegradationAction::DegradeAndFail,
+    ),
+];
+
+// Hands in six objects: at places 1 to 4 for full mailboxes, at places 5 and 6 for connections that failed.
 fn hand_in(alloc: Global, given: &mut Given) -> Result<(), AllocError> {
-    for action in &AT_FULL {
-        hand_full(alloc, given, *action)?;
+    for actions in &AT_FULL {
+        hand_full(alloc, given, *actions)?;
     }
-    hand_failure(alloc, given, DegradationAction::DegradeAndFail)?;
-    hand_failure(alloc, given, DegradationAction::Ignore)
+    hand_failure(alloc, given, AT_FAILURE[0])?;
+    hand_failure(alloc, given, AT_FAILURE[1])
 }
 
 // A line, the places that it names, at a full mailbox and where a connection failed, and the reply.
@@ -191,8 +224,9 @@ fn go(rt: &impl Abort, alloc: Global, case: &Case) -> Result<(), AllocError> {
     Ok(())
 }
 
-// A full mailbox of a service without overflow is asked of the object that the publisher took, and of no action that the command names.
-const FULL: [Row; 21] = [
+// A full mailbox of a service without overflow is asked of the object that the publisher took, and of no action that the command names:
+// once a try, and not where the mailbox has room. Where each connection is made, none is asked about it.
+const FULL: [Row; 27] = [
     ("node", None, None, "ok n1"),
     (
         "create n1 ps A overflow=0 buffer=1 publishers=5",
@@ -210,7 +244,7 @@ const FULL: [Row; 21] = [
     ("publisher f1 handler=fail", Some(2), None, "ok p2"),
     ("publisher f1 handler=discard", Some(3), Some(6), "ok p3"),
     (
-        "publisher f1 strategy=discard handler=fail",
+        "publisher f1 strategy=discard handler=retry",
         Some(4),
         None,
         "ok p4",
@@ -223,16 +257,22 @@ const FULL: [Row; 21] = [
     ("put p4 4", None, None, "ok 1"),
     ("put p5 5", None, None, "ok 1"),
     ("put p1 6", None, None, "blocked"),
-    ("retry p1 5", None, None, "blocked"),
-    ("put p2 7", None, None, "ok 0"),
-    ("put p3 8", None, None, "err SendError::UnableToDeliver"),
-    ("put p4 9", None, None, "ok 0"),
-    ("put p5 10", None, None, "err SendError::UnableToDeliver"),
-    ("giveup p1", None, None, "ok 0"),
+    ("retry p1 5", None, None, "ok 0"),
+    ("put p1 7", None, None, "blocked"),
+    ("receive s1", None, None, "ok m1 1"),
+    ("retry p1 5", None, None, "ok 1"),
+    ("put p1 8", None, None, "ok 0"),
+    ("put p2 9", None, None, "ok 0"),
+    ("put p2 10", None, None, "err SendError::UnableToDeliver"),
+    ("put p3 11", None, None, "err SendError::UnableToDeliver"),
+    ("put p3 12", None, None, "ok 0"),
+    ("put p4 13", None, None, "ok 0"),
+    ("put p4 14", None, None, "err SendError::UnableToDeliver"),
+    ("put p5 15", None, None, "err SendError::UnableToDeliver"),
 ];
 
-// A connection that fails is asked of the object that the subscriber took.
-const FAILURE: [Row; 18] = [
+// A connection that fails is asked of the object that the subscriber took: once at each call that tries it, and not where it is made.
+const FAILURE: [Row; 25] = [
     ("node", None, None, "ok n1"),
     (
         "create n1 ps A publishers=1 borrowed=1",
@@ -241,7 +281,7 @@ const FAILURE: [Row; 18] = [
         "ok f1",
     ),
     ("subscriber f1 degrade=ignore", None, Some(5), "ok s1"),
-    ("publisher f1", None, None, "ok p1"),
+    ("publisher f1", None, Some(6), "ok p1"),
     ("put p1 7", None, None, "ok 1"),
     ("receive s1", None, None, "ok m1 7"),
     ("leave p1", None, None, "ok"),
@@ -253,6 +293,14 @@ const FAILURE: [Row; 18] = [
     ("update s1", None, None, "ok"),
     ("publisher f1", None, None, "ok p3"),
     ("put p3 9", None, None, "ok 1"),
+    ("receive s1", None, None, "none"),
+    (
+        "has s1",
+        None,
+        None,
+        "err ConnectionFailure::FailedToEstablishConnection(ExpiredConnectionBufferFull)",
+    ),
+    ("update s1", None, None, "ok"),
     (
         "receive s1",
         None,
@@ -261,6 +309,15 @@ const FAILURE: [Row; 18] = [
     ),
     ("release m1", None, None, "ok"),
     ("receive s1", None, None, "ok m3 9"),
+    ("leave p3", None, None, "ok"),
+    ("publisher f1", None, None, "ok p4"),
+    ("update s1", None, None, "ok"),
+    (
+        "update s1",
+        None,
+        None,
+        "err ConnectionFailure::FailedToEstablishConnection(ExpiredConnectionBufferFull)",
+    ),
 ];
 
 // Skipped are commands that name place 0, a place past the last, one of the other kind, or an empty one; also where they name another that
@@ -319,7 +376,7 @@ const CASES: [Case; 4] = [
     },
     Case {
         rows: &FAILURE,
-        left: &[true, true, true, true, false, true],
+        left: &[true, true, true, true, false, false],
     },
     Case {
         rows: &SKIPPED,
@@ -346,11 +403,27 @@ fn handlers_that_are_named_are_asked(rt: HostRuntime) -> Result<(), AllocError> 
 // How many commands are run, with as many objects handed in.
 const LENGTHS: [usize; 6] = [0, 1, 2, 7, 64, 1000];
 
-// So many nodes.
+// A loan, for whose number a run makes room, of a publisher that isn't there.
+const LOAN: Command<'static, u64> = Command::Loan {
+    publisher: 1,
+    length: 1,
+};
+
+// So many loans.
+fn loans(alloc: Global, len: usize) -> Result<Vec<Command<'static, u64>>, AllocError> {
+    let mut commands = Vec::new(alloc);
+    for _ in 0..len {
+        commands.push(LOAN)?;
+    }
+    Ok(commands)
+}
+
+// So many nodes, and behind each a loan.
 fn nodes(alloc: Global, len: usize) -> Result<Vec<HandledCommand<'static, u64>>, AllocError> {
     let mut commands = Vec::new(alloc);
     for _ in 0..len {
         commands.push(HandledCommand::Plain(Command::Node))?;
+        commands.push(HandledCommand::Plain(LOAN))?;
     }
     Ok(commands)
 }
@@ -359,7 +432,7 @@ fn nodes(alloc: Global, len: usize) -> Result<Vec<HandledCommand<'static, u64>>,
 fn objects(alloc: Global, len: usize) -> Result<Given, AllocError> {
     let mut given = Given::new(alloc);
     for _ in 0..len {
-        hand_failure(alloc, &mut given, DegradationAction::Ignore)?;
+        hand_failure(alloc, &mut given, AT_FAILURE[0])?;
     }
     Ok(given)
 }
@@ -369,13 +442,21 @@ fn runs(alloc: Global, len: usize) -> Result<bool, AllocError> {
     let mut given = objects(alloc, len)?;
     let mut hub = Numbers::new(alloc, CONFIG);
     let report = run(&mut hub, alloc, nodes(alloc, len)?, &mut given);
-    Ok(!report.stopped && report.replies.len() == len && given.places.len() == len)
+    Ok(!report.stopped && report.replies.len() / 2 == len && given.places.len() == len)
+}
+
+// Whether as many loans are replied to in a run without handlers.
+fn runs_alone(alloc: Global, len: usize) -> Result<bool, AllocError> {
+    let mut hub = NumberedHub::<u64, u64>::new(alloc, CONFIG);
+    let report = hub.run(alloc, loans(alloc, len)?);
+    Ok(!report.stopped && report.replies.len() == len)
 }
 
 #[test]
 fn lists_of_commands_are_run(rt: HostRuntime) -> Result<(), AllocError> {
     for len in &LENGTHS {
         assert!(rt; runs(rt.alloc(), *len)?, "{len}");
+        assert!(rt; runs_alone(rt.alloc(), *len)?, "{len} alone");
     }
     Ok(())
 }

@@ -30,4 +30,5 @@ DomainsServe {T} {U} {B} {D} table hub = (one : ℕ) (factory : MadeFactory) (pr
 
 -- Where each service has one agreement, its factories agree, and its domain serves them.
 abbrev pub AgreementIsOne : Type 0 → Type 0 → Type 0 → Type 0 → Type 0
-AgreementIsOne T U B D = (table : FactoryTable) (hub : Hub T U B D) → AreOfOneAgreement table hub → FactoriesAgree table × DomainsServe table hub
+AgreementIsOne T U B D = (table : FactoryTable) (hub : Hub T U B D) → AreOfOneAgreement table hub → FactoriesAgree table
+    × DomainsServe table hub

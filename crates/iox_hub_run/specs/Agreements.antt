@@ -22,7 +22,8 @@ HoldsOfDomains P domains = AllByRecursion (λ service. P service.0 (agreed_in se
 
 -- so it is with the service's number of each factory, and what the factory carries as agreed
 abbrev pub HoldsOfFactories : (ℕ → Agreement → Type 0) → FactoryTable → Type 0
-HoldsOfFactories P table = AllByRecursion (λ factory. P (parts_of factory.1).0.service.number (parts_of factory.1).0.service.description) table.entries
+HoldsOfFactories P table = AllByRecursion
+    (λ factory. P (parts_of factory.1).0.service.number (parts_of factory.1).0.service.description) table.entries
 
 -- This is what the service of a number agreed on: it was published under the number, each factory of the service carries just this,
 -- and its domain, where it has one, is for just these settings.
@@ -36,4 +37,5 @@ pub record IsAgreement {T U B D : Type 0} (number : ℕ) (agreed : Agreement) (m
 pub record AreOfOneAgreement {T U B D : Type 0} (made : FactoryTable) (hub : Hub T U B D) : Type 0 where
   pub is_reached : IsReached hub.table
   pub of_factories : HoldsOfFactories (λ number agreed. IsAgreement number agreed made hub) made
-  pub of_domains : HoldsOfDomains (λ number config. (agreed : Agreement) × IsAgreement number agreed made hub × (agreed.settings ≡ PublishSubscribe config)) hub.services.domains
+  pub of_domains : HoldsOfDomains (λ number config. (agreed : Agreement) × IsAgreement number agreed made hub
+      × (agreed.settings ≡ PublishSubscribe config)) hub.services.domains

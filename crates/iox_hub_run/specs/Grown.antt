@@ -37,7 +37,8 @@ LeadsTo {T} {U} old new = (calls : List (PortCall T U × ServicePorts T U)) × H
 -- the ports of a domain that is here came, by calls of ports, from a service without ports: of its number, and of the sizes that
 -- it agreed on
 abbrev pub HasGrown : {T U B D : Type 0} → ℕ → Presence T U B D → Type 0
-HasGrown number (Here domain) = (expired_connection_buffer : ℕ) × LeadsTo (no_ports number (sizes expired_connection_buffer domain.agreed)) domain.state.ports
+HasGrown number (Here domain) = (expired_connection_buffer : ℕ)
+    × LeadsTo (no_ports number (sizes expired_connection_buffer domain.agreed)) domain.state.ports
 HasGrown number (Out agreed) = Unit {0}
 
 -- so it is with each service that is open

@@ -31,7 +31,8 @@ module _ {V : Type 0} where
 
 -- ports, loans and samples go by the numbers that they went by, and no number was given out
 abbrev pub AllStay : Made → Made → Type 0
-AllStay old new = Stays old.publishers new.publishers × Stays old.subscribers new.subscribers × Stays old.loans new.loans × Stays old.samples new.samples
+AllStay old new = Stays old.publishers new.publishers × Stays old.subscribers new.subscribers × Stays old.loans new.loans
+    × Stays old.samples new.samples
 
 -- among ports, loans and samples there is one more, or one less, and all others stay
 abbrev pub OneChanges : Made → Made → Type 0

@@ -23,4 +23,5 @@ pub record IsNew {T U B D : Type 0} (config : HubConfig) (hub : NumberedHub T U 
 
 -- the numbers that come next, of each kind but nodes, all together: each command adds one at most
 abbrev pub numbers_used : {T U B D : Type 0} → NumberedHub T U B D → ℕ
-numbers_used hub = hub.factories.made.next + (hub.made.publishers.next + (hub.made.subscribers.next + (hub.made.loans.next + hub.made.samples.next)))
+numbers_used hub = hub.factories.made.next +
+    (hub.made.publishers.next + (hub.made.subscribers.next + (hub.made.loans.next + hub.made.samples.next)))

@@ -56,7 +56,8 @@ module _ {T U B D : Type 0} where
 
   -- A sample came that has values, and is held under the next number.
   abbrev pub CameUnread : NumberedHub T U B D → NumberedHub T U B D → Type 0
-  CameUnread old new = (new.made.samples.next ≡ old.made.samples.next + 1) × SomeValues (values_under hub_ports (value_at new.made.samples old.made.samples.next) new.hub)
+  CameUnread old new = (new.made.samples.next ≡ old.made.samples.next + 1)
+      × SomeValues (values_under hub_ports (value_at new.made.samples old.made.samples.next) new.hub)
 
   -- What a command that isn't replied to lacked memory for, where the ports that are there have room: one that lends for the
   -- number of a loan, but only where no publisher is there; one that receives for the number of a sample, where no subscriber is

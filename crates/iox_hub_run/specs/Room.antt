@@ -57,7 +57,8 @@ module _ {T U B D : Type 0} where
 
   -- Commands are a run of the hub, once there is room for the numbers of all loans and samples that they may make; or no memory
   -- was found for the list of their replies or for that room, and none is carried out.
-  abbrev pub RunsInRoom : (Command T → NumberedHub T U B D → Result (Reply T) AllocError → NumberedHub T U B D → Type 0) → List (Command T) → NumberedHub T U B D → List (Reply T) → Bool → NumberedHub T U B D → Type 0
+  abbrev pub RunsInRoom : (Command T → NumberedHub T U B D → Result (Reply T) AllocError → NumberedHub T U B D → Type 0)
+      → List (Command T) → NumberedHub T U B D → List (Reply T) → Bool → NumberedHub T U B D → Type 0
   RunsInRoom step commands old replies stopped new =
       (roomier : NumberedHub T U B D) × OnlyRoomier old roomier × IsRun step commands roomier replies stopped new
       × (FitsAll (loans_in commands) (samples_in commands) roomier.made ⊎ NeverBegins step commands roomier replies new)

@@ -7,4 +7,5 @@ use Rattle.iox_hub_run.specs.declared.numbered_hub.NumberedHub.{NumberedHub}
 -- A new hub with more room is a new hub: so what holds in every run of a new hub holds in every run that made room before its
 -- first command.
 abbrev pub StaysNew : (T U B D : Type 0) → Type 0
-StaysNew T U B D = (config : HubConfig) (old roomier : NumberedHub T U B D) → OnlyRoomier old roomier → IsNew config old → IsNew config roomier
+StaysNew T U B D = (config : HubConfig) (old roomier : NumberedHub T U B D) → OnlyRoomier old roomier → IsNew config old
+    → IsNew config roomier

@@ -52,28 +52,32 @@ module _ {T U B D : Type 0} where
       (answer ≡ reply.NodeMade (one_more old.hub.nodes)) × (new ≡ record old { hub = record old.hub { nodes = one_more old.hub.nodes } })
 
   -- A service is created, and its factory gets the next number.
-  abbrev pub Creates : Detail → Detail → MessageTypeDetails → ServiceAsked → List Attribute → List StepBefore → NumberedHub T U B D → Reply T → NumberedHub T U B D → Type 0
+  abbrev pub Creates : Detail → Detail → MessageTypeDetails → ServiceAsked → List Attribute → List StepBefore → NumberedHub T U B D
+      → Reply T → NumberedHub T U B D → Type 0
   Creates payload user_header types asked attributes steps old answer new =
       (made : Option (Result ℕ Refusal))
       × CreatesNumbered (is_node asked.node old.hub.nodes) payload user_header types asked attributes steps old.factories.made old.hub made new.factories.made new.hub
       × (new.made ≡ old.made) × (answer ≡ factory_reply made)
 
   -- A service is opened, and its factory gets the next number.
-  abbrev pub Opens : Detail → Detail → MessageTypeDetails → ServiceAsked → Required → List StepBefore → NumberedHub T U B D → Reply T → NumberedHub T U B D → Type 0
+  abbrev pub Opens : Detail → Detail → MessageTypeDetails → ServiceAsked → Required → List StepBefore → NumberedHub T U B D → Reply T
+      → NumberedHub T U B D → Type 0
   Opens payload user_header types asked attributes steps old answer new =
       (made : Option (Result ℕ Refusal))
       × OpensNumbered (is_node asked.node old.hub.nodes) payload user_header types asked attributes steps old.factories.made old.hub made new.factories.made new.hub
       × (new.made ≡ old.made) × (answer ≡ factory_reply made)
 
   -- A service is opened, or created where none stands, and its factory gets the next number.
-  abbrev pub OpensOrCreates : Detail → Detail → MessageTypeDetails → ServiceAsked → Required → List StepBefore → NumberedHub T U B D → Reply T → NumberedHub T U B D → Type 0
+  abbrev pub OpensOrCreates : Detail → Detail → MessageTypeDetails → ServiceAsked → Required → List StepBefore → NumberedHub T U B D
+      → Reply T → NumberedHub T U B D → Type 0
   OpensOrCreates payload user_header types asked attributes steps old answer new =
       (made : Option (Result ℕ Refusal))
       × EitherNumbered (is_node asked.node old.hub.nodes) payload user_header types asked attributes steps old.factories.made old.hub made new.factories.made new.hub
       × (new.made ≡ old.made) × (answer ≡ factory_reply made)
 
   -- Nodes of others act on a service.
-  abbrev pub Acts : MessagingPattern → List ℕ → MessageTypeDetails → List ForeignStep → NumberedHub T U B D → Reply T → NumberedHub T U B D → Type 0
+  abbrev pub Acts : MessagingPattern → List ℕ → MessageTypeDetails → List ForeignStep → NumberedHub T U B D → Reply T
+      → NumberedHub T U B D → Type 0
   Acts pattern name types steps old answer new =
       (acted : Result (Unit {0}) HubError) × ActsNamed pattern name types steps old.hub acted new.hub
       × (new ≡ record old { hub = new.hub }) × (answer ≡ foreign_reply acted)
@@ -86,35 +90,43 @@ module _ {T U B D : Type 0} where
       × (new.made ≡ old.made) × (answer ≡ closed_reply closed)
 
   -- A publisher comes to a domain, with what is named, and these handlers decide for it.
-  abbrev pub PublisherArrives : (U → Type 0) → (B → DegradationCause → DegradationInfo → DegradationAction → Type 0) → DomainId → PortOwner → PublisherOptions → B → NumberedHub T U B D → Reply T → NumberedHub T U B D → Type 0
+  abbrev pub PublisherArrives : (U → Type 0) → (B → DegradationCause → DegradationInfo → DegradationAction → Type 0) → DomainId
+      → PortOwner → PublisherOptions → B → NumberedHub T U B D → Reply T → NumberedHub T U B D → Type 0
   PublisherArrives is_default degrades domain owner options handlers old answer new =
       PublisherStep hub_ports with_hub_ports with_hub_publisher degrades is_default domain (publisher_config owner options) options.preallocated_samples handlers old.made old.hub answer new.made new.hub
       × (new.factories ≡ old.factories)
 
   -- A publisher of the service of a factory comes, if that is of publish-subscribe.
-  abbrev pub PublisherComes : (U → Type 0) → (BackpressureStrategy → Option BackpressureAction → DegradationAction → B) → (B → DegradationCause → DegradationInfo → DegradationAction → Type 0)
+  abbrev pub PublisherComes : (U → Type 0) → (BackpressureStrategy → Option BackpressureAction → DegradationAction → B)
+      → (B → DegradationCause → DegradationInfo → DegradationAction → Type 0)
       → Option Opened → PublisherOptions → NumberedHub T U B D → Reply T → NumberedHub T U B D → Type 0
   PublisherComes is_default fixed degrades None options old answer new = (answer ≡ reply.Skipped) × (new ≡ old)
   PublisherComes is_default fixed degrades (Some opened) options old answer new =
       PublisherArrives is_default degrades (domain_of_factory opened) (owner_of_factory opened) options (publisher_handlers fixed options) old answer new
 
   -- A publisher of the service of the factory that goes by a number comes.
-  abbrev pub MakesPublisher : (U → Type 0) → (BackpressureStrategy → Option BackpressureAction → DegradationAction → B) → (B → DegradationCause → DegradationInfo → DegradationAction → Type 0)
+  abbrev pub MakesPublisher : (U → Type 0) → (BackpressureStrategy → Option BackpressureAction → DegradationAction → B)
+      → (B → DegradationCause → DegradationInfo → DegradationAction → Type 0)
       → ℕ → PublisherOptions → NumberedHub T U B D → Reply T → NumberedHub T U B D → Type 0
-  MakesPublisher is_default fixed degrades factory options old answer new = PublisherComes is_default fixed degrades (publish_subscribe_in (value_at old.factories.made factory)) options old answer new
+  MakesPublisher is_default fixed degrades factory options old answer new
+      = PublisherComes is_default fixed degrades (publish_subscribe_in (value_at old.factories.made factory)) options old answer new
 
   -- A subscriber comes to a domain, with what is named, and this handler decides for it.
-  abbrev pub SubscriberArrives : (D → DegradationCause → DegradationInfo → DegradationAction → Type 0) → DomainId → PortOwner → SubscriberOptions → D → NumberedHub T U B D → Reply T → NumberedHub T U B D → Type 0
+  abbrev pub SubscriberArrives : (D → DegradationCause → DegradationInfo → DegradationAction → Type 0) → DomainId → PortOwner
+      → SubscriberOptions → D → NumberedHub T U B D → Reply T → NumberedHub T U B D → Type 0
   SubscriberArrives degrades domain owner options handler old answer new =
       SubscriberStep hub_ports with_hub_ports with_hub_subscriber degrades domain (subscriber_config owner options) handler old.made old.hub answer new.made new.hub
       × (new.factories ≡ old.factories)
 
   -- A subscriber of the service of a factory comes, if that is of publish-subscribe.
-  abbrev pub SubscriberComes : (DegradationAction → D) → (D → DegradationCause → DegradationInfo → DegradationAction → Type 0) → Option Opened → SubscriberOptions → NumberedHub T U B D → Reply T → NumberedHub T U B D → Type 0
+  abbrev pub SubscriberComes : (DegradationAction → D) → (D → DegradationCause → DegradationInfo → DegradationAction → Type 0)
+      → Option Opened → SubscriberOptions → NumberedHub T U B D → Reply T → NumberedHub T U B D → Type 0
   SubscriberComes fixed degrades None options old answer new = (answer ≡ reply.Skipped) × (new ≡ old)
   SubscriberComes fixed degrades (Some opened) options old answer new =
       SubscriberArrives degrades (domain_of_factory opened) (owner_of_factory opened) options (subscriber_handler fixed options) old answer new
 
   -- A subscriber of the service of the factory that goes by a number comes.
-  abbrev pub MakesSubscriber : (DegradationAction → D) → (D → DegradationCause → DegradationInfo → DegradationAction → Type 0) → ℕ → SubscriberOptions → NumberedHub T U B D → Reply T → NumberedHub T U B D → Type 0
-  MakesSubscriber fixed degrades factory options old answer new = SubscriberComes fixed degrades (publish_subscribe_in (value_at old.factories.made factory)) options old answer new
+  abbrev pub MakesSubscriber : (DegradationAction → D) → (D → DegradationCause → DegradationInfo → DegradationAction → Type 0) → ℕ
+      → SubscriberOptions → NumberedHub T U B D → Reply T → NumberedHub T U B D → Type 0
+  MakesSubscriber fixed degrades factory options old answer new
+      = SubscriberComes fixed degrades (publish_subscribe_in (value_at old.factories.made factory)) options old answer new

@@ -32,15 +32,18 @@ IsReplied does (Err lacking) = ⊥
 
 module _ {T U B D : Type 0} where
   -- what may be answered where a connection of a publisher of a hub failed
-  abbrev pub publisher_may_degrade : (B → DegradationCause → DegradationInfo → DegradationAction → Type 0) → DomainId → ℕ → Hub T U B D → DegradationInfo → DegradationAction → Type 0
+  abbrev pub publisher_may_degrade : (B → DegradationCause → DegradationInfo → DegradationAction → Type 0) → DomainId → ℕ → Hub T U B D
+      → DegradationInfo → DegradationAction → Type 0
   publisher_may_degrade degrades id number hub = kept_degrades degrades (publisher_handlers_in number (domain_at id hub.services))
 
   -- what may be decided where a mailbox of a publisher of a hub is full
-  abbrev pub publisher_may_decide : (B → BackpressureInfo → BackpressureDecision → Type 0) → DomainId → ℕ → Hub T U B D → BackpressureInfo → BackpressureDecision → Type 0
+  abbrev pub publisher_may_decide : (B → BackpressureInfo → BackpressureDecision → Type 0) → DomainId → ℕ → Hub T U B D
+      → BackpressureInfo → BackpressureDecision → Type 0
   publisher_may_decide decides id number hub = kept_decides decides (publisher_handlers_in number (domain_at id hub.services))
 
   -- what may be answered where a connection of a subscriber of a hub failed
-  abbrev pub subscriber_may_degrade : (D → DegradationCause → DegradationInfo → DegradationAction → Type 0) → DomainId → ℕ → Hub T U B D → DegradationInfo → DegradationAction → Type 0
+  abbrev pub subscriber_may_degrade : (D → DegradationCause → DegradationInfo → DegradationAction → Type 0) → DomainId → ℕ → Hub T U B D
+      → DegradationInfo → DegradationAction → Type 0
   subscriber_may_degrade degrades id number hub = kept_degrades degrades (subscriber_handler_in number (domain_at id hub.services))
 
   -- What each command does to a hub, and what it is replied. The two details are those of values and user headers, the types those of the
@@ -50,49 +53,72 @@ module _ {T U B D : Type 0} where
       → (BackpressureStrategy → Option BackpressureAction → DegradationAction → B) → (B → DegradationCause → DegradationInfo → DegradationAction → Type 0) → (B → BackpressureInfo → BackpressureDecision → Type 0)
       → (DegradationAction → D) → (D → DegradationCause → DegradationInfo → DegradationAction → Type 0)
       → Command T → NumberedHub T U B D → Result (Reply T) AllocError → NumberedHub T U B D → Type 0
-  Step payload user_header types is_default is_default_header fixed degrades decides fixed_reader reader_degrades command.Node old answer new =
+  Step payload user_header types is_default is_default_header fixed degrades decides fixed_reader reader_degrades command.Node old
+      answer new =
       IsReplied (λ reply. NodeMakes old reply new) answer
-  Step payload user_header types is_default is_default_header fixed degrades decides fixed_reader reader_degrades (command.Create node name options attributes steps) old answer new =
+  Step payload user_header types is_default is_default_header fixed degrades decides fixed_reader reader_degrades
+      (command.Create node name options attributes steps) old answer new =
       IsReplied (λ reply. Creates payload user_header types (record { node = node; name = name; options = options }) attributes steps old reply new) answer
-  Step payload user_header types is_default is_default_header fixed degrades decides fixed_reader reader_degrades (command.Open node name options requirements steps) old answer new =
+  Step payload user_header types is_default is_default_header fixed degrades decides fixed_reader reader_degrades
+      (command.Open node name options requirements steps) old answer new =
       IsReplied (λ reply. Opens payload user_header types (record { node = node; name = name; options = options }) requirements steps old reply new) answer
-  Step payload user_header types is_default is_default_header fixed degrades decides fixed_reader reader_degrades (command.OpenOrCreate node name options requirements steps) old answer new =
+  Step payload user_header types is_default is_default_header fixed degrades decides fixed_reader reader_degrades
+      (command.OpenOrCreate node name options requirements steps) old answer new =
       IsReplied (λ reply. OpensOrCreates payload user_header types (record { node = node; name = name; options = options }) requirements steps old reply new) answer
-  Step payload user_header types is_default is_default_header fixed degrades decides fixed_reader reader_degrades (command.Foreign pattern name steps) old answer new =
+  Step payload user_header types is_default is_default_header fixed degrades decides fixed_reader reader_degrades
+      (command.Foreign pattern name steps) old answer new =
       IsReplied (λ reply. Acts pattern name types steps old reply new) answer
-  Step payload user_header types is_default is_default_header fixed degrades decides fixed_reader reader_degrades (command.Close factory) old answer new =
+  Step payload user_header types is_default is_default_header fixed degrades decides fixed_reader reader_degrades
+      (command.Close factory) old answer new =
       IsReplied (λ reply. Closes factory old reply new) answer
-  Step payload user_header types is_default is_default_header fixed degrades decides fixed_reader reader_degrades (command.Publisher factory options) old answer new =
+  Step payload user_header types is_default is_default_header fixed degrades decides fixed_reader reader_degrades
+      (command.Publisher factory options) old answer new =
       IsReplied (λ reply. MakesPublisher is_default_header fixed degrades factory options old reply new) answer
-  Step payload user_header types is_default is_default_header fixed degrades decides fixed_reader reader_degrades (command.Subscriber factory options) old answer new =
+  Step payload user_header types is_default is_default_header fixed degrades decides fixed_reader reader_degrades
+      (command.Subscriber factory options) old answer new =
       IsReplied (λ reply. MakesSubscriber fixed_reader reader_degrades factory options old reply new) answer
-  Step payload user_header types is_default is_default_header fixed degrades decides fixed_reader reader_degrades (command.Loan publisher length) old answer new =
+  Step payload user_header types is_default is_default_header fixed degrades decides fixed_reader reader_degrades
+      (command.Loan publisher length) old answer new =
       LoanStep hub_ports with_hub_ports is_default publisher length old.made old.hub answer new.made new.hub × (new.factories ≡ old.factories)
-  Step payload user_header types is_default is_default_header fixed degrades decides fixed_reader reader_degrades (command.LoanUninit publisher length) old answer new =
+  Step payload user_header types is_default is_default_header fixed degrades decides fixed_reader reader_degrades
+      (command.LoanUninit publisher length) old answer new =
       LoanUninitStep hub_ports with_hub_ports publisher length old.made old.hub answer new.made new.hub × (new.factories ≡ old.factories)
-  Step payload user_header types is_default is_default_header fixed degrades decides fixed_reader reader_degrades (command.Set loan place value) old answer new =
+  Step payload user_header types is_default is_default_header fixed degrades decides fixed_reader reader_degrades
+      (command.Set loan place value) old answer new =
       IsReplied (λ reply. SetStep hub_ports with_hub_ports loan place value old.made old.hub reply new.hub × (new ≡ record old { hub = new.hub })) answer
-  Step payload user_header types is_default is_default_header fixed degrades decides fixed_reader reader_degrades (command.Fill loan values) old answer new =
+  Step payload user_header types is_default is_default_header fixed degrades decides fixed_reader reader_degrades
+      (command.Fill loan values) old answer new =
       IsReplied (λ reply. FillStep hub_ports with_hub_ports loan values old.made old.hub reply new.hub × (new ≡ record old { hub = new.hub })) answer
-  Step payload user_header types is_default is_default_header fixed degrades decides fixed_reader reader_degrades (command.Drop loan) old answer new =
+  Step payload user_header types is_default is_default_header fixed degrades decides fixed_reader reader_degrades (command.Drop loan)
+      old answer new =
       IsReplied (λ reply. DropStep hub_ports with_hub_ports loan old.made old.hub reply new.made new.hub × (new.factories ≡ old.factories)) answer
-  Step payload user_header types is_default is_default_header fixed degrades decides fixed_reader reader_degrades (command.Send loan) old answer new =
+  Step payload user_header types is_default is_default_header fixed degrades decides fixed_reader reader_degrades (command.Send loan)
+      old answer new =
       IsReplied (λ reply. SendStep hub_ports with_hub_ports (publisher_may_degrade degrades) (publisher_may_decide decides) loan old.made old.hub reply new.made new.hub × (new.factories ≡ old.factories)) answer
-  Step payload user_header types is_default is_default_header fixed degrades decides fixed_reader reader_degrades (command.Put publisher values) old answer new =
+  Step payload user_header types is_default is_default_header fixed degrades decides fixed_reader reader_degrades
+      (command.Put publisher values) old answer new =
       IsReplied (λ reply. PutStep hub_ports with_hub_ports (publisher_may_degrade degrades) (publisher_may_decide decides) publisher values old.made old.hub reply new.hub × (new ≡ record old { hub = new.hub })) answer
-  Step payload user_header types is_default is_default_header fixed degrades decides fixed_reader reader_degrades (command.Retry publisher nanoseconds) old answer new =
+  Step payload user_header types is_default is_default_header fixed degrades decides fixed_reader reader_degrades
+      (command.Retry publisher nanoseconds) old answer new =
       IsReplied (λ reply. RetryStep hub_ports with_hub_ports (publisher_may_decide decides) publisher nanoseconds old.made old.hub reply new.hub × (new ≡ record old { hub = new.hub })) answer
-  Step payload user_header types is_default is_default_header fixed degrades decides fixed_reader reader_degrades (command.GiveUp publisher) old answer new =
+  Step payload user_header types is_default is_default_header fixed degrades decides fixed_reader reader_degrades
+      (command.GiveUp publisher) old answer new =
       IsReplied (λ reply. GiveUpStep hub_ports with_hub_ports publisher old.made old.hub reply new.hub × (new ≡ record old { hub = new.hub })) answer
-  Step payload user_header types is_default is_default_header fixed degrades decides fixed_reader reader_degrades (command.Receive subscriber) old answer new =
+  Step payload user_header types is_default is_default_header fixed degrades decides fixed_reader reader_degrades
+      (command.Receive subscriber) old answer new =
       ReceiveStep hub_ports with_hub_ports (subscriber_may_degrade reader_degrades) subscriber old.made old.hub answer new.made new.hub × (new.factories ≡ old.factories)
-  Step payload user_header types is_default is_default_header fixed degrades decides fixed_reader reader_degrades (command.Read sample) old answer new =
+  Step payload user_header types is_default is_default_header fixed degrades decides fixed_reader reader_degrades (command.Read sample)
+      old answer new =
       ReadStep hub_ports sample old.made old.hub answer × (new ≡ old)
-  Step payload user_header types is_default is_default_header fixed degrades decides fixed_reader reader_degrades (command.Release sample) old answer new =
+  Step payload user_header types is_default is_default_header fixed degrades decides fixed_reader reader_degrades
+      (command.Release sample) old answer new =
       IsReplied (λ reply. ReleaseStep hub_ports with_hub_ports sample old.made old.hub reply new.made new.hub × (new.factories ≡ old.factories)) answer
-  Step payload user_header types is_default is_default_header fixed degrades decides fixed_reader reader_degrades (command.Update port) old answer new =
+  Step payload user_header types is_default is_default_header fixed degrades decides fixed_reader reader_degrades (command.Update port)
+      old answer new =
       IsReplied (λ reply. UpdateStep hub_ports with_hub_ports (publisher_may_degrade degrades) (subscriber_may_degrade reader_degrades) port old.made old.hub reply new.hub × (new ≡ record old { hub = new.hub })) answer
-  Step payload user_header types is_default is_default_header fixed degrades decides fixed_reader reader_degrades (command.Leave port) old answer new =
+  Step payload user_header types is_default is_default_header fixed degrades decides fixed_reader reader_degrades (command.Leave port)
+      old answer new =
       IsReplied (λ reply. LeaveStep hub_ports with_hub_ports without_hub_publisher without_hub_subscriber port old.made old.hub reply new.made new.hub × (new.factories ≡ old.factories)) answer
-  Step payload user_header types is_default is_default_header fixed degrades decides fixed_reader reader_degrades (command.Has subscriber) old answer new =
+  Step payload user_header types is_default is_default_header fixed degrades decides fixed_reader reader_degrades
+      (command.Has subscriber) old answer new =
       IsReplied (λ reply. HasStep hub_ports with_hub_ports (subscriber_may_degrade reader_degrades) subscriber old.made old.hub reply new.hub × (new ≡ record old { hub = new.hub })) answer

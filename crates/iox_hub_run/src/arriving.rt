@@ -25,7 +25,8 @@ impl<T: Copy, U: Copy + Default, B: Decides + Degrades, D: Degrades> NumberedHub
     ) -> Reply<T>
         requires { self.old.made.publishers.next + 1 < 2 ^ 64 }
         ensures room { KeepsRoom self.old self.new }
-        ensures comes { PublisherArrives U.is_default (λ handlers. B.degrades handlers) domain owner options.now handlers self.old result self.new }
+        ensures comes { PublisherArrives U.is_default (λ handlers. B.degrades handlers) domain owner options.now handlers self.old
+            result self.new }
     {
         if self.room_for_loans(most_loans(options) as u64).is_err() {
             return arriving::publisher_refused(&self.hub, domain, owner, options);

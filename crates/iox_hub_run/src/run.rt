@@ -45,14 +45,18 @@ impl<
     /// Example: `let report = hub.run(alloc, commands);`
     pub fn run(&mut self, alloc: Global, commands: Vec<Command<T>>) -> RunReport<T>
         requires { numbers_used self.old + length commands.items < 2 ^ 64 }
-        ensures ran { RunsInRoom (Step (detail FixedSize T.name T.size T.alignment) (detail FixedSize U.name U.size U.alignment) (types_of T.name T.size T.alignment U.name U.size U.alignment) T.is_default U.is_default B.fixed (λ handlers. B.degrades handlers) (λ handlers. B.decides handlers) D.fixed (λ handler. D.degrades handler)) commands.entry.items self.old result.replies.items result.stopped self.new }
+        ensures ran { RunsInRoom (Step (detail FixedSize T.name T.size T.alignment) (detail FixedSize U.name U.size U.alignment)
+            (types_of T.name T.size T.alignment U.name U.size U.alignment) T.is_default U.is_default B.fixed
+            (λ handlers. B.degrades handlers) (λ handlers. B.decides handlers) D.fixed (λ handler. D.degrades handler))
+            commands.entry.items self.old result.replies.items result.stopped self.new }
         ensures stops { result.stopped ≡ true → StopsInTime commands.entry.items self.old (length result.replies.items) self.new }
         ensures counts { numbers_used self.new ≤ numbers_used self.old + length commands.entry.items }
         ensures room { KeepsRoom self.old self.new }
         ensures goes_on { NumbersGoOn self.old self.new }
         ensures grows { GrowsOn self.old.hub self.new.hub }
         ensures agreed { HaveGrown self.old.hub.services.domains → AreAsAgreed self.new.hub.services.domains }
-        ensures one_agreement { AreOfOneAgreement self.old.factories.made self.old.hub → AreOfOneAgreement self.new.factories.made self.new.hub }
+        ensures one_agreement { AreOfOneAgreement self.old.factories.made self.old.hub
+            → AreOfOneAgreement self.new.factories.made self.new.hub }
     {
         self.carry_out_in_room(alloc, commands)
     }
@@ -60,7 +64,10 @@ impl<
     // The same, without what that comes to in other words.
     fn carry_out_in_room(&mut self, alloc: Global, commands: Vec<Command<T>>) -> RunReport<T>
         requires { numbers_used self.old + length commands.items < 2 ^ 64 }
-        ensures ran { RunsInRoom (Step (detail FixedSize T.name T.size T.alignment) (detail FixedSize U.name U.size U.alignment) (types_of T.name T.size T.alignment U.name U.size U.alignment) T.is_default U.is_default B.fixed (λ handlers. B.degrades handlers) (λ handlers. B.decides handlers) D.fixed (λ handler. D.degrades handler)) commands.entry.items self.old result.replies.items result.stopped self.new }
+        ensures ran { RunsInRoom (Step (detail FixedSize T.name T.size T.alignment) (detail FixedSize U.name U.size U.alignment)
+            (types_of T.name T.size T.alignment U.name U.size U.alignment) T.is_default U.is_default B.fixed
+            (λ handlers. B.degrades handlers) (λ handlers. B.decides handlers) D.fixed (λ handler. D.degrades handler))
+            commands.entry.items self.old result.replies.items result.stopped self.new }
         ensures stops { result.stopped ≡ true → StopsInTime commands.entry.items self.old (length result.replies.items) self.new }
         ensures counts { numbers_used self.new ≤ numbers_used self.old + length commands.entry.items }
         ensures room { KeepsRoom self.old self.new }
@@ -78,7 +85,10 @@ impl<
     fn carry_out_all(&mut self, alloc: Global, commands: Vec<Command<T>>) -> RunReport<T>
         requires numbers { numbers_used self.old + length commands.items < 2 ^ 64 }
         requires room { FitsAll (loans_in commands.items) (samples_in commands.items) self.old.made }
-        ensures ran { IsRun (Step (detail FixedSize T.name T.size T.alignment) (detail FixedSize U.name U.size U.alignment) (types_of T.name T.size T.alignment U.name U.size U.alignment) T.is_default U.is_default B.fixed (λ handlers. B.degrades handlers) (λ handlers. B.decides handlers) D.fixed (λ handler. D.degrades handler)) commands.entry.items self.old result.replies.items result.stopped self.new }
+        ensures ran { IsRun (Step (detail FixedSize T.name T.size T.alignment) (detail FixedSize U.name U.size U.alignment)
+            (types_of T.name T.size T.alignment U.name U.size U.alignment) T.is_default U.is_default B.fixed
+            (λ handlers. B.degrades handlers) (λ handlers. B.decides handlers) D.fixed (λ handler. D.degrades handler))
+            commands.entry.items self.old result.replies.items result.stopped self.new }
         ensures stops { result.stopped ≡ true → StopsInTime commands.entry.items self.old (length result.replies.items) self.new }
         ensures counts { numbers_used self.new ≤ numbers_used self.old + length commands.entry.items }
         ensures room { KeepsRoom self.old self.new }

@@ -42,7 +42,8 @@ impl<T: Words + ZeroCopySend, U: Copy + ZeroCopySend, B: Drop, D: Drop> Numbered
         steps: &[StepBefore],
     ) -> Reply<T>
         requires { self.old.factories.made.next + 1 < 2 ^ 64 }
-        ensures { Creates (detail FixedSize T.name T.size T.alignment) (detail FixedSize U.name U.size U.alignment) (types_of T.name T.size T.alignment U.name U.size U.alignment) asked.now attributes.now steps.now self.old result self.new }
+        ensures { Creates (detail FixedSize T.name T.size T.alignment) (detail FixedSize U.name U.size U.alignment)
+            (types_of T.name T.size T.alignment U.name U.size U.alignment) asked.now attributes.now steps.now self.old result self.new }
     {
         factory_reply(
             self.factories
@@ -58,7 +59,8 @@ impl<T: Words + ZeroCopySend, U: Copy + ZeroCopySend, B: Drop, D: Drop> Numbered
         steps: &[StepBefore],
     ) -> Reply<T>
         requires { self.old.factories.made.next + 1 < 2 ^ 64 }
-        ensures { Opens (detail FixedSize T.name T.size T.alignment) (detail FixedSize U.name U.size U.alignment) (types_of T.name T.size T.alignment U.name U.size U.alignment) asked.now requirements steps.now self.old result self.new }
+        ensures { Opens (detail FixedSize T.name T.size T.alignment) (detail FixedSize U.name U.size U.alignment)
+            (types_of T.name T.size T.alignment U.name U.size U.alignment) asked.now requirements steps.now self.old result self.new }
     {
         factory_reply(
             self.factories
@@ -74,7 +76,8 @@ impl<T: Words + ZeroCopySend, U: Copy + ZeroCopySend, B: Drop, D: Drop> Numbered
         steps: &[StepBefore],
     ) -> Reply<T>
         requires { self.old.factories.made.next + 1 < 2 ^ 64 }
-        ensures { OpensOrCreates (detail FixedSize T.name T.size T.alignment) (detail FixedSize U.name U.size U.alignment) (types_of T.name T.size T.alignment U.name U.size U.alignment) asked.now requirements steps.now self.old result self.new }
+        ensures { OpensOrCreates (detail FixedSize T.name T.size T.alignment) (detail FixedSize U.name U.size U.alignment)
+            (types_of T.name T.size T.alignment U.name U.size U.alignment) asked.now requirements steps.now self.old result self.new }
     {
         factory_reply(
             self.factories
@@ -104,7 +107,8 @@ impl<T: Words + ZeroCopySend, U: Copy + ZeroCopySend, B: Drop, D: Drop> Numbered
 impl<T, U, B, D> NumberedHub<T, U, B, D> {
     // The domain of the factory that goes by a number, and whose its ports are; None where none of publish-subscribe does.
     fn place(&self, factory: u64) -> Option<(DomainId, PortOwner)>
-        ensures { result ≡ option_map (λ opened. (domain_of_factory opened, owner_of_factory opened)) (publish_subscribe_in (value_at self.now.factories.made factory)) }
+        ensures { result ≡ option_map (λ opened. (domain_of_factory opened, owner_of_factory opened))
+            (publish_subscribe_in (value_at self.now.factories.made factory)) }
     {
         let factory = self.factories.publish_subscribe(factory)?;
         let domain = DomainId {

@@ -42,12 +42,16 @@ impl<
     /// Example: `let reply = hub.step(alloc, Command::Node)?;`
     pub fn step(&mut self, alloc: Global, command: Command<T>) -> Result<Reply<T>, AllocError>
         requires { numbers_used self.old + 1 < 2 ^ 64 }
-        ensures steps { Step (detail FixedSize T.name T.size T.alignment) (detail FixedSize U.name U.size U.alignment) (types_of T.name T.size T.alignment U.name U.size U.alignment) T.is_default U.is_default B.fixed (λ handlers. B.degrades handlers) (λ handlers. B.decides handlers) D.fixed (λ handler. D.degrades handler) command.entry self.old result self.new }
+        ensures steps { Step (detail FixedSize T.name T.size T.alignment) (detail FixedSize U.name U.size U.alignment)
+            (types_of T.name T.size T.alignment U.name U.size U.alignment) T.is_default U.is_default B.fixed
+            (λ handlers. B.degrades handlers) (λ handlers. B.decides handlers) D.fixed (λ handler. D.degrades handler) command.entry
+            self.old result self.new }
         ensures counts { numbers_used self.new ≤ numbers_used self.old + 1 }
         ensures one { ChangesOneThing self.old self.new }
         ensures grows { GrowsOn self.old.hub self.new.hub }
         ensures agreed { HaveGrown self.old.hub.services.domains → AreAsAgreed self.new.hub.services.domains }
-        ensures one_agreement { AreOfOneAgreement self.old.factories.made self.old.hub → AreOfOneAgreement self.new.factories.made self.new.hub }
+        ensures one_agreement { AreOfOneAgreement self.old.factories.made self.old.hub
+            → AreOfOneAgreement self.new.factories.made self.new.hub }
         ensures apart { OneDomainMoves self.old.hub self.new.hub }
         ensures room { KeepsRoom self.old self.new }
         ensures lacks { HasRoom self.old → OnErr result (LacksInRoom command.entry self.old self.new) }
@@ -59,7 +63,10 @@ impl<
     fn carry_out(&mut self, alloc: Global, command: Command<T>) -> Result<Reply<T>, AllocError>
         requires { numbers_used self.old + 1 < 2 ^ 64 }
         ensures comes { OfPorts (KeepsRoom self.old self.new) command.entry }
-        ensures steps { Step (detail FixedSize T.name T.size T.alignment) (detail FixedSize U.name U.size U.alignment) (types_of T.name T.size T.alignment U.name U.size U.alignment) T.is_default U.is_default B.fixed (λ handlers. B.degrades handlers) (λ handlers. B.decides handlers) D.fixed (λ handler. D.degrades handler) command.entry self.old result self.new }
+        ensures steps { Step (detail FixedSize T.name T.size T.alignment) (detail FixedSize U.name U.size U.alignment)
+            (types_of T.name T.size T.alignment U.name U.size U.alignment) T.is_default U.is_default B.fixed
+            (λ handlers. B.degrades handlers) (λ handlers. B.decides handlers) D.fixed (λ handler. D.degrades handler) command.entry
+            self.old result self.new }
     {
         match command {
             Command::Node => Ok(self.node()),

@@ -31,7 +31,8 @@ abbrev pub ports_at : {T U B D : Type 0} → DomainId → OpenServices T U B D �
 ports_at id services = ports_if (domain_at id services)
 
 -- one step of a domain, if it is here
-abbrev pub stepped_if : {T U B D : Type 0} → Option (Domain T U B D) → ℕ → (Domain T U B D → Domain T U B D) → OpenServices T U B D → OpenServices T U B D
+abbrev pub stepped_if : {T U B D : Type 0} → Option (Domain T U B D) → ℕ → (Domain T U B D → Domain T U B D) → OpenServices T U B D
+    → OpenServices T U B D
 stepped_if None number step services = services
 stepped_if (Some domain) number step services = record services { domains = with_domain number services.domains (step domain) }
 
@@ -40,7 +41,8 @@ abbrev pub stepped : {T U B D : Type 0} → DomainId → (Domain T U B D → Dom
 stepped id step services = stepped_if (domain_at id services) id.service step services
 
 -- one step of what the domain of an id lends, if it is here
-abbrev pub changed_at : {T U B D : Type 0} → DomainId → (DomainState T U B D → DomainState T U B D) → OpenServices T U B D → OpenServices T U B D
+abbrev pub changed_at : {T U B D : Type 0} → DomainId → (DomainState T U B D → DomainState T U B D) → OpenServices T U B D
+    → OpenServices T U B D
 changed_at id step services = stepped id (in_state step) services
 
 -- services with other ports in the domain of an id, if it is here

@@ -14,7 +14,8 @@ use Rattle.iox_hub_services.specs.declared.taking.TakeError.TheVariants.{DomainI
 
 -- The services of the other numbers are as they were, in the same hub.
 abbrev pub OthersStay : {T U B D : Type 0} → ℕ → OpenServices T U B D → OpenServices T U B D → Type 0
-OthersStay number old new = (new.hub ≡ old.hub) × ((other : ℕ) → (number ≡ other → ⊥) → presence_of other new.domains ≡ presence_of other old.domains)
+OthersStay number old new = (new.hub ≡ old.hub)
+    × ((other : ℕ) → (number ≡ other → ⊥) → presence_of other new.domains ≡ presence_of other old.domains)
 
 -- Where the settings fit, a service that was opened is open; its domain is here if none was open before; and the others stay.
 abbrev pub OpenedIsFound : (T U B D : Type 0) → Type 0

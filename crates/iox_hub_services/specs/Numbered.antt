@@ -37,7 +37,8 @@ changed_found number [] y w found = cc
 changed_found number (value ∷ values) y w found =
     here (at number value.0) number value.0 value.1 y w values (set_value (at number) values w) refl (changed_found number values y w) found
 
-elsewhere : {X : Type 0} (b : Bool) (number other key : ℕ) (x w : X) (rest changed : List (ℕ × X)) → at number key ≡ b → (number ≡ other → ⊥)
+elsewhere : {X : Type 0} (b : Bool) (number other key : ℕ) (x w : X) (rest changed : List (ℕ × X)) → at number key ≡ b
+    → (number ≡ other → ⊥)
     → lookup (at other) changed ≡ lookup (at other) rest
     → lookup (at other) (cond b ((key, w) ∷ rest) ((key, x) ∷ changed)) ≡ cond (at other key) (Some x) (lookup (at other) rest)
 elsewhere true number other key x w rest changed is apart later =
@@ -60,28 +61,33 @@ value_or default (Some value) = value
 pub one_value : {X : Type 0} {x y : X} → Some x ≡ Some y → x ≡ y
 one_value {X} {x} {y} same = ap (value_or x) same
 
-same_at : {X : Type 0} (b : Bool) (key : ℕ) (x w : X) (rest changed : List (ℕ × X)) (found : Option X) → (found ≡ Some w → changed ≡ rest) → cond b (Some x) found ≡ Some w
+same_at : {X : Type 0} (b : Bool) (key : ℕ) (x w : X) (rest changed : List (ℕ × X)) (found : Option X)
+    → (found ≡ Some w → changed ≡ rest) → cond b (Some x) found ≡ Some w
     → cond b ((key, w) ∷ rest) ((key, x) ∷ changed) ≡ (key, x) ∷ rest
 same_at true key x w rest changed found later is = ap (λ value. (key, value) ∷ rest) (sym (one_value is))
 same_at false key x w rest changed found later is = ap (λ rest. (key, x) ∷ rest) (later is)
 
 -- a value that is put where it is found changes nothing
-pub same_unchanged : {X : Type 0} (number : ℕ) (values : List (ℕ × X)) (w : X) → lookup (is_at (nat_cmp number)) values ≡ Some w → set_value (is_at (nat_cmp number)) values w ≡ values
+pub same_unchanged : {X : Type 0} (number : ℕ) (values : List (ℕ × X)) (w : X) → lookup (is_at (nat_cmp number)) values ≡ Some w
+    → set_value (is_at (nat_cmp number)) values w ≡ values
 same_unchanged number [] w found = refl
 same_unchanged number (value ∷ values) w found =
     same_at (at number value.0) value.0 value.1 w values (set_value (at number) values w) (lookup (at number) values) (same_unchanged number values w) found
 
-absent_at : {X : Type 0} (b : Bool) (key : ℕ) (x w : X) (rest changed : List (ℕ × X)) (found : Option X) → (found ≡ None → changed ≡ rest) → cond b (Some x) found ≡ None → cond b ((key, w) ∷ rest) ((key, x) ∷ changed) ≡ (key, x) ∷ rest
+absent_at : {X : Type 0} (b : Bool) (key : ℕ) (x w : X) (rest changed : List (ℕ × X)) (found : Option X)
+    → (found ≡ None → changed ≡ rest) → cond b (Some x) found ≡ None → cond b ((key, w) ∷ rest) ((key, x) ∷ changed) ≡ (key, x) ∷ rest
 absent_at true key x w rest changed found later is = cc
 absent_at false key x w rest changed found later is = ap (λ rest. (key, x) ∷ rest) (later is)
 
 -- where nothing is found nothing is put
-pub absent_unchanged : {X : Type 0} (number : ℕ) (values : List (ℕ × X)) (w : X) → lookup (is_at (nat_cmp number)) values ≡ None → set_value (is_at (nat_cmp number)) values w ≡ values
+pub absent_unchanged : {X : Type 0} (number : ℕ) (values : List (ℕ × X)) (w : X) → lookup (is_at (nat_cmp number)) values ≡ None
+    → set_value (is_at (nat_cmp number)) values w ≡ values
 absent_unchanged number [] w none = refl
 absent_unchanged number (value ∷ values) w none =
     absent_at (at number value.0) value.0 value.1 w values (set_value (at number) values w) (lookup (at number) values) (absent_unchanged number values w) none
 
-twice_at : {X : Type 0} (b : Bool) (number key : ℕ) (x v w : X) (rest changed again : List (ℕ × X)) → at number key ≡ b → set_value (at number) changed w ≡ again
+twice_at : {X : Type 0} (b : Bool) (number key : ℕ) (x v w : X) (rest changed again : List (ℕ × X)) → at number key ≡ b
+    → set_value (at number) changed w ≡ again
     → set_value (at number) (cond b ((key, v) ∷ rest) ((key, x) ∷ changed)) w ≡ cond b ((key, w) ∷ rest) ((key, x) ∷ again)
 twice_at true number key x v w rest changed again is later = rw is refl
 twice_at false number key x v w rest changed again is later = rw is (ap (λ rest. (key, x) ∷ rest) later)
@@ -93,7 +99,8 @@ changed_twice number [] v w = refl
 changed_twice number (value ∷ values) v w =
     twice_at (at number value.0) number value.0 value.1 v w values (set_value (at number) values v) (set_value (at number) values w) refl (changed_twice number values v w)
 
-beside : {X : Type 0} (order : Ordering) (number other key : ℕ) (x w : X) (rest inserted : List (ℕ × X)) → nat_cmp number key ≡ order → (number ≡ other → ⊥)
+beside : {X : Type 0} (order : Ordering) (number other key : ℕ) (x w : X) (rest inserted : List (ℕ × X)) → nat_cmp number key ≡ order
+    → (number ≡ other → ⊥)
     → lookup (at other) inserted ≡ lookup (at other) rest
     → lookup (at other) (match_ordering order ((number, w) ∷ (key, x) ∷ rest) ((key, w) ∷ rest) ((key, x) ∷ inserted)) ≡ cond (at other key) (Some x) (lookup (at other) rest)
 beside Less number other key x w rest inserted is apart later = rw (not_number other number (λ same. apart (sym same))) refl

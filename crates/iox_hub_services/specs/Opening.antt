@@ -22,7 +22,8 @@ HasNew {T} {U} {B} {D} buffer number settings old new =
 
 -- A service opens: where one of this number is open, or the settings don't fit, nothing happens; else a new domain is here under
 -- it. It is refused for want of memory alone, where a new one would be made, and then nothing has changed.
-abbrev pub Opens : {T U B D : Type 0} → Detail → Detail → ℕ → ℕ → Settings → OpenServices T U B D → Result (Unit {0}) DomainError → OpenServices T U B D → Type 0
+abbrev pub Opens : {T U B D : Type 0} → Detail → Detail → ℕ → ℕ → Settings → OpenServices T U B D → Result (Unit {0}) DomainError
+    → OpenServices T U B D → Type 0
 Opens payload user_header buffer number settings old (Ok done) new =
     (((is_open number old ≡ true) ⊎ (Fits payload user_header settings → ⊥)) × (new ≡ old))
     ⊎ ((is_open number old ≡ false) × Fits payload user_header settings × HasNew buffer number settings old new)

@@ -18,6 +18,7 @@ abbrev pub IsAwaited : {T U B D : Type 0} → Domain T U B D → OpenServices T 
 IsAwaited domain services = (domain.id.hub ≡ services.hub) × (presence_of domain.id.service services.domains ≡ Some (Out domain.agreed))
 
 -- A domain is put back: it is here again, if it was awaited. Else it is handed back, and nothing has changed.
-abbrev pub Puts : {T U B D : Type 0} → Domain T U B D → OpenServices T U B D → Result (Unit {0}) (DomainIsForeign (Domain T U B D)) → OpenServices T U B D → Type 0
+abbrev pub Puts : {T U B D : Type 0} → Domain T U B D → OpenServices T U B D → Result (Unit {0}) (DomainIsForeign (Domain T U B D))
+    → OpenServices T U B D → Type 0
 Puts domain old (Ok done) new = IsAwaited domain old × (new ≡ record old { domains = with_domain domain.id.service old.domains domain })
 Puts domain old (Err refused) new = (refused.domain ≡ domain) × (IsAwaited domain old → ⊥) × (new ≡ old)

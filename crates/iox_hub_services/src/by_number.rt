@@ -94,7 +94,8 @@ impl<X: Drop> ByNumber<X> {
     pub(crate) fn remove(&mut self, number: u64)
         ensures new { self.new ≡ remove_entry (is_at (nat_cmp number)) self.old }
         ensures gone { lookup (is_at (nat_cmp number)) self.new ≡ None }
-        ensures others { (other : ℕ) → (number ≡ other → ⊥) → lookup (is_at (nat_cmp other)) self.new ≡ lookup (is_at (nat_cmp other)) self.old }
+        ensures others { (other : ℕ) → (number ≡ other → ⊥)
+            → lookup (is_at (nat_cmp other)) self.new ≡ lookup (is_at (nat_cmp other)) self.old }
     {
         if let Some(place) = place_of(&self.entries, number) {
             let _ = self.entries.remove(place);

@@ -102,7 +102,8 @@ impl<T: Words + ZeroCopySend, U: Copy + ZeroCopySend, B: Drop, D: Drop> Services
         number: u64,
         expired_connection_buffer: u32,
     ) -> Result<(), DomainError>
-        ensures { Opens (detail FixedSize T.name T.size T.alignment) (detail FixedSize U.name U.size U.alignment) expired_connection_buffer number description.now.settings self.old result self.new }
+        ensures { Opens (detail FixedSize T.name T.size T.alignment) (detail FixedSize U.name U.size U.alignment)
+            expired_connection_buffer number description.now.settings self.old result self.new }
     {
         if self.is_open(number) || !Domain::<T, U, B, D>::fits(description) {
             return Ok(());

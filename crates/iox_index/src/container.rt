@@ -57,7 +57,8 @@ impl<T: Copy, const CAPACITY: usize> FixedSizeContainer<T, CAPACITY> {
     pub fn add(&mut self, value: T, owner: OwnerId) -> Result<ContainerHandle, ContainerAddFailure>
         requires { HasRoom self.old }
         ensures answer { result ≡ handle_of self.old.id (self.old.changes + 1) self.old.locked (lowest_free self.old) }
-        ensures ok { IfOk result (λ handle. self.new ≡ with_member handle.index (record { number = handle.number; owner = owner; value = value }) self.old) }
+        ensures ok { IfOk result (λ handle. self.new
+            ≡ with_member handle.index (record { number = handle.number; owner = owner; value = value }) self.old) }
         ensures err { OnErr result (self.new ≡ self.old) }
     {
         self.container.add(value, owner)
@@ -73,7 +74,8 @@ impl<T: Copy, const CAPACITY: usize> FixedSizeContainer<T, CAPACITY> {
     ) -> Result<ReleaseState, ContainerRemoveError>
         requires { HasRoom self.old }
         ensures answer { IsErr result ↔ (owns handle self.old ≡ false) }
-        ensures ok { IfOk result (λ state. (self.new ≡ settled mode (without_member handle.index self.old)) × (state ≡ state_of self.new.locked)) }
+        ensures ok { IfOk result (λ state. (self.new ≡ settled mode (without_member handle.index self.old))
+            × (state ≡ state_of self.new.locked)) }
         ensures err { OnErr result (self.new ≡ self.old) }
     {
         self.container.remove(handle, mode)
@@ -111,7 +113,8 @@ impl<T: Copy, const CAPACITY: usize> FixedSizeContainer<T, CAPACITY> {
     /// Calls `callback` with the handle and the value of each member of the owner, by rising index.
     pub fn find<F: FnMut(ContainerHandle, T)>(&self, owner: OwnerId, callback: &mut F)
         requires { F.IsAlwaysCallable callback.old }
-        ensures called { FoldsTo (λ p x q. F.step p x.0 x.1 tt q) callback.old (members_of owner self.now.id self.now.members) callback.new }
+        ensures called { FoldsTo (λ p x q. F.step p x.0 x.1 tt q) callback.old (members_of owner self.now.id self.now.members)
+            callback.new }
         ensures callable { F.IsAlwaysCallable callback.new }
     {
         self.container.find(owner, callback);
@@ -128,7 +131,8 @@ impl<T: Copy, const CAPACITY: usize> FixedSizeContainer<T, CAPACITY> {
     ) -> ReleaseState
         requires room { HasRoom self.old }
         requires may_call { F.IsAlwaysCallable decide.old }
-        ensures after { (members : List (Option (Member T))) × Recovered (λ p x answer q. F.step p x.0 x.1 answer q) owner self.old.id decide.old self.old.members members decide.new
+        ensures after { (members : List (Option (Member T)))
+            × Recovered (λ p x answer q. F.step p x.0 x.1 answer q) owner self.old.id decide.old self.old.members members decide.new
             × (self.new ≡ settled mode (record self.old { members = members; changes = self.old.changes + 1 })) }
         ensures callable { F.IsAlwaysCallable decide.new }
         ensures capacity { length self.new.members ≡ length self.old.members }

@@ -120,7 +120,8 @@ first_handle [] = None
 first_handle (member ∷ members) = Some member.0
 
 -- a decision was asked about each member of the owner, and not again; those for which it answered true are gone
-abbrev pub Recovered : {F T : Type 0} → (F → ContainerHandle × T → Bool → F → Type 0) → ℕ → ℕ → F → List (Option (Member T)) → List (Option (Member T)) → F → Type 0
+abbrev pub Recovered : {F T : Type 0} → (F → ContainerHandle × T → Bool → F → Type 0) → ℕ → ℕ → F → List (Option (Member T))
+    → List (Option (Member T)) → F → Type 0
 Recovered R owner id decide old new after = Recovers (told_of owner id) (λ member. member.0.index) None R decide old new after
 
 -- all members that a copy has, by rising index

@@ -36,7 +36,8 @@ pub record IsBehind (one other : ℕ × ℕ) : Type 0 where
 
 -- each comes before all later ones
 pub record Rises (entries : List (ℕ × ℕ)) : Type 0 where
-  pub before : (i j : ℕ) (default : ℕ × ℕ) → i < j → j < length entries → IsBefore (slice_index_or entries i default) (slice_index_or entries j default)
+  pub before : (i j : ℕ) (default : ℕ × ℕ) → i < j → j < length entries
+      → IsBefore (slice_index_or entries i default) (slice_index_or entries j default)
 
 -- where an owner with a place stands among them, or would
 pub record StandsAt (entries : List (ℕ × ℕ)) (entry : ℕ × ℕ) (at : ℕ) : Type 0 where

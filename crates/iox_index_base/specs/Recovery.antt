@@ -18,4 +18,5 @@ module _ {C X : Type 0} (asked : ℕ → C → Option X) where
     -- a decision was asked in turn, and not again: `after` is its state after just these calls; the cells for which it
     -- answered true were emptied, and no other cell was touched
     abbrev pub Recovers : {F : Type 0} → (F → X → Bool → F → Type 0) → F → List C → List C → F → Type 0
-    Recovers R decide old new after = (told : List X) × KeepsAsAnswered R decide (asked_from 0 old) told after × (new ≡ without_each told old)
+    Recovers R decide old new after = (told : List X) × KeepsAsAnswered R decide (asked_from 0 old) told after
+        × (new ≡ without_each told old)

@@ -140,7 +140,8 @@ impl<T: Copy> Container<T> {
     pub fn add(&mut self, value: T, owner: OwnerId) -> Result<ContainerHandle, ContainerAddFailure>
         requires { HasRoom self.old }
         ensures answer { result ≡ handle_of self.old.id (self.old.changes + 1) self.old.locked (lowest_free self.old) }
-        ensures ok { IfOk result (λ handle. self.new ≡ with_member handle.index (record { number = handle.number; owner = owner; value = value }) self.old) }
+        ensures ok { IfOk result (λ handle. self.new
+            ≡ with_member handle.index (record { number = handle.number; owner = owner; value = value }) self.old) }
         ensures err { OnErr result (self.new ≡ self.old) }
     {
         if self.locked {
@@ -174,7 +175,8 @@ impl<T: Copy> Container<T> {
     ) -> Result<ReleaseState, ContainerRemoveError>
         requires { HasRoom self.old }
         ensures answer { IsErr result ↔ (owns handle self.old ≡ false) }
-        ensures ok { IfOk result (λ state. (self.new ≡ settled mode (without_member handle.index self.old)) × (state ≡ state_of self.new.locked)) }
+        ensures ok { IfOk result (λ state. (self.new ≡ settled mode (without_member handle.index self.old))
+            × (state ≡ state_of self.new.locked)) }
         ensures err { OnErr result (self.new ≡ self.old) }
     {
         if !self.owns(handle) {
@@ -253,7 +255,8 @@ impl<T: Copy> Container<T> {
     /// Calls `callback` with the handle and the value of each member of the owner, by rising index.
     pub fn find<F: FnMut(ContainerHandle, T)>(&self, owner: OwnerId, callback: &mut F)
         requires { F.IsAlwaysCallable callback.old }
-        ensures called { FoldsTo (λ p x q. F.step p x.0 x.1 tt q) callback.old (members_of owner self.now.id self.now.members) callback.new }
+        ensures called { FoldsTo (λ p x q. F.step p x.0 x.1 tt q) callback.old (members_of owner self.now.id self.now.members)
+            callback.new }
         ensures callable { F.IsAlwaysCallable callback.new }
     {
         call_members(callback, owner, self.id, &self.owners, &self.members);
@@ -270,7 +273,8 @@ impl<T: Copy> Container<T> {
     ) -> ReleaseState
         requires room { HasRoom self.old }
         requires may_call { F.IsAlwaysCallable decide.old }
-        ensures after { (members : List (Option (Member T))) × Recovered (λ p x answer q. F.step p x.0 x.1 answer q) owner self.old.id decide.old self.old.members members decide.new
+        ensures after { (members : List (Option (Member T)))
+            × Recovered (λ p x answer q. F.step p x.0 x.1 answer q) owner self.old.id decide.old self.old.members members decide.new
             × (self.new ≡ settled mode (record self.old { members = members; changes = self.old.changes + 1 })) }
         ensures callable { F.IsAlwaysCallable decide.new }
         ensures capacity { length self.new.members ≡ length self.old.members }
@@ -442,7 +446,8 @@ fn call_until_stop<T: Copy, F: FnMut(ContainerHandle, T) -> CallbackProgression>
     members: &[Option<Member<T>>],
 )
     requires { F.IsAlwaysCallable callback.old }
-    ensures called { CallsUntilStop (λ p x answer q. F.step p x.0 x.1 answer q) callback.old (asked_from (told id) 0 members.now) callback.new }
+    ensures called { CallsUntilStop (λ p x answer q. F.step p x.0 x.1 answer q) callback.old (asked_from (told id) 0 members.now)
+        callback.new }
     ensures callable { F.IsAlwaysCallable callback.new }
 {
     let mut rest = members;

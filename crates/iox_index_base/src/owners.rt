@@ -31,7 +31,8 @@ impl Model for Owners {
 
     ghost view = { λ o. record { last = o.last.items; room = o.room } };
 
-    ghost invariant = { λ o. Lists o.last.items o.entries.items × (length o.last.items ≤ o.room) × (o.room ≤ vec_capacity o.last) × (o.room ≤ vec_capacity o.entries) };
+    ghost invariant = { λ o. Lists o.last.items o.entries.items × (length o.last.items ≤ o.room) × (o.room ≤ vec_capacity o.last)
+        × (o.room ≤ vec_capacity o.entries) };
 }
 
 impl Owners {
@@ -79,7 +80,8 @@ impl Owners {
 // The first place from one on that stands with the owner; it is looked for as `Owners::next` says.
 fn next_of(entries: &[(u64, usize)], owner: u64, from: usize, near: &mut usize) -> Option<usize>
     requires { Rises entries.now }
-    ensures some { IfSome result (λ place. Contains entries.now (owner, place) × (from ≤ place) × ((other : ℕ) → from ≤ other → other < place → Contains entries.now (owner, other) → ⊥)) }
+    ensures some { IfSome result (λ place. Contains entries.now (owner, place) × (from ≤ place)
+        × ((other : ℕ) → from ≤ other → other < place → Contains entries.now (owner, other) → ⊥)) }
     ensures none { IfNone result ((place : ℕ) → from ≤ place → Contains entries.now (owner, place) → ⊥) }
     ensures bound { length entries.now < 2 ^ 64 }
 {

@@ -24,7 +24,8 @@ impl<C: Copy> Model for Places<C> {
 
     ghost view = { λ p. padded p.count p.cells.items };
 
-    ghost invariant = { λ p. (length p.cells.items ≤ p.count) × (p.count ≤ vec_capacity p.cells) × (p.filled ≡ count_filled p.cells.items) };
+    ghost invariant = { λ p. (length p.cells.items ≤ p.count) × (p.count ≤ vec_capacity p.cells)
+        × (p.filled ≡ count_filled p.cells.items) };
 }
 
 impl<C: Copy> Places<C> {

@@ -123,7 +123,8 @@ impl RobustUniqueIndexSet {
         decide: &mut F,
     ) -> ReleaseState
         requires { F.IsAlwaysCallable decide.old }
-        ensures after { (holders : List (Option ℕ)) × Recovered (λ p index answer q. F.step p index answer q) owner decide.old self.old.holders holders decide.new
+        ensures after { (holders : List (Option ℕ))
+            × Recovered (λ p index answer q. F.step p index answer q) owner decide.old self.old.holders holders decide.new
             × (self.new ≡ settled mode (record self.old { holders = holders })) }
         ensures callable { F.IsAlwaysCallable decide.new }
         ensures capacity { length self.new.holders ≡ length self.old.holders }

@@ -31,7 +31,8 @@ impl Model for UniqueIndexSet {
 
     ghost view = { λ s. record { capacity = length s.held.items; free = reverse s.free.items; locked = s.locked } };
 
-    ghost invariant = { λ s. AreFree s.held.items (reverse s.free.items) × (length s.held.items ≤ vec_capacity s.free) × IsUnheldIfLocked s.locked (length s.held.items - length (reverse s.free.items)) };
+    ghost invariant = { λ s. AreFree s.held.items (reverse s.free.items) × (length s.held.items ≤ vec_capacity s.free)
+        × IsUnheldIfLocked s.locked (length s.held.items - length (reverse s.free.items)) };
 }
 
 impl UniqueIndexSet {

@@ -49,14 +49,16 @@ IsNamedIf port None = Unit {0}
 IsNamedIf port (Some head) = IsNamed port head
 
 -- A lane is that of a publisher: as many slots and loans, its history, and headers of its node and number.
-pub record IsLaneOf {T U : Type 0} (payload_words : T → List ℕ) (header_words : U → List ℕ) (table : TableWords) (port : PublisherPort T U) (lane : PublisherLaneState) : Type 0 where
+pub record IsLaneOf {T U : Type 0} (payload_words : T → List ℕ) (header_words : U
+    → List ℕ) (table : TableWords) (port : PublisherPort T U) (lane : PublisherLaneState) : Type 0 where
   pub slots : length lane.port.book.loans ≡ port.sender.uses.first + port.sender.uses.size
   pub most_loans : lane.port.book.most_loans ≡ port.sender.uses.most_loans
   pub history : AreLaid payload_words header_words table lane.port.book.first port lane.port.book.history port.sender.uses.history
   pub named : (at : ℕ) → IsNamedIf port (slice_get lane.heads at)
 
 -- a lane, if there is one, is that of a publisher, if there is one; where one is wanting it isn't
-abbrev pub IsLaneIf : {T U : Type 0} → (T → List ℕ) → (U → List ℕ) → TableWords → Option (PublisherPort T U) → Option PublisherLaneState → Type 0
+abbrev pub IsLaneIf : {T U : Type 0} → (T → List ℕ) → (U → List ℕ) → TableWords → Option (PublisherPort T U) → Option PublisherLaneState
+    → Type 0
 IsLaneIf payload_words header_words table None lane = ⊥
 IsLaneIf payload_words header_words table (Some port) None = ⊥
 IsLaneIf payload_words header_words table (Some port) (Some lane) = IsLaneOf payload_words header_words table port lane
@@ -68,7 +70,8 @@ SenderHolds payload_words header_words domain lanes publishers place =
 
 -- A link is a connection of a publisher to a subscriber, the one that its messages for the subscriber's place go to: it leads
 -- from the one's place to the other's, as many may wait, and the same messages do.
-pub record IsLinkOf {T U : Type 0} (payload_words : T → List ℕ) (header_words : U → List ℕ) (table : TableWords) (overflows : Bool) (port : PublisherPort T U) (reader : SubscriberPort) (first index publisher subscriber : ℕ) (link : LinkState) : Type 0 where
+pub record IsLinkOf {T U : Type 0} (payload_words : T → List ℕ) (header_words : U → List ℕ) (table : TableWords) (overflows : Bool)
+    (port : PublisherPort T U) (reader : SubscriberPort) (first index publisher subscriber : ℕ) (link : LinkState) : Type 0 where
   pub from : link.publisher ≡ publisher
   pub to : link.subscriber ≡ subscriber
   pub tie : get_or port.ties.items reader.place None ≡ Some index
@@ -77,7 +80,8 @@ pub record IsLinkOf {T U : Type 0} (payload_words : T → List ℕ) (header_word
   pub waiting : AreLaid payload_words header_words table first port link.found (connection_of index port).waiting
 
 -- the same of a link, a lane, an index and ports that may be wanting; where one is it isn't so
-abbrev pub IsLinkIf : {T U : Type 0} → (T → List ℕ) → (U → List ℕ) → TableWords → Bool → ℕ → ℕ → Option (PublisherPort T U) → Option SubscriberPort → Option PublisherLaneState → Option ℕ → Option LinkState → Type 0
+abbrev pub IsLinkIf : {T U : Type 0} → (T → List ℕ) → (U → List ℕ) → TableWords → Bool → ℕ → ℕ → Option (PublisherPort T U)
+    → Option SubscriberPort → Option PublisherLaneState → Option ℕ → Option LinkState → Type 0
 IsLinkIf payload_words header_words table overflows publisher subscriber None reader lane index link = ⊥
 IsLinkIf payload_words header_words table overflows publisher subscriber (Some port) None lane index link = ⊥
 IsLinkIf payload_words header_words table overflows publisher subscriber (Some port) (Some reader) None index link = ⊥
@@ -103,7 +107,8 @@ LeadsFrom publishers subscriber number (Some link) = (link.subscriber ≡ subscr
 -- a route is that of a connection of a subscriber, from the publisher that it is attached to; none isn't
 abbrev pub IsRouteOf : World → List ℕ → ℕ → Attached → Option Route → Type 0
 IsRouteOf lanes publishers subscriber attached None = ⊥
-IsRouteOf lanes publishers subscriber attached (Some route) = LeadsFrom publishers subscriber attached.publisher (slice_get lanes.links route.connection)
+IsRouteOf lanes publishers subscriber attached (Some route)
+    = LeadsFrom publishers subscriber attached.publisher (slice_get lanes.links route.connection)
 
 -- the same of a connection, if there is one
 abbrev pub IsRouteIf : World → List ℕ → ℕ → Option Attached → Option Route → Type 0
@@ -128,7 +133,8 @@ ReaderHolds domain lanes publishers subscribers place =
     FollowIf lanes publishers place (reader_if domain.state.ports.subscribers (slice_get subscribers place)) (slice_get lanes.subscribers place)
 
 -- Lanes hold what a domain has: before their first step, its publishers and subscribers by their places, with their connections.
-pub record LanesHold {T U B D : Type 0} (payload_words : T → List ℕ) (header_words : U → List ℕ) (payload_count header_count : ℕ) (domain : Domain T U B D) (lanes : World) (senders readers indices : List ℕ) : Type 0 where
+pub record LanesHold {T U B D : Type 0} (payload_words : T → List ℕ) (header_words : U
+    → List ℕ) (payload_count header_count : ℕ) (domain : Domain T U B D) (lanes : World) (senders readers indices : List ℕ) : Type 0 where
   pub moments : lanes.moments ≡ 0
   pub payload : lanes.table.sizes.payload_words ≡ payload_count
   pub user_header : lanes.table.sizes.user_header_words ≡ header_count

@@ -38,7 +38,8 @@ pub record SenderJoins {T U : Type 0} (ports : List (ℕ × PublisherPort T U)) 
 
 -- A connection of the lanes, from the publisher at this place, is one of the publisher's in the domain: it goes on, as many may
 -- wait, and no other connection of the publisher before it has its index.
-pub record IsLinkTo {T U : Type 0} (port : PublisherPort T U) (publisher subscriber : ℕ) (row : List ℕ) (index : ℕ) (link : LinkState) : Type 0 where
+pub record IsLinkTo {T U : Type 0} (port : PublisherPort T U) (publisher subscriber : ℕ) (row : List ℕ) (index : ℕ) (link : LinkState) :
+    Type 0 where
   pub from : link.publisher ≡ publisher
   pub live : (connection_of index port).stage ≡ stage.Live
   pub limit : link.limit ≡ (connection_of index port).limit
@@ -59,7 +60,8 @@ LinkJoins ports lanes senders readers indices publisher subscriber =
 
 -- Lanes go with the publishers of a domain: as many words for its values, its publishers by their places, and for each of them a
 -- connection to each of so many subscribers; and there is a place for one value.
-pub record IsJoined {T U : Type 0} (payload_count header_count places : ℕ) (lanes : World) (ports : List (ℕ × PublisherPort T U)) (senders : List ℕ) (readers : ℕ) (indices : List ℕ) : Type 0 where
+pub record IsJoined {T U : Type 0} (payload_count header_count places : ℕ) (lanes : World) (ports : List (ℕ
+    × PublisherPort T U)) (senders : List ℕ) (readers : ℕ) (indices : List ℕ) : Type 0 where
   pub some : 0 < places
   pub payload : lanes.table.sizes.payload_words ≡ payload_count
   pub user_header : lanes.table.sizes.user_header_words ≡ header_count
@@ -67,9 +69,11 @@ pub record IsJoined {T U : Type 0} (payload_count header_count places : ℕ) (la
   pub link_count : length lanes.links ≡ length senders * readers
   pub index_count : length indices ≡ length senders * readers
   pub sending : (place : ℕ) → place < length senders → SenderJoins ports lanes senders place
-  pub linking : (publisher : ℕ) → publisher < length senders → (subscriber : ℕ) → subscriber < readers → LinkJoins ports lanes senders readers indices publisher subscriber
+  pub linking : (publisher : ℕ) → publisher < length senders → (subscriber : ℕ) → subscriber < readers
+      → LinkJoins ports lanes senders readers indices publisher subscriber
 
 -- steps keep it
 abbrev pub JoinedStays : (T U : Type 0) → Type 0
-JoinedStays T U = (payload_count header_count places : ℕ) (before after : World) (ports : List (ℕ × PublisherPort T U)) (senders : List ℕ) (readers : ℕ) (indices : List ℕ)
+JoinedStays T U = (payload_count header_count places : ℕ) (before after : World) (ports : List (ℕ
+    × PublisherPort T U)) (senders : List ℕ) (readers : ℕ) (indices : List ℕ)
     → IsJoined payload_count header_count places before ports senders readers indices → StaysFixed before after → IsJoined payload_count header_count places after ports senders readers indices

@@ -2,6 +2,7 @@
 pub mod Lying
 pub mod Finding
 pub mod Holding
+pub mod Failing
 pub mod Sized
 pub mod Opening
 pub mod Joined

@@ -52,12 +52,14 @@ pub record AreSized (agreed : ServiceSizes) (publishers subscribers payload_coun
   pub cells : m.table.sizes.completion_cells ≡ most_at agreed + 1
   pub routes : (place : ℕ) (lane : PublisherLaneState) → slice_get m.publishers place ≡ Some lane → length lane.port.routes ≡ subscribers
   pub kept : (place : ℕ) (lane : PublisherLaneState) → slice_get m.publishers place ≡ Some lane → lane.port.book.kept ≡ agreed.history_size
-  pub borrowing : (place : ℕ) (lane : SubscriberLaneState) → slice_get m.subscribers place ≡ Some lane → lane.port.most_borrowed ≡ agreed.subscriber_max_borrowed_samples
+  pub borrowing : (place : ℕ) (lane : SubscriberLaneState) → slice_get m.subscribers place ≡ Some lane
+      → lane.port.most_borrowed ≡ agreed.subscriber_max_borrowed_samples
 
 -- Wherever steps brought such lanes, a loan that is not over yet has made at most 4 * S * (B + R + 2) + 2 steps with the next one, for S
 -- subscribers at each of which B messages may wait and R samples be borrowed, as agreed; as long as at most 2^63 steps were made.
 abbrev pub AgreedLoansEndSoon : Type 0
-AgreedLoansEndSoon = (agreed : ServiceSizes) (publishers subscribers payload_count header_count : ℕ) (begun : World) → AreSized agreed publishers subscribers payload_count header_count begun
+AgreedLoansEndSoon = (agreed : ServiceSizes) (publishers subscribers payload_count header_count : ℕ) (begun : World)
+    → AreSized agreed publishers subscribers payload_count header_count begun
     → (schedule : List Entry) (made : ℕ) (m : World) → RunsTo begun schedule made m
     → (place : ℕ) (entries : List Entry) → fits m (Publisher place) (Begin call.LoanUninit) ≡ true
     → (led (happens m (Publisher place) (Begin call.LoanUninit)) entries).moments ≤ 2 ^ 63
@@ -67,7 +69,8 @@ AgreedLoansEndSoon = (agreed : ServiceSizes) (publishers subscribers payload_cou
 -- And such a loan ends with a slot, if as it began fewer were out than may be and the publisher had as many slots as it can have a use
 -- for; as long as at most 2^63 steps were made, and for slots that have numbers below 2^64.
 abbrev pub AgreedSlotsSuffice : Type 0
-AgreedSlotsSuffice = (agreed : ServiceSizes) (publishers subscribers payload_count header_count : ℕ) (begun : World) → AreSized agreed publishers subscribers payload_count header_count begun
+AgreedSlotsSuffice = (agreed : ServiceSizes) (publishers subscribers payload_count header_count : ℕ) (begun : World)
+    → AreSized agreed publishers subscribers payload_count header_count begun
     → (schedule : List Entry) (made : ℕ) (m : World) → RunsTo begun schedule made m
     → (place : ℕ) (entries : List Entry) → fits m (Publisher place) (Begin call.LoanUninit) ≡ true
     → (led (happens m (Publisher place) (Begin call.LoanUninit)) entries).moments ≤ 2 ^ 63

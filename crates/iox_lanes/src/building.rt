@@ -14,6 +14,7 @@ use iox_domain_subscriber::SubscriberPort;
 use iox_domain_subscriber::reading::waiting_at;
 use iox_lanes_base::words::SlotWord;
 use iox_lanes_machine::{Found, LaneSizes, Lanes};
+use iox_lanes_opening::refusals::deciding::would_fail;
 use iox_queues_base::Words;
 use iox_queues_steps::rings::RingKind;
 use std::alloc::{AllocError, Global};
@@ -25,9 +26,12 @@ pub(crate) fn build<T: Words, U: Words>(
 ) -> Result<Opened<T>, AllocError>
     ensures came { IfOk result (λ opened. CameTo opened.lanes) }
     ensures between { IfOk result (λ opened. AllBetween opened.lanes) }
-    ensures sized { IfOk result (λ opened. AreSized domain.now.state.ports.sizes (length opened.publishers.items) (length opened.subscribers.items) T.WORDS U.WORDS opened.lanes) }
-    ensures publishers { IfOk result (λ opened. opened.publishers.items ≡ numbers_of (λ entry. entry.publisher) domain.now.state.ports.publisher_list.places) }
-    ensures subscribers { IfOk result (λ opened. opened.subscribers.items ≡ numbers_of (λ entry. entry.subscriber) domain.now.state.ports.subscriber_list.places) }
+    ensures sized { IfOk result (λ opened. AreSized domain.now.state.ports.sizes (length opened.publishers.items)
+        (length opened.subscribers.items) T.WORDS U.WORDS opened.lanes) }
+    ensures publishers { IfOk result (λ opened. opened.publishers.items
+        ≡ numbers_of (λ entry. entry.publisher) domain.now.state.ports.publisher_list.places) }
+    ensures subscribers { IfOk result (λ opened. opened.subscribers.items
+        ≡ numbers_of (λ entry. entry.subscriber) domain.now.state.ports.subscriber_list.places) }
 {
     let publishers = publishers_listed(alloc, &domain.state.ports.publisher_list)?;
     let subscribers = subscribers_listed(alloc, &domain.state.ports.subscriber_list)?;
@@ -131,7 +135,7 @@ fn find_publishers<T: Words, U: Words>(
 {
     for place in 0..publishers.len() {
         if let Some(port) = domain.state.ports.publishers.get(publishers[place]) {
-            find_publisher(lanes, place, port)?;
+            find_publisher(lanes, domain, place, publishers[place], port)?;
             let first = first_slot(lanes.lanes(), place);
             find_history(lanes, place, first, port)?;
             find_connections(lanes, domain, place, first, port, subscribers, connections)?;
@@ -140,10 +144,12 @@ fn find_publishers<T: Words, U: Words>(
     Ok(())
 }
 
-// A publisher has so many slots and loans, and its headers say its node and number.
+// A publisher has so many slots and loans, its headers say its node and number, and its sends fail where its fixed action says so.
 fn find_publisher<T: Words, U: Words>(
     lanes: &mut NewLanes,
+    domain: &Domain<T, U>,
     place: usize,
+    number: u64,
     port: &PublisherPort<T, U>,
 ) -> Result<(), AllocError>
     ensures { lanes.new.sizes ≡ lanes.old.sizes }
@@ -153,10 +159,11 @@ fn find_publisher<T: Words, U: Words>(
         slots: slots_of(port),
         most_loans: port.sender.most_loans() as u64,
     })?;
-    lanes.find(Found::Header {
+    lanes.find(Found::Sender {
         publisher: place,
         node_id: port.owner.node_id,
         publisher_id: port.number,
+        fails: would_fail(domain.state.publisher_handlers.get(number)),
     })
 }
 

@@ -4,11 +4,13 @@ ghost use Rattle.iox_lanes_opening.specs.Refusals.{first_reason};
 ghost use Rattle.iox_lanes_machine.specs.Resting.{AllBetween};
 ghost use Rattle.iox_lanes_machine.specs.WholeReads.{CameTo};
 ghost use Rattle.iox_lanes.specs.Opening.{told_of};
+ghost use Rattle.iox_lanes.specs.Failing.{FailAsAsked};
 ghost use Rattle.iox_lanes.specs.Holding.{LanesHold};
 ghost use Rattle.iox_lanes.specs.Joined.{IsJoined};
 ghost use Rattle.iox_lanes.specs.Sized.{AreSized};
 
 use crate::building::build;
+use crate::failing::fail_as_asked;
 use crate::holding::hold;
 use crate::joining::joins;
 use iox_domain::Domain;
@@ -56,8 +58,8 @@ pub(crate) struct Opened<T> {
 }
 
 /// The lanes of a domain: each publisher and subscriber that it lists, in the order of their places, with the buffer of each
-/// connection, the slots, loans and history of each publisher, what waits at each connection, the words of each message, and the
-/// order in which each subscriber goes over its connections.
+/// connection, the slots, loans and history of each publisher, whether its sends fail at a full mailbox, what waits at each
+/// connection, the words of each message, and the order in which each subscriber goes over its connections.
 ///
 /// The lanes are such as `Lanes::new` makes them and what they found leaves, and nobody is inside a call: so each law of lanes
 /// holds of them. Their sizes are those that the service agreed on: its buffer, one message at least, its borrow limit and its
@@ -69,12 +71,16 @@ pub fn into_lanes<T: Words, U: Words>(
     alloc: Global,
     domain: Domain<T, U>,
 ) -> Result<DomainLanes<T, U>, Refused<T, U>>
-    ensures lanes { IfOk result (λ opened. LanesHold T.parts U.parts T.WORDS U.WORDS domain opened.lanes opened.publishers.items opened.subscribers.items opened.connections.items) }
+    ensures lanes { IfOk result (λ opened. LanesHold T.parts U.parts T.WORDS U.WORDS domain opened.lanes opened.publishers.items
+        opened.subscribers.items opened.connections.items) }
+    ensures fails { IfOk result (λ opened. FailAsAsked domain opened.lanes opened.publishers.items) }
     ensures came { IfOk result (λ opened. CameTo opened.lanes) }
     ensures between { IfOk result (λ opened. AllBetween opened.lanes) }
-    ensures sized { IfOk result (λ opened. AreSized domain.state.ports.sizes (length opened.publishers.items) (length opened.subscribers.items) T.WORDS U.WORDS opened.lanes) }
+    ensures sized { IfOk result (λ opened. AreSized domain.state.ports.sizes (length opened.publishers.items)
+        (length opened.subscribers.items) T.WORDS U.WORDS opened.lanes) }
     ensures domain { IfOk result (λ opened. opened.domain ≡ domain) }
-    ensures joined { IfOk result (λ opened. IsJoined T.WORDS U.WORDS (length opened.one.items) opened.lanes domain.state.ports.publishers opened.publishers.items (length opened.subscribers.items) opened.connections.items) }
+    ensures joined { IfOk result (λ opened. IsJoined T.WORDS U.WORDS (length opened.one.items) opened.lanes
+        domain.state.ports.publishers opened.publishers.items (length opened.subscribers.items) opened.connections.items) }
     ensures none { OnOk result (first_reason domain ≡ None) }
     ensures told { IfErr result (λ refused. refused.error ≡ told_of (first_reason domain)) }
     ensures same { IfErr result (λ refused. refused.domain ≡ domain) }
@@ -109,13 +115,17 @@ fn with<T, U>(opened: Opened<T>, domain: Domain<T, U>) -> DomainLanes<T, U>
 fn open<T: Words, U: Words>(alloc: Global, domain: &Domain<T, U>) -> Option<Opened<T>>
     ensures came { IfSome result (λ opened. CameTo opened.lanes) }
     ensures between { IfSome result (λ opened. AllBetween opened.lanes) }
-    ensures sized { IfSome result (λ opened. AreSized domain.now.state.ports.sizes (length opened.publishers.items) (length opened.subscribers.items) T.WORDS U.WORDS opened.lanes) }
-    ensures joined { IfSome result (λ opened. IsJoined T.WORDS U.WORDS (length opened.one.items) opened.lanes domain.now.state.ports.publishers opened.publishers.items (length opened.subscribers.items) opened.connections.items) }
-    ensures holds { IfSome result (λ opened. LanesHold T.parts U.parts T.WORDS U.WORDS domain.now opened.lanes opened.publishers.items opened.subscribers.items opened.connections.items) }
+    ensures sized { IfSome result (λ opened. AreSized domain.now.state.ports.sizes (length opened.publishers.items)
+        (length opened.subscribers.items) T.WORDS U.WORDS opened.lanes) }
+    ensures joined { IfSome result (λ opened. IsJoined T.WORDS U.WORDS (length opened.one.items) opened.lanes
+        domain.now.state.ports.publishers opened.publishers.items (length opened.subscribers.items) opened.connections.items) }
+    ensures holds { IfSome result (λ opened. LanesHold T.parts U.parts T.WORDS U.WORDS domain.now opened.lanes opened.publishers.items
+        opened.subscribers.items opened.connections.items) }
+    ensures fails { IfSome result (λ opened. FailAsAsked domain.now opened.lanes opened.publishers.items) }
 {
     match build(alloc, domain) {
         Ok(opened) => {
-            if hold(domain, &opened) && joins(domain, &opened) {
+            if hold(domain, &opened) && fail_as_asked(domain, &opened) && joins(domain, &opened) {
                 Some(opened)
             } else {
                 None

@@ -13,8 +13,10 @@ use iox_queues_base::Words;
 /// Whether lanes hold what a domain has, whose listed ports have these numbers.
 pub(crate) fn hold<T: Words, U: Words>(domain: &Domain<T, U>, opened: &Opened<T>) -> bool
     requires publishers { opened.now.publishers.items ≡ numbers_of (λ entry. entry.publisher) domain.now.state.ports.publisher_list.places }
-    requires subscribers { opened.now.subscribers.items ≡ numbers_of (λ entry. entry.subscriber) domain.now.state.ports.subscriber_list.places }
-    ensures { OnTrue result (LanesHold T.parts U.parts T.WORDS U.WORDS domain.now opened.now.lanes opened.now.publishers.items opened.now.subscribers.items opened.now.connections.items) }
+    requires subscribers { opened.now.subscribers.items
+        ≡ numbers_of (λ entry. entry.subscriber) domain.now.state.ports.subscriber_list.places }
+    ensures { OnTrue result (LanesHold T.parts U.parts T.WORDS U.WORDS domain.now opened.now.lanes opened.now.publishers.items
+        opened.now.subscribers.items opened.now.connections.items) }
 {
     if !are_sized::<T, U>(opened) {
         return false;
@@ -38,7 +40,8 @@ fn are_sized<T: Words, U: Words>(opened: &Opened<T>) -> bool
     ensures user_header { OnTrue result (opened.now.lanes.table.sizes.user_header_words ≡ U.WORDS) }
     ensures senders { OnTrue result (length opened.now.lanes.publishers ≡ length opened.now.publishers.items) }
     ensures readers { OnTrue result (length opened.now.lanes.subscribers ≡ length opened.now.subscribers.items) }
-    ensures links { OnTrue result (length opened.now.lanes.links ≡ length opened.now.publishers.items * length opened.now.subscribers.items) }
+    ensures links { OnTrue result (length opened.now.lanes.links
+        ≡ length opened.now.publishers.items * length opened.now.subscribers.items) }
 {
     let sizes = opened.lanes.table().sizes();
     if opened.lanes.moments() != 0 {
@@ -76,7 +79,8 @@ fn is_product(one: usize, other: usize, product: usize) -> bool
 }
 
 fn senders_hold<T: Words, U: Words>(domain: &Domain<T, U>, opened: &Opened<T>) -> bool
-    ensures { OnTrue result ((place : ℕ) → place < length opened.now.publishers.items → SenderHolds T.parts U.parts domain.now opened.now.lanes opened.now.publishers.items place) }
+    ensures { OnTrue result ((place : ℕ) → place < length opened.now.publishers.items
+        → SenderHolds T.parts U.parts domain.now opened.now.lanes opened.now.publishers.items place) }
 {
     for place in 0..opened.publishers.len() {
         if !sender_holds(domain, opened, place) {
@@ -87,7 +91,8 @@ fn senders_hold<T: Words, U: Words>(domain: &Domain<T, U>, opened: &Opened<T>) -
 }
 
 fn links_hold<T: Words, U: Words>(domain: &Domain<T, U>, opened: &Opened<T>) -> bool
-    ensures { OnTrue result ((publisher : ℕ) → publisher < length opened.now.publishers.items → (subscriber : ℕ) → subscriber < length opened.now.subscribers.items
+    ensures { OnTrue result ((publisher : ℕ) → publisher < length opened.now.publishers.items → (subscriber : ℕ)
+        → subscriber < length opened.now.subscribers.items
         → LinkHolds T.parts U.parts domain.now opened.now.lanes opened.now.publishers.items opened.now.subscribers.items opened.now.connections.items publisher subscriber) }
 {
     for place in 0..opened.publishers.len() {
@@ -115,7 +120,8 @@ fn links_of_hold<T: Words, U: Words>(
 }
 
 fn readers_hold<T: Words, U: Words>(domain: &Domain<T, U>, opened: &Opened<T>) -> bool
-    ensures { OnTrue result ((place : ℕ) → place < length opened.now.subscribers.items → ReaderHolds domain.now opened.now.lanes opened.now.publishers.items opened.now.subscribers.items place) }
+    ensures { OnTrue result ((place : ℕ) → place < length opened.now.subscribers.items
+        → ReaderHolds domain.now opened.now.lanes opened.now.publishers.items opened.now.subscribers.items place) }
 {
     for place in 0..opened.subscribers.len() {
         if !reader_holds(domain, opened, place) {

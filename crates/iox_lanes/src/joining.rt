@@ -20,8 +20,10 @@ use iox_queues_base::Words;
 
 /// Whether lanes that hold what a domain has go with it.
 pub(crate) fn joins<T: Words, U: Words>(domain: &Domain<T, U>, opened: &Opened<T>) -> bool
-    requires { LanesHold T.parts U.parts T.WORDS U.WORDS domain.now opened.now.lanes opened.now.publishers.items opened.now.subscribers.items opened.now.connections.items }
-    ensures { OnTrue result (IsJoined T.WORDS U.WORDS (length opened.now.one.items) opened.now.lanes domain.now.state.ports.publishers opened.now.publishers.items (length opened.now.subscribers.items) opened.now.connections.items) }
+    requires { LanesHold T.parts U.parts T.WORDS U.WORDS domain.now opened.now.lanes opened.now.publishers.items
+        opened.now.subscribers.items opened.now.connections.items }
+    ensures { OnTrue result (IsJoined T.WORDS U.WORDS (length opened.now.one.items) opened.now.lanes domain.now.state.ports.publishers
+        opened.now.publishers.items (length opened.now.subscribers.items) opened.now.connections.items) }
 {
     if !is_sized(opened) {
         return false;
@@ -47,7 +49,8 @@ fn is_sized<T: Words>(opened: &Opened<T>) -> bool
 }
 
 fn senders_join<T: Words, U: Words>(domain: &Domain<T, U>, opened: &Opened<T>) -> bool
-    ensures { OnTrue result ((place : ℕ) → place < length opened.now.publishers.items → SenderJoins domain.now.state.ports.publishers opened.now.lanes opened.now.publishers.items place) }
+    ensures { OnTrue result ((place : ℕ) → place < length opened.now.publishers.items
+        → SenderJoins domain.now.state.ports.publishers opened.now.lanes opened.now.publishers.items place) }
 {
     for place in 0..opened.publishers.len() {
         if !sender_joins(domain, opened, place) {
@@ -128,7 +131,8 @@ fn has_slots_of<T: Words, U: Words>(port: &PublisherPort<T, U>, lane: &Publisher
 }
 
 fn links_join<T: Words, U: Words>(domain: &Domain<T, U>, opened: &Opened<T>) -> bool
-    ensures { OnTrue result ((publisher : ℕ) → publisher < length opened.now.publishers.items → (subscriber : ℕ) → subscriber < length opened.now.subscribers.items
+    ensures { OnTrue result ((publisher : ℕ) → publisher < length opened.now.publishers.items → (subscriber : ℕ)
+        → subscriber < length opened.now.subscribers.items
         → LinkJoins domain.now.state.ports.publishers opened.now.lanes opened.now.publishers.items (length opened.now.subscribers.items) opened.now.connections.items publisher subscriber) }
 {
     for publisher in 0..opened.publishers.len() {
@@ -161,7 +165,8 @@ fn link_joins<T: Words, U: Words>(
     publisher: usize,
     subscriber: usize,
 ) -> bool
-    ensures { OnTrue result (LinkJoins domain.now.state.ports.publishers opened.now.lanes opened.now.publishers.items (length opened.now.subscribers.items) opened.now.connections.items publisher subscriber) }
+    ensures { OnTrue result (LinkJoins domain.now.state.ports.publishers opened.now.lanes opened.now.publishers.items
+        (length opened.now.subscribers.items) opened.now.connections.items publisher subscriber) }
 {
     let readers = opened.subscribers.len();
     let Some(number) = number_of(publisher, readers, subscriber) else {
@@ -197,7 +202,8 @@ fn is_link_to_if<T: Words, U: Words>(
     index: Option<&usize>,
     link: Option<&Link>,
 ) -> bool
-    ensures { OnTrue result (IsLinkToIf (option_copied port.entry) publisher subscriber row.now (option_copied index.entry) (option_copied link.entry)) }
+    ensures { OnTrue result (IsLinkToIf (option_copied port.entry) publisher subscriber row.now (option_copied index.entry)
+        (option_copied link.entry)) }
 {
     match (port, index, link) {
         (Some(port), Some(index), Some(link)) => {

@@ -7,6 +7,7 @@
 //! - `lying`: whether a message of the domain lies in a slot of the lanes.
 //! - `sending`, `linking`, `receiving`: whether publishers, connections and subscribers of the lanes are those of the domain.
 //! - `holding`: whether lanes hold what the domain has.
+//! - `failing`: whether their sends fail at a full mailbox where those of the domain do.
 //! - `joining`: whether they go with it, whatever steps they make.
 //! - [`returning`]: the domain that lanes leave.
 //! - [`into_domain_error`]: why lanes don't become a domain.
@@ -28,6 +29,7 @@
 
 mod building;
 pub mod domain_lanes;
+mod failing;
 mod finding;
 mod holding;
 pub mod into_domain_error;

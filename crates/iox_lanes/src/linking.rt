@@ -39,7 +39,8 @@ pub(crate) fn link_holds<T: Words, U: Words>(
     publisher: usize,
     subscriber: usize,
 ) -> bool
-    ensures { OnTrue result (LinkHolds T.parts U.parts domain.now opened.now.lanes opened.now.publishers.items opened.now.subscribers.items opened.now.connections.items publisher subscriber) }
+    ensures { OnTrue result (LinkHolds T.parts U.parts domain.now opened.now.lanes opened.now.publishers.items
+        opened.now.subscribers.items opened.now.connections.items publisher subscriber) }
 {
     match number_of(publisher, opened.subscribers.len(), subscriber) {
         Some(number) => is_link_if(
@@ -76,7 +77,8 @@ fn is_link_if<T: Words, U: Words>(
     index: Option<&usize>,
     link: Option<&Link>,
 ) -> bool
-    ensures { OnTrue result (IsLinkIf T.parts U.parts table.now overflows publisher subscriber (option_copied port.entry) (option_copied reader.entry) (option_copied lane.entry) (option_copied index.entry) (option_copied link.entry)) }
+    ensures { OnTrue result (IsLinkIf T.parts U.parts table.now overflows publisher subscriber (option_copied port.entry)
+        (option_copied reader.entry) (option_copied lane.entry) (option_copied index.entry) (option_copied link.entry)) }
 {
     match (port, reader, lane, index, link) {
         (Some(port), Some(reader), Some(lane), Some(index), Some(link)) => {
@@ -161,7 +163,8 @@ fn connection_lies<T: Words, U: Words>(
     link: &Link,
 ) -> bool
     ensures limit { OnTrue result (link.now.limit ≡ (connection_of index port.now).limit) }
-    ensures waiting { OnTrue result (AreLaid T.parts U.parts table.now first port.now link.now.found (connection_of index port.now).waiting) }
+    ensures waiting { OnTrue result (AreLaid T.parts U.parts table.now first port.now link.now.found
+        (connection_of index port.now).waiting) }
 {
     match port.sender.stage(index) {
         Stage::Vacant => false,
@@ -211,7 +214,8 @@ fn is_waiting<T: Words, U: Words>(
 ) -> bool
     requires there { is_there (connection_of index port.now) ≡ true }
     requires waits { at < length (connection_of index port.now).waiting }
-    ensures { OnTrue result (IsLaidAt T.parts U.parts table.now first port.now (slice_get slots.now at) (slice_get (connection_of index port.now).waiting at)) }
+    ensures { OnTrue result (IsLaidAt T.parts U.parts table.now first port.now (slice_get slots.now at)
+        (slice_get (connection_of index port.now).waiting at)) }
 {
     let own = port.sender.waiting_slot(index, at);
     let Some(there) = in_lanes(first, own) else {

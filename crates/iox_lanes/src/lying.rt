@@ -21,9 +21,11 @@ pub(crate) fn lies<T: Words, U: Words>(
     own: usize,
 ) -> bool
     requires { own < port.now.sender.uses.first + port.now.sender.uses.size }
-    ensures waiting { OnTrue result ((index at : ℕ) (message : Message T U) → slice_get (connection_of index port.now).waiting at ≡ Some message → message.slot ≡ own
+    ensures waiting { OnTrue result ((index at : ℕ) (message : Message T U)
+        → slice_get (connection_of index port.now).waiting at ≡ Some message → message.slot ≡ own
         → WordsLie T.parts U.parts table.now slot port.now.owner.node_id port.now.number message.elements message.user_header message.values) }
-    ensures remembered { OnTrue result ((at : ℕ) (message : Message T U) → slice_get port.now.sender.uses.history at ≡ Some message → message.slot ≡ own
+    ensures remembered { OnTrue result ((at : ℕ) (message : Message T U) → slice_get port.now.sender.uses.history at ≡ Some message
+        → message.slot ≡ own
         → WordsLie T.parts U.parts table.now slot port.now.owner.node_id port.now.number message.elements message.user_header message.values) }
 {
     let elements = port.sender.elements(own);

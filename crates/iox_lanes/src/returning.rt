@@ -76,7 +76,9 @@ fn error_of(unrest: Unrest) -> IntoDomainError
 // The domain with the messages that the lanes leave, where these lanes go with it.
 fn returned<T: Words, U: Words>(opened: DomainLanes<T, U>) -> Domain<T, U>
     ensures rest { OnlyPublishers opened.domain result }
-    ensures left { AllRest opened.lanes → IsJoined T.WORDS U.WORDS (length opened.one.items) opened.lanes opened.domain.state.ports.publishers opened.publishers.items (length opened.subscribers.items) opened.connections.items
+    ensures left { AllRest opened.lanes
+        → IsJoined T.WORDS U.WORDS (length opened.one.items) opened.lanes opened.domain.state.ports.publishers opened.publishers.items
+        (length opened.subscribers.items) opened.connections.items
         → ArePortsLeft T.of_parts U.of_parts opened.lanes opened.publishers.items (length opened.subscribers.items) opened.connections.items opened.domain.state.ports.publishers result.state.ports.publishers }
 {
     let DomainLanes {
@@ -243,7 +245,9 @@ fn restore_lane<T: Words, U: Words>(
     requires connections { from + length row.now ≤ length lanes.now.links }
     requires whole { IsWhole T.WORDS U.WORDS lanes.now.table }
     ensures rest { port.new ≡ record port.old { sender = port.new.sender } }
-    ensures restored { IsRested port.old.sender → IsRestored T.of_parts U.of_parts lanes.now from row.now lane.now.port.book.first lane.now.port.book.history port.old.sender port.new.sender }
+    ensures restored { IsRested port.old.sender
+        → IsRestored T.of_parts U.of_parts lanes.now from row.now lane.now.port.book.first lane.now.port.book.history port.old.sender
+        port.new.sender }
     ensures room { vec_capacity one.new ≡ vec_capacity one.old }
 {
     let first = lane.first_slot();

@@ -125,7 +125,8 @@ fn is_remembered<T: Words, U: Words>(
     at: usize,
 ) -> bool
     requires { at < length port.now.sender.uses.history }
-    ensures { OnTrue result (IsLaidAt T.parts U.parts table.now first port.now (slice_get slots.now at) (slice_get port.now.sender.uses.history at)) }
+    ensures { OnTrue result (IsLaidAt T.parts U.parts table.now first port.now (slice_get slots.now at)
+        (slice_get port.now.sender.uses.history at)) }
 {
     let own = port.sender.remembered(at);
     let Some(there) = in_lanes(first, own) else {

@@ -199,8 +199,8 @@ abbrev pub push_change : ℕ → Push → ℕ → PublisherChange
 push_change place (ring.Overflowing push) answer = overflowing_push_change place push answer
 push_change place (ring.Refusing push) answer = refusing_push_change place push
 
--- what the answer of the next access changes of what the publisher keeps for itself: the slots of rings at the steps that move a position, all else at
--- local steps
+-- what the answer of the next access changes of what the publisher keeps for itself: the slots of rings at the steps that move a
+-- position, all else at local steps
 abbrev pub publisher_change : PublisherCall → ℕ → PublisherChange
 publisher_change Idle answer = change.Nothing
 publisher_change (LoanReclaims place route pop) answer = taken_back place (refusing_pop_answer (pop_take pop answer))

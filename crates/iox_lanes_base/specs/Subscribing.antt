@@ -133,8 +133,8 @@ given_back_by place (push.SawRoom value write next) = change.Nothing
 given_back_by place (push.Filled value next) = change.GiveBack place value
 given_back_by place (push.Pushed value answered) = change.Nothing
 
--- what the answer of the next access changes of what the subscriber keeps for itself: its samples at the steps that move a position, what it reads at each
--- load
+-- what the answer of the next access changes of what the subscriber keeps for itself: its samples at the steps that move a
+-- position, what it reads at each load
 abbrev pub subscriber_change : SubscriberCall → ℕ → SubscriberChange
 subscriber_change Idle answer = change.Nothing
 subscriber_change (Receiving place route pop waits) answer = borrowed_by place (pop_answer (pop_take pop answer))

@@ -1,7 +1,7 @@
 //! The calls of one publisher and of one subscriber, one shared word at a time.
 //!
-//! Each call is plain data, free of any words: it says which access comes next, takes that access's answer, and says what the answer changes of what its
-//! port keeps for itself. Rings are worked by the ends of `iox_queues`.
+//! Each call is plain data, free of any words: it says which access comes next, takes that access's answer, and says what the
+//! answer changes of what its port keeps for itself. Rings are worked by the ends of `iox_queues`.
 //!
 //! - [`route`]: a connection as its two ports know it.
 //! - [`answers`]: what an end of a ring was answered.

@@ -1,7 +1,7 @@
 //! The shared words of one service, and one access to one of them.
 //!
-//! Each connection has two rings: that of the messages sent, and that of the samples given back. Each slot has the words of its header, its user header
-//! and its payload. A numbering lays all of them side by side in one table.
+//! Each connection has two rings: that of the messages sent, and that of the samples given back. Each slot has the words of its
+//! header, its user header and its payload. A numbering lays all of them side by side in one table.
 //!
 //! - [`word`]: the words.
 //! - [`access`]: what a step does with one of them.

@@ -16,6 +16,9 @@ use Rattle.iox_lanes_machine.specs.LanesBase.declared.calls.publisher.PublisherC
 use Rattle.iox_lanes_machine.specs.LanesBase.declared.calls.publisher.PublisherCall.TheVariants as publishing
 use Rattle.iox_lanes_machine.specs.LanesBase.declared.calls.route.Route.{Route}
 use Rattle.iox_lanes_machine.specs.LanesParties.Parties.{PublisherLaneState, name_of}
+use Rattle.iox_lanes_machine.specs.LanesParties.SendAnswers.{send_answer, delivery_in}
+use Rattle.iox_lanes_machine.specs.LanesParties.declared.call.SendAnswer.{SendAnswer}
+use Rattle.iox_lanes_machine.specs.LanesParties.declared.call.SendAnswer.TheVariants.{Delivered, UnableToDeliver}
 use Rattle.iox_lanes_machine.specs.LanesParties.declared.call.Answer.{Answer}
 use Rattle.iox_lanes_machine.specs.LanesParties.declared.call.Answer.TheVariants as answer
 use Rattle.iox_lanes_machine.specs.LanesParties.declared.call.Call.{Call}
@@ -67,7 +70,7 @@ puts_counted : (m : World) (place connection i : ℕ) (lane : PublisherLaneState
     → length (puts (get_or m.orders connection [])) ≡ length (sends_of place m.finished)
 puts_counted m place connection i lane route k few found idle there same =
     subst (λ (c : ℕ). length (puts (get_or m.orders c [])) ≡ length (sends_of place m.finished)) same
-    (quiet_count m place lane.port.routes lane.first lane.port.call (idle_quiet lane.port.call idle) (k.sends few place lane found) i route there)
+    (quiet_count m place lane.fails lane.port.routes lane.first lane.port.call (idle_quiet lane.port.call idle) (k.sends few place lane found) i route there)
 
 -- between the two orders of a connection
 puts_between : (m : World) (place : ℕ) (c : Call) (before : PublisherLaneState) (n : World) (after : PublisherLaneState) (w : WholeCall m place c before n after) (connection : ℕ) (link : LinkState) → slice_get m.links connection ≡ Some link
@@ -78,6 +81,9 @@ puts_between m place c before n after w connection link found =
 
 routes_same : (m : World) (place : ℕ) (c : Call) (before : PublisherLaneState) (n : World) (after : PublisherLaneState) (w : WholeCall m place c before n after) → after.port.routes ≡ before.port.routes
 routes_same m place c before n after w = ap (λ (x : PublisherLaneState). x.port.routes) w.after_is ∙ w.last.alone.routes
+
+fails_same : (m : World) (place : ℕ) (c : Call) (before : PublisherLaneState) (n : World) (after : PublisherLaneState) (w : WholeCall m place c before n after) → after.fails ≡ before.fails
+fails_same m place c before n after w = ap (λ (x : PublisherLaneState). x.fails) w.after_is ∙ w.last.alone.fails
 
 waits_same : (m : World) (place : ℕ) (c : Call) (before : PublisherLaneState) (n : World) (after : PublisherLaneState) (w : WholeCall m place c before n after) (connection : ℕ) (link : LinkState) (found : slice_get m.links connection ≡ Some link)
     → (puts_between m place c before n after w connection link found).acts ≡ [] → waiting link (get_or n.orders connection []) ≡ waiting link (get_or m.orders connection [])
@@ -154,35 +160,48 @@ taken_is true false oldest = refl
 taken_is false true oldest = refl
 taken_is false false oldest = refl
 
+-- what a send tells has its delivery
+delivery_told : (fails : Bool) (delivery : Delivery) → delivery_in (send_answer fails delivery) ≡ delivery
+delivery_told fails delivery = by_test (fails && nat_lt 0 delivery.refused)
+  where
+    by_test : (b : Bool) → delivery_in (if b then UnableToDeliver delivery else Delivered delivery) ≡ delivery
+    by_test true = refl
+    by_test false = refl
+
 -- a send as it ended, and its puts
 pub record SentNow (m : World) (place slot : ℕ) (before : PublisherLaneState) (delivery : Delivery) (n : World) : Type 0 where
   pub one : FinishedCall
-  pub sent : IsSent n.orders before.port.routes (length (sends_of place m.finished)) one
+  pub sent : IsSent n.orders before.fails before.port.routes (length (sends_of place m.finished)) one
   pub slot_is : sent.slot ≡ slot
   pub delivery_is : sent.delivery ≡ delivery
   pub more : length (sends_of place n.finished) ≡ length (sends_of place m.finished) + 1
 
 pub sent_now : (m : World) (place slot : ℕ) (before : PublisherLaneState) (n : World) (after : PublisherLaneState) (w : WholeCall m place (call.Send slot) before n after) (delivery : Delivery) → slice_get n.publishers place ≡ Some after
-    → publisher_ending (w.last.k).table w.last.lane ≡ Some (answer.Sent delivery) → SentNow m place slot before delivery n
+    → publisher_ending (w.last.k).table w.last.lane ≡ Some (answer.Sent (send_answer before.fails delivery)) → SentNow m place slot before delivery n
 sent_now m place slot before n after w delivery now e =
-    let ended = answered_by m place (call.Send slot) before n after w (answer.Sent delivery) e in
+    let ended = answered_by m place (call.Send slot) before n after w (answer.Sent (send_answer before.fails delivery)) e in
     let all : sends_of place n.finished ≡ sends_of place m.finished ++ ended.call ∷ [] = ap (sends_of place) ended.more ∙ sends_one place m.finished ended.call ended.own (ap is_send ended.answered) in
-    let puts : SendsPut n place after.port.routes after.first after.port.call = w.kept.sends w.few place after now in
-    let sent : IsSent n.orders before.port.routes (length (sends_of place m.finished)) ended.call = subst (λ (rs : List Route). IsSent n.orders rs (length (sends_of place m.finished)) ended.call) (routes_same m place (call.Send slot) before n after w)
-    (puts.sent (length (sends_of place m.finished)) ended.call (ap (λ (xs : List FinishedCall). slice_get xs (length (sends_of place m.finished))) all ∙ last_of (sends_of place m.finished) ended.call)) in
+    let puts : SendsPut n place after.fails after.port.routes after.first after.port.call = w.kept.sends w.few place after now in
+    let sent : IsSent n.orders before.fails before.port.routes (length (sends_of place m.finished)) ended.call =
+    subst (λ (f : Bool). IsSent n.orders f before.port.routes (length (sends_of place m.finished)) ended.call) (fails_same m place (call.Send slot) before n after w)
+    (subst (λ (rs : List Route). IsSent n.orders after.fails rs (length (sends_of place m.finished)) ended.call) (routes_same m place (call.Send slot) before n after w)
+    (puts.sent (length (sends_of place m.finished)) ended.call (ap (λ (xs : List FinishedCall). slice_get xs (length (sends_of place m.finished))) all ∙ last_of (sends_of place m.finished) ended.call))) in
     record {
       one = ended.call;
       sent = sent;
       slot_is = slot_of sent.slot slot (sym sent.asked ∙ ended.asked);
-      delivery_is = delivery_of sent.delivery delivery (sym sent.answered ∙ ended.answered);
+      delivery_is = same_delivery before.fails sent.delivery delivery (sym sent.answered ∙ ended.answered);
       more = ap (λ (xs : List FinishedCall). length xs) all ∙ length-append (sends_of place m.finished) (ended.call ∷ []);
     }
   where
     slot_of : (a b : ℕ) → name_of (call.Send a) ≡ name_of (call.Send b) → a ≡ b
     slot_of a b h = cc h
 
-    delivery_of : (a b : Delivery) → answer.Sent a ≡ answer.Sent b → a ≡ b
-    delivery_of a b h = cc h
+    given_is : (a b : SendAnswer) → answer.Sent a ≡ answer.Sent b → a ≡ b
+    given_is a b h = cc h
+
+    same_delivery : (f : Bool) (a b : Delivery) → answer.Sent (send_answer f a) ≡ answer.Sent (send_answer f b) → a ≡ b
+    same_delivery f a b h = sym (delivery_told f a) ∙ ap delivery_in (given_is (send_answer f a) (send_answer f b) h) ∙ delivery_told f b
 
 -- what was put at a connection of the publisher, and how that was answered
 record PutThere (m n : World) (connection : ℕ) (link : LinkState) (slot : ℕ) (given : PushAnswer) : Type 0 where

@@ -18,6 +18,7 @@ use Rattle.iox_lanes_machine.specs.LanesParties.declared.publisher.slot_book.Loa
 use Rattle.iox_lanes_machine.specs.LanesParties.declared.publisher.slot_book.LoanMark.TheVariants as mark
 use Rattle.iox_lanes_machine.specs.LanesParties.Parties as parties
 use Rattle.iox_lanes_machine.specs.LanesParties.Parties.{PublisherLaneState, is_out, is_written, name_of, publisher_may, publisher_fits, publisher_answer}
+use Rattle.iox_lanes_machine.specs.LanesParties.SendAnswers.{send_answer}
 use Rattle.iox_lanes_machine.specs.LanesParties.declared.call.Answer.{Answer}
 use Rattle.iox_lanes_machine.specs.LanesParties.declared.call.Answer.TheVariants as answer
 use Rattle.iox_lanes_machine.specs.LanesParties.declared.call.Call.{Call}
@@ -130,8 +131,8 @@ book_is m place c before n after w stage is =
     ap (λ (x : PublisherLaneState). x.port.book) w.after_is ∙ ap (λ (s : PublisherCall). changed (publisher_change s (publisher_given (w.last.k).table w.last.lane)) (w.last.lane).port.book) is
 
 said_is : (m : World) (place : ℕ) (c : Call) (before : PublisherLaneState) (n : World) (after : PublisherLaneState) (w : WholeCall m place c before n after) (stage : PublisherCall) → (w.last.lane).port.call ≡ stage
-    → publisher_ending (w.last.k).table w.last.lane ≡ publisher_answer stage (next_lane w.last.k w.last.lane).port.book.answer
-said_is m place c before n after w stage is = ap (λ (s : PublisherCall). publisher_answer s (next_lane w.last.k w.last.lane).port.book.answer) is
+    → publisher_ending (w.last.k).table w.last.lane ≡ publisher_answer (w.last.lane).fails stage (next_lane w.last.k w.last.lane).port.book.answer
+said_is m place c before n after w stage is = ap (λ (s : PublisherCall). publisher_answer (w.last.lane).fails s (next_lane w.last.k w.last.lane).port.book.answer) is
 
 book_there : (m : World) (place : ℕ) (c : Call) (before : PublisherLaneState) (n : World) (after : PublisherLaneState) (w : WholeCall m place c before n after) (stage : PublisherCall) → (w.last.lane).port.call ≡ stage → BookAlone before.port.book stage (w.last.lane).port.book
 book_there m place c before n after w stage is = subst (λ (s : PublisherCall). BookAlone before.port.book s (w.last.lane).port.book) is w.last.alone.book
@@ -147,7 +148,8 @@ sends_in_turn = λ m n place slot before after t found now.
     let w = whole m place (call.Send slot) before n after t found now in
     let stage = send_stage slot (w.last.lane).port.call w.last.over (stage_of m place (call.Send slot) before n after w) in
     let delivery : Delivery = stage.0 in
-    let said = said_is m place (call.Send slot) before n after w (publishing.Sent slot delivery) stage.1 in
+    let said = said_is m place (call.Send slot) before n after w (publishing.Sent slot delivery) stage.1
+    ∙ ap (λ (f : Bool). Some (answer.Sent (send_answer f delivery))) w.last.alone.fails in
     let book : SentBook before.port.book slot (w.last.lane).port.book = book_there m place (call.Send slot) before n after w (publishing.Sent slot delivery) stage.1 in
     let same = book_is m place (call.Send slot) before n after w (publishing.Sent slot delivery) stage.1 in
     let first = ap (λ (b : BookState). b.first) same ∙ book.first in
@@ -156,7 +158,7 @@ sends_in_turn = λ m n place slot before after t found now.
     let s = sent_now m place slot before n after w delivery now said in
     let counts = counted m place slot before n after w delivery s found now in (
       delivery,
-      answered_by m place (call.Send slot) before n after w (answer.Sent delivery) said,
+      answered_by m place (call.Send slot) before n after w (answer.Sent (send_answer before.fails delivery)) said,
       w.others,
       record {
         put = λ connection link there own. mail_put m place slot before n after w delivery s found now connection link there own;

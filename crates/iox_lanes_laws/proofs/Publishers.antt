@@ -24,6 +24,7 @@ use Rattle.iox_lanes_machine.proofs.Ends.{some_is}
 use Rattle.iox_lanes_machine.proofs.Paces.{begun_first, came_kept}
 use Rattle.iox_lanes_machine.proofs.Steps.{happens_moments}
 use Rattle.iox_lanes_machine.proofs.Whole.{happens_keeps}
+use Rattle.iox_lanes_machine.proofs.SendSteps.{begun_fails}
 use Rattle.iox_lanes_machine.proofs.Within.{set_other, set_same, publisher_routes}
 use Rattle.iox_lanes_laws.specs.Publishing.{OnlyPublisher}
 use Rattle.iox_lanes_laws.specs.Turns.{GoesToEnd, IsInTurn}
@@ -40,6 +41,7 @@ pub record Alone (m : World) (place : ℕ) (before : PublisherLaneState) (called
   pub finished : k.finished ≡ m.finished
   pub since : k.moments ≤ 2 ^ 63 → m.moments < k.moments
   pub routes : lane.port.routes ≡ before.port.routes
+  pub fails : lane.fails ≡ before.fails
   pub asked : lane.call ≡ called
   pub first : lane.first ≡ m.moments
   pub puts : PutsAlone m place k.orders
@@ -71,7 +73,7 @@ alone_on m place before called k lane a fit over few =
     let is = goes_is k place lane a.found in
     let next = happens_moments k (Publisher place) GoOn fit in
     let bound : k.moments < 2 ^ 63 = fewer k.moments _ next few in
-    let silent = none_there (publisher_ending k.table lane) (publisher_is_over lane.port.call) (publisher_answers lane.port.call (next_lane k lane).port.book.answer) over in
+    let silent = none_there (publisher_ending k.table lane) (publisher_is_over lane.port.call) (publisher_answers lane.fails lane.port.call (next_lane k lane).port.book.answer) over in
     let rooms = (a.kept.rooms (omega (arith, bound))).publishers place lane a.found in
     record {
       kept = happens_keeps k (Publisher place) GoOn fit a.kept;
@@ -81,6 +83,7 @@ alone_on m place before called k lane a fit over few =
       finished = ap (λ (w : World). w.finished) is ∙ ap (λ (o : Option Answer). k.finished ++ ended (Publisher place) lane.call lane.first k.moments o) silent ∙ append-nil k.finished ∙ a.finished;
       since = λ h. omega (arith, next, bound, a.since (omega (arith, bound)));
       routes = a.routes;
+      fails = a.fails;
       asked = a.asked;
       first = a.first;
       puts = puts_on m k place lane _ a.found a.kept.within a.links (orders_are k place lane a.found) a.puts;
@@ -163,6 +166,7 @@ start m place c before k found fit few =
       finished = ap (λ (w : World). w.finished) is;
       since = λ h. omega (arith, next, fewer m.moments _ next few);
       routes = publisher_routes m.moments c before;
+      fails = begun_fails m.moments c before;
       asked = name_asked m.moments c before may;
       first = begun_first m.moments c before may;
       puts = subst (PutsAlone m place) (sym (ap (λ (w : World). w.orders) is)) (puts_none m place);

@@ -85,7 +85,8 @@ PublishersEndAtOnce = (m : World) (place : ℕ) (lane : PublisherLaneState) (c :
 -- the accesses of a release to a connection; without one there are none
 abbrev pub release_course : ℕ → Option Route → List ℕ → List SharedAccess
 release_course sample None answers = []
-release_course sample (Some route) answers = refusing_course (back route) route.completion_cells route.completion_cells sample quiet_course answers
+release_course sample (Some route) answers
+    = refusing_course (back route) route.completion_cells route.completion_cells sample quiet_course answers
 
 -- the accesses of a subscriber's call, by what they are answered; what isn't a call of subscribers makes none
 abbrev pub subscriber_call_course : SubscriberLaneState → Call → List ℕ → List SharedAccess

@@ -57,7 +57,8 @@ PublishersKeepPace = (call : PublisherCall) (answer : ℕ) → is_of_slots (publ
 
 -- samples are borrowed and given back at just the steps that move a position
 abbrev pub SubscribersKeepPace : Type 0
-SubscribersKeepPace = (call : SubscriberCall) (answer : ℕ) → is_of_samples (subscriber_change call answer) ≡ moves (subscriber_next call) answer
+SubscribersKeepPace = (call : SubscriberCall) (answer : ℕ)
+    → is_of_samples (subscriber_change call answer) ≡ moves (subscriber_next call) answer
 
 -- a receive only looks at a connection exactly where as many samples of it are borrowed as may be
 abbrev pub LimitsHold : Type 0

@@ -28,7 +28,8 @@ quiet_course (answer ∷ answers) = Local ∷ quiet_course answers
 abbrev pub back : Route → Word → SharedWord
 back route word = Ring route.connection Completion word
 
--- both positions are loaded; where they are equal something else follows, else the oldest cell is loaded, the read position stored, and all is done again
+-- both positions are loaded; where they are equal something else follows, else the oldest cell is loaded, the read position
+-- stored, and all is done again
 abbrev pub reclaim_course : Route → (List ℕ → List SharedAccess) → List ℕ → List SharedAccess
 reclaim_course route next [] = []
 reclaim_course route next (read ∷ []) = Load (back route Read) ∷ []
@@ -55,7 +56,8 @@ LoansTakeBack = (routes : List Route) (words answers : List ℕ) → length rout
 abbrev pub write_course : ℕ → ℕ → List ℕ → List ℕ → List SharedAccess
 write_course slot word values [] = []
 write_course slot word [] (answer ∷ answers) = Local ∷ quiet_course answers
-write_course slot word (value ∷ values) (answer ∷ answers) = Store (Slot slot (Payload word)) value ∷ write_course slot (word + 1) values answers
+write_course slot word (value ∷ values) (answer ∷ answers) = Store (Slot slot (Payload word)) value
+    ∷ write_course slot (word + 1) values answers
 
 -- a write does so
 abbrev pub WritesStore : Type 0

@@ -8,6 +8,7 @@ use Rattle.iox_lanes_machine.specs.LanesParties.PublisherKeeping.{loan_of}
 use Rattle.iox_lanes_machine.specs.LanesParties.declared.publisher.slot_book.LoanAnswer.{LoanAnswer}
 use Rattle.iox_lanes_machine.specs.LanesParties.declared.publisher.slot_book.LoanAnswer.TheVariants as loan
 use Rattle.iox_lanes_machine.specs.LanesParties.Parties.{PublisherLaneState, is_out, is_written, name_of}
+use Rattle.iox_lanes_machine.specs.LanesParties.SendAnswers.{send_answer}
 use Rattle.iox_lanes_machine.specs.LanesParties.declared.call.Answer.TheVariants as answer
 use Rattle.iox_lanes_machine.specs.LanesParties.declared.call.Call.TheVariants as call
 use Rattle.iox_lanes_machine.specs.LanesParties.declared.call.Call.{Call}
@@ -47,8 +48,9 @@ HistoryStays before after = after.port.book.history ≡ before.port.book.history
 abbrev pub AllInUse : World → PublisherLaneState → Type 0
 AllInUse m lane = (slot : ℕ) → IsOwn lane.port.book slot → IsInUse m lane slot
 
--- A loan is refused just where as many loans are out as may be; it finds no slot just where fewer are out and each slot of the publisher is in use; the slot that it gives was
--- the publisher's and in no use, and is a loan from then on. Of the other slots just those are loans that were.
+-- A loan is refused just where as many loans are out as may be; it finds no slot just where fewer are out and each slot of the
+-- publisher is in use; the slot that it gives was the publisher's and in no use, and is a loan from then on. Of the other slots
+-- just those are loans that were.
 pub record Lends (m : World) (before : PublisherLaneState) (given : LoanAnswer) (after : PublisherLaneState) : Type 0 where
   pub refused : given ≡ loan.ExceedsMaxLoans ↔ loans_out before.port.book ≡ before.port.book.most_loans
   pub lacks : given ≡ loan.OutOfMemory ↔ (loans_out before.port.book < before.port.book.most_loans) × AllInUse m before
@@ -68,12 +70,15 @@ takes_in (Some link) waiting = overflows link.kind || nat_lt (length waiting) li
 abbrev pub route_takes : World → Route → Bool
 route_takes m route = takes_in (slice_get m.links route.connection) (mail_at m route.connection)
 
--- A send puts its slot into the mailbox of each connection of its publisher and into no other; it answers how many took it in, and how many didn't; the slot is no loan any
--- longer and the newest of the history, of which the oldest leaves where there would be too many.
-pub record Sends (m : World) (place slot : ℕ) (before : PublisherLaneState) (delivery : Delivery) (n : World) (after : PublisherLaneState) : Type 0 where
+-- A send puts its slot into the mailbox of each connection of its publisher and into no other; its delivery says how many took it
+-- in, and how many didn't; the slot is no loan any longer and the newest of the history, of which the oldest leaves where there would
+-- be too many.
+pub record Sends (m : World) (place slot : ℕ) (before : PublisherLaneState) (delivery : Delivery) (n : World)
+    (after : PublisherLaneState) : Type 0 where
   pub put : (connection : ℕ) (link : LinkState) → slice_get m.links connection ≡ Some link → link.publisher ≡ place
       → mail_at n connection ≡ after_put (overflows link.kind) link.limit (mail_at m connection) slot
-  pub elsewhere : (connection : ℕ) (link : LinkState) → slice_get m.links connection ≡ Some link → (link.publisher ≡ place → ⊥) → mail_at n connection ≡ mail_at m connection
+  pub elsewhere : (connection : ℕ) (link : LinkState) → slice_get m.links connection ≡ Some link → (link.publisher ≡ place → ⊥)
+      → mail_at n connection ≡ mail_at m connection
   pub taken : delivery.taken ≡ count_by (route_takes m) before.port.routes
   pub refused : delivery.refused ≡ count_by (λ route. not (route_takes m route)) before.port.routes
   pub loans : LoanEnds before after slot
@@ -81,21 +86,27 @@ pub record Sends (m : World) (place slot : ℕ) (before : PublisherLaneState) (d
 
 -- So a loan ends that no other call overlaps, for slots that have numbers below 2^64.
 abbrev pub LoansInTurn : Type 0
-LoansInTurn = (m n : World) (place : ℕ) (before after : PublisherLaneState) → IsInTurn m (Publisher place) call.LoanUninit n → slice_get m.publishers place ≡ Some before → slice_get n.publishers place ≡ Some after
+LoansInTurn = (m n : World) (place : ℕ) (before after : PublisherLaneState) → IsInTurn m (Publisher place) call.LoanUninit n
+    → slice_get m.publishers place ≡ Some before → slice_get n.publishers place ≡ Some after
     → before.port.book.first + length before.port.book.loans < 2 ^ 64
     → (given : LoanAnswer) × IsAnswered m (Publisher place) call.LoanUninit (answer.Lent given) n × OnlyPublisher m place n × MailStays m n × HistoryStays before after × Lends m before given after
 
--- So a send ends that no other call overlaps.
+-- So a send ends that no other call overlaps. It is unable to deliver just where its publisher fails at a full mailbox and some
+-- connection refused the message.
 abbrev pub SendsInTurn : Type 0
-SendsInTurn = (m n : World) (place slot : ℕ) (before after : PublisherLaneState) → IsInTurn m (Publisher place) (call.Send slot) n → slice_get m.publishers place ≡ Some before → slice_get n.publishers place ≡ Some after
-    → (delivery : Delivery) × IsAnswered m (Publisher place) (call.Send slot) (answer.Sent delivery) n × OnlyPublisher m place n × Sends m place slot before delivery n after
+SendsInTurn = (m n : World) (place slot : ℕ) (before after : PublisherLaneState) → IsInTurn m (Publisher place) (call.Send slot) n
+    → slice_get m.publishers place ≡ Some before → slice_get n.publishers place ≡ Some after
+    → (delivery : Delivery) × IsAnswered m (Publisher place) (call.Send slot) (answer.Sent (send_answer before.fails delivery)) n
+    × OnlyPublisher m place n × Sends m place slot before delivery n after
 
 -- So ends the giving up of a loan that no other call overlaps: the slot is no loan any longer, and that is all.
 abbrev pub DropsInTurn : Type 0
-DropsInTurn = (m n : World) (place slot : ℕ) (before after : PublisherLaneState) → IsInTurn m (Publisher place) (call.DropLoan slot) n → slice_get m.publishers place ≡ Some before → slice_get n.publishers place ≡ Some after
+DropsInTurn = (m n : World) (place slot : ℕ) (before after : PublisherLaneState) → IsInTurn m (Publisher place) (call.DropLoan slot) n
+    → slice_get m.publishers place ≡ Some before → slice_get n.publishers place ≡ Some after
     → IsAnswered m (Publisher place) (call.DropLoan slot) answer.Dropped n × OnlyPublisher m place n × MailStays m n × HistoryStays before after × LoanEnds before after slot
 
 -- So a write ends that no other call overlaps: its loan is written, and that is all.
 abbrev pub WritesInTurn : Type 0
-WritesInTurn = (m n : World) (place slot : ℕ) (c : Call) (before after : PublisherLaneState) → name_of c ≡ name.Write slot → IsInTurn m (Publisher place) c n → slice_get m.publishers place ≡ Some before → slice_get n.publishers place ≡ Some after
+WritesInTurn = (m n : World) (place slot : ℕ) (c : Call) (before after : PublisherLaneState) → name_of c ≡ name.Write slot
+    → IsInTurn m (Publisher place) c n → slice_get m.publishers place ≡ Some before → slice_get n.publishers place ≡ Some after
     → IsAnswered m (Publisher place) c answer.Written n × OnlyPublisher m place n × MailStays m n × HistoryStays before after × LoansStay before after × (is_written (loan_of slot after.port.book) ≡ true)

@@ -66,7 +66,8 @@ ReceivesVisit = (routes : List Route) (borrowed answers : List ℕ) (most : ℕ)
 abbrev pub read_course : ℕ → SlotExtent → ℕ → ℕ → List ℕ → List SharedAccess
 read_course slot extent word left [] = []
 read_course slot extent word zero (answer ∷ answers) = Local ∷ quiet_course answers
-read_course slot extent word (suc left) (answer ∷ answers) = Load (Slot slot (word_at extent word)) ∷ read_course slot extent (word + 1) left answers
+read_course slot extent word (suc left) (answer ∷ answers) = Load (Slot slot (word_at extent word))
+    ∷ read_course slot extent (word + 1) left answers
 
 -- how many words a slot has
 abbrev pub words_in : SlotExtent → ℕ

@@ -26,14 +26,18 @@ recorded_after r party step = record { lanes = happens r.lanes party step; messa
 abbrev pub RecordsAt : RecordState → Party → Move → Type 0
 RecordsAt r party step = Records r.lanes party step ⊎ (0 < length (begun_messages r.lanes party step))
 
--- what a step answers, and what it leaves: the lanes make their step, and the message whose send begins stands behind the others; an allocation fails only where something is recorded
+-- what a step answers, and what it leaves: the lanes make their step, and the message whose send begins stands behind the others;
+-- an allocation fails only where something is recorded
 abbrev pub RecordsTo : RecordState → Party → Move → Stepped → RecordState → Type 0
-RecordsTo r party step stepped.Went n = StepsTo r.lanes party step stepped.Went n.lanes × (n.messages ≡ r.messages ++ begun_messages r.lanes party step)
-RecordsTo r party step stepped.Finished n = StepsTo r.lanes party step stepped.Finished n.lanes × (n.messages ≡ r.messages ++ begun_messages r.lanes party step)
+RecordsTo r party step stepped.Went n = StepsTo r.lanes party step stepped.Went n.lanes
+    × (n.messages ≡ r.messages ++ begun_messages r.lanes party step)
+RecordsTo r party step stepped.Finished n = StepsTo r.lanes party step stepped.Finished n.lanes
+    × (n.messages ≡ r.messages ++ begun_messages r.lanes party step)
 RecordsTo r party step stepped.Skipped n = (fits r.lanes party step ≡ false) × (n ≡ r)
 RecordsTo r party step stepped.NoMemory n = (fits r.lanes party step ≡ true) × RecordsAt r party step × (n ≡ r)
 
--- A list of entries, of which `made` were made, one after the other. One that doesn't fit is left out, and so is one that finds no memory for what it records.
+-- A list of entries, of which `made` were made, one after the other. One that doesn't fit is left out, and so is one that finds
+-- no memory for what it records.
 abbrev pub RecordsRun : RecordState → List Entry → ℕ → RecordState → Type 0
 RecordsRun r [] made n = (made ≡ 0) × (n ≡ r)
 RecordsRun r (entry ∷ entries) made n =
@@ -42,10 +46,12 @@ RecordsRun r (entry ∷ entries) made n =
     × ((fewer : ℕ) × (made ≡ fewer + 1) × RecordsRun (recorded_after r entry.party entry.step) entries fewer n))
     ⊎ ((fits r.lanes entry.party entry.step ≡ true) × RecordsAt r entry.party entry.step × RecordsRun r entries made n))
 
--- Whatever is run from where nobody is inside a call and no message is kept: a read that ends behind it gives just the words of the last message that is kept for its slot; of a slot for which none
--- is, those that it held at first. So it is as long as at most 2^63 steps were made.
+-- Whatever is run from where nobody is inside a call and no message is kept: a read that ends behind it gives just the words of
+-- the last message that is kept for its slot; of a slot for which none is, those that it held at first. So it is as long as at
+-- most 2^63 steps were made.
 abbrev pub ReadsGiveWhatIsKept : Type 0
-ReadsGiveWhatIsKept = (r : RecordState) (entries : List Entry) (made : ℕ) (n : RecordState) → CameTo r.lanes → AllBetween r.lanes → r.messages ≡ [] → RecordsRun r entries made n → n.lanes.moments ≤ 2 ^ 63
+ReadsGiveWhatIsKept = (r : RecordState) (entries : List Entry) (made : ℕ) (n : RecordState) → CameTo r.lanes → AllBetween r.lanes
+    → r.messages ≡ [] → RecordsRun r entries made n → n.lanes.moments ≤ 2 ^ 63
     → (party : Party) (step : Move) (answer : Stepped) (after : RecordState) → RecordsTo n party step answer after
     → (call : FinishedCall) (slot : ℕ) → after.lanes.finished ≡ n.lanes.finished ++ call ∷ [] → call.call ≡ name.Read slot
     → after.lanes.read ≡ n.lanes.read ++ last_in (slot_held r.lanes.table slot) n.messages slot

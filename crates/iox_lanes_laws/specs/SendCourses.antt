@@ -57,7 +57,8 @@ oldest_course ring cells read next (oldest ∷ []) = Load (ring (Cell (read % ce
 oldest_course ring cells read next (oldest ∷ found ∷ answers) =
     Load (ring (Cell (read % cells))) ∷ Exchange (ring Read) read (successor read) ∷ next answers
 
--- a push that lets the oldest go: both positions are loaded, the cell and the write position stored; where too many may be there the oldest goes out
+-- a push that lets the oldest go: both positions are loaded, the cell and the write position stored; where too many may be there
+-- the oldest goes out
 abbrev pub overflowing_course : (Word → SharedWord) → ℕ → ℕ → ℕ → (List ℕ → List SharedAccess) → List ℕ → List SharedAccess
 overflowing_course ring cells limit slot next [] = []
 overflowing_course ring cells limit slot next (write ∷ []) = Load (ring Write) ∷ []

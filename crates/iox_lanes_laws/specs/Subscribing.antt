@@ -49,7 +49,8 @@ pub record OneOf (lane : SubscriberLaneState) (Is : Route → Type 0) : Type 0 w
   pub at : slice_get lane.port.routes place ≡ Some route
   pub is : Is route
 
--- A receive took the oldest message that waits at the connection of a place, which is the first place whose connection gives; its slot is borrowed of that connection from then on.
+-- A receive took the oldest message that waits at the connection of a place, which is the first place whose connection gives; its
+-- slot is borrowed of that connection from then on.
 pub record Takes (m : World) (before : SubscriberLaneState) (place slot : ℕ) (n : World) (after : SubscriberLaneState) : Type 0 where
   pub route : Route
   pub at : slice_get before.port.routes place ≡ Some route
@@ -66,7 +67,8 @@ pub record TakesNone (m : World) (before : SubscriberLaneState) (n : World) (aft
   pub samples : SamplesStay before after
   pub none : NoneOf before (Gives m before)
 
--- A receive takes from the first connection that gives; where none does it takes nothing, and is refused just where something waits at one of them.
+-- A receive takes from the first connection that gives; where none does it takes nothing, and is refused just where something
+-- waits at one of them.
 abbrev pub Receives : World → SubscriberLaneState → Receipt → World → SubscriberLaneState → Type 0
 Receives m before (receipt.Taken place slot) n after = Takes m before place slot n after
 Receives m before receipt.Nothing n after = TakesNone m before n after × NoneOf before (SomeWait m)
@@ -74,15 +76,19 @@ Receives m before receipt.ExceedsMaxBorrows n after = TakesNone m before n after
 
 -- So a receive ends that no other call overlaps.
 abbrev pub ReceivesInTurn : Type 0
-ReceivesInTurn = (m n : World) (place : ℕ) (before after : SubscriberLaneState) → IsInTurn m (Subscriber place) call.Receive n → slice_get m.subscribers place ≡ Some before → slice_get n.subscribers place ≡ Some after
+ReceivesInTurn = (m n : World) (place : ℕ) (before after : SubscriberLaneState) → IsInTurn m (Subscriber place) call.Receive n
+    → slice_get m.subscribers place ≡ Some before → slice_get n.subscribers place ≡ Some after
     → (given : Receipt) × IsAnswered m (Subscriber place) call.Receive (answer.Received given) n × OnlySubscriber m place n × Receives m before given n after
 
 -- So a release ends that no other call overlaps: the sample is no longer borrowed, and that is all.
 abbrev pub ReleasesInTurn : Type 0
-ReleasesInTurn = (m n : World) (place sample : ℕ) (before after : SubscriberLaneState) → IsInTurn m (Subscriber place) (call.Release sample) n → slice_get m.subscribers place ≡ Some before → slice_get n.subscribers place ≡ Some after
+ReleasesInTurn = (m n : World) (place sample : ℕ) (before after : SubscriberLaneState)
+    → IsInTurn m (Subscriber place) (call.Release sample) n → slice_get m.subscribers place ≡ Some before
+    → slice_get n.subscribers place ≡ Some after
     → IsAnswered m (Subscriber place) (call.Release sample) (answer.Released true) n × OnlySubscriber m place n × MailStays m n × (place_of sample after ≡ None) × OtherSamplesStay before sample after
 
 -- So a read ends that no other call overlaps: it gives what its sample's slot held when it began, and changes nothing.
 abbrev pub ReadsInTurn : Type 0
-ReadsInTurn = (m n : World) (place sample : ℕ) (before after : SubscriberLaneState) → IsInTurn m (Subscriber place) (call.Read sample) n → slice_get m.subscribers place ≡ Some before → slice_get n.subscribers place ≡ Some after
+ReadsInTurn = (m n : World) (place sample : ℕ) (before after : SubscriberLaneState) → IsInTurn m (Subscriber place) (call.Read sample) n
+    → slice_get m.subscribers place ≡ Some before → slice_get n.subscribers place ≡ Some after
     → IsAnswered m (Subscriber place) (call.Read sample) (answer.Read (length m.read)) n × (n.read ≡ m.read ++ slot_held m.table sample) × OnlySubscriber m place n × MailStays m n × SamplesStay before after

@@ -16,7 +16,8 @@ abbrev pub GoesToEnd : Party → ℕ → World → World → Type 0
 GoesToEnd party zero m n = StepsTo m party GoOn stepped.Finished n
 GoesToEnd party (suc more) m n = (next : World) × StepsTo m party GoOn stepped.Went next × GoesToEnd party more next n
 
--- A whole call of a party that no other call overlaps: nobody is inside a call when it begins, and nobody else makes a step until it ends; at most 2^63 steps were made in all.
+-- A whole call of a party that no other call overlaps: nobody is inside a call when it begins, and nobody else makes a step until
+-- it ends; at most 2^63 steps were made in all.
 pub record IsInTurn (m : World) (party : Party) (c : Call) (n : World) : Type 0 where
   pub came : CameTo m
   pub between : AllBetween m

@@ -14,26 +14,29 @@ ghost use Rattle.iox_lanes_laws.specs.SendCourses.{SendsPush};
 ghost use Rattle.iox_lanes_laws.specs.Changes.{PublishersKeepPace, SubscribersKeepPace, LimitsHold};
 ghost use Rattle.iox_lanes_laws.specs.ReceiveCourses.{ReceivesVisit, ReadsLoad, ReadsInOrder, ReleasesPush};
 
-/// A publisher stores words of slots, cells and the write position of messages sent, and the read position of samples given back. It moves the read
-/// position of messages by exchanges alone, and loads no word of a slot.
+/// A publisher stores words of slots, cells and the write position of messages sent, and the read position of samples given back.
+/// It moves the read position of messages by exchanges alone, and loads no word of a slot.
 pub fn publishers_stay()
     ensures { PublishersStay }
 {}
 
-/// A subscriber stores cells and the write position of samples given back, and the read position of messages sent. It stores no word of a slot.
+/// A subscriber stores cells and the write position of samples given back, and the read position of messages sent. It stores no
+/// word of a slot.
 pub fn subscribers_stay()
     ensures { SubscribersStay }
 {}
 
-/// A loan goes over its connections in their order. At each it loads the read and the write position of what came back; where they differ it loads the
-/// oldest cell, stores the read position, and begins there again. Behind the last one it touches no word.
+/// A loan goes over its connections in their order. At each it loads the read and the write position of what came back; where
+/// they differ it loads the oldest cell, stores the read position, and begins there again. Behind the last one it touches no
+/// word.
 pub fn loans_take_back()
     ensures { LoansTakeBack }
 {}
 
-/// A send stores the words of header and user header, has one step for the history, takes back at each connection as a loan does, and then pushes to each in
-/// their order: it loads the write and the read position, and where there is room stores the cell and then the write position. Where the ring lets its oldest
-/// go there is always room, and if too many may be unread then, it loads the oldest cell and exchanges the read position.
+/// A send stores the words of header and user header, has one step for the history, takes back at each connection as a loan does,
+/// and then pushes to each in their order: it loads the write and the read position, and where there is room stores the cell and
+/// then the write position. Where the ring lets its oldest go there is always room, and if too many may be unread then, it loads
+/// the oldest cell and exchanges the read position.
 pub fn sends_push()
     ensures { SendsPush }
 {}
@@ -43,9 +46,9 @@ pub fn writes_store()
     ensures { WritesStore }
 {}
 
-/// A receive goes over its connections in their order. At each it loads the read and the write position of the messages. Where one waits, and fewer are
-/// borrowed than may be, it loads the oldest cell and moves the read position, and touches no word after that; a lost exchange begins again with the cell of
-/// the position that was found.
+/// A receive goes over its connections in their order. At each it loads the read and the write position of the messages. Where
+/// one waits, and fewer are borrowed than may be, it loads the oldest cell and moves the read position, and touches no word after
+/// that; a lost exchange begins again with the cell of the position that was found.
 pub fn receives_visit()
     ensures { ReceivesVisit }
 {}

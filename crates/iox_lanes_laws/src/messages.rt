@@ -8,8 +8,8 @@
 //! let sent = lanes.message(0);
 //! ```
 //!
-//! Each law is the contract of a function that does nothing. A proof cites a law by a call of its function, which does nothing; what it states is then among the
-//! facts of the caller:
+//! Each law is the contract of a function that does nothing. A proof cites a law by a call of its function, which does nothing;
+//! what it states is then among the facts of the caller:
 //!
 //! ```
 //! reads_give_what_was_sent();
@@ -25,21 +25,23 @@ ghost use Rattle.iox_lanes_laws.specs.WholeMessages.{ReadsGiveWhatWasSent, UsedS
 pub use message::Message;
 pub use recorded::RecordedLanes;
 
-/// From where nobody is inside a call, whatever steps follow and wherever parties stop: a read gives just the words of the last message whose send began in its slot,
-/// header, user header and payload, as they were when that send began; of a slot in which none began, those that it held at first. So it is as long as at most 2^63 steps
-/// were made.
+/// From where nobody is inside a call, whatever steps follow and wherever parties stop: a read gives just the words of the last
+/// message whose send began in its slot, header, user header and payload, as they were when that send began; of a slot in which
+/// none began, those that it held at first. So it is as long as at most 2^63 steps were made.
 pub fn reads_give_what_was_sent()
     ensures { ReadsGiveWhatWasSent }
 {}
 
-/// While a slot stands in a history or at a connection (waiting, aside, borrowed or given back), no send begins in it. So the message that a receive took there is
-/// the last one whose send began there, until nobody has it any longer; as long as at most 2^63 steps were made.
+/// While a slot stands in a history or at a connection (waiting, aside, borrowed or given back), no send begins in it. So the
+/// message that a receive took there is the last one whose send began there, until nobody has it any longer; as long as at most
+/// 2^63 steps were made.
 pub fn used_slots_send_nothing()
     ensures { UsedSlotsSendNothing }
 {}
 
-/// A read that ends on lanes which keep messages gives just the words of the last message that is kept for its slot, whatever was run since none was kept and nobody was
-/// inside a call; of a slot for which none is, those that it held then. So it is as long as at most 2^63 steps were made.
+/// A read that ends on lanes which keep messages gives just the words of the last message that is kept for its slot, whatever was
+/// run since none was kept and nobody was inside a call; of a slot for which none is, those that it held then. So it is as long
+/// as at most 2^63 steps were made.
 pub fn reads_give_what_is_kept()
     ensures { ReadsGiveWhatIsKept }
 {}

@@ -87,18 +87,18 @@ begun_subscriber m place c (Some lane) fit = record {
 }
 
 -- a call has an answer exactly where its next step is its last
-pub publisher_answers : (call : PublisherCall) (loan : Option LoanAnswer) → is_some (publisher_answer call loan) ≡ publisher_is_over call
-publisher_answers publishing.Idle loan = refl
-publisher_answers (publishing.LoanReclaims place route pop) loan = refl
-publisher_answers publishing.Lending loan = refl
-publisher_answers (publishing.Writing slot word value) loan = refl
-publisher_answers (publishing.Written slot) loan = refl
-publisher_answers (publishing.Heading slot word value) loan = refl
-publisher_answers (publishing.Remembering slot) loan = refl
-publisher_answers (publishing.SendReclaims slot place route pop) loan = refl
-publisher_answers (publishing.Pushing slot place route push delivery) loan = refl
-publisher_answers (publishing.Sent slot delivery) loan = refl
-publisher_answers (publishing.Dropping slot) loan = refl
+pub publisher_answers : (fails : Bool) (call : PublisherCall) (loan : Option LoanAnswer) → is_some (publisher_answer fails call loan) ≡ publisher_is_over call
+publisher_answers fails publishing.Idle loan = refl
+publisher_answers fails (publishing.LoanReclaims place route pop) loan = refl
+publisher_answers fails publishing.Lending loan = refl
+publisher_answers fails (publishing.Writing slot word value) loan = refl
+publisher_answers fails (publishing.Written slot) loan = refl
+publisher_answers fails (publishing.Heading slot word value) loan = refl
+publisher_answers fails (publishing.Remembering slot) loan = refl
+publisher_answers fails (publishing.SendReclaims slot place route pop) loan = refl
+publisher_answers fails (publishing.Pushing slot place route push delivery) loan = refl
+publisher_answers fails (publishing.Sent slot delivery) loan = refl
+publisher_answers fails (publishing.Dropping slot) loan = refl
 
 pub subscriber_answers : (call : SubscriberCall) (from : ℕ) → is_some (subscriber_answer call from) ≡ subscriber_is_over call
 subscriber_answers subscribing.Idle from = refl
@@ -125,7 +125,7 @@ gone_publisher m place orders (Some lane) e fit w =
       orders_are = refl;
       ended_calls = length-append m.finished (ended (Publisher place) lane.call lane.first m.moments (publisher_ending m.table lane))
           ∙ ap (λ (k : ℕ). length m.finished + k) (ended_length (Publisher place) lane.call lane.first m.moments (publisher_ending m.table lane)
-          ∙ ap (λ (b : Bool). if b then 1 else 0) (publisher_answers lane.port.call (publisher_after (publisher_given m.table lane) lane).port.book.answer));
+          ∙ ap (λ (b : Bool). if b then 1 else 0) (publisher_answers lane.fails lane.port.call (publisher_after (publisher_given m.table lane) lane).port.book.answer));
     }
 
 gone_subscriber : (m : World) (place : ℕ) (orders : List (List Placed)) (at : Option SubscriberLaneState) → slice_get m.subscribers place ≡ at → subscriber_fits_at at GoOn ≡ true → IsWithin m

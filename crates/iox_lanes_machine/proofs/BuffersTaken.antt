@@ -249,6 +249,7 @@ buffer_taken m who place messages lane is stands w h h' = record {
       loans = λ slot. refl;
       most = refl;
       heads = heads_stay f other lane.heads refl refl refl;
+      fails = refl;
       same = refl;
     }
 
@@ -272,6 +273,7 @@ buffer_taken m who place messages lane is stands w h h' = record {
         loans = λ slot. refl;
         most = refl;
         heads = heads_stay f other was.heads refl refl refl;
+        fails = refl;
         same = refl;
       })
     ]

@@ -186,32 +186,32 @@ lent_kind call None h = h
 lent_kind call (Some given) h = h
 
 -- what a call answers is of its kind
-publisher_kind : (call : CallName) (stage : PublisherCall) (loan : Option LoanAnswer) → IsStageOf call stage → AnswersKind call (publisher_answer stage loan)
-publisher_kind call publishing.Idle loan h = tt
-publisher_kind call (publishing.LoanReclaims place route p) loan h = tt
-publisher_kind call publishing.Lending loan h = lent_kind call loan h
-publisher_kind call (publishing.Writing slot word value) loan h = tt
-publisher_kind call (publishing.Written slot) loan h = (slot, h)
-publisher_kind call (publishing.Heading slot word value) loan h = tt
-publisher_kind call (publishing.Remembering slot) loan h = tt
-publisher_kind call (publishing.SendReclaims slot place route p) loan h = tt
-publisher_kind call (publishing.Pushing slot place route p delivery) loan h = tt
-publisher_kind call (publishing.Sent slot delivery) loan h = (slot, h)
-publisher_kind call (publishing.Dropping slot) loan h = (slot, h)
+publisher_kind : (fails : Bool) (call : CallName) (stage : PublisherCall) (loan : Option LoanAnswer) → IsStageOf call stage → AnswersKind call (publisher_answer fails stage loan)
+publisher_kind fails call publishing.Idle loan h = tt
+publisher_kind fails call (publishing.LoanReclaims place route p) loan h = tt
+publisher_kind fails call publishing.Lending loan h = lent_kind call loan h
+publisher_kind fails call (publishing.Writing slot word value) loan h = tt
+publisher_kind fails call (publishing.Written slot) loan h = (slot, h)
+publisher_kind fails call (publishing.Heading slot word value) loan h = tt
+publisher_kind fails call (publishing.Remembering slot) loan h = tt
+publisher_kind fails call (publishing.SendReclaims slot place route p) loan h = tt
+publisher_kind fails call (publishing.Pushing slot place route p delivery) loan h = tt
+publisher_kind fails call (publishing.Sent slot delivery) loan h = (slot, h)
+publisher_kind fails call (publishing.Dropping slot) loan h = (slot, h)
 
 -- a call that goes on was not answered
-publisher_silent : (routes : List Route) (words : List ℕ) (stage : PublisherCall) (a : ℕ) (loan : Option LoanAnswer) → publisher_is_idle (publisher_take routes words stage a) ≡ false → publisher_answer stage loan ≡ None
-publisher_silent routes words publishing.Idle a loan h = refl
-publisher_silent routes words (publishing.LoanReclaims place route p) a loan h = refl
-publisher_silent routes words publishing.Lending a loan h = absurd (cc)
-publisher_silent routes words (publishing.Writing slot word value) a loan h = refl
-publisher_silent routes words (publishing.Written slot) a loan h = absurd (cc)
-publisher_silent routes words (publishing.Heading slot word value) a loan h = refl
-publisher_silent routes words (publishing.Remembering slot) a loan h = refl
-publisher_silent routes words (publishing.SendReclaims slot place route p) a loan h = refl
-publisher_silent routes words (publishing.Pushing slot place route p delivery) a loan h = refl
-publisher_silent routes words (publishing.Sent slot delivery) a loan h = absurd (cc)
-publisher_silent routes words (publishing.Dropping slot) a loan h = absurd (cc)
+publisher_silent : (fails : Bool) (routes : List Route) (words : List ℕ) (stage : PublisherCall) (a : ℕ) (loan : Option LoanAnswer) → publisher_is_idle (publisher_take routes words stage a) ≡ false → publisher_answer fails stage loan ≡ None
+publisher_silent fails routes words publishing.Idle a loan h = refl
+publisher_silent fails routes words (publishing.LoanReclaims place route p) a loan h = refl
+publisher_silent fails routes words publishing.Lending a loan h = absurd (cc)
+publisher_silent fails routes words (publishing.Writing slot word value) a loan h = refl
+publisher_silent fails routes words (publishing.Written slot) a loan h = absurd (cc)
+publisher_silent fails routes words (publishing.Heading slot word value) a loan h = refl
+publisher_silent fails routes words (publishing.Remembering slot) a loan h = refl
+publisher_silent fails routes words (publishing.SendReclaims slot place route p) a loan h = refl
+publisher_silent fails routes words (publishing.Pushing slot place route p delivery) a loan h = refl
+publisher_silent fails routes words (publishing.Sent slot delivery) a loan h = absurd (cc)
+publisher_silent fails routes words (publishing.Dropping slot) a loan h = absurd (cc)
 
 receive_stage : (call : CallName) (place : ℕ) (full waits : Bool) (at : Option Route) → call ≡ name.Receive → IsReceiverStageOf call (receive_from place full waits at)
 receive_stage call place full waits None h = h
@@ -352,7 +352,7 @@ gone_publisher m place orders (Some lane) e fit bound k =
     let hand : IsInHand (Publisher place) lane.first m.moments m.finished = was.1 (not_true (publisher_is_idle lane.port.call) fit) in
     let a : Option Answer = publisher_ending m.table lane in
     let g : Grown (successor m.moments) (m.finished ++ ended (Publisher place) lane.call lane.first m.moments a) =
-    grow m.moments m.finished (Publisher place) lane.call lane.first a bound hand (publisher_kind lane.call lane.port.call (publisher_after (publisher_given m.table lane) lane).port.book.answer was.0) k.ended k.in_turn in
+    grow m.moments m.finished (Publisher place) lane.call lane.first a bound hand (publisher_kind lane.fails lane.call lane.port.call (publisher_after (publisher_given m.table lane) lane).port.book.answer was.0) k.ended k.in_turn in
     record {
       ended = g.ended_all;
       in_turn = g.in_turn;
@@ -362,7 +362,7 @@ gone_publisher m place orders (Some lane) e fit bound k =
             (sym (set_is m.publishers place i lane (publisher_after (publisher_given m.table lane) lane) other e same.1 got)) (
               take_stage lane.call lane.port.routes (words_of lane.port) lane.port.call (publisher_given m.table lane) was.0,
               λ busy. same_hand (Publisher place) (Publisher place) lane.first m.moments m.finished lane.call lane.first m.moments a bound
-                  (publisher_silent lane.port.routes (words_of lane.port) lane.port.call (publisher_given m.table lane) (publisher_after (publisher_given m.table lane) lane).port.book.answer busy) hand,
+                  (publisher_silent lane.fails lane.port.routes (words_of lane.port) lane.port.call (publisher_given m.table lane) (publisher_after (publisher_given m.table lane) lane).port.book.answer busy) hand,
             ))
         | inr differs ↦
             let old = k.publishers i other (sym (set_other m.publishers place i (publisher_after (publisher_given m.table lane) lane) differs.1) ∙ got) in (

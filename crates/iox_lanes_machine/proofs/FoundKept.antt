@@ -104,7 +104,8 @@ own_below m who lane slot e w h below =
     let is : IsPublisher m.table.sizes lane = all_at (IsPublisher m.table.sizes) m.publishers who lane e w.publishers in
     omega (arith, below, is.slots, (h.publishers who lane e).counted.loans_each)
 
--- A connection is found to have one slot more: there, what stands counts it; elsewhere all stands as it stood. So it is by each publisher's record.
+-- A connection is found to have one slot more: there, what stands counts it; elsewhere all stands as it stood. So it is by each
+-- publisher's record.
 pub record Stands (m n : World) (connection slot : ℕ) : Type 0 where
   pub here : (was now : LinkState) → slice_get m.links connection ≡ Some was → slice_get n.links connection ≡ Some now
       → (s : ℕ) → count s now.found + count s (given_back n.table connection) ≡ count s was.found + count s (given_back m.table connection) + count s (slot ∷ [])
@@ -550,7 +551,7 @@ found_both m (found.Held slot word value) fit w h =
     held_fresh m slot word value (word_there m.table.sizes slot word (and_left (nat_lt slot m.table.sizes.slots) (has_word m.table.sizes word) fit) (and_right (nat_lt slot m.table.sizes.slots) (has_word m.table.sizes word) fit)) w h
 found_both m (found.Buffer publisher place messages) fit w h = buffers_keep m publisher place messages (slice_get m.publishers publisher) refl fit w h
 found_both m (found.Slots publisher slots most_loans) fit w h = resizes_keep m publisher slots most_loans (slice_get m.publishers publisher) refl fit w h
-found_both m (found.Header publisher node_id publisher_id) fit w h = names_keep m publisher node_id publisher_id (slice_get m.publishers publisher) refl fit w h
+found_both m (found.Sender publisher node_id publisher_id fails) fit w h = names_keep m publisher node_id publisher_id fails (slice_get m.publishers publisher) refl fit w h
 found_both m (found.Swapped subscriber one other) fit w h = swaps_keep m subscriber one other (slice_get m.subscribers subscriber) refl fit w h
 
 -- no step was made
@@ -585,7 +586,7 @@ found_moments m (found.Newest publisher slot) = newest_moments m publisher slot 
 found_moments m (found.Held slot word value) = refl
 found_moments m (found.Buffer publisher place messages) = buffered_moments m publisher place messages (slice_get m.publishers publisher)
 found_moments m (found.Slots publisher slots most_loans) = resized_moments m publisher slots most_loans (slice_get m.publishers publisher)
-found_moments m (found.Header publisher node_id publisher_id) = named_moments m publisher node_id publisher_id (slice_get m.publishers publisher)
+found_moments m (found.Sender publisher node_id publisher_id fails) = named_moments m publisher node_id publisher_id fails (slice_get m.publishers publisher)
 found_moments m (found.Swapped subscriber one other) = swapped_moments m subscriber one other (slice_get m.subscribers subscriber)
 
 -- before the first step alone
@@ -674,9 +675,9 @@ resized_routes : (m : World) (who slots most : ℕ) (at : Option PublisherLaneSt
 resized_routes m who slots most None e = none_changed m
 resized_routes m who slots most (Some lane) e = one_changed m m.table.words m.links who lane (lane_resized slots most lane) e refl
 
-named_routes : (m : World) (who node publisher : ℕ) (at : Option PublisherLaneState) → slice_get m.publishers who ≡ at → SameSizes m (named_of m who node publisher at)
-named_routes m who node publisher None e = none_changed m
-named_routes m who node publisher (Some lane) e = one_changed m m.table.words m.links who lane (lane_named node publisher lane) e refl
+named_routes : (m : World) (who node publisher : ℕ) (fails : Bool) (at : Option PublisherLaneState) → slice_get m.publishers who ≡ at → SameSizes m (named_of m who node publisher fails at)
+named_routes m who node publisher fails None e = none_changed m
+named_routes m who node publisher fails (Some lane) e = one_changed m m.table.words m.links who lane (lane_named node publisher fails lane) e refl
 
 swapped_routes : (m : World) (who one other : ℕ) (at : Option SubscriberLaneState) → SameSizes m (swapped_of m who one other at)
 swapped_routes m who one other None = none_changed m
@@ -689,5 +690,5 @@ found_routes m (found.Newest publisher slot) = newest_routes m publisher slot (s
 found_routes m (found.Held slot word value) = record { sizes = refl; routes = λ place lane e. (lane, e, refl) }
 found_routes m (found.Buffer publisher place messages) = buffered_of_routes m publisher place messages (slice_get m.publishers publisher) refl
 found_routes m (found.Slots publisher slots most_loans) = resized_routes m publisher slots most_loans (slice_get m.publishers publisher) refl
-found_routes m (found.Header publisher node_id publisher_id) = named_routes m publisher node_id publisher_id (slice_get m.publishers publisher) refl
+found_routes m (found.Sender publisher node_id publisher_id fails) = named_routes m publisher node_id publisher_id fails (slice_get m.publishers publisher) refl
 found_routes m (found.Swapped subscriber one other) = swapped_routes m subscriber one other (slice_get m.subscribers subscriber)

@@ -190,7 +190,8 @@ IsLoan (publishing.Pushing slot at route push delivery) = ⊥
 IsLoan (publishing.Sent slot delivery) = ⊥
 IsLoan (publishing.Dropping slot) = ⊥
 
--- A slot of a publisher that is in a loan is no loan, in no history and held nowhere: what has it was given back, and where the loan has taken back all, nothing has it.
+-- A slot of a publisher that is in a loan is no loan, in no history and held nowhere: what has it was given back, and where the
+-- loan has taken back all, nothing has it.
 record IsSpare (m : World) (routes : List Route) (book : BookState) (call : PublisherCall) (slot : ℕ) : Type 0 where
   loan : IsLoan call
   own : IsOwn book slot
@@ -429,7 +430,7 @@ spare_found : (m : World) (place : ℕ) (slot : ℕ) (lane : PublisherLaneState)
     → (happens m (Publisher place) GoOn).finished ≡ m.finished ++ ended ∷ [] → ended.answer ≡ answer.Lent loan.OutOfMemory → ⊥
 spare_found m place slot lane ended found k few z more full =
     let end = goes m place (slice_get m.publishers place) lane ended refl found more in
-    let says = lends_at lane.port.call (publisher_after (publisher_given m.table lane) lane).port.book.answer loan.OutOfMemory (end.answered ∙ ap (λ (a : Answer). Some a) full) in
+    let says = lends_at lane.fails lane.port.call (publisher_after (publisher_given m.table lane) lane).port.book.answer loan.OutOfMemory (end.answered ∙ ap (λ (a : Answer). Some a) full) in
     let book_is : (publisher_after (publisher_given m.table lane) lane).port.book ≡ lent lane.port.book = ap (λ (c : PublisherCall). changed (publisher_change c (publisher_given m.table lane)) lane.port.book) says.0 in
     let counted = ((k.uses few).publishers place lane found).counted in
     let swept : (at : ℕ) → at < length lane.port.routes → refers_to lane.port.book at slot ≡ false = λ at below. z.swept at below (subst (λ (c : PublisherCall). HasSwept c at) (sym says.0) tt) in

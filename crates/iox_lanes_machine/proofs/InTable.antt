@@ -1,4 +1,5 @@
--- A ring's words lie in the table of all words: an access of one of its ends is one of the ring, and any other access leaves the ring as it is.
+-- A ring's words lie in the table of all words: an access of one of its ends is one of the ring, and any other access leaves the
+-- ring as it is.
 use Rattle.std.proofs.Common.{ℕ, ◌≡◌, ◌+◌, ◌-◌, ◌<◌, ◌≤◌, ◌%◌, ◌==◌, Bool, true, false, if◌then◌else◌, List, length, take, drop, set, slice_index, refl, sym, ◌∙◌, ap, subst, inl, inr, arith}
 use Rattle.std.proofs.lemmas.Bool.{cases_lt}
 use Rattle.std.proofs.lemmas.Nat.{mod_below}

@@ -98,18 +98,18 @@ finds book given = by_test (nat_lt book.out book.most_loans) refl
     by_test false e h = inr (inr (ltb-false book.out book.most_loans e, given_is loan.ExceedsMaxLoans given h))
 
 -- only a loan that looks for a slot is answered so
-pub lends_at : (c : PublisherCall) (said : Option LoanAnswer) (given : LoanAnswer) → publisher_answer c said ≡ Some (answer.Lent given) → (c ≡ publishing.Lending) × (parties.lent said ≡ answer.Lent given)
-lends_at publishing.Idle said given e = absurd (cc e)
-lends_at (publishing.LoanReclaims at route p) said given e = absurd (cc e)
-lends_at publishing.Lending said given e = (refl, some_is (parties.lent said) (answer.Lent given) e)
-lends_at (publishing.Writing slot word value) said given e = absurd (cc e)
-lends_at (publishing.Written slot) said given e = absurd (cc e)
-lends_at (publishing.Heading slot word value) said given e = absurd (cc e)
-lends_at (publishing.Remembering slot) said given e = absurd (cc e)
-lends_at (publishing.SendReclaims slot at route p) said given e = absurd (cc e)
-lends_at (publishing.Pushing slot at route push delivery) said given e = absurd (cc e)
-lends_at (publishing.Sent slot delivery) said given e = absurd (cc e)
-lends_at (publishing.Dropping slot) said given e = absurd (cc e)
+pub lends_at : (fails : Bool) (c : PublisherCall) (said : Option LoanAnswer) (given : LoanAnswer) → publisher_answer fails c said ≡ Some (answer.Lent given) → (c ≡ publishing.Lending) × (parties.lent said ≡ answer.Lent given)
+lends_at fails publishing.Idle said given e = absurd (cc e)
+lends_at fails (publishing.LoanReclaims at route p) said given e = absurd (cc e)
+lends_at fails publishing.Lending said given e = (refl, some_is (parties.lent said) (answer.Lent given) e)
+lends_at fails (publishing.Writing slot word value) said given e = absurd (cc e)
+lends_at fails (publishing.Written slot) said given e = absurd (cc e)
+lends_at fails (publishing.Heading slot word value) said given e = absurd (cc e)
+lends_at fails (publishing.Remembering slot) said given e = absurd (cc e)
+lends_at fails (publishing.SendReclaims slot at route p) said given e = absurd (cc e)
+lends_at fails (publishing.Pushing slot at route push delivery) said given e = absurd (cc e)
+lends_at fails (publishing.Sent slot delivery) said given e = absurd (cc e)
+lends_at fails (publishing.Dropping slot) said given e = absurd (cc e)
 
 -- the publisher of a call that a step ended
 pub record EndsNow (m n : World) (call : FinishedCall) (place : ℕ) (lane : PublisherLaneState) : Type 0 where
@@ -256,7 +256,7 @@ lent_as_found m n place lane given found w u r small after now book_is (inr (inr
 pub loans_lent : (m : World) (party : Party) (step : Move) (r : Stepped) (n : World) → StepsTo m party step r n → Told m party step r n → IsWithin m → (m.moments ≤ 2 ^ 63 → UsesKept m) → (m.moments ≤ 2 ^ 63 → RoomsKept m) → LoansLent m n
 loans_lent m party step r n h told w u rooms = λ few call place lane given more is found answered small.
     let end = step_ends_now m party step r n h told call place lane more is found in
-    let says = lends_at lane.port.call (publisher_after (publisher_given m.table lane) lane).port.book.answer given (end.answered ∙ ap (λ (a : Answer). Some a) answered) in
+    let says = lends_at lane.fails lane.port.call (publisher_after (publisher_given m.table lane) lane).port.book.answer given (end.answered ∙ ap (λ (a : Answer). Some a) answered) in
     let book_is : (publisher_after (publisher_given m.table lane) lane).port.book ≡ lent lane.port.book = ap (λ (c : PublisherCall). changed (publisher_change c (publisher_given m.table lane)) lane.port.book) says.0 in
     lent_as_found m n place lane given found w ((u few).publishers place lane found)
     (subst (HasRooms m.table.sizes.completion_cells (length lane.port.routes) lane.port.book) says.0 ((rooms few).publishers place lane found)) small

@@ -137,8 +137,8 @@ are_put_stay orders orders' routes number slot first last last' delivery grow le
   counted = h.counted;
 }
 
-pub sent_stays : (orders orders' : List (List Placed)) (routes : List Route) (number : ℕ) (send : FinishedCall) → Grow orders orders' → IsSent orders routes number send → IsSent orders' routes number send
-sent_stays orders orders' routes number send grow h = record {
+pub sent_stays : (orders orders' : List (List Placed)) (fails : Bool) (routes : List Route) (number : ℕ) (send : FinishedCall) → Grow orders orders' → IsSent orders fails routes number send → IsSent orders' fails routes number send
+sent_stays orders orders' fails routes number send grow h = record {
   slot = h.slot;
   delivery = h.delivery;
   asked = h.asked;

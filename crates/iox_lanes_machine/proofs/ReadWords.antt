@@ -42,7 +42,7 @@ abbrev Adds : ℕ → Option Answer → List ℕ → Type 0
 Adds wide None words = words ≡ []
 Adds wide (Some (answer.Lent loan)) words = words ≡ []
 Adds wide (Some answer.Written) words = words ≡ []
-Adds wide (Some (answer.Sent delivery)) words = words ≡ []
+Adds wide (Some (answer.Sent given)) words = words ≡ []
 Adds wide (Some answer.Dropped) words = words ≡ []
 Adds wide (Some (answer.Received given)) words = words ≡ []
 Adds wide (Some (answer.Read from)) words = length words ≡ wide
@@ -83,7 +83,7 @@ grown : (wide : ℕ) (finished : List FinishedCall) (party : Party) (name : Call
 grown wide finished party name first last None read words h at k = same_lie wide finished (finished ++ []) read words (ap reads_of (append-nil finished)) h k
 grown wide finished party name first last (Some (answer.Lent loan)) read words h at k = same_lie wide finished _ read words (no_read finished (record { party = party; call = name; answer = answer.Lent loan; first = first; last = last }) refl) h k
 grown wide finished party name first last (Some answer.Written) read words h at k = same_lie wide finished _ read words (no_read finished (record { party = party; call = name; answer = answer.Written; first = first; last = last }) refl) h k
-grown wide finished party name first last (Some (answer.Sent delivery)) read words h at k = same_lie wide finished _ read words (no_read finished (record { party = party; call = name; answer = answer.Sent delivery; first = first; last = last }) refl) h k
+grown wide finished party name first last (Some (answer.Sent given)) read words h at k = same_lie wide finished _ read words (no_read finished (record { party = party; call = name; answer = answer.Sent given; first = first; last = last }) refl) h k
 grown wide finished party name first last (Some answer.Dropped) read words h at k = same_lie wide finished _ read words (no_read finished (record { party = party; call = name; answer = answer.Dropped; first = first; last = last }) refl) h k
 grown wide finished party name first last (Some (answer.Received given)) read words h at k = same_lie wide finished _ read words (no_read finished (record { party = party; call = name; answer = answer.Received given; first = first; last = last }) refl) h k
 grown wide finished party name first last (Some (answer.Read from)) read words h at k =
@@ -94,35 +94,35 @@ lent_adds : (wide : ℕ) (loan : Option LoanAnswer) → Adds wide (Some (lent lo
 lent_adds wide None = refl
 lent_adds wide (Some given) = refl
 
-publisher_adds : (wide : ℕ) (c : PublisherCall) (loan : Option LoanAnswer) → Adds wide (publisher_answer c loan) []
-publisher_adds wide publishing.Idle loan = refl
-publisher_adds wide (publishing.LoanReclaims place route p) loan = refl
-publisher_adds wide publishing.Lending loan = lent_adds wide loan
-publisher_adds wide (publishing.Writing slot word value) loan = refl
-publisher_adds wide (publishing.Written slot) loan = refl
-publisher_adds wide (publishing.Heading slot word value) loan = refl
-publisher_adds wide (publishing.Remembering slot) loan = refl
-publisher_adds wide (publishing.SendReclaims slot place route p) loan = refl
-publisher_adds wide (publishing.Pushing slot place route p delivery) loan = refl
-publisher_adds wide (publishing.Sent slot delivery) loan = refl
-publisher_adds wide (publishing.Dropping slot) loan = refl
+publisher_adds : (fails : Bool) (wide : ℕ) (c : PublisherCall) (loan : Option LoanAnswer) → Adds wide (publisher_answer fails c loan) []
+publisher_adds fails wide publishing.Idle loan = refl
+publisher_adds fails wide (publishing.LoanReclaims place route p) loan = refl
+publisher_adds fails wide publishing.Lending loan = lent_adds wide loan
+publisher_adds fails wide (publishing.Writing slot word value) loan = refl
+publisher_adds fails wide (publishing.Written slot) loan = refl
+publisher_adds fails wide (publishing.Heading slot word value) loan = refl
+publisher_adds fails wide (publishing.Remembering slot) loan = refl
+publisher_adds fails wide (publishing.SendReclaims slot place route p) loan = refl
+publisher_adds fails wide (publishing.Pushing slot place route p delivery) loan = refl
+publisher_adds fails wide (publishing.Sent slot delivery) loan = refl
+publisher_adds fails wide (publishing.Dropping slot) loan = refl
 
 lent_no_read : (loan : Option LoanAnswer) (from : ℕ) → Some (lent loan) ≡ Some (answer.Read from) → ⊥
 lent_no_read None from e = absurd (cc e)
 lent_no_read (Some given) from e = absurd (cc e)
 
-publisher_no_read : (c : PublisherCall) (loan : Option LoanAnswer) (from : ℕ) → publisher_answer c loan ≡ Some (answer.Read from) → ⊥
-publisher_no_read publishing.Idle loan from e = absurd (cc e)
-publisher_no_read (publishing.LoanReclaims place route p) loan from e = absurd (cc e)
-publisher_no_read publishing.Lending loan from e = lent_no_read loan from e
-publisher_no_read (publishing.Writing slot word value) loan from e = absurd (cc e)
-publisher_no_read (publishing.Written slot) loan from e = absurd (cc e)
-publisher_no_read (publishing.Heading slot word value) loan from e = absurd (cc e)
-publisher_no_read (publishing.Remembering slot) loan from e = absurd (cc e)
-publisher_no_read (publishing.SendReclaims slot place route p) loan from e = absurd (cc e)
-publisher_no_read (publishing.Pushing slot place route p delivery) loan from e = absurd (cc e)
-publisher_no_read (publishing.Sent slot delivery) loan from e = absurd (cc e)
-publisher_no_read (publishing.Dropping slot) loan from e = absurd (cc e)
+publisher_no_read : (fails : Bool) (c : PublisherCall) (loan : Option LoanAnswer) (from : ℕ) → publisher_answer fails c loan ≡ Some (answer.Read from) → ⊥
+publisher_no_read fails publishing.Idle loan from e = absurd (cc e)
+publisher_no_read fails (publishing.LoanReclaims place route p) loan from e = absurd (cc e)
+publisher_no_read fails publishing.Lending loan from e = lent_no_read loan from e
+publisher_no_read fails (publishing.Writing slot word value) loan from e = absurd (cc e)
+publisher_no_read fails (publishing.Written slot) loan from e = absurd (cc e)
+publisher_no_read fails (publishing.Heading slot word value) loan from e = absurd (cc e)
+publisher_no_read fails (publishing.Remembering slot) loan from e = absurd (cc e)
+publisher_no_read fails (publishing.SendReclaims slot place route p) loan from e = absurd (cc e)
+publisher_no_read fails (publishing.Pushing slot place route p delivery) loan from e = absurd (cc e)
+publisher_no_read fails (publishing.Sent slot delivery) loan from e = absurd (cc e)
+publisher_no_read fails (publishing.Dropping slot) loan from e = absurd (cc e)
 
 subscriber_adds : (wide : ℕ) (c : SubscriberCall) (from : ℕ) (words : List ℕ) → length words ≡ wide → Adds wide (subscriber_answer c from) (words_read c words)
 subscriber_adds wide subscribing.Idle from words h = refl
@@ -198,8 +198,8 @@ gone_publisher m place orders (Some lane) k =
     let n : World = publisher_goes_on (record m { orders = orders }) place (Some lane) in
     let loan : Option LoanAnswer = (publisher_after (publisher_given m.table lane) lane).port.book.answer in
     let g : Lie (width m.table.sizes) (m.finished ++ ended (Publisher place) lane.call lane.first m.moments (publisher_ending m.table lane)) (m.read ++ []) =
-    grown (width m.table.sizes) m.finished (Publisher place) lane.call lane.first m.moments (publisher_ending m.table lane) m.read [] (publisher_adds (width m.table.sizes) lane.port.call loan)
-    (λ from e. absurd (publisher_no_read lane.port.call loan from e)) (record { each = k.each; all = k.all }) in
+    grown (width m.table.sizes) m.finished (Publisher place) lane.call lane.first m.moments (publisher_ending m.table lane) m.read [] (publisher_adds lane.fails (width m.table.sizes) lane.port.call loan)
+    (λ from e. absurd (publisher_no_read lane.fails lane.port.call loan from e)) (record { each = k.each; all = k.all }) in
     lies m n ((sizes_stay m.table (publisher_next lane.port.call)).0) (subst (Lie (width m.table.sizes) n.finished) (append-nil m.read) g) k.rooms
 
 gone_subscriber : (m : World) (place : ℕ) (orders : List (List Placed)) (at : Option SubscriberLaneState) → slice_get m.subscribers place ≡ at → ReadsLie m → ReadsLie (subscriber_goes_on (record m { orders = orders }) place at)

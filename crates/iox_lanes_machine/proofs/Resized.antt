@@ -115,15 +115,15 @@ origin_length node publisher head = by_test (nat_lt 1 (length head))
     by_test true = length-set (set head 0 node) 1 publisher ∙ length-set head 0 node
     by_test false = refl
 
-pub named_fresh : (m : World) (who node publisher : ℕ) (lane : PublisherLaneState) → slice_get m.publishers who ≡ Some lane → IsWithin m → IsFresh m
-    → IsWithin (named_of m who node publisher (Some lane)) × IsFresh (named_of m who node publisher (Some lane))
-named_fresh m who node publisher lane found w h = (within, fresh)
+pub named_fresh : (m : World) (who node publisher : ℕ) (fails : Bool) (lane : PublisherLaneState) → slice_get m.publishers who ≡ Some lane → IsWithin m → IsFresh m
+    → IsWithin (named_of m who node publisher fails (Some lane)) × IsFresh (named_of m who node publisher fails (Some lane))
+named_fresh m who node publisher fails lane found w h = (within, fresh)
   where
     own : IsFreshPublisher m who lane
     own = h.publishers who lane found
 
     now' : PublisherLaneState
-    now' = lane_named node publisher lane
+    now' = lane_named node publisher fails lane
 
     publishers' : List PublisherLaneState
     publishers' = set m.publishers who now'
@@ -170,17 +170,17 @@ named_fresh m who node publisher lane found w h = (within, fresh)
         } in
         publisher_within m world who lane now' found moved refl refl refl refl refl refl refl w
 
-pub names_keep : (m : World) (who node publisher : ℕ) (at : Option PublisherLaneState) → slice_get m.publishers who ≡ at → is_there at ≡ true → IsWithin m → IsFresh m
-    → IsWithin (named_of m who node publisher (slice_get m.publishers who)) × IsFresh (named_of m who node publisher (slice_get m.publishers who))
-names_keep m who node publisher None e fit w h = absurd (cc fit)
-names_keep m who node publisher (Some lane) e fit w h =
-    subst (λ (n : World). IsWithin n × IsFresh n) (sym (ap (named_of m who node publisher) e)) (named_fresh m who node publisher lane e w h)
+pub names_keep : (m : World) (who node publisher : ℕ) (fails : Bool) (at : Option PublisherLaneState) → slice_get m.publishers who ≡ at → is_there at ≡ true → IsWithin m → IsFresh m
+    → IsWithin (named_of m who node publisher fails (slice_get m.publishers who)) × IsFresh (named_of m who node publisher fails (slice_get m.publishers who))
+names_keep m who node publisher fails None e fit w h = absurd (cc fit)
+names_keep m who node publisher fails (Some lane) e fit w h =
+    subst (λ (n : World). IsWithin n × IsFresh n) (sym (ap (named_of m who node publisher fails) e)) (named_fresh m who node publisher fails lane e w h)
 
 -- no step was made
 pub resized_moments : (m : World) (who slots most : ℕ) (at : Option PublisherLaneState) → (resized_of m who slots most at).moments ≡ m.moments
 resized_moments m who slots most None = refl
 resized_moments m who slots most (Some lane) = refl
 
-pub named_moments : (m : World) (who node publisher : ℕ) (at : Option PublisherLaneState) → (named_of m who node publisher at).moments ≡ m.moments
-named_moments m who node publisher None = refl
-named_moments m who node publisher (Some lane) = refl
+pub named_moments : (m : World) (who node publisher : ℕ) (fails : Bool) (at : Option PublisherLaneState) → (named_of m who node publisher fails at).moments ≡ m.moments
+named_moments m who node publisher fails None = refl
+named_moments m who node publisher fails (Some lane) = refl

@@ -75,19 +75,19 @@ ended_gave : (party : Party) (name : CallName) (first last : ℕ) (given : Optio
 ended_gave party name first last None h = All-nil (λ call. GaveBack call.answer)
 ended_gave party name first last (Some a) h = All-cons (λ call. GaveBack call.answer) _ [] (h a refl) (All-nil (λ call. GaveBack call.answer))
 
-publisher_gave : (c : PublisherCall) (loan : Option LoanAnswer) (a : Answer) → publisher_answer c loan ≡ Some a → GaveBack a
-publisher_gave publishing.Idle loan a e = absurd (cc e)
-publisher_gave (publishing.LoanReclaims at route p) loan a e = absurd (cc e)
-publisher_gave publishing.Lending None a e = subst GaveBack (some_is _ a e) tt
-publisher_gave publishing.Lending (Some given) a e = subst GaveBack (some_is _ a e) tt
-publisher_gave (publishing.Writing slot word value) loan a e = absurd (cc e)
-publisher_gave (publishing.Written slot) loan a e = subst GaveBack (some_is _ a e) tt
-publisher_gave (publishing.Heading slot word value) loan a e = absurd (cc e)
-publisher_gave (publishing.Remembering slot) loan a e = absurd (cc e)
-publisher_gave (publishing.SendReclaims slot at route p) loan a e = absurd (cc e)
-publisher_gave (publishing.Pushing slot at route push delivery) loan a e = absurd (cc e)
-publisher_gave (publishing.Sent slot delivery) loan a e = subst GaveBack (some_is _ a e) tt
-publisher_gave (publishing.Dropping slot) loan a e = subst GaveBack (some_is _ a e) tt
+publisher_gave : (fails : Bool) (c : PublisherCall) (loan : Option LoanAnswer) (a : Answer) → publisher_answer fails c loan ≡ Some a → GaveBack a
+publisher_gave fails publishing.Idle loan a e = absurd (cc e)
+publisher_gave fails (publishing.LoanReclaims at route p) loan a e = absurd (cc e)
+publisher_gave fails publishing.Lending None a e = subst GaveBack (some_is _ a e) tt
+publisher_gave fails publishing.Lending (Some given) a e = subst GaveBack (some_is _ a e) tt
+publisher_gave fails (publishing.Writing slot word value) loan a e = absurd (cc e)
+publisher_gave fails (publishing.Written slot) loan a e = subst GaveBack (some_is _ a e) tt
+publisher_gave fails (publishing.Heading slot word value) loan a e = absurd (cc e)
+publisher_gave fails (publishing.Remembering slot) loan a e = absurd (cc e)
+publisher_gave fails (publishing.SendReclaims slot at route p) loan a e = absurd (cc e)
+publisher_gave fails (publishing.Pushing slot at route push delivery) loan a e = absurd (cc e)
+publisher_gave fails (publishing.Sent slot delivery) loan a e = subst GaveBack (some_is _ a e) tt
+publisher_gave fails (publishing.Dropping slot) loan a e = subst GaveBack (some_is _ a e) tt
 
 subscriber_gave : (c : SubscriberCall) (from : ℕ) (a : Answer) → ReleasesOk c → subscriber_answer c from ≡ Some a → GaveBack a
 subscriber_gave subscribing.Idle from a ok e = absurd (cc e)
@@ -121,7 +121,7 @@ gone_publisher m place (Some lane) e fit bound w k r b s l u rooms =
       receivers = rooms.receivers;
       cells = λ connection link found. subst (λ (t : TableSizes). link.limit + may_borrow (slice_get m.subscribers link.subscriber) < t.completion_cells) (sym sizes) (rooms.cells connection link found);
       releases = all_more (λ call. GaveBack call.answer) m.finished (ended (Publisher place) lane.call lane.first m.moments (publisher_ending m.table lane)) rooms.releases
-          (ended_gave (Publisher place) lane.call lane.first m.moments (publisher_ending m.table lane) (λ a h. publisher_gave lane.port.call (publisher_after (publisher_given m.table lane) lane).port.book.answer a h));
+          (ended_gave (Publisher place) lane.call lane.first m.moments (publisher_ending m.table lane) (λ a h. publisher_gave lane.fails lane.port.call (publisher_after (publisher_given m.table lane) lane).port.book.answer a h));
     }
 
 -- what a subscriber's change wants at each of its connections

@@ -143,7 +143,8 @@ borrowed_within samples place slot h = elim (cases_lt slot (length samples)) [
   | inr past ↦ absurd (cc (sym h ∙ get_or_past samples slot None past))
 ]
 
--- what a change wants of the slot that it borrows or gives back: one of the service that isn't borrowed of this connection yet, or one that is borrowed at its place
+-- what a change wants of the slot that it borrows or gives back: one of the service that isn't borrowed of this connection yet,
+-- or one that is borrowed at its place
 abbrev pub OwnFits : SubscriberLaneState → ℕ → ℕ → SubscriberChange → Type 0
 OwnFits lane connection at change.Nothing = Unit {0}
 OwnFits lane connection at (change.Borrow place slot) = (slot < length lane.port.samples) × (borrows connection slot (Some lane) ≡ false)

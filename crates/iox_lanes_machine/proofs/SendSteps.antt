@@ -29,6 +29,7 @@ use Rattle.iox_lanes_machine.specs.LanesBase.declared.calls.publisher.PublisherC
 use Rattle.iox_lanes_machine.specs.LanesBase.declared.calls.route.Route.{Route}
 use Rattle.iox_lanes_machine.specs.LanesBase.declared.calls.subscriber.SubscriberCall.{SubscriberCall}
 use Rattle.iox_lanes_machine.specs.LanesBase.declared.calls.subscriber.SubscriberCall.TheVariants as subscribing
+use Rattle.iox_lanes_machine.specs.LanesParties.SendAnswers.{send_answer}
 use Rattle.iox_lanes_machine.specs.LanesParties.Publishers.{words_of}
 use Rattle.iox_lanes_machine.specs.LanesParties.declared.publisher.slot_book.LoanAnswer.{LoanAnswer}
 use Rattle.iox_lanes_machine.specs.LanesParties.Parties.{PublisherLaneState, SubscriberLaneState, publisher_may, publisher_begun, publisher_after, publisher_answer, head_of, subscriber_answer, lent}
@@ -248,31 +249,31 @@ lent_nothing None = refl
 lent_nothing (Some given) = refl
 
 -- what a publisher that goes on leaves behind
-abbrev gone : World → ℕ → PublisherCall → CallName → ℕ → Option LoanAnswer → World
-gone m place c call first loan = record m {
+abbrev gone : World → ℕ → Bool → PublisherCall → CallName → ℕ → Option LoanAnswer → World
+gone m place fails c call first loan = record m {
   table = after_shared m.table (publisher_next c);
   orders = added m.orders (pushes_to c) m.moments (push_acts m.table c);
-  finished = m.finished ++ ended (Publisher place) call first m.moments (publisher_answer c loan);
+  finished = m.finished ++ ended (Publisher place) call first m.moments (publisher_answer fails c loan);
   moments = successor m.moments;
 }
 
 -- the steps of a publisher itself
-module _ (m : World) (place : ℕ) (routes : List Route) (words : List ℕ) (call : CallName) (first : ℕ) (loan : Option LoanAnswer) (bound : m.moments < 2 ^ 63) (w : IsWithin m) (links : All (IsLinkOf m.links sender place) routes) where
+module _ (m : World) (place : ℕ) (fails : Bool) (routes : List Route) (words : List ℕ) (call : CallName) (first : ℕ) (loan : Option LoanAnswer) (bound : m.moments < 2 ^ 63) (w : IsWithin m) (links : All (IsLinkOf m.links sender place) routes) where
   -- one that pushes nothing
-  quiet_goes : (c : PublisherCall) → IsOfTable m.table.sizes (publisher_next c) → is_quiet c ≡ true → ((connection : ℕ) → pushes_to c ≡ Some connection → ⊥) → sends_nothing (publisher_answer c loan) ≡ true → SendsPut m place routes first c
-      → SendsPut (gone m place c call first loan) place routes first c
+  quiet_goes : (c : PublisherCall) → IsOfTable m.table.sizes (publisher_next c) → is_quiet c ≡ true → ((connection : ℕ) → pushes_to c ≡ Some connection → ⊥) → sends_nothing (publisher_answer fails c loan) ≡ true → SendsPut m place fails routes first c
+      → SendsPut (gone m place fails c call first loan) place fails routes first c
   quiet_goes c touch q off none h =
-      grows m (gone m place c call first loan) place routes first c refl (same_sends place m.finished (Publisher place) call first m.moments (publisher_answer c loan) (inr none))
+      grows m (gone m place fails c call first loan) place fails routes first c refl (same_sends place m.finished (Publisher place) call first m.moments (publisher_answer fails c loan) (inr none))
       (grow_added m.orders (pushes_to c) m.moments (push_acts m.table c)) (next_le m.moments bound) (λ busy. absurd (cc (q, busy)))
       (λ i route at. let own : IsLinkOf m.links sender place route = all_at (IsLinkOf m.links sender place) routes i route at links in off_push m c touch w c route own.link own.found (off route.connection)) h
 
-  sweeps : (n : World) (slot at : ℕ) (c : PublisherCall) (route : Option Route) → first ≤ n.moments → is_quiet c ≡ true → SendsPut n place routes first c → SendsPut n place routes first (sweep_from routes slot at route)
-  sweeps n slot at c None begun q h = quiet_pushes n place routes first slot c begun q h
-  sweeps n slot at c (Some route) begun q h = quiet_change n place routes first first c (sweep_from routes slot at (Some route)) q refl h
+  sweeps : (n : World) (slot at : ℕ) (c : PublisherCall) (route : Option Route) → first ≤ n.moments → is_quiet c ≡ true → SendsPut n place fails routes first c → SendsPut n place fails routes first (sweep_from routes slot at route)
+  sweeps n slot at c None begun q h = quiet_pushes n place fails routes first slot c begun q h
+  sweeps n slot at c (Some route) begun q h = quiet_change n place fails routes first first c (sweep_from routes slot at (Some route)) q refl h
 
-  swept : (n : World) (slot at : ℕ) (c : PublisherCall) (route : Route) (p : refusing_pop_type.Pop) (a : Option PopAnswer) → first ≤ n.moments → is_quiet c ≡ true → SendsPut n place routes first c → SendsPut n place routes first (send_reclaimed routes slot at route p a)
-  swept n slot at c route p None begun q h = quiet_change n place routes first first c (send_reclaimed routes slot at route p None) q refl h
-  swept n slot at c route p (Some (Got (Some back))) begun q h = quiet_change n place routes first first c (send_reclaimed routes slot at route p (Some (Got (Some back)))) q refl h
+  swept : (n : World) (slot at : ℕ) (c : PublisherCall) (route : Route) (p : refusing_pop_type.Pop) (a : Option PopAnswer) → first ≤ n.moments → is_quiet c ≡ true → SendsPut n place fails routes first c → SendsPut n place fails routes first (send_reclaimed routes slot at route p a)
+  swept n slot at c route p None begun q h = quiet_change n place fails routes first first c (send_reclaimed routes slot at route p None) q refl h
+  swept n slot at c route p (Some (Got (Some back))) begun q h = quiet_change n place fails routes first first c (send_reclaimed routes slot at route p (Some (Got (Some back)))) q refl h
   swept n slot at c route p (Some (Got None)) begun q h = sweeps n slot (successor at) c (slice_get routes (successor at)) begun q h
   swept n slot at c route p (Some (Saw some)) begun q h = sweeps n slot (successor at) c (slice_get routes (successor at)) begun q h
 
@@ -280,17 +281,17 @@ module _ (m : World) (place : ℕ) (routes : List Route) (words : List ℕ) (cal
   push_steps : (slot at : ℕ) (route : Route) (p : Push) (delivery : Delivery) → IsOfTable m.table.sizes (publisher_next (publishing.Pushing slot at route p delivery)) → first ≤ m.moments → push_answer p ≡ None
       → ((link : LinkState) (order : List Placed) → slice_get m.links route.connection ≡ Some link → slice_get m.orders route.connection ≡ Some order → link.publisher ≡ place
       → IsKeptAt m.table m.moments route.connection link order (publishing.Pushing slot at route p delivery) (subscriber_stage (slice_get m.subscribers link.subscriber)))
-      → SendsPut m place routes first (publishing.Pushing slot at route p delivery)
-      → SendsPut (gone m place (publishing.Pushing slot at route p delivery) call first loan) place routes first (publisher_take routes words (publishing.Pushing slot at route p delivery) (shared_answer m.table (publisher_next (publishing.Pushing slot at route p delivery))))
+      → SendsPut m place fails routes first (publishing.Pushing slot at route p delivery)
+      → SendsPut (gone m place fails (publishing.Pushing slot at route p delivery) call first loan) place fails routes first (publisher_take routes words (publishing.Pushing slot at route p delivery) (shared_answer m.table (publisher_next (publishing.Pushing slot at route p delivery))))
   push_steps slot at route p delivery touch begun unanswered kept h =
       let own : IsLinkOf m.links sender place route = all_at (IsLinkOf m.links sender place) routes at route (h.so_far).at links in
       let order : List Placed = get_or m.orders route.connection [] in
       let there : slice_get m.orders route.connection ≡ Some order = order_there m route.connection own.link own.found w in
       let p' : Push = push_take p (shared_answer m.table (publisher_next (publishing.Pushing slot at route p delivery))) in
       let core = push_core m.table m.moments slot at route p delivery own.link order (subscriber_stage (slice_get m.subscribers (own.link).subscriber)) route.submission_cells route.limit own.cells own.limit (seat m route.connection own.link own.found w) bound unanswered (kept own.link order own.found there own.own) in
-      let n : World = gone m place (publishing.Pushing slot at route p delivery) call first loan in
-      let moved : SendsPut n place routes first (publishing.Pushing slot at route p' delivery) =
-      push_moves m n place routes first slot at route p p' delivery refl (same_sends place m.finished (Publisher place) call first m.moments None (inr refl))
+      let n : World = gone m place fails (publishing.Pushing slot at route p delivery) call first loan in
+      let moved : SendsPut n place fails routes first (publishing.Pushing slot at route p' delivery) =
+      push_moves m n place fails routes first slot at route p p' delivery refl (same_sends place m.finished (Publisher place) call first m.moments None (inr refl))
       (grow_added m.orders (Some route.connection) m.moments (push_acts m.table (publishing.Pushing slot at route p delivery))) (next_le m.moments bound) begun
       (value_stays p (shared_answer m.table (publisher_next (publishing.Pushing slot at route p delivery))) unanswered)
       (λ i other found. elim (eqb_tells i at) [
@@ -321,57 +322,57 @@ module _ (m : World) (place : ℕ) (routes : List Route) (words : List ℕ) (cal
             (push_off other.connection other.kind (publishing.Pushing slot at route p' delivery) off ∙ sym (push_off other.connection other.kind (publishing.Pushing slot at route p delivery) off)) ∙ g.hand;
       }
 
-      by_answer : (n : World) (slot at : ℕ) (route : Route) (p' : Push) (delivery : Delivery) (a : Option PushAnswer) → push_answer p' ≡ a → at + 1 ≤ n.moments → n.moments ≤ 2 ^ 63 → SendsPut n place routes first (publishing.Pushing slot at route p' delivery)
-          → SendsPut n place routes first (pushed routes slot at route p' delivery a)
+      by_answer : (n : World) (slot at : ℕ) (route : Route) (p' : Push) (delivery : Delivery) (a : Option PushAnswer) → push_answer p' ≡ a → at + 1 ≤ n.moments → n.moments ≤ 2 ^ 63 → SendsPut n place fails routes first (publishing.Pushing slot at route p' delivery)
+          → SendsPut n place fails routes first (pushed routes slot at route p' delivery a)
       by_answer n slot at route p' delivery None e few small g = g
-      by_answer n slot at route p' delivery (Some given) e few small g = push_answered n place routes first slot at route p' delivery given e few small g
+      by_answer n slot at route p' delivery (Some given) e few small g = push_answered n place fails routes first slot at route p' delivery given e few small g
 
   -- any of them
   own_steps : (c : PublisherCall) → IsOfTable m.table.sizes (publisher_next c) → (publisher_is_idle c ≡ false → first ≤ m.moments) → IsStageOf call c
       → ((connection : ℕ) (link : LinkState) (order : List Placed) → slice_get m.links connection ≡ Some link → slice_get m.orders connection ≡ Some order → link.publisher ≡ place
       → IsKeptAt m.table m.moments connection link order c (subscriber_stage (slice_get m.subscribers link.subscriber)))
-      → SendsPut m place routes first c → SendsPut (gone m place c call first loan) place routes first (publisher_take routes words c (shared_answer m.table (publisher_next c)))
+      → SendsPut m place fails routes first c → SendsPut (gone m place fails c call first loan) place fails routes first (publisher_take routes words c (shared_answer m.table (publisher_next c)))
   own_steps publishing.Idle touch begun stage kept h = quiet_goes publishing.Idle touch refl (λ n e. absurd (cc e)) refl h
   own_steps (publishing.LoanReclaims at route p) touch begun stage kept h =
       let c : PublisherCall = publishing.LoanReclaims at route p in
       let a : ℕ = shared_answer m.table (publisher_next c) in
-      quiet_change (gone m place c call first loan) place routes first first c (publisher_take routes words c a) refl (reclaimed_quiet routes at route (refusing.pop_take p a) (refusing_pop_answer (refusing.pop_take p a)))
+      quiet_change (gone m place fails c call first loan) place fails routes first first c (publisher_take routes words c a) refl (reclaimed_quiet routes at route (refusing.pop_take p a) (refusing_pop_answer (refusing.pop_take p a)))
       (quiet_goes c touch refl (λ n e. absurd (cc e)) refl h)
   own_steps publishing.Lending touch begun stage kept h =
-      quiet_change (gone m place publishing.Lending call first loan) place routes first first publishing.Lending publishing.Idle refl refl (quiet_goes publishing.Lending touch refl (λ n e. absurd (cc e)) (lent_nothing loan) h)
+      quiet_change (gone m place fails publishing.Lending call first loan) place fails routes first first publishing.Lending publishing.Idle refl refl (quiet_goes publishing.Lending touch refl (λ n e. absurd (cc e)) (lent_nothing loan) h)
   own_steps (publishing.Writing slot word value) touch begun stage kept h =
       let c : PublisherCall = publishing.Writing slot word value in
-      quiet_change (gone m place c call first loan) place routes first first c (write_from slot (successor word) (slice_get words (successor word))) refl (write_quiet slot (successor word) (slice_get words (successor word)))
+      quiet_change (gone m place fails c call first loan) place fails routes first first c (write_from slot (successor word) (slice_get words (successor word))) refl (write_quiet slot (successor word) (slice_get words (successor word)))
       (quiet_goes c touch refl (λ n e. absurd (cc e)) refl h)
   own_steps (publishing.Written slot) touch begun stage kept h =
-      quiet_change (gone m place (publishing.Written slot) call first loan) place routes first first (publishing.Written slot) publishing.Idle refl refl (quiet_goes (publishing.Written slot) touch refl (λ n e. absurd (cc e)) refl h)
+      quiet_change (gone m place fails (publishing.Written slot) call first loan) place fails routes first first (publishing.Written slot) publishing.Idle refl refl (quiet_goes (publishing.Written slot) touch refl (λ n e. absurd (cc e)) refl h)
   own_steps (publishing.Heading slot word value) touch begun stage kept h =
       let c : PublisherCall = publishing.Heading slot word value in
-      quiet_change (gone m place c call first loan) place routes first first c (head_from slot (successor word) (slice_get words (successor word))) refl (head_quiet slot (successor word) (slice_get words (successor word)))
+      quiet_change (gone m place fails c call first loan) place fails routes first first c (head_from slot (successor word) (slice_get words (successor word))) refl (head_quiet slot (successor word) (slice_get words (successor word)))
       (quiet_goes c touch refl (λ n e. absurd (cc e)) refl h)
   own_steps (publishing.Remembering slot) touch begun stage kept h =
       let c : PublisherCall = publishing.Remembering slot in
-      sweeps (gone m place c call first loan) slot 0 c (slice_get routes 0) (omega (arith, begun refl, next_le m.moments bound)) refl (quiet_goes c touch refl (λ n e. absurd (cc e)) refl h)
+      sweeps (gone m place fails c call first loan) slot 0 c (slice_get routes 0) (omega (arith, begun refl, next_le m.moments bound)) refl (quiet_goes c touch refl (λ n e. absurd (cc e)) refl h)
   own_steps (publishing.SendReclaims slot at route p) touch begun stage kept h =
       let c : PublisherCall = publishing.SendReclaims slot at route p in
       let a : ℕ = shared_answer m.table (publisher_next c) in
-      swept (gone m place c call first loan) slot at c route (refusing.pop_take p a) (refusing_pop_answer (refusing.pop_take p a)) (omega (arith, begun refl, next_le m.moments bound)) refl (quiet_goes c touch refl (λ n e. absurd (cc e)) refl h)
+      swept (gone m place fails c call first loan) slot at c route (refusing.pop_take p a) (refusing_pop_answer (refusing.pop_take p a)) (omega (arith, begun refl, next_le m.moments bound)) refl (quiet_goes c touch refl (λ n e. absurd (cc e)) refl h)
   own_steps (publishing.Pushing slot at route p delivery) touch begun stage kept h =
       push_steps slot at route p delivery touch (begun refl) stage.1 (λ link order found there own. kept route.connection link order found there own) h
   own_steps (publishing.Sent slot delivery) touch begun stage kept h =
-      let m' : World = record m { finished = m.finished ++ ended (Publisher place) call first m.moments (Some (answer.Sent delivery)) } in
-      let done : SendsPut m' place routes first publishing.Idle = send_ends m place routes first slot delivery call stage h in
-      grows m' (gone m place (publishing.Sent slot delivery) call first loan) place routes first publishing.Idle refl refl (grow_none m.orders) (next_le m.moments bound) (λ busy. absurd (cc busy))
+      let m' : World = record m { finished = m.finished ++ ended (Publisher place) call first m.moments (Some (answer.Sent (send_answer fails delivery))) } in
+      let done : SendsPut m' place fails routes first publishing.Idle = send_ends m place fails routes first slot delivery call stage h in
+      grows m' (gone m place fails (publishing.Sent slot delivery) call first loan) place fails routes first publishing.Idle refl refl (grow_none m.orders) (next_le m.moments bound) (λ busy. absurd (cc busy))
       (λ i route at. still m.moments m.orders m.orders m.table m.table publishing.Idle route refl refl) done
   own_steps (publishing.Dropping slot) touch begun stage kept h =
-      quiet_change (gone m place (publishing.Dropping slot) call first loan) place routes first first (publishing.Dropping slot) publishing.Idle refl refl (quiet_goes (publishing.Dropping slot) touch refl (λ n e. absurd (cc e)) refl h)
+      quiet_change (gone m place fails (publishing.Dropping slot) call first loan) place fails routes first first (publishing.Dropping slot) publishing.Idle refl refl (quiet_goes (publishing.Dropping slot) touch refl (λ n e. absurd (cc e)) refl h)
 
 -- worlds that differ in nothing that sends say
-same_world : (m n : World) (who : ℕ) (routes : List Route) (first : ℕ) (c : PublisherCall) → n.links ≡ m.links → n.finished ≡ m.finished → n.orders ≡ m.orders → n.table ≡ m.table → n.moments ≡ m.moments → SendsPut m who routes first c → SendsPut n who routes first c
-same_world m n who routes first c links finished orders table moments h = record {
+same_world : (m n : World) (who : ℕ) (fails : Bool) (routes : List Route) (first : ℕ) (c : PublisherCall) → n.links ≡ m.links → n.finished ≡ m.finished → n.orders ≡ m.orders → n.table ≡ m.table → n.moments ≡ m.moments → SendsPut m who fails routes first c → SendsPut n who fails routes first c
+same_world m n who fails routes first c links finished orders table moments h = record {
   connections = subst (λ (x : List LinkState). HasConnections x who routes) (sym links) h.connections;
-  sent = subst (λ (x : List FinishedCall). (number : ℕ) (send : FinishedCall) → slice_get (sends_of who x) number ≡ Some send → IsSent n.orders routes number send) (sym finished)
-      (subst (λ (x : List (List Placed)). (number : ℕ) (send : FinishedCall) → slice_get (sends_of who m.finished) number ≡ Some send → IsSent x routes number send) (sym orders) h.sent);
+  sent = subst (λ (x : List FinishedCall). (number : ℕ) (send : FinishedCall) → slice_get (sends_of who x) number ≡ Some send → IsSent n.orders fails routes number send) (sym finished)
+      (subst (λ (x : List (List Placed)). (number : ℕ) (send : FinishedCall) → slice_get (sends_of who m.finished) number ≡ Some send → IsSent x fails routes number send) (sym orders) h.sent);
   so_far = subst (λ (x : List FinishedCall). PutSoFar n.table n.orders routes (length (sends_of who x)) first n.moments c) (sym finished)
       (subst (λ (x : List (List Placed)). PutSoFar n.table x routes (length (sends_of who m.finished)) first n.moments c) (sym orders)
       (subst (λ (x : TableWords). PutSoFar x m.orders routes (length (sends_of who m.finished)) first n.moments c) (sym table)
@@ -390,10 +391,20 @@ has_begun m who lane e calls busy = is_begun m who lane e calls (busy_unquiet la
 
 -- a publisher that stands where it stood, while nothing was placed
 waits : (m n : World) (who : ℕ) (lane : PublisherLaneState) → slice_get m.publishers who ≡ Some lane → CallsFollow m → n.links ≡ m.links → n.finished ≡ m.finished → n.orders ≡ m.orders → n.table ≡ m.table → m.moments ≤ n.moments
-    → SendsPut m who lane.port.routes lane.first lane.port.call → SendsPut n who lane.port.routes lane.first lane.port.call
+    → SendsPut m who lane.fails lane.port.routes lane.first lane.port.call → SendsPut n who lane.fails lane.port.routes lane.first lane.port.call
 waits m n who lane e calls links finished orders table later h =
-    grows m n who lane.port.routes lane.first lane.port.call links (ap (sends_of who) finished) (subst (Grow m.orders) (sym orders) (grow_none m.orders)) later (has_begun m who lane e calls)
+    grows m n who lane.fails lane.port.routes lane.first lane.port.call links (ap (sends_of who) finished) (subst (Grow m.orders) (sym orders) (grow_none m.orders)) later (has_begun m who lane e calls)
     (λ i route at. still m.moments m.orders n.orders m.table n.table lane.port.call route (ap (λ (os : List (List Placed)). puts_at os route) orders) (ap (λ (t : TableWords). read_at t route) table)) h
+
+-- a publisher that begins a call fails at a full mailbox if it did
+pub begun_fails : (moment : ℕ) (c : Call) (lane : PublisherLaneState) → (publisher_begun moment c lane).fails ≡ lane.fails
+begun_fails moment call.LoanUninit lane = refl
+begun_fails moment (call.Write loan payload user_header) lane = refl
+begun_fails moment (call.Send loan) lane = refl
+begun_fails moment (call.DropLoan loan) lane = refl
+begun_fails moment call.Receive lane = refl
+begun_fails moment (call.Read sample) lane = refl
+begun_fails moment (call.Release sample) lane = refl
 
 begun_publisher : (m : World) (place : ℕ) (c : Call) (at : Option PublisherLaneState) → slice_get m.publishers place ≡ at → publisher_fits_at at (Begin c) ≡ true → m.moments < 2 ^ 63 → CallsFollow m → AllSendsPut m → AllSendsPut (publisher_begins m place c at)
 begun_publisher m place c None e fit bound calls k = absurd (cc)
@@ -402,12 +413,13 @@ begun_publisher m place c (Some lane) e fit bound calls k = λ who other got. el
       let n : World = publisher_begins m place c (Some lane) in
       let is : other ≡ publisher_begun m.moments c lane = set_is m.publishers place who lane (publisher_begun m.moments c lane) other e same.1 got in
       let idle : publisher_is_idle lane.port.call ≡ true = and_left (publisher_is_idle lane.port.call) (publisher_may lane c) fit in
-      let waited : SendsPut n place lane.port.routes lane.first lane.port.call = waits m n place lane e calls refl refl refl refl (next_le m.moments bound) (k place lane e) in
-      let begun : SendsPut n place lane.port.routes (publisher_begun m.moments c lane).first (publisher_begun m.moments c lane).port.call =
-      quiet_change n place lane.port.routes lane.first (publisher_begun m.moments c lane).first lane.port.call (publisher_begun m.moments c lane).port.call (idle_quiet lane.port.call idle) (begun_quiet m.moments c lane idle) waited in
-      subst (λ (i : ℕ). SendsPut n i other.port.routes other.first other.port.call) (sym same.1)
-      (subst (λ (x : PublisherLaneState). SendsPut n place x.port.routes x.first x.port.call) (sym is)
-      (subst (λ (rs : List Route). SendsPut n place rs (publisher_begun m.moments c lane).first (publisher_begun m.moments c lane).port.call) (sym (publisher_routes m.moments c lane)) begun))
+      let waited : SendsPut n place lane.fails lane.port.routes lane.first lane.port.call = waits m n place lane e calls refl refl refl refl (next_le m.moments bound) (k place lane e) in
+      let begun : SendsPut n place lane.fails lane.port.routes (publisher_begun m.moments c lane).first (publisher_begun m.moments c lane).port.call =
+      quiet_change n place lane.fails lane.port.routes lane.first (publisher_begun m.moments c lane).first lane.port.call (publisher_begun m.moments c lane).port.call (idle_quiet lane.port.call idle) (begun_quiet m.moments c lane idle) waited in
+      subst (λ (i : ℕ). SendsPut n i other.fails other.port.routes other.first other.port.call) (sym same.1)
+      (subst (λ (x : PublisherLaneState). SendsPut n place x.fails x.port.routes x.first x.port.call) (sym is)
+      (subst (λ (f : Bool). SendsPut n place f (publisher_begun m.moments c lane).port.routes (publisher_begun m.moments c lane).first (publisher_begun m.moments c lane).port.call) (sym (begun_fails m.moments c lane))
+      (subst (λ (rs : List Route). SendsPut n place lane.fails rs (publisher_begun m.moments c lane).first (publisher_begun m.moments c lane).port.call) (sym (publisher_routes m.moments c lane)) begun)))
   | inr differs ↦
       let there : slice_get m.publishers who ≡ Some other = sym (set_other m.publishers place who (publisher_begun m.moments c lane) differs.1) ∙ got in
       waits m (publisher_begins m place c (Some lane)) who other there calls refl refl refl refl (next_le m.moments bound) (k who other there)
@@ -427,8 +439,8 @@ gone_publisher : (m : World) (place : ℕ) (at : Option PublisherLaneState) → 
     → AllSendsPut (publisher_goes_on (record m { orders = added m.orders (pushes_to (publisher_stage at)) m.moments (push_acts m.table (publisher_stage at)) }) place at)
 gone_publisher m place None e fit bound w kept calls k = absurd (cc)
 gone_publisher m place (Some lane) e fit bound w kept calls k = λ who other got. elim (eqb_tells who place) [
-  | inl same ↦ subst (λ (i : ℕ). SendsPut after i other.port.routes other.first other.port.call) (sym same.1)
-      (subst (λ (x : PublisherLaneState). SendsPut after place x.port.routes x.first x.port.call) (sym (set_is m.publishers place who lane (publisher_after (publisher_given m.table lane) lane) other e same.1 got)) own)
+  | inl same ↦ subst (λ (i : ℕ). SendsPut after i other.fails other.port.routes other.first other.port.call) (sym same.1)
+      (subst (λ (x : PublisherLaneState). SendsPut after place x.fails x.port.routes x.first x.port.call) (sym (set_is m.publishers place who lane (publisher_after (publisher_given m.table lane) lane) other e same.1 got)) own)
   | inr differs ↦ others who other (sym (set_other m.publishers place who (publisher_after (publisher_given m.table lane) lane) differs.1) ∙ got) differs.1
 ]
   where
@@ -441,16 +453,16 @@ gone_publisher m place (Some lane) e fit bound w kept calls k = λ who other got
     loan : Option LoanAnswer
     loan = (publisher_after (publisher_given m.table lane) lane).port.book.answer
 
-    own : SendsPut after place lane.port.routes lane.first (publisher_after (publisher_given m.table lane) lane).port.call
+    own : SendsPut after place lane.fails lane.port.routes lane.first (publisher_after (publisher_given m.table lane) lane).port.call
     own =
-        same_world (gone m place lane.port.call lane.call lane.first loan) after place lane.port.routes lane.first (publisher_after (publisher_given m.table lane) lane).port.call refl refl refl refl refl
-        (own_steps m place lane.port.routes (words_of lane.port) lane.call lane.first loan bound w (w.senders place lane e) lane.port.call ((publishers_stay_within m.table.sizes lane is).2) (is_begun m place lane e calls) (calls.publishers place lane e).0
+        same_world (gone m place lane.fails lane.port.call lane.call lane.first loan) after place lane.fails lane.port.routes lane.first (publisher_after (publisher_given m.table lane) lane).port.call refl refl refl refl refl
+        (own_steps m place lane.fails lane.port.routes (words_of lane.port) lane.call lane.first loan bound w (w.senders place lane e) lane.port.call ((publishers_stay_within m.table.sizes lane is).2) (is_begun m place lane e calls) (calls.publishers place lane e).0
         (λ connection link order found there mine. subst (λ (c : PublisherCall). IsKeptAt m.table m.moments connection link order c (subscriber_stage (slice_get m.subscribers link.subscriber))) (ap publisher_stage (ap (slice_get m.publishers) mine ∙ e)) (kept connection link order found there))
         (k place lane e))
 
-    others : (who : ℕ) (other : PublisherLaneState) → slice_get m.publishers who ≡ Some other → (who ≡ place → ⊥) → SendsPut after who other.port.routes other.first other.port.call
+    others : (who : ℕ) (other : PublisherLaneState) → slice_get m.publishers who ≡ Some other → (who ≡ place → ⊥) → SendsPut after who other.fails other.port.routes other.first other.port.call
     others who other there differs =
-        grows m after who other.port.routes other.first other.port.call refl
+        grows m after who other.fails other.port.routes other.first other.port.call refl
         (same_sends who m.finished (Publisher place) lane.call lane.first m.moments (publisher_ending m.table lane) (inl (not_same place who differs)))
         (grow_added m.orders (pushes_to lane.port.call) m.moments (push_acts m.table lane.port.call)) (next_le m.moments bound) (has_begun m who other there calls)
         (λ i route at.
@@ -463,7 +475,7 @@ gone_subscriber : (m : World) (place : ℕ) (at : Option SubscriberLaneState) �
     → AllSendsPut (subscriber_goes_on (record m { orders = added m.orders (pops_from (subscriber_stage at)) m.moments (pop_acts m (subscriber_stage at)) }) place at)
 gone_subscriber m place None e fit bound w kept calls k = absurd (cc)
 gone_subscriber m place (Some reader) e fit bound w kept calls k = λ who other there.
-    grows m (subscriber_goes_on (record m { orders = added m.orders (pops_from reader.port.call) m.moments (pop_acts m reader.port.call) }) place (Some reader)) who other.port.routes other.first other.port.call refl
+    grows m (subscriber_goes_on (record m { orders = added m.orders (pops_from reader.port.call) m.moments (pop_acts m reader.port.call) }) place (Some reader)) who other.fails other.port.routes other.first other.port.call refl
     (same_sends who m.finished (Subscriber place) reader.call reader.first m.moments (subscriber_answer reader.port.call (length m.read)) (inl refl))
     (grow_added m.orders (pops_from reader.port.call) m.moments (pop_acts m reader.port.call)) (next_le m.moments bound) (has_begun m who other there calls)
     (λ i route at. pop_route m place reader who other i route e there at w kept bound)

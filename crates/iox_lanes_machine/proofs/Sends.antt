@@ -19,6 +19,7 @@ use Rattle.iox_lanes_machine.specs.LanesBase.declared.calls.publisher.Delivery.{
 use Rattle.iox_lanes_machine.specs.LanesBase.declared.calls.publisher.PublisherCall.{PublisherCall}
 use Rattle.iox_lanes_machine.specs.LanesBase.declared.calls.publisher.PublisherCall.TheVariants as publishing
 use Rattle.iox_lanes_machine.specs.LanesBase.declared.calls.route.Route.{Route}
+use Rattle.iox_lanes_machine.specs.LanesParties.SendAnswers.{send_answer}
 use Rattle.iox_lanes_machine.specs.LanesParties.declared.call.Answer.{Answer}
 use Rattle.iox_lanes_machine.specs.LanesParties.declared.call.Answer.TheVariants as answer
 use Rattle.iox_lanes_machine.specs.LanesParties.declared.call.CallName.{CallName}
@@ -108,11 +109,11 @@ so_far_grows m n routes number first (publishing.Dropping slot) grow later begun
 same_length : (xs ys : List FinishedCall) → ys ≡ xs → length ys ≡ length xs
 same_length xs ys e = ap (λ (zs : List FinishedCall). length zs) e
 
-pub grows : (m n : World) (who : ℕ) (routes : List Route) (first : ℕ) (call : PublisherCall) → n.links ≡ m.links → sends_of who n.finished ≡ sends_of who m.finished → Grow m.orders n.orders → m.moments ≤ n.moments
-    → (is_quiet call ≡ false → first ≤ m.moments) → AllGrow m n routes call call → SendsPut m who routes first call → SendsPut n who routes first call
-grows m n who routes first call links sends grow later begun all h = record {
+pub grows : (m n : World) (who : ℕ) (fails : Bool) (routes : List Route) (first : ℕ) (call : PublisherCall) → n.links ≡ m.links → sends_of who n.finished ≡ sends_of who m.finished → Grow m.orders n.orders → m.moments ≤ n.moments
+    → (is_quiet call ≡ false → first ≤ m.moments) → AllGrow m n routes call call → SendsPut m who fails routes first call → SendsPut n who fails routes first call
+grows m n who fails routes first call links sends grow later begun all h = record {
   connections = subst (λ (ls : List LinkState). HasConnections ls who routes) (sym links) h.connections;
-  sent = λ number send found. sent_stays m.orders n.orders routes number send grow (h.sent number send (ap (λ (xs : List FinishedCall). slice_get xs number) (sym sends) ∙ found));
+  sent = λ number send found. sent_stays m.orders n.orders fails routes number send grow (h.sent number send (ap (λ (xs : List FinishedCall). slice_get xs number) (sym sends) ∙ found));
   so_far = subst (λ (k : ℕ). PutSoFar n.table n.orders routes k first n.moments call) (sym (same_length _ _ sends))
       (so_far_grows m n routes (length (sends_of who m.finished)) first call grow later begun (λ place route found. omega (arith, h.no_more place route found)) all h.so_far);
   no_more = λ place route found. subst (λ (k : ℕ). length (puts_at n.orders route) ≡ k + done_at place call + in_hand_at n.table route call) (sym (same_length _ _ sends))
@@ -120,12 +121,12 @@ grows m n who routes first call links sends grow later begun all h = record {
 }
 
 -- the push in hand makes its next access
-pub push_moves : (m n : World) (who : ℕ) (routes : List Route) (first slot place : ℕ) (route : Route) (p p' : Push) (delivery : Delivery) → n.links ≡ m.links → sends_of who n.finished ≡ sends_of who m.finished → Grow m.orders n.orders → m.moments ≤ n.moments
+pub push_moves : (m n : World) (who : ℕ) (fails : Bool) (routes : List Route) (first slot place : ℕ) (route : Route) (p p' : Push) (delivery : Delivery) → n.links ≡ m.links → sends_of who n.finished ≡ sends_of who m.finished → Grow m.orders n.orders → m.moments ≤ n.moments
     → first ≤ m.moments → push_value p' ≡ push_value p → AllGrow m n routes (publishing.Pushing slot place route p delivery) (publishing.Pushing slot place route p' delivery)
-    → SendsPut m who routes first (publishing.Pushing slot place route p delivery) → SendsPut n who routes first (publishing.Pushing slot place route p' delivery)
-push_moves m n who routes first slot place route p p' delivery links sends grow later begun value all h = record {
+    → SendsPut m who fails routes first (publishing.Pushing slot place route p delivery) → SendsPut n who fails routes first (publishing.Pushing slot place route p' delivery)
+push_moves m n who fails routes first slot place route p p' delivery links sends grow later begun value all h = record {
   connections = subst (λ (ls : List LinkState). HasConnections ls who routes) (sym links) h.connections;
-  sent = λ number send found. sent_stays m.orders n.orders routes number send grow (h.sent number send (ap (λ (xs : List FinishedCall). slice_get xs number) (sym sends) ∙ found));
+  sent = λ number send found. sent_stays m.orders n.orders fails routes number send grow (h.sent number send (ap (λ (xs : List FinishedCall). slice_get xs number) (sym sends) ∙ found));
   so_far = subst (λ (k : ℕ). IsPushing n.orders routes k first n.moments slot place (read_at n.table route) route p' delivery) (sym (same_length _ _ sends))
       (pushing_grows m n routes (length (sends_of who m.finished)) first slot place route p p' delivery grow later begun (omega (arith, h.no_more place route (h.so_far).at)) value (all place route (h.so_far).at) h.so_far);
   no_more = λ i other found. subst (λ (k : ℕ). length (puts_at n.orders other) ≡ k + done_at i (publishing.Pushing slot place route p' delivery) + in_hand_at n.table other (publishing.Pushing slot place route p' delivery)) (sym (same_length _ _ sends))
@@ -152,12 +153,12 @@ count_done number place i count h = elim (cases_lt i place) [
   | inr ge ↦ omega (arith, h.1 ge, choose_other {X = ℕ} (nat_lt i place) 1 0 (le-ltb i place ge))
 ]
 
-pub fresh : (m : World) (who : ℕ) (routes : List Route) (first slot place : ℕ) (delivery : Delivery) (at : Option Route) → slice_get routes place ≡ at → place ≤ m.moments → HasConnections m.links who routes
-    → ((number : ℕ) (send : FinishedCall) → slice_get (sends_of who m.finished) number ≡ Some send → IsSent m.orders routes number send)
+pub fresh : (m : World) (who : ℕ) (fails : Bool) (routes : List Route) (first slot place : ℕ) (delivery : Delivery) (at : Option Route) → slice_get routes place ≡ at → place ≤ m.moments → HasConnections m.links who routes
+    → ((number : ℕ) (send : FinishedCall) → slice_get (sends_of who m.finished) number ≡ Some send → IsSent m.orders fails routes number send)
     → ArePut m.orders (take place routes) (length (sends_of who m.finished)) slot first m.moments delivery
     → ((i : ℕ) (other : Route) → slice_get routes i ≡ Some other → HasCount (length (sends_of who m.finished)) place i (length (puts_at m.orders other)))
-    → SendsPut m who routes first (push_from slot place delivery at)
-fresh m who routes first slot place delivery None e few connections sent before counts =
+    → SendsPut m who fails routes first (push_from slot place delivery at)
+fresh m who fails routes first slot place delivery None e few connections sent before counts =
     let all : take place routes ≡ routes = take_all place routes (past routes place e) in
     record {
       connections = connections;
@@ -166,7 +167,7 @@ fresh m who routes first slot place delivery None e few connections sent before 
       no_more = λ i other found.
           omega (arith, (counts i other found).0 (omega (arith, slice_get_within routes i other found, past routes place e)), ap (λ (ps : List PutNow). length ps) (idle_hand (read_at m.table other) other.kind));
     }
-fresh m who routes first slot place delivery (Some route) e few connections sent before counts =
+fresh m who fails routes first slot place delivery (Some route) e few connections sent before counts =
     let number : ℕ = length (sends_of who m.finished) in
     let none : drop number (puts_at m.orders route) ≡ [] = drop_all number (puts_at m.orders route) (omega (arith, (counts place route e).1 (omega arith))) in
     record {
@@ -189,12 +190,12 @@ fresh m who routes first slot place delivery (Some route) e few connections sent
     }
 
 -- a send begins to push
-pub pushes_begin : (m : World) (who : ℕ) (routes : List Route) (first slot : ℕ) → first ≤ m.moments → HasConnections m.links who routes
-    → ((number : ℕ) (send : FinishedCall) → slice_get (sends_of who m.finished) number ≡ Some send → IsSent m.orders routes number send)
+pub pushes_begin : (m : World) (who : ℕ) (fails : Bool) (routes : List Route) (first slot : ℕ) → first ≤ m.moments → HasConnections m.links who routes
+    → ((number : ℕ) (send : FinishedCall) → slice_get (sends_of who m.finished) number ≡ Some send → IsSent m.orders fails routes number send)
     → ((i : ℕ) (other : Route) → slice_get routes i ≡ Some other → length (puts_at m.orders other) ≡ length (sends_of who m.finished))
-    → SendsPut m who routes first (push_at routes slot 0 nothing_sent)
-pushes_begin m who routes first slot begun connections sent counts =
-    fresh m who routes first slot 0 nothing_sent (slice_get routes 0) refl (omega arith) connections sent (record { answers = []; puts = tt; in_order = begun; counted = refl })
+    → SendsPut m who fails routes first (push_at routes slot 0 nothing_sent)
+pushes_begin m who fails routes first slot begun connections sent counts =
+    fresh m who fails routes first slot 0 nothing_sent (slice_get routes 0) refl (omega arith) connections sent (record { answers = []; puts = tt; in_order = begun; counted = refl })
     (λ i other found. (λ below. absurd (omega (arith, below)), λ le. counts i other found))
 
 -- one put alone stands behind those of the sends that ended
@@ -209,9 +210,9 @@ one_put call (p ∷ []) h = record { put = p; is = refl; own = h.0 }
 one_put call (p ∷ q ∷ ps) h = absurd h.1
 
 -- a push that was answered: the send goes to the next place
-pub push_answered : (m : World) (who : ℕ) (routes : List Route) (first slot place : ℕ) (route : Route) (p : Push) (delivery : Delivery) (given : PushAnswer) → push_answer p ≡ Some given → place + 1 ≤ m.moments → m.moments ≤ 2 ^ 63
-    → SendsPut m who routes first (publishing.Pushing slot place route p delivery) → SendsPut m who routes first (push_at routes slot (successor place) (counted delivery given))
-push_answered m who routes first slot place route p delivery given done few bound h =
+pub push_answered : (m : World) (who : ℕ) (fails : Bool) (routes : List Route) (first slot place : ℕ) (route : Route) (p : Push) (delivery : Delivery) (given : PushAnswer) → push_answer p ≡ Some given → place + 1 ≤ m.moments → m.moments ≤ 2 ^ 63
+    → SendsPut m who fails routes first (publishing.Pushing slot place route p delivery) → SendsPut m who fails routes first (push_at routes slot (successor place) (counted delivery given))
+push_answered m who fails routes first slot place route p delivery given done few bound h =
     let number : ℕ = length (sends_of who m.finished) in
     let is : IsPushing m.orders routes number first m.moments slot place (read_at m.table route) route p delivery = h.so_far in
     let next : successor place ≡ place + 1 = omega (arith, few, bound) in
@@ -236,7 +237,7 @@ push_answered m who routes first slot place route p delivery given done few boun
       in_order = rise_more m.orders number first (take place routes) is.since m.moments route one.put found (one.own).inside.begun (one.own).inside.not_ended (is.before).in_order;
       counted = ap (λ (d : Delivery). counted d given) sofar.counted ∙ counted_more sofar.answers given answers;
     } in
-    fresh m who routes first slot (successor place) (counted delivery given) (slice_get routes (successor place)) refl (omega (arith, next, few)) h.connections h.sent
+    fresh m who fails routes first slot (successor place) (counted delivery given) (slice_get routes (successor place)) refl (omega (arith, next, few)) h.connections h.sent
     (subst (λ (rs : List Route). ArePut m.orders rs number slot first m.moments (counted delivery given)) (sym more) before)
     (λ i other found. elim (eqb_tells i place) [
       | inl same ↦
@@ -280,16 +281,16 @@ quiet table orders routes number first last (publishing.Sent slot delivery) h = 
 quiet table orders routes number first last (publishing.Dropping slot) h = record { so_far = tt; done = λ place. refl; hand = λ route. refl }
 
 -- how many puts stand at the connections of such a publisher
-pub quiet_count : (m : World) (who : ℕ) (routes : List Route) (first : ℕ) (call : PublisherCall) → is_quiet call ≡ true → SendsPut m who routes first call
+pub quiet_count : (m : World) (who : ℕ) (fails : Bool) (routes : List Route) (first : ℕ) (call : PublisherCall) → is_quiet call ≡ true → SendsPut m who fails routes first call
     → (i : ℕ) (other : Route) → slice_get routes i ≡ Some other → length (puts_at m.orders other) ≡ length (sends_of who m.finished)
-quiet_count m who routes first call q h = λ i other found.
+quiet_count m who fails routes first call q h = λ i other found.
     let g = quiet m.table m.orders routes (length (sends_of who m.finished)) first m.moments call q in
     let hand : in_hand_at m.table other call ≡ 0 = ap (λ (x : Push). length (put_in_hand (read_at m.table other) x)) (g.hand other) ∙ ap (λ (ps : List PutNow). length ps) (idle_hand (read_at m.table other) other.kind) in
     omega (arith, h.no_more i other found, g.done i, hand)
 
 -- from one such stage to another
-pub quiet_change : (m : World) (who : ℕ) (routes : List Route) (first first' : ℕ) (call call' : PublisherCall) → is_quiet call ≡ true → is_quiet call' ≡ true → SendsPut m who routes first call → SendsPut m who routes first' call'
-quiet_change m who routes first first' call call' q q' h =
+pub quiet_change : (m : World) (who : ℕ) (fails : Bool) (routes : List Route) (first first' : ℕ) (call call' : PublisherCall) → is_quiet call ≡ true → is_quiet call' ≡ true → SendsPut m who fails routes first call → SendsPut m who fails routes first' call'
+quiet_change m who fails routes first first' call call' q q' h =
     let g = quiet m.table m.orders routes (length (sends_of who m.finished)) first' m.moments call' q' in
     record {
       connections = h.connections;
@@ -297,12 +298,12 @@ quiet_change m who routes first first' call call' q q' h =
       so_far = g.so_far;
       no_more = λ i other found.
           let hand : in_hand_at m.table other call' ≡ 0 = ap (λ (x : Push). length (put_in_hand (read_at m.table other) x)) (g.hand other) ∙ ap (λ (ps : List PutNow). length ps) (idle_hand (read_at m.table other) other.kind) in
-          omega (arith, quiet_count m who routes first call q h i other found, g.done i, hand);
+          omega (arith, quiet_count m who fails routes first call q h i other found, g.done i, hand);
     }
 
 -- a publisher that pushes nothing begins to push
-pub quiet_pushes : (m : World) (who : ℕ) (routes : List Route) (first slot : ℕ) (call : PublisherCall) → first ≤ m.moments → is_quiet call ≡ true → SendsPut m who routes first call → SendsPut m who routes first (push_at routes slot 0 nothing_sent)
-quiet_pushes m who routes first slot call begun q h = pushes_begin m who routes first slot begun h.connections h.sent (quiet_count m who routes first call q h)
+pub quiet_pushes : (m : World) (who : ℕ) (fails : Bool) (routes : List Route) (first slot : ℕ) (call : PublisherCall) → first ≤ m.moments → is_quiet call ≡ true → SendsPut m who fails routes first call → SendsPut m who fails routes first (push_at routes slot 0 nothing_sent)
+quiet_pushes m who fails routes first slot call begun q h = pushes_begin m who fails routes first slot begun h.connections h.sent (quiet_count m who fails routes first call q h)
 
 -- the calls of all parties, one list behind the other
 sends_append : (who : ℕ) (xs ys : List FinishedCall) → sends_of who (xs ++ ys) ≡ sends_of who xs ++ sends_of who ys
@@ -350,11 +351,11 @@ last_or (z ∷ xs) x y (suc k) e = elim (last_or xs x y k e) [
 ]
 
 -- a send that ends is one of those that ended
-pub send_ends : (m : World) (who : ℕ) (routes : List Route) (first slot : ℕ) (delivery : Delivery) (call : CallName) → call ≡ name.Send slot → SendsPut m who routes first (publishing.Sent slot delivery)
-    → SendsPut (record m { finished = m.finished ++ ended (Publisher who) call first m.moments (Some (answer.Sent delivery)) }) who routes first publishing.Idle
-send_ends m who routes first slot delivery call asked h =
+pub send_ends : (m : World) (who : ℕ) (fails : Bool) (routes : List Route) (first slot : ℕ) (delivery : Delivery) (call : CallName) → call ≡ name.Send slot → SendsPut m who fails routes first (publishing.Sent slot delivery)
+    → SendsPut (record m { finished = m.finished ++ ended (Publisher who) call first m.moments (Some (answer.Sent (send_answer fails delivery))) }) who fails routes first publishing.Idle
+send_ends m who fails routes first slot delivery call asked h =
     let number : ℕ = length (sends_of who m.finished) in
-    let new : FinishedCall = record { party = Publisher who; call = call; answer = answer.Sent delivery; first = first; last = m.moments } in
+    let new : FinishedCall = record { party = Publisher who; call = call; answer = answer.Sent (send_answer fails delivery); first = first; last = m.moments } in
     let one : sends_of who (new ∷ []) ≡ new ∷ [] = append-nil _ ∙ choose_one ((who == who) && true) (new ∷ []) [] (ap (λ (b : Bool). b && true) (eq-eqb who who refl)) in
     let all : sends_of who (m.finished ++ new ∷ []) ≡ sends_of who m.finished ++ new ∷ [] = sends_append who m.finished (new ∷ []) ∙ ap (λ (zs : List FinishedCall). sends_of who m.finished ++ zs) one in
     let count : length (sends_of who (m.finished ++ new ∷ [])) ≡ number + 1 = ap (λ (zs : List FinishedCall). length zs) all ∙ omega (arith, length-append (sends_of who m.finished) (new ∷ [])) in
@@ -362,7 +363,7 @@ send_ends m who routes first slot delivery call asked h =
       connections = h.connections;
       sent = λ k send found. elim (last_or (sends_of who m.finished) new send k (ap (λ (zs : List FinishedCall). slice_get zs k) (sym all) ∙ found)) [
         | inl old ↦ h.sent k send old
-        | inr is ↦ subst (λ (c : FinishedCall). IsSent m.orders routes k c) (sym is.1) (subst (λ (i : ℕ). IsSent m.orders routes i new) (sym is.0)
+        | inr is ↦ subst (λ (c : FinishedCall). IsSent m.orders fails routes k c) (sym is.1) (subst (λ (i : ℕ). IsSent m.orders fails routes i new) (sym is.0)
             (record { slot = slot; delivery = delivery; asked = asked; answered = refl; puts = h.so_far }))
       ];
       so_far = tt;

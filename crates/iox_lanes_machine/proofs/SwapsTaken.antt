@@ -32,6 +32,7 @@ swap_taken m who one other lane may stands = record {
     loans = λ slot. refl;
     most = refl;
     heads = heads_stay f i was.heads refl refl refl;
+    fails = refl;
     same = refl;
   });
   as_many = refl;

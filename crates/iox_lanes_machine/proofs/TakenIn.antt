@@ -1,5 +1,5 @@
 -- What lanes take in stands at the end of what it is about, and it is taken in just where it may be.
-use Rattle.std.proofs.Common.{ℕ, zero, suc, ◌≡◌, ◌+◌, ◌-◌, ◌*◌, ◌<◌, ◌≤◌, ◌^◌, ◌==◌, ◌&&◌, not, Bool, true, false, nat_lt, nat_le, List, [], ◌∷◌, ◌++◌, length, map, take, set, get_or, slice_get, Option, Some, None, refl, sym, ◌∙◌, ap, subst, inl, inr, arith, length-append}
+use Rattle.std.proofs.Common.{ℕ, zero, suc, ◌≡◌, ◌+◌, ◌-◌, ◌*◌, ◌<◌, ◌≤◌, ◌^◌, ◌==◌, ◌&&◌, not, Bool, if◌then◌else◌, true, false, nat_lt, nat_le, List, [], ◌∷◌, ◌++◌, length, map, take, set, get_or, slice_get, Option, Some, None, refl, sym, ◌∙◌, ap, subst, inl, inr, arith, length-append}
 use Rattle.std.proofs.lemmas.Bool.{lt-ltb, le-ltb, le-leb}
 use Rattle.std.proofs.lemmas.Bool.Decides.{eqb_tells}
 use Rattle.std.proofs.lemmas.List.{append-nil, length-map, length-set, length-take-le, get_or-set_same, get_or-set_other}
@@ -37,7 +37,7 @@ use Rattle.iox_lanes_machine.specs.Fresh.{IsFreshPublisher, IsFresh}
 use Rattle.iox_lanes_machine.specs.Kept.{IsLinkOf, sender, IsWithin, IsKept}
 use Rattle.iox_lanes_machine.specs.Links.{LinkState}
 use Rattle.iox_lanes_machine.specs.Rings.{ring_in}
-use Rattle.iox_lanes_machine.specs.TakenIn.{MayStand, MayBeNewest, MayBeMessage, MayBeFound, IsFirst, MayHaveSlots, HeadSays, slot_if, more_messages, more_samples, more_history, more_referred, more_uses, new_buffer, new_slots, new_loans, new_node, new_publisher, number_if, number_with, place_before, route_with, RoutesKnow, RingGrows, link_with, PublisherGrows, SubscriberKnows, IsTakenIn, TakesIn}
+use Rattle.iox_lanes_machine.specs.TakenIn.{MayStand, MayBeNewest, MayBeMessage, MayBeFound, IsFirst, MayHaveSlots, HeadSays, slot_if, more_messages, more_samples, more_history, more_referred, more_uses, new_buffer, new_slots, new_loans, new_node, new_publisher, fails_behind, number_if, number_with, place_before, route_with, RoutesKnow, RingGrows, link_with, PublisherGrows, SubscriberKnows, IsTakenIn, TakesIn}
 use Rattle.iox_lanes_machine.specs.Uses.{given_back}
 use Rattle.iox_lanes_machine.specs.World.{World}
 use Rattle.iox_lanes_machine.specs.declared.found.Found.{Found}
@@ -130,12 +130,13 @@ uses_grow connections first slots uses slot size above below few s = elim (eqb_t
   | inr other ↦ omega (arith, entry_other first slot s uses (successor (get_or uses (slot - first) 0)) 0 above other.1, ap one_if other.0)
 ]
 
--- a finding gives a publisher no other slots, loans or headers
+-- a finding gives a publisher no other slots, loans or headers, nor lets its sends fail or not fail
 record Stays (f : Found) (who : ℕ) : Type 0 where
   slots : new_slots f who ≡ None
   loans : new_loans f who ≡ None
   node : new_node f who ≡ None
   publisher : new_publisher f who ≡ None
+  fails : (was : Bool) → fails_behind f who was ≡ was
 
 -- a publisher of which nothing was found
 none_grows : (m : World) (f : Found) (who : ℕ) (lane : PublisherLaneState) → ((c : ℕ) → new_buffer m f c ≡ None) → more_history f who ≡ [] → ((place : ℕ) → more_referred f who place ≡ []) → more_uses f who ≡ [] → Stays f who → PublisherGrows m f who lane lane
@@ -149,6 +150,7 @@ none_grows m f who lane none history referred uses stays = record {
   loans = λ slot. refl;
   most = ap (λ (n : Option ℕ). number_with n lane.port.book.most_loans) (sym stays.loans);
   heads = heads_stay f who lane.heads stays.slots stays.node stays.publisher;
+  fails = sym (stays.fails lane.fails);
   same = refl;
 }
 
@@ -179,6 +181,7 @@ found_grows m f who place slot lane none history referred uses stays fits counte
   loans = λ s. refl;
   most = ap (λ (n : Option ℕ). number_with n lane.port.book.most_loans) (sym stays.loans);
   heads = heads_stay f who lane.heads stays.slots stays.node stays.publisher;
+  fails = sym (stays.fails lane.fails);
   same = refl;
 }
 
@@ -201,6 +204,7 @@ newest_grows m f who slot lane none history referred uses stays own counted = re
   loans = λ s. refl;
   most = ap (λ (n : Option ℕ). number_with n lane.port.book.most_loans) (sym stays.loans);
   heads = heads_stay f who lane.heads stays.slots stays.node stays.publisher;
+  fails = sym (stays.fails lane.fails);
   same = refl;
 }
 
@@ -228,8 +232,8 @@ waiting_taken m who place slot lane is stands w h h' =
     (λ s word value e. absurd (cc e))
     (λ s word there not. laid_elsewhere m.table c Submission n slot s word cell there)
     (others_grow m f who lane (lane_found place slot lane) (λ d. refl) stands
-    (found_grows m f who place slot lane (λ d. refl) refl (λ at. ap (λ (b : Bool). slot_if (b && (place == at)) slot) (itself who)) (ap (λ (b : Bool). slot_if b slot) (itself who)) (record { slots = refl; loans = refl; node = refl; publisher = refl }) fits own.counted)
-    (λ other e. (refl, λ at. ap (λ (b : Bool). slot_if (b && (place == at)) slot) e, ap (λ (b : Bool). slot_if b slot) e, (record { slots = refl; loans = refl; node = refl; publisher = refl }))))
+    (found_grows m f who place slot lane (λ d. refl) refl (λ at. ap (λ (b : Bool). slot_if (b && (place == at)) slot) (itself who)) (ap (λ (b : Bool). slot_if b slot) (itself who)) (record { slots = refl; loans = refl; node = refl; publisher = refl; fails = λ x. refl }) fits own.counted)
+    (λ other e. (refl, λ at. ap (λ (b : Bool). slot_if (b && (place == at)) slot) e, ap (λ (b : Bool). slot_if b slot) e, (record { slots = refl; loans = refl; node = refl; publisher = refl; fails = λ x. refl }))))
     (length-set m.publishers who (lane_found place slot lane))
   where
     f : Found
@@ -273,8 +277,8 @@ given_taken m who place slot lane is stands w h h' =
     (λ s word value e. absurd (cc e))
     (λ s word there not. laid_elsewhere m.table c Completion n slot s word cell there)
     (others_grow m f who lane (lane_found place slot lane) (λ d. refl) stands
-    (found_grows m f who place slot lane (λ d. refl) refl (λ at. ap (λ (b : Bool). slot_if (b && (place == at)) slot) (itself who)) (ap (λ (b : Bool). slot_if b slot) (itself who)) (record { slots = refl; loans = refl; node = refl; publisher = refl }) fits own.counted)
-    (λ other e. (refl, λ at. ap (λ (b : Bool). slot_if (b && (place == at)) slot) e, ap (λ (b : Bool). slot_if b slot) e, (record { slots = refl; loans = refl; node = refl; publisher = refl }))))
+    (found_grows m f who place slot lane (λ d. refl) refl (λ at. ap (λ (b : Bool). slot_if (b && (place == at)) slot) (itself who)) (ap (λ (b : Bool). slot_if b slot) (itself who)) (record { slots = refl; loans = refl; node = refl; publisher = refl; fails = λ x. refl }) fits own.counted)
+    (λ other e. (refl, λ at. ap (λ (b : Bool). slot_if (b && (place == at)) slot) e, ap (λ (b : Bool). slot_if b slot) e, (record { slots = refl; loans = refl; node = refl; publisher = refl; fails = λ x. refl }))))
     (length-set m.publishers who (lane_found place slot lane))
   where
     f : Found
@@ -316,8 +320,8 @@ newest_taken m who slot lane may stands h h' =
     (λ s word value e. absurd (cc e))
     (λ s word there not. refl)
     (others_grow m f who lane (lane_remembers slot lane) (λ d. refl) stands
-    (newest_grows m f who slot lane (λ d. refl) (ap (λ (b : Bool). slot_if b slot) (itself who)) (λ at. refl) (ap (λ (b : Bool). slot_if b slot) (itself who)) (record { slots = refl; loans = refl; node = refl; publisher = refl }) (newest_is slot lane.port.book may).own (h.publishers who lane stands).counted)
-    (λ other e. (ap (λ (b : Bool). slot_if b slot) e, λ at. refl, ap (λ (b : Bool). slot_if b slot) e, (record { slots = refl; loans = refl; node = refl; publisher = refl }))))
+    (newest_grows m f who slot lane (λ d. refl) (ap (λ (b : Bool). slot_if b slot) (itself who)) (λ at. refl) (ap (λ (b : Bool). slot_if b slot) (itself who)) (record { slots = refl; loans = refl; node = refl; publisher = refl; fails = λ x. refl }) (newest_is slot lane.port.book may).own (h.publishers who lane stands).counted)
+    (λ other e. (ap (λ (b : Bool). slot_if b slot) e, λ at. refl, ap (λ (b : Bool). slot_if b slot) e, (record { slots = refl; loans = refl; node = refl; publisher = refl; fails = λ x. refl }))))
     (length-set m.publishers who (lane_remembers slot lane))
 
 -- a word of a slot holds something
@@ -328,7 +332,7 @@ held_taken m slot word value is w h h' =
     (λ d link e. ap between (back_stays m.table d m.table.sizes.completion_cells (Store (Slot slot word) value) (back_seat m d link e w h) (is, tt)) ∙ sym (append-nil (given_back m.table d)))
     told
     (λ s other there not. word_stays m.table (Slot slot word) value s other is there (λ same. not value (cc same)))
-    (λ who was now before behind. subst (PublisherGrows m f who was) (some_is was now (sym before ∙ behind)) (none_grows m f who was (λ d. refl) refl (λ place. refl) refl (record { slots = refl; loans = refl; node = refl; publisher = refl })))
+    (λ who was now before behind. subst (PublisherGrows m f who was) (some_is was now (sym before ∙ behind)) (none_grows m f who was (λ d. refl) refl (λ place. refl) refl (record { slots = refl; loans = refl; node = refl; publisher = refl; fails = λ x. refl })))
     refl
   where
     f : Found
@@ -369,7 +373,7 @@ slots_taken m who slots most lane may stands w h h' =
     (λ s word value e. absurd (cc e))
     (λ s word there not. refl)
     (others_grow m f who lane now' (λ d. refl) stands grows
-    (λ other e. (refl, λ at. refl, refl, record { slots = ap (λ (b : Bool). number_if b slots) e; loans = ap (λ (b : Bool). number_if b most) e; node = refl; publisher = refl })))
+    (λ other e. (refl, λ at. refl, refl, record { slots = ap (λ (b : Bool). number_if b slots) e; loans = ap (λ (b : Bool). number_if b most) e; node = refl; publisher = refl; fails = λ x. refl })))
     (length-set m.publishers who now')
   where
     f : Found
@@ -407,6 +411,7 @@ slots_taken m who slots most lane may stands w h h' =
         each = λ s before behind e e'. subst (HeadSays None None before) (some_is before behind (sym e ∙ taken_there slots lane.heads s behind e')) (head_stays before);
         as_many = length-take-le slots lane.heads (omega (arith, may.fits, each_loan, port.heads)) ∙ sym (given (length lane.heads));
       };
+      fails = refl;
       same = refl;
     }
 
@@ -421,22 +426,22 @@ named_says node publisher head wide =
       as_many = length-set one 1 publisher ∙ length-set head 0 node;
     })
 
-header_taken : (m : World) (who node publisher : ℕ) (lane : PublisherLaneState) → slice_get m.publishers who ≡ Some lane → IsWithin m → IsFresh m → IsFresh (named_of m who node publisher (Some lane))
-    → IsTakenIn m (found.Header who node publisher) (named_of m who node publisher (Some lane))
-header_taken m who node publisher lane stands w h h' =
+sender_taken : (m : World) (who node publisher : ℕ) (fails : Bool) (lane : PublisherLaneState) → slice_get m.publishers who ≡ Some lane → IsWithin m → IsFresh m → IsFresh (named_of m who node publisher fails (Some lane))
+    → IsTakenIn m (found.Sender who node publisher fails) (named_of m who node publisher fails (Some lane))
+sender_taken m who node publisher fails lane stands w h h' =
     taken_in m f m.table.words m.links (set m.publishers who now') (λ d. refl) (λ other place. refl) h h' (λ d. link_same (slice_get m.links d))
     (λ d link e. sym (append-nil (given_back m.table d)))
     (λ s word value e. absurd (cc e))
     (λ s word there not. refl)
     (others_grow m f who lane now' (λ d. refl) stands grows
-    (λ other e. (refl, λ at. refl, refl, record { slots = refl; loans = refl; node = ap (λ (b : Bool). number_if b node) e; publisher = ap (λ (b : Bool). number_if b publisher) e })))
+    (λ other e. (refl, λ at. refl, refl, record { slots = refl; loans = refl; node = ap (λ (b : Bool). number_if b node) e; publisher = ap (λ (b : Bool). number_if b publisher) e; fails = λ x. ap (λ (b : Bool). if b then fails else x) e })))
     (length-set m.publishers who now')
   where
     f : Found
-    f = found.Header who node publisher
+    f = found.Sender who node publisher fails
 
     now' : PublisherLaneState
-    now' = lane_named node publisher lane
+    now' = lane_named node publisher fails lane
 
     port : IsPublisher m.table.sizes lane
     port = all_at (IsPublisher m.table.sizes) m.publishers who lane stands w.publishers
@@ -461,6 +466,7 @@ header_taken m who node publisher lane stands w h h' =
       loans = λ s. refl;
       most = refl;
       heads = record { each = says; as_many = length-map lane.heads (with_origin node publisher) };
+      fails = sym (ap (λ (b : Bool). if b then fails else lane.fails) (itself who));
       same = refl;
     }
 
@@ -492,12 +498,12 @@ sizes_taken m who slots most (Some lane) e fit w h h' =
     subst (IsTakenIn m (found.Slots who slots most)) (sym (ap (resized_of m who slots most) e))
     (slots_taken m who slots most lane (may_shrink_is m who slots lane fit e h) e w h (subst IsFresh (ap (resized_of m who slots most) e) h'))
 
-names_taken : (m : World) (who node publisher : ℕ) (at : Option PublisherLaneState) → slice_get m.publishers who ≡ at → is_there at ≡ true → IsWithin m → IsFresh m → IsFresh (named_of m who node publisher (slice_get m.publishers who))
-    → IsTakenIn m (found.Header who node publisher) (named_of m who node publisher (slice_get m.publishers who))
-names_taken m who node publisher None e fit w h h' = absurd (cc fit)
-names_taken m who node publisher (Some lane) e fit w h h' =
-    subst (IsTakenIn m (found.Header who node publisher)) (sym (ap (named_of m who node publisher) e))
-    (header_taken m who node publisher lane e w h (subst IsFresh (ap (named_of m who node publisher) e) h'))
+names_taken : (m : World) (who node publisher : ℕ) (fails : Bool) (at : Option PublisherLaneState) → slice_get m.publishers who ≡ at → is_there at ≡ true → IsWithin m → IsFresh m → IsFresh (named_of m who node publisher fails (slice_get m.publishers who))
+    → IsTakenIn m (found.Sender who node publisher fails) (named_of m who node publisher fails (slice_get m.publishers who))
+names_taken m who node publisher fails None e fit w h h' = absurd (cc fit)
+names_taken m who node publisher fails (Some lane) e fit w h h' =
+    subst (IsTakenIn m (found.Sender who node publisher fails)) (sym (ap (named_of m who node publisher fails) e))
+    (sender_taken m who node publisher fails lane e w h (subst IsFresh (ap (named_of m who node publisher fails) e) h'))
 
 now_taken : (m : World) (f : Found) → finds_now m f ≡ true → IsWithin m → IsFresh m → IsFresh (with_found m f) → IsTakenIn m f (with_found m f)
 now_taken m (found.Waiting publisher place slot) fit w h h' = waits_taken m publisher place slot (slice_get m.publishers publisher) refl fit w h h'
@@ -507,7 +513,7 @@ now_taken m (found.Held slot word value) fit w h h' =
     held_taken m slot word value (word_there m.table.sizes slot word (and_left (nat_lt slot m.table.sizes.slots) (has_word m.table.sizes word) fit) (and_right (nat_lt slot m.table.sizes.slots) (has_word m.table.sizes word) fit)) w h h'
 now_taken m (found.Buffer publisher place messages) fit w h h' = buffers_taken m publisher place messages (slice_get m.publishers publisher) refl fit w h h'
 now_taken m (found.Slots publisher slots most_loans) fit w h h' = sizes_taken m publisher slots most_loans (slice_get m.publishers publisher) refl fit w h h'
-now_taken m (found.Header publisher node_id publisher_id) fit w h h' = names_taken m publisher node_id publisher_id (slice_get m.publishers publisher) refl fit w h h'
+now_taken m (found.Sender publisher node_id publisher_id fails) fit w h h' = names_taken m publisher node_id publisher_id fails (slice_get m.publishers publisher) refl fit w h h'
 now_taken m (found.Swapped subscriber one other) fit w h h' = swaps_taken m subscriber one other (slice_get m.subscribers subscriber) refl fit
 
 -- what the tests of a finding say: where it may be found
@@ -576,7 +582,7 @@ may_now m (found.Held slot word value) fit h =
     word_there m.table.sizes slot word (and_left (nat_lt slot m.table.sizes.slots) (has_word m.table.sizes word) fit) (and_right (nat_lt slot m.table.sizes.slots) (has_word m.table.sizes word) fit)
 may_now m (found.Buffer publisher place messages) fit h = buffers_may m publisher place messages (slice_get m.publishers publisher) refl fit h
 may_now m (found.Slots publisher slots most_loans) fit h = sizes_may m publisher slots (slice_get m.publishers publisher) refl fit h
-may_now m (found.Header publisher node_id publisher_id) fit h = names_may m publisher (slice_get m.publishers publisher) refl fit
+may_now m (found.Sender publisher node_id publisher_id fails) fit h = names_may m publisher (slice_get m.publishers publisher) refl fit
 may_now m (found.Swapped subscriber one other) fit h = swaps_may m subscriber one other (slice_get m.subscribers subscriber) refl fit
 
 pub may_first : (m : World) (f : Found) → finds m f ≡ true → IsKept m → IsFirst m f
@@ -662,7 +668,7 @@ now_says m (found.Newest publisher slot) is w h = lasts_say m publisher slot is
 now_says m (found.Held slot word value) is w h = both (nat_lt slot m.table.sizes.slots) (has_word m.table.sizes word) (lt-ltb slot m.table.sizes.slots is.0) (word_says m.table.sizes slot word is)
 now_says m (found.Buffer publisher place messages) is w h = buffers_say m publisher place messages is h
 now_says m (found.Slots publisher slots most_loans) is w h = sizes_say m publisher slots is w h
-now_says m (found.Header publisher node_id publisher_id) is w h = ap is_there is.1
+now_says m (found.Sender publisher node_id publisher_id fails) is w h = ap is_there is.1
 now_says m (found.Swapped subscriber one other) is w h = swaps_say m subscriber one other is
 
 first_says : (m : World) (f : Found) → IsFirst m f → IsKept m → finds m f ≡ true

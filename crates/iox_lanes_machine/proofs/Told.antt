@@ -94,7 +94,7 @@ gone_publisher m place orders (Some lane) e fit = record {
   moments = refl;
   ended_calls = subst (λ (at : Option PublisherLaneState). Ends (publisher_ends_at at) m.finished (m.finished ++ ended (Publisher place) lane.call lane.first m.moments (publisher_ending m.table lane)) (Publisher place) (publisher_call at) m.moments) (sym e)
       (ends_by m.finished (Publisher place) lane.call lane.first m.moments (publisher_ending m.table lane) (publisher_is_over lane.port.call)
-      (publisher_answers lane.port.call (publisher_after (publisher_given m.table lane) lane).port.book.answer));
+      (publisher_answers lane.fails lane.port.call (publisher_after (publisher_given m.table lane) lane).port.book.answer));
 }
 
 gone_subscriber : (m : World) (place : ℕ) (orders : List (List Placed)) (at : Option SubscriberLaneState) → slice_get m.subscribers place ≡ at → subscriber_fits_at at GoOn ≡ true → IsTold m (Subscriber place) GoOn (subscriber_goes_on (record m { orders = orders }) place at)

@@ -16,9 +16,11 @@ use Rattle.iox_lanes_machine.specs.Links.{LinkState}
 
 -- a slot stands in no publisher's history
 abbrev pub InNoHistory : World → ℕ → Type 0
-InNoHistory m slot = (place : ℕ) (lane : PublisherLaneState) → slice_get m.publishers place ≡ Some lane → count slot lane.port.book.history ≡ 0
+InNoHistory m slot = (place : ℕ) (lane : PublisherLaneState) → slice_get m.publishers place ≡ Some lane
+    → count slot lane.port.book.history ≡ 0
 
--- a slot does not stand at a connection: it doesn't wait there, lies aside at none of its pushes, is not borrowed of it, and is not among the samples given back there
+-- a slot does not stand at a connection: it doesn't wait there, lies aside at none of its pushes, is not borrowed of it, and is
+-- not among the samples given back there
 pub record IsNotAt (m : World) (connection : ℕ) (link : LinkState) (order : List Placed) (slot : ℕ) : Type 0 where
   pub waits : count slot (waiting link order) ≡ 0
   pub aside : count slot (aside_at m.table connection link (publisher_stage (slice_get m.publishers link.publisher))) ≡ 0
@@ -27,7 +29,8 @@ pub record IsNotAt (m : World) (connection : ℕ) (link : LinkState) (order : Li
 
 -- a slot stands at no connection
 abbrev pub AtNoConnection : World → ℕ → Type 0
-AtNoConnection m slot = (connection : ℕ) (link : LinkState) (order : List Placed) → slice_get m.links connection ≡ Some link → slice_get m.orders connection ≡ Some order → IsNotAt m connection link order slot
+AtNoConnection m slot = (connection : ℕ) (link : LinkState) (order : List Placed) → slice_get m.links connection ≡ Some link
+    → slice_get m.orders connection ≡ Some order → IsNotAt m connection link order slot
 
 -- each loan stands in no history and at no connection
 abbrev pub LoansAlone : World → Type 0
@@ -51,8 +54,10 @@ pub record IsAtConnection (m : World) (slot : ℕ) : Type 0 where
   pub order : List Placed
   pub found : slice_get m.links connection ≡ Some link
   pub got : slice_get m.orders connection ≡ Some order
-  pub has : 0 < stands_at m.table connection link order (publisher_stage (slice_get m.publishers link.publisher)) (slice_get m.subscribers link.subscriber) slot
+  pub has : 0 < stands_at m.table connection link order (publisher_stage (slice_get m.publishers link.publisher))
+      (slice_get m.subscribers link.subscriber) slot
 
 -- a step changes no word of a slot that stands in a history or at a connection, as long as at most 2^63 steps were made
 abbrev pub UsedSlotsStay : World → World → Type 0
-UsedSlotsStay m n = m.moments ≤ 2 ^ 63 → (slot : ℕ) (word : SlotWord) → IsWord m.table.sizes (Slot slot word) → IsRemembered m slot ⊎ IsAtConnection m slot → held_by n.table (Slot slot word) ≡ held_by m.table (Slot slot word)
+UsedSlotsStay m n = m.moments ≤ 2 ^ 63 → (slot : ℕ) (word : SlotWord) → IsWord m.table.sizes (Slot slot word) → IsRemembered m slot
+    ⊎ IsAtConnection m slot → held_by n.table (Slot slot word) ≡ held_by m.table (Slot slot word)

@@ -45,7 +45,8 @@ MayChange Local word = ⊥
 
 -- every word of the service that the access may not change holds what it held
 abbrev pub OthersHold : TableWords → SharedAccess → TableWords → Type 0
-OthersHold before access after = (word : SharedWord) → IsWord before.sizes word → (MayChange access word → ⊥) → held_by after word ≡ held_by before word
+OthersHold before access after = (word : SharedWord) → IsWord before.sizes word → (MayChange access word → ⊥)
+    → held_by after word ≡ held_by before word
 
 -- every other party stands where it stood
 abbrev pub OthersStay : World → Party → World → Type 0
@@ -70,7 +71,8 @@ grows_at m party GoOn = connection_at m party
 abbrev pub OrdersStay : World → Option ℕ → World → Type 0
 OrdersStay m grown n = (other : ℕ) → (grown ≡ Some other → ⊥) → slice_get n.orders other ≡ slice_get m.orders other
 
--- a step changes no other party, no other connection's order, and no other word than that of its party's next access; one call more ended exactly where the step was a last one
+-- a step changes no other party, no other connection's order, and no other word than that of its party's next access; one call
+-- more ended exactly where the step was a last one
 pub record StaysApart (m : World) (party : Party) (step : Move) (answer : Stepped) (n : World) : Type 0 where
   pub words : OthersHold m.table (access_of m party step) n.table
   pub parties : OthersStay m party n

@@ -17,10 +17,12 @@ IsPartOf (x ∷ xs) (y ∷ ys) = ((x ≡ y) × IsPartOf xs ys) ⊎ IsPartOf (x �
 abbrev pub slots_put : List Placed → List ℕ
 slots_put order = map (λ put. put.value) (puts order)
 
--- the slots taken at a connection, and behind them those that wait there, are part of those that waited before the first step, and behind them those that were put
+-- the slots taken at a connection, and behind them those that wait there, are part of those that waited before the first step,
+-- and behind them those that were put
 abbrev pub SlotsArrive : LinkState → List Placed → Type 0
 SlotsArrive link order = IsPartOf (slots_taken order ++ waiting link order) (link.found ++ slots_put order)
 
 -- so it is of an order of a connection, as long as at most 2^63 steps were made
 abbrev pub OrderArrives : World → ℕ → List Placed → Type 0
-OrderArrives m connection order = m.moments ≤ 2 ^ 63 → (link : LinkState) → slice_get m.links connection ≡ Some link → SlotsArrive link order
+OrderArrives m connection order = m.moments ≤ 2 ^ 63 → (link : LinkState) → slice_get m.links connection ≡ Some link
+    → SlotsArrive link order

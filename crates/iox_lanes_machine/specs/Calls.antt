@@ -22,7 +22,7 @@ use Rattle.iox_lanes_machine.specs.World.{World}
 abbrev pub IsAnswerOf : CallName → Answer → Type 0
 IsAnswerOf call (answer.Lent loan) = call ≡ name.LoanUninit
 IsAnswerOf call answer.Written = (loan : ℕ) × (call ≡ name.Write loan)
-IsAnswerOf call (answer.Sent delivery) = (loan : ℕ) × (call ≡ name.Send loan)
+IsAnswerOf call (answer.Sent given) = (loan : ℕ) × (call ≡ name.Send loan)
 IsAnswerOf call answer.Dropped = (loan : ℕ) × (call ≡ name.DropLoan loan)
 IsAnswerOf call (answer.Received given) = call ≡ name.Receive
 IsAnswerOf call (answer.Read from) = (sample : ℕ) × (call ≡ name.Read sample)
@@ -89,12 +89,15 @@ SubscriberFollows moments finished place lane =
     IsReceiverStageOf lane.call lane.port.call
     × (subscriber_is_idle lane.port.call ≡ false → IsInHand (Subscriber place) lane.first moments finished)
 
--- each call that ended was answered in its own kind; they ended one after the other, and those of one party don't overlap, nor does the one that it is in
+-- each call that ended was answered in its own kind; they ended one after the other, and those of one party don't overlap, nor
+-- does the one that it is in
 pub record CallsFollow (m : World) : Type 0 where
   pub ended : All (IsEnded m.moments) m.finished
   pub in_turn : AreInTurn m.finished
-  pub publishers : (place : ℕ) (lane : PublisherLaneState) → slice_get m.publishers place ≡ Some lane → PublisherFollows m.moments m.finished place lane
-  pub subscribers : (place : ℕ) (lane : SubscriberLaneState) → slice_get m.subscribers place ≡ Some lane → SubscriberFollows m.moments m.finished place lane
+  pub publishers : (place : ℕ) (lane : PublisherLaneState) → slice_get m.publishers place ≡ Some lane
+      → PublisherFollows m.moments m.finished place lane
+  pub subscribers : (place : ℕ) (lane : SubscriberLaneState) → slice_get m.subscribers place ≡ Some lane
+      → SubscriberFollows m.moments m.finished place lane
 
 -- so it is as long as at most 2^63 steps were made
 abbrev pub CallsKeepTime : World → Type 0

@@ -1,4 +1,5 @@
--- What lanes may find before their first step, and what that makes of them: messages that wait, samples given back, histories, what slots hold, buffers of connections, slots and headers of publishers, and places of connections.
+-- What lanes may find before their first step, and what that makes of them: messages that wait, samples given back, histories,
+-- what slots hold, buffers of connections, slots and headers of publishers, and places of connections.
 use Rattle.std.specs.Prelude.{ℕ, ◌≡◌, ◌-◌, ◌==◌, ◌&&◌, Bool, true, false, nat_lt, nat_le, List, [], ◌∷◌, ◌++◌, length, set, slice_get, Option, Some, None}
 use Rattle.iox_lanes_machine.specs.QueuesSteps.Access.{successor}
 use Rattle.iox_lanes_machine.specs.QueuesSteps.declared.access.Word.TheVariants.{Write, Cell}
@@ -39,12 +40,14 @@ may_be_back m connection (Some link) = takes_more m connection link
 -- a slot may be found to wait at the connection at a place of a publisher
 abbrev pub waits_at : World → ℕ → ℕ → PublisherLaneState → Option Route → Bool
 waits_at m place slot lane None = false
-waits_at m place slot lane (Some route) = may_have place slot lane.port.book && may_wait m route.connection (slice_get m.links route.connection)
+waits_at m place slot lane (Some route) = may_have place slot lane.port.book
+    && may_wait m route.connection (slice_get m.links route.connection)
 
 -- or to have been given back there
 abbrev pub back_at : World → ℕ → ℕ → PublisherLaneState → Option Route → Bool
 back_at m place slot lane None = false
-back_at m place slot lane (Some route) = may_have place slot lane.port.book && may_be_back m route.connection (slice_get m.links route.connection)
+back_at m place slot lane (Some route) = may_have place slot lane.port.book
+    && may_be_back m route.connection (slice_get m.links route.connection)
 
 -- of a publisher; one that is not there has no slots
 abbrev pub waits_of : World → ℕ → ℕ → Option PublisherLaneState → Bool
@@ -61,9 +64,11 @@ abbrev pub newest_of : ℕ → Option PublisherLaneState → Bool
 newest_of slot None = false
 newest_of slot (Some lane) = may_remember slot lane.port.book
 
--- a connection may have a buffer of so many messages: of one at least and of no more than may wait there, where nothing waits and nothing was given back
+-- a connection may have a buffer of so many messages: of one at least and of no more than may wait there, where nothing waits and
+-- nothing was given back
 abbrev pub takes_buffer : TableWords → ℕ → ℕ → LinkState → Bool
-takes_buffer table connection messages link = nat_lt 0 messages && nat_le messages link.limit && (length link.found == 0) && (back_found table connection == 0)
+takes_buffer table connection messages link = nat_lt 0 messages && nat_le messages link.limit && (length link.found == 0)
+    && (back_found table connection == 0)
 
 -- so it may be at a connection that is there
 abbrev pub may_buffer : World → ℕ → ℕ → Option LinkState → Bool
@@ -109,7 +114,7 @@ finds_now m (found.Newest publisher slot) = newest_of slot (slice_get m.publishe
 finds_now m (found.Held slot word value) = nat_lt slot m.table.sizes.slots && has_word m.table.sizes word
 finds_now m (found.Buffer publisher place messages) = buffers_of m place messages (slice_get m.publishers publisher)
 finds_now m (found.Slots publisher slots most_loans) = resizes_of slots (slice_get m.publishers publisher)
-finds_now m (found.Header publisher node_id publisher_id) = is_there (slice_get m.publishers publisher)
+finds_now m (found.Sender publisher node_id publisher_id fails) = is_there (slice_get m.publishers publisher)
 finds_now m (found.Swapped subscriber one other) = swaps_of one other (slice_get m.subscribers subscriber)
 
 -- what may be found: before the first step alone
@@ -118,7 +123,8 @@ finds m f = (m.moments == 0) && finds_now m f
 
 -- a slot lies in a cell of a ring, and the write position is behind it
 abbrev pub laid : TableWords → ℕ → ConnectionRing → ℕ → ℕ → TableWords
-laid table connection ring cell slot = stored_in (stored_in table (Ring connection ring (Cell cell)) slot) (Ring connection ring Write) (successor cell)
+laid table connection ring cell slot
+    = stored_in (stored_in table (Ring connection ring (Cell cell)) slot) (Ring connection ring Write) (successor cell)
 
 -- a message waits at a connection, behind those found there before
 abbrev pub waiting_in : World → ℕ → ℕ → ℕ → PublisherLaneState → ℕ → Option LinkState → World
@@ -132,7 +138,8 @@ waiting_in m publisher place slot lane connection (Some link) = record m {
 -- a message waits at a place of a publisher, whose record then has the slot
 abbrev pub waiting_at : World → ℕ → ℕ → ℕ → PublisherLaneState → Option Route → World
 waiting_at m publisher place slot lane None = m
-waiting_at m publisher place slot lane (Some route) = waiting_in m publisher place slot lane route.connection (slice_get m.links route.connection)
+waiting_at m publisher place slot lane (Some route)
+    = waiting_in m publisher place slot lane route.connection (slice_get m.links route.connection)
 
 -- a message waits at a connection of a publisher that is there
 abbrev pub waiting_of : World → ℕ → ℕ → ℕ → Option PublisherLaneState → World
@@ -190,10 +197,12 @@ abbrev pub resized_of : World → ℕ → ℕ → ℕ → Option PublisherLaneSt
 resized_of m publisher slots most_loans None = m
 resized_of m publisher slots most_loans (Some lane) = record m { publishers = set m.publishers publisher (lane_resized slots most_loans lane) }
 
--- the headers of a publisher's messages say this node and this publisher
-abbrev pub named_of : World → ℕ → ℕ → ℕ → Option PublisherLaneState → World
-named_of m publisher node_id publisher_id None = m
-named_of m publisher node_id publisher_id (Some lane) = record m { publishers = set m.publishers publisher (lane_named node_id publisher_id lane) }
+-- the headers of a publisher's messages say this node and this publisher, and its sends fail at a full mailbox or don't
+abbrev pub named_of : World → ℕ → ℕ → ℕ → Bool → Option PublisherLaneState → World
+named_of m publisher node_id publisher_id fails None = m
+named_of m publisher node_id publisher_id fails (Some lane) = record m {
+  publishers = set m.publishers publisher (lane_named node_id publisher_id fails lane);
+}
 
 -- two connections of a subscriber change places
 abbrev pub swapped_of : World → ℕ → ℕ → ℕ → Option SubscriberLaneState → World
@@ -208,7 +217,8 @@ with_found m (found.Newest publisher slot) = remembered_of m publisher slot (sli
 with_found m (found.Held slot word value) = record m { table = stored_in m.table (Slot slot word) value }
 with_found m (found.Buffer publisher place messages) = buffered_of m publisher place messages (slice_get m.publishers publisher)
 with_found m (found.Slots publisher slots most_loans) = resized_of m publisher slots most_loans (slice_get m.publishers publisher)
-with_found m (found.Header publisher node_id publisher_id) = named_of m publisher node_id publisher_id (slice_get m.publishers publisher)
+with_found m (found.Sender publisher node_id publisher_id fails) =
+    named_of m publisher node_id publisher_id fails (slice_get m.publishers publisher)
 with_found m (found.Swapped subscriber one other) = swapped_of m subscriber one other (slice_get m.subscribers subscriber)
 
 -- what a finding answers, and what it leaves

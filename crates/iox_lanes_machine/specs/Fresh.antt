@@ -24,7 +24,8 @@ use Rattle.iox_lanes_machine.specs.World.{World}
 
 -- a publisher's record says of a connection that it has the slots that wait there or were given back, each once
 abbrev pub HasFound : World → PublisherLaneState → Type 0
-HasFound m lane = (place : ℕ) (route : Route) (link : LinkState) → slice_get lane.port.routes place ≡ Some route → slice_get m.links route.connection ≡ Some link
+HasFound m lane = (place : ℕ) (route : Route) (link : LinkState) → slice_get lane.port.routes place ≡ Some route
+    → slice_get m.links route.connection ≡ Some link
     → (slot : ℕ) → count slot link.found + count slot (given_back m.table route.connection) ≡ one_if (refers_to lane.port.book place slot)
 
 -- a publisher between calls, with all its connections, whose record counts the uses of its slots; no loan is out
@@ -48,7 +49,8 @@ pub record IsFreshSubscriber (m : World) (who : ℕ) (lane : SubscriberLaneState
   pub borrowed : (place : ℕ) → place < length lane.port.routes → slice_get lane.port.borrowed place ≡ Some 0
   pub words : length lane.port.words ≡ width m.table.sizes
 
--- a connection whose two rings hold, from their first cells on, what waits and what was given back: no more than may wait, and together no more than may be given back
+-- a connection whose two rings hold, from their first cells on, what waits and what was given back: no more than may wait, and
+-- together no more than may be given back
 pub record IsFreshLink (m : World) (connection : ℕ) (link : LinkState) : Type 0 where
   pub some : 0 < link.limit
   pub small : link.limit < 2 ^ 62
@@ -70,7 +72,8 @@ pub record IsFresh (m : World) : Type 0 where
   pub publishers : (place : ℕ) (lane : PublisherLaneState) → slice_get m.publishers place ≡ Some lane → IsFreshPublisher m place lane
   pub subscribers : (place : ℕ) (lane : SubscriberLaneState) → slice_get m.subscribers place ≡ Some lane → IsFreshSubscriber m place lane
   pub links : (connection : ℕ) (link : LinkState) → slice_get m.links connection ≡ Some link → IsFreshLink m connection link
-  pub pairs : (one other : ℕ) (link behind : LinkState) → slice_get m.links one ≡ Some link → slice_get m.links other ≡ Some behind → link.publisher ≡ behind.publisher → link.subscriber ≡ behind.subscriber → one ≡ other
+  pub pairs : (one other : ℕ) (link behind : LinkState) → slice_get m.links one ≡ Some link → slice_get m.links other ≡ Some behind
+      → link.publisher ≡ behind.publisher → link.subscriber ≡ behind.subscriber → one ≡ other
   pub rows : SlotsInRows m
   pub spare : slice_index m.table.words 0 ≡ 0
   pub named : CellsNameSlots m.table

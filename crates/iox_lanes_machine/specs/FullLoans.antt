@@ -26,13 +26,17 @@ pub record IsHeld (m : World) (slot : ℕ) : Type 0 where
   pub order : List Placed
   pub found : slice_get m.links connection ≡ Some link
   pub got : slice_get m.orders connection ≡ Some order
-  pub has : 0 < count slot (waiting link order) + count slot (aside_at m.table connection link (publisher_stage (slice_get m.publishers link.publisher))) + one_if (borrows connection slot (slice_get m.subscribers link.subscriber))
+  pub has : 0 < count slot (waiting link order) + count slot
+      (aside_at m.table connection link (publisher_stage (slice_get m.publishers link.publisher))) + one_if
+      (borrows connection slot (slice_get m.subscribers link.subscriber))
 
--- a slot of a publisher is in use: it is a loan, stands in the history, or waits, lies aside or is borrowed somewhere; one that was given back no longer is
+-- a slot of a publisher is in use: it is a loan, stands in the history, or waits, lies aside or is borrowed somewhere; one that
+-- was given back no longer is
 abbrev pub IsInUse : World → PublisherLaneState → ℕ → Type 0
 IsInUse m lane slot = (is_out (loan_of slot lane.port.book) ≡ true) ⊎ ((0 < count slot lane.port.book.history) ⊎ IsHeld m slot)
 
--- If a loan ends without a slot, then each slot of its publisher was in use when it began, whatever was done in between; as long as at most 2^63 steps were made.
+-- If a loan ends without a slot, then each slot of its publisher was in use when it began, whatever was done in between; as long
+-- as at most 2^63 steps were made.
 abbrev pub LoansFindAllUsed : Type 0
 LoansFindAllUsed = (m : World) → CameTo m → (place : ℕ) (entries : List Entry) → fits m (Publisher place) (Begin call.LoanUninit) ≡ true
     → (led (happens m (Publisher place) (Begin call.LoanUninit)) entries).moments ≤ 2 ^ 63 → IsInCall (led (happens m (Publisher place) (Begin call.LoanUninit)) entries) place m.moments

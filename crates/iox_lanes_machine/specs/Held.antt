@@ -25,7 +25,8 @@ slot_held table slot = listed (λ word. held_by table (Slot slot (word_at (exten
 
 -- so many words of a list are the first ones of a slot
 abbrev pub HoldsFirst : TableWords → ℕ → ℕ → List ℕ → Type 0
-HoldsFirst table slot words list = (word : ℕ) → word < words → get_or list word 0 ≡ held_by table (Slot slot (word_at (extent_of table.sizes) word))
+HoldsFirst table slot words list = (word : ℕ) → word < words
+    → get_or list word 0 ≡ held_by table (Slot slot (word_at (extent_of table.sizes) word))
 
 -- what a read has loaded so far is what its slot holds
 abbrev pub LoadsHeld : TableWords → List ℕ → SubscriberCall → Type 0
@@ -39,13 +40,16 @@ LoadsHeld table list (subscribing.Released done) = Unit {0}
 
 -- so it is of each subscriber
 abbrev pub ReadsHold : World → Type 0
-ReadsHold m = (place : ℕ) (lane : SubscriberLaneState) → slice_get m.subscribers place ≡ Some lane → LoadsHeld m.table lane.port.words lane.port.call
+ReadsHold m = (place : ℕ) (lane : SubscriberLaneState) → slice_get m.subscribers place ≡ Some lane
+    → LoadsHeld m.table lane.port.words lane.port.call
 
 -- so it is as long as at most 2^63 steps were made
 abbrev pub ReadsFollow : World → Type 0
 ReadsFollow m = m.moments ≤ 2 ^ 63 → ReadsHold m
 
--- a step that ends a read of a sample gives just the words that its slot holds, and the slot stands at a connection still; so it is as long as at most 2^63 steps were made
+-- a step that ends a read of a sample gives just the words that its slot holds, and the slot stands at a connection still; so it
+-- is as long as at most 2^63 steps were made
 abbrev pub ReadsWhole : World → World → Type 0
-ReadsWhole m n = m.moments ≤ 2 ^ 63 → (call : FinishedCall) (sample : ℕ) → n.finished ≡ m.finished ++ call ∷ [] → call.call ≡ name.Read sample
+ReadsWhole m n = m.moments ≤ 2 ^ 63 → (call : FinishedCall) (sample : ℕ) → n.finished ≡ m.finished ++ call ∷ []
+    → call.call ≡ name.Read sample
     → (n.read ≡ m.read ++ slot_held m.table sample) × IsAtConnection m sample

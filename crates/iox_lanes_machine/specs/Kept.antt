@@ -59,8 +59,10 @@ StandsInService sizes (Some connection) = connection < sizes.connections
 pub record IsWithin (m : World) : Type 0 where
   pub publishers : All (IsPublisher m.table.sizes) m.publishers
   pub subscribers : All (IsSubscriber m.table.sizes) m.subscribers
-  pub senders : (place : ℕ) (lane : PublisherLaneState) → slice_get m.publishers place ≡ Some lane → All (IsLinkOf m.links sender place) lane.port.routes
-  pub receivers : (place : ℕ) (lane : SubscriberLaneState) → slice_get m.subscribers place ≡ Some lane → All (IsLinkOf m.links receiver place) lane.port.routes
+  pub senders : (place : ℕ) (lane : PublisherLaneState) → slice_get m.publishers place ≡ Some lane
+      → All (IsLinkOf m.links sender place) lane.port.routes
+  pub receivers : (place : ℕ) (lane : SubscriberLaneState) → slice_get m.subscribers place ≡ Some lane
+      → All (IsLinkOf m.links receiver place) lane.port.routes
   pub links : (connection : ℕ) (link : LinkState) → slice_get m.links connection ≡ Some link → IsLink m.table.sizes connection link
   pub orders : length m.orders ≡ length m.links
   pub words : length m.table.words ≡ words_of m.table.sizes
@@ -70,18 +72,23 @@ pub record FollowsMailbox (link : LinkState) (order : List Placed) (moments : �
   pub acts : Acts (overflows link.kind) link.limit link.found (acts_of order)
   pub rises : Rises 0 order moments
 
--- a connection has its order, and its ring holds what the order leaves; the calls are those of its two ports; the write position is not so far beyond the steps made that it wraps
-pub record IsKeptAt (table : TableWords) (moments connection : ℕ) (link : LinkState) (order : List Placed) (sends : PublisherCall) (receives : SubscriberCall) : Type 0 where
+-- a connection has its order, and its ring holds what the order leaves; the calls are those of its two ports; the write position
+-- is not so far beyond the steps made that it wraps
+pub record IsKeptAt (table : TableWords) (moments connection : ℕ) (link : LinkState) (order : List Placed) (sends : PublisherCall)
+    (receives : SubscriberCall) : Type 0 where
   pub mailbox : FollowsMailbox link order moments
-  pub shape : Shape link.kind link.limit (ring_in table connection (cells_of link.kind link.limit)) (waiting link order) (push_on connection link.kind sends) (pop_on connection link.kind receives)
+  pub shape : Shape link.kind link.limit (ring_in table connection (cells_of link.kind link.limit)) (waiting link order)
+      (push_on connection link.kind sends) (pop_on connection link.kind receives)
   pub few : (ring_in table connection (cells_of link.kind link.limit)).write ≤ moments + 2 ^ 62
 
 -- so it is at each connection
 abbrev pub AreKept : World → Type 0
-AreKept m = (connection : ℕ) (link : LinkState) (order : List Placed) → slice_get m.links connection ≡ Some link → slice_get m.orders connection ≡ Some order
+AreKept m = (connection : ℕ) (link : LinkState) (order : List Placed) → slice_get m.links connection ≡ Some link
+    → slice_get m.orders connection ≡ Some order
     → IsKeptAt m.table m.moments connection link order (publisher_stage (slice_get m.publishers link.publisher)) (subscriber_stage (slice_get m.subscribers link.subscriber))
 
--- all of this; a position may not have wrapped while no more than 2^63 steps were made; and before the first step the lanes are as they begin
+-- all of this; a position may not have wrapped while no more than 2^63 steps were made; and before the first step the lanes are
+-- as they begin
 pub record IsKept (m : World) : Type 0 where
   pub within : IsWithin m
   pub rings : m.moments ≤ 2 ^ 63 → AreKept m

@@ -121,8 +121,8 @@ pub record CountsLoans (book : BookState) : Type 0 where
   pub few : book.out ≤ book.most_loans
   pub kept : length book.history ≤ book.kept
 
--- A publisher's record, where its call stands: each of so many connections has at most as many slots as its ring of samples given back has cells, and one
--- fewer where the call has taken back all.
+-- A publisher's record, where its call stands: each of so many connections has at most as many slots as its ring of samples given
+-- back has cells, and one fewer where the call has taken back all.
 pub record HasRooms (cells connections : ℕ) (book : BookState) (call : PublisherCall) : Type 0 where
   pub most : (place : ℕ) → place < connections → slots_at book place ≤ cells
   pub swept : (place : ℕ) → place < connections → HasSwept call place → slots_at book place < cells

@@ -37,20 +37,22 @@ refers first width referred place slot =
 abbrev pub references : ℕ → ℕ → List Bool → ℕ → ℕ → ℕ
 references first width referred connections slot = total (λ place. refers first width referred place slot) connections
 
--- A slot has one use as a loan, one in the history and one at each connection that has it. It stands in the history at most once; a loan stands there at no
--- place, and at no connection.
+-- A slot has one use as a loan, one in the history and one at each connection that has it. It stands in the history at most once;
+-- a loan stands there at no place, and at no connection.
 pub record IsCounted (uses : ℕ) (loan : Bool) (history references : ℕ) : Type 0 where
   pub counted : uses ≡ one_if loan + history + references
   pub once : history ≤ 1
   pub alone : loan ≡ true → (history ≡ 0) × (references ≡ 0)
 
 -- so it is of each slot, of so many; a publisher has fewer than 2^62 connections
-pub record AreCounted (connections first slots : ℕ) (loans : List LoanMark) (history : List ℕ) (referred : List Bool) (uses : List ℕ) : Type 0 where
+pub record AreCounted (connections first slots : ℕ) (loans : List LoanMark) (history : List ℕ) (referred : List Bool) (uses : List ℕ) :
+    Type 0 where
   pub loans_each : length loans ≡ slots
   pub uses_each : length uses ≡ slots
   pub rows : length referred ≡ connections * slots
   pub few : connections < 2 ^ 62
-  pub each : (slot : ℕ) → IsCounted (entry first uses slot 0) (is_out (entry first loans slot mark.No)) (count slot history) (references first slots referred connections slot)
+  pub each : (slot : ℕ) → IsCounted (entry first uses slot 0) (is_out (entry first loans slot mark.No)) (count slot history)
+      (references first slots referred connections slot)
 
 -- a publisher with so many connections counts the uses of its slots
 abbrev pub UsesCounted : ℕ → BookState → Type 0
@@ -90,4 +92,5 @@ ChangeFits connections book (DropLoan slot) = is_out (entry book.first book.loan
 
 -- a change that fits leaves the uses counted
 abbrev pub ChangesKeepCount : Type 0
-ChangesKeepCount = (connections : ℕ) (book : BookState) (change : PublisherChange) → ChangeFits connections book change → UsesCounted connections book → UsesCounted connections (changed change book)
+ChangesKeepCount = (connections : ℕ) (book : BookState) (change : PublisherChange) → ChangeFits connections book change
+    → UsesCounted connections book → UsesCounted connections (changed change book)

@@ -29,9 +29,11 @@ abbrev pub StoresHeld : TableWords → Bool → List ℕ → List ℕ → Publis
 StoresHeld table sends payload head publishing.Idle = Unit {0}
 StoresHeld table sends payload head (publishing.LoanReclaims place route pop) = Unit {0}
 StoresHeld table sends payload head publishing.Lending = Unit {0}
-StoresHeld table sends payload head (publishing.Writing slot word value) = (sends ≡ false) × (value ≡ get_or payload word 0) × HoldsPayload table slot word payload
+StoresHeld table sends payload head (publishing.Writing slot word value) = (sends ≡ false) × (value ≡ get_or payload word 0)
+    × HoldsPayload table slot word payload
 StoresHeld table sends payload head (publishing.Written slot) = HoldsPayload table slot table.sizes.payload_words payload
-StoresHeld table sends payload head (publishing.Heading slot word value) = (sends ≡ true) × (value ≡ get_or head word 0) × HoldsHead table slot word head
+StoresHeld table sends payload head (publishing.Heading slot word value) = (sends ≡ true) × (value ≡ get_or head word 0)
+    × HoldsHead table slot word head
 StoresHeld table sends payload head (publishing.Remembering slot) = HoldsAllHead table slot head
 StoresHeld table sends payload head (publishing.SendReclaims slot place route pop) = HoldsAllHead table slot head
 StoresHeld table sends payload head (publishing.Pushing slot place route push delivery) = HoldsAllHead table slot head
@@ -40,15 +42,19 @@ StoresHeld table sends payload head (publishing.Dropping slot) = Unit {0}
 
 -- so it is of each publisher
 abbrev pub StoresHold : World → Type 0
-StoresHold m = (place : ℕ) (lane : PublisherLaneState) → slice_get m.publishers place ≡ Some lane → StoresHeld m.table lane.port.sends lane.port.payload lane.port.head lane.port.call
+StoresHold m = (place : ℕ) (lane : PublisherLaneState) → slice_get m.publishers place ≡ Some lane
+    → StoresHeld m.table lane.port.sends lane.port.payload lane.port.head lane.port.call
 
 -- so it is as long as at most 2^63 steps were made
 abbrev pub StoresFollow : World → Type 0
 StoresFollow m = m.moments ≤ 2 ^ 63 → StoresHold m
 
--- where a step ends a write, its slot has the payload that the write was given, and where it ends a send, the header and user header that the send stored; so it is as long as at most 2^63 steps were made
+-- where a step ends a write, its slot has the payload that the write was given, and where it ends a send, the header and user
+-- header that the send stored; so it is as long as at most 2^63 steps were made
 pub record StoresLeft (m n : World) : Type 0 where
-  pub payload : m.moments ≤ 2 ^ 63 → (call : FinishedCall) (place loan : ℕ) (lane : PublisherLaneState) → n.finished ≡ m.finished ++ call ∷ [] → call.party ≡ Publisher place → slice_get m.publishers place ≡ Some lane
+  pub payload : m.moments ≤ 2 ^ 63 → (call : FinishedCall) (place loan : ℕ) (lane : PublisherLaneState)
+      → n.finished ≡ m.finished ++ call ∷ [] → call.party ≡ Publisher place → slice_get m.publishers place ≡ Some lane
       → call.call ≡ name.Write loan → HoldsPayload m.table loan m.table.sizes.payload_words lane.port.payload
-  pub head : m.moments ≤ 2 ^ 63 → (call : FinishedCall) (place loan : ℕ) (lane : PublisherLaneState) → n.finished ≡ m.finished ++ call ∷ [] → call.party ≡ Publisher place → slice_get m.publishers place ≡ Some lane
+  pub head : m.moments ≤ 2 ^ 63 → (call : FinishedCall) (place loan : ℕ) (lane : PublisherLaneState)
+      → n.finished ≡ m.finished ++ call ∷ [] → call.party ≡ Publisher place → slice_get m.publishers place ≡ Some lane
       → call.call ≡ name.Send loan → HoldsAllHead m.table loan lane.port.head

@@ -1,5 +1,5 @@
 -- Lanes as they are made: each publisher has a connection to each subscriber, and nothing was done yet.
-use Rattle.std.specs.Prelude.{ℕ, zero, suc, ◌+◌, ◌*◌, ◌/◌, ◌%◌, List, [], ◌∷◌, ◌++◌, replicate}
+use Rattle.std.specs.Prelude.{ℕ, false, zero, suc, ◌+◌, ◌*◌, ◌/◌, ◌%◌, List, [], ◌∷◌, ◌++◌, replicate}
 use Rattle.iox_lanes_machine.specs.QueuesSteps.Ends.{cells_of}
 use Rattle.iox_lanes_machine.specs.LanesBase.Numbers.{words_of}
 use Rattle.iox_lanes_machine.specs.LanesBase.declared.words.sizes.TableSizes.{TableSizes}
@@ -65,12 +65,13 @@ receiving_routes sizes subscriber count = listed (λ publisher. route_to sizes (
 abbrev pub first_head : LaneSizes → ℕ → List ℕ
 first_head sizes publisher = (0 ∷ publisher ∷ 1 ∷ []) ++ replicate sizes.user_header_words 0
 
--- a publisher whose slots follow those of the publishers before it
+-- a publisher whose slots follow those of the publishers before it, and that does not fail at a full mailbox
 abbrev pub publisher_at : LaneSizes → ℕ → PublisherLaneState
 publisher_at sizes publisher = record {
   port = new_publisher (sending_routes sizes publisher sizes.subscribers)
       (new_book (publisher * sizes.slots) sizes.slots sizes.subscribers sizes.most_loans sizes.history)
       sizes.payload_words (3 + sizes.user_header_words);
+  fails = false;
   heads = replicate sizes.slots (first_head sizes publisher);
   call = name.LoanUninit;
   first = 0;

@@ -13,7 +13,8 @@ use Rattle.iox_lanes_machine.specs.Links.{LinkState}
 
 -- an order of a connection answers as the connection's mailbox does
 abbrev pub OrderFollows : World → ℕ → List Placed → Type 0
-OrderFollows m connection order = m.moments ≤ 2 ^ 63 → (link : LinkState) → slice_get m.links connection ≡ Some link → FollowsMailbox link order m.moments
+OrderFollows m connection order = m.moments ≤ 2 ^ 63 → (link : LinkState) → slice_get m.links connection ≡ Some link
+    → FollowsMailbox link order m.moments
 
 -- so does the order of each connection
 abbrev pub OrdersFollow : World → Type 0
@@ -35,4 +36,5 @@ pub record AreNear (link : LinkState) (positions : Positions) : Type 0 where
 
 -- so it is at a connection
 abbrev pub PositionsNear : World → ℕ → Positions → Type 0
-PositionsNear m connection positions = m.moments ≤ 2 ^ 63 → (link : LinkState) → slice_get m.links connection ≡ Some link → AreNear link positions
+PositionsNear m connection positions = m.moments ≤ 2 ^ 63 → (link : LinkState) → slice_get m.links connection ≡ Some link
+    → AreNear link positions

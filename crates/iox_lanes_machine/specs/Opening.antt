@@ -1,4 +1,5 @@
--- What every step keeps for threads that take over: each cell names a slot, as does what a port has in hand to put into one, and the word before all is 0.
+-- What every step keeps for threads that take over: each cell names a slot, as does what a port has in hand to put into one, and
+-- the word before all is 0.
 use Rattle.std.specs.Prelude.{ℕ, ◌≡◌, ◌<◌, slice_get, slice_index, Some}
 use Rattle.iox_lanes_machine.specs.QueuesSteps.declared.access.Word.TheVariants.{Cell}
 use Rattle.iox_lanes_machine.specs.QueuesSteps.declared.rings.overflowing.push.Push as overflowing_push_type
@@ -26,7 +27,8 @@ cell_of connection ring cell = Ring connection ring (Cell cell)
 
 -- where there are slots, each cell names one
 abbrev pub CellsNameSlots : TableWords → Type 0
-CellsNameSlots table = 0 < table.sizes.slots → (connection : ℕ) (ring : ConnectionRing) (cell : ℕ) → IsWord table.sizes (cell_of connection ring cell)
+CellsNameSlots table = 0 < table.sizes.slots → (connection : ℕ) (ring : ConnectionRing) (cell : ℕ)
+    → IsWord table.sizes (cell_of connection ring cell)
     → held_by table (cell_of connection ring cell) < table.sizes.slots
 
 -- what a push on a ring that overflows is yet to put names one of so many slots
@@ -82,6 +84,8 @@ GivesSlot slots (subscribing.Released done) = Unit {0}
 pub record SlotsNamed (m : World) : Type 0 where
   pub spare : slice_index m.table.words 0 ≡ 0
   pub cells : CellsNameSlots m.table
-  pub publishers : (place : ℕ) (lane : PublisherLaneState) → slice_get m.publishers place ≡ Some lane → SendsSlot m.table.sizes.slots lane.port.call
-  pub subscribers : (place : ℕ) (lane : SubscriberLaneState) → slice_get m.subscribers place ≡ Some lane → GivesSlot m.table.sizes.slots lane.port.call
+  pub publishers : (place : ℕ) (lane : PublisherLaneState) → slice_get m.publishers place ≡ Some lane
+      → SendsSlot m.table.sizes.slots lane.port.call
+  pub subscribers : (place : ℕ) (lane : SubscriberLaneState) → slice_get m.subscribers place ≡ Some lane
+      → GivesSlot m.table.sizes.slots lane.port.call
   pub room : (connection : ℕ) (link : LinkState) → slice_get m.links connection ≡ Some link → 0 < link.limit

@@ -24,8 +24,10 @@ pub record RemembersOwn (m : World) (place : ℕ) (lane : PublisherLaneState) : 
 
 -- each publisher remembers slots of its own alone, and no more of them than it may, as long as at most 2^63 steps were made
 abbrev pub HistoriesAreOwn : World → Type 0
-HistoriesAreOwn m = m.moments ≤ 2 ^ 63 → (place : ℕ) (lane : PublisherLaneState) → slice_get m.publishers place ≡ Some lane → RemembersOwn m place lane
+HistoriesAreOwn m = m.moments ≤ 2 ^ 63 → (place : ℕ) (lane : PublisherLaneState) → slice_get m.publishers place ≡ Some lane
+    → RemembersOwn m place lane
 
 -- no more messages wait at a connection between calls than may
 abbrev pub MailHasRoom : World → ℕ → Type 0
-MailHasRoom m connection = Rests m connection → (link : LinkState) → slice_get m.links connection ≡ Some link → length (mail_at m connection) ≤ link.limit
+MailHasRoom m connection = Rests m connection → (link : LinkState) → slice_get m.links connection ≡ Some link
+    → length (mail_at m connection) ≤ link.limit

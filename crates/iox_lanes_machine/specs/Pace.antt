@@ -47,13 +47,17 @@ sweeps_left cells connections = connections * (4 * cells + 2)
 -- the steps of a call, if it stores so many words
 abbrev pub steps_left : ℕ → ℕ → ℕ → BookState → PublisherCall → ℕ
 steps_left cells connections words book publishing.Idle = 0
-steps_left cells connections words book (publishing.LoanReclaims at route pop) = taking_left (slots_at book at) pop + sweeps_left cells (connections - at - 1) + 1
+steps_left cells connections words book (publishing.LoanReclaims at route pop)
+    = taking_left (slots_at book at) pop + sweeps_left cells (connections - at - 1) + 1
 steps_left cells connections words book publishing.Lending = 1
 steps_left cells connections words book (publishing.Writing slot word value) = words - word + 1
 steps_left cells connections words book (publishing.Written slot) = 1
-steps_left cells connections words book (publishing.Heading slot word value) = words - word + sweeps_left cells connections + 6 * connections + 2
+steps_left cells connections words book (publishing.Heading slot word value)
+    = words - word + sweeps_left cells connections + 6 * connections + 2
 steps_left cells connections words book (publishing.Remembering slot) = sweeps_left cells connections + 6 * connections + 2
-steps_left cells connections words book (publishing.SendReclaims slot at route pop) = taking_left (slots_at book at) pop + sweeps_left cells (connections - at - 1) + 6 * connections + 1
-steps_left cells connections words book (publishing.Pushing slot at route push delivery) = pushing_left push + 6 * (connections - at - 1) + 1
+steps_left cells connections words book (publishing.SendReclaims slot at route pop)
+    = taking_left (slots_at book at) pop + sweeps_left cells (connections - at - 1) + 6 * connections + 1
+steps_left cells connections words book (publishing.Pushing slot at route push delivery)
+    = pushing_left push + 6 * (connections - at - 1) + 1
 steps_left cells connections words book (publishing.Sent slot delivery) = 1
 steps_left cells connections words book (publishing.Dropping slot) = 1

@@ -30,7 +30,9 @@ one_of false place party = 0
 -- how many of some entries a publisher makes
 abbrev pub own_steps : World → ℕ → List Entry → ℕ
 own_steps m place [] = 0
-own_steps m place (entry ∷ entries) = one_of (fits m entry.party entry.step) place entry.party + own_steps (after_entry (fits m entry.party entry.step) m entry) place entries
+own_steps m place (entry ∷ entries)
+    = one_of (fits m entry.party entry.step) place entry.party + own_steps (after_entry (fits m entry.party entry.step) m entry) place
+    entries
 
 -- a publisher is still in the call that it began at this moment
 pub record IsInCall (m : World) (place first : ℕ) : Type 0 where
@@ -39,8 +41,9 @@ pub record IsInCall (m : World) (place first : ℕ) : Type 0 where
   pub since : lane.first ≡ first
   pub busy : publisher_is_idle lane.port.call ≡ false
 
--- A loan that is not over yet: its begin, the steps that its publisher made since then and the next one are at most 4 * S * (B + R + 2) + 2, for S subscribers
--- that buffer B messages and borrow R, whatever other parties do between them. So no loan takes more steps. So it is as long as at most 2^63 steps were made.
+-- A loan that is not over yet: its begin, the steps that its publisher made since then and the next one are at most 4 * S * (B +
+-- R + 2) + 2, for S subscribers that buffer B messages and borrow R, whatever other parties do between them. So no loan takes
+-- more steps. So it is as long as at most 2^63 steps were made.
 abbrev pub LoansEndSoon : Type 0
 LoansEndSoon = (m : World) (came : CameTo m) (place : ℕ) (entries : List Entry) → fits m (Publisher place) (Begin call.LoanUninit) ≡ true
     → (led (happens m (Publisher place) (Begin call.LoanUninit)) entries).moments ≤ 2 ^ 63
@@ -49,7 +52,8 @@ LoansEndSoon = (m : World) (came : CameTo m) (place : ℕ) (entries : List Entry
 
 -- Nor does a send take more than 4 * S * (B + R + 3) + U + 8, where a user header has U words, fewer than 2^61.
 abbrev pub SendsEndSoon : Type 0
-SendsEndSoon = (m : World) (came : CameTo m) (place loan : ℕ) (entries : List Entry) → came.sizes.user_header_words < 2 ^ 61 → fits m (Publisher place) (Begin (call.Send loan)) ≡ true
+SendsEndSoon = (m : World) (came : CameTo m) (place loan : ℕ) (entries : List Entry) → came.sizes.user_header_words < 2 ^ 61
+    → fits m (Publisher place) (Begin (call.Send loan)) ≡ true
     → (led (happens m (Publisher place) (Begin (call.Send loan))) entries).moments ≤ 2 ^ 63
     → IsInCall (led (happens m (Publisher place) (Begin (call.Send loan))) entries) place m.moments
     → 1 + own_steps (happens m (Publisher place) (Begin (call.Send loan))) place entries + 1

@@ -1,4 +1,5 @@
--- The samples given back at a connection are a queue: its subscriber's releases put what they borrowed behind the others, and its publisher's calls take the first.
+-- The samples given back at a connection are a queue: its subscriber's releases put what they borrowed behind the others, and its
+-- publisher's calls take the first.
 use Rattle.std.specs.Prelude.{ℕ, ◌≡◌, ◌≤◌, ◌^◌, ◌⊎◌, true, false, [], ◌∷◌, ◌++◌, slice_get, Some}
 use Rattle.iox_lanes_machine.specs.LanesBase.declared.calls.route.Route.{Route}
 use Rattle.iox_lanes_machine.specs.LanesParties.Parties.{PublisherLaneState}
@@ -23,7 +24,8 @@ pub record IsTakenBack (m n : World) (who connection slot : ℕ) : Type 0 where
   pub had : refers_to before.port.book place slot ≡ true
   pub lacks : refers_to after.port.book place slot ≡ false
 
--- a step leaves the samples given back at a connection; or its subscriber puts one behind them, which it borrowed until then; or its publisher takes the first
+-- a step leaves the samples given back at a connection; or its subscriber puts one behind them, which it borrowed until then; or
+-- its publisher takes the first
 abbrev pub QueueMoves : World → Party → World → ℕ → LinkState → Type 0
 QueueMoves m party n connection link =
     (given_back n.table connection ≡ given_back m.table connection)
@@ -33,4 +35,5 @@ QueueMoves m party n connection link =
 
 -- so it is at each connection, as long as at most 2^63 steps were made
 abbrev pub GivenBackInTurn : World → Party → World → Type 0
-GivenBackInTurn m party n = n.moments ≤ 2 ^ 63 → (connection : ℕ) (link : LinkState) → slice_get m.links connection ≡ Some link → QueueMoves m party n connection link
+GivenBackInTurn m party n = n.moments ≤ 2 ^ 63 → (connection : ℕ) (link : LinkState) → slice_get m.links connection ≡ Some link
+    → QueueMoves m party n connection link

@@ -11,7 +11,7 @@ use Rattle.iox_lanes_machine.specs.World.{World}
 abbrev pub is_read : Answer → Bool
 is_read (answer.Lent loan) = false
 is_read answer.Written = false
-is_read (answer.Sent delivery) = false
+is_read (answer.Sent given) = false
 is_read answer.Dropped = false
 is_read (answer.Received given) = false
 is_read (answer.Read from) = true
@@ -28,6 +28,8 @@ width sizes = 3 + sizes.user_header_words + sizes.payload_words
 
 -- each read that ended has its words behind those of the reads before it, and there are no others
 pub record ReadsLie (m : World) : Type 0 where
-  pub each : (number : ℕ) (call : FinishedCall) → slice_get (reads_of m.finished) number ≡ Some call → call.answer ≡ answer.Read (number * width m.table.sizes)
+  pub each : (number : ℕ) (call : FinishedCall) → slice_get (reads_of m.finished) number ≡ Some call
+      → call.answer ≡ answer.Read (number * width m.table.sizes)
   pub all : length m.read ≡ length (reads_of m.finished) * width m.table.sizes
-  pub rooms : (place : ℕ) (lane : SubscriberLaneState) → slice_get m.subscribers place ≡ Some lane → length lane.port.words ≡ width m.table.sizes
+  pub rooms : (place : ℕ) (lane : SubscriberLaneState) → slice_get m.subscribers place ≡ Some lane
+      → length lane.port.words ≡ width m.table.sizes

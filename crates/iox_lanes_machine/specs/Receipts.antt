@@ -44,7 +44,7 @@ given_by routes connection receipt.ExceedsMaxBorrows = []
 abbrev pub given_answer : List Route → ℕ → Answer → List ℕ
 given_answer routes connection (answer.Lent loan) = []
 given_answer routes connection answer.Written = []
-given_answer routes connection (answer.Sent delivery) = []
+given_answer routes connection (answer.Sent told) = []
 given_answer routes connection answer.Dropped = []
 given_answer routes connection (answer.Received given) = given_by routes connection given
 given_answer routes connection (answer.Read from) = []
@@ -83,7 +83,8 @@ ReceivesGive finished connection link order lane =
 
 -- so it is at each connection
 abbrev pub AllReceivesGive : World → Type 0
-AllReceivesGive m = (connection : ℕ) (link : LinkState) (order : List Placed) → slice_get m.links connection ≡ Some link → slice_get m.orders connection ≡ Some order
+AllReceivesGive m = (connection : ℕ) (link : LinkState) (order : List Placed) → slice_get m.links connection ≡ Some link
+    → slice_get m.orders connection ≡ Some order
     → ReceivesGive m.finished connection link order (slice_get m.subscribers link.subscriber)
 
 -- so it is as long as at most 2^63 steps were made

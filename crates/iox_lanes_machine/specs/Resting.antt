@@ -24,8 +24,10 @@ mail_at m connection = mail_by (slice_get m.links connection) (get_or m.orders c
 -- at most 2^63 steps were made, and the publisher and the subscriber of a connection are between calls
 pub record Rests (m : World) (connection : ℕ) : Type 0 where
   pub few : m.moments ≤ 2 ^ 63
-  pub sender : (link : LinkState) → slice_get m.links connection ≡ Some link → publisher_is_idle (publisher_stage (slice_get m.publishers link.publisher)) ≡ true
-  pub receiver : (link : LinkState) → slice_get m.links connection ≡ Some link → subscriber_is_idle (subscriber_stage (slice_get m.subscribers link.subscriber)) ≡ true
+  pub sender : (link : LinkState) → slice_get m.links connection ≡ Some link
+      → publisher_is_idle (publisher_stage (slice_get m.publishers link.publisher)) ≡ true
+  pub receiver : (link : LinkState) → slice_get m.links connection ≡ Some link
+      → subscriber_is_idle (subscriber_stage (slice_get m.subscribers link.subscriber)) ≡ true
 
 -- no party is inside a call
 pub record AllBetween (m : World) : Type 0 where

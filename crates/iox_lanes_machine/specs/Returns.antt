@@ -65,7 +65,8 @@ release_on connection (subscribing.Releasing place route p) = if route.connectio
 release_on connection (subscribing.Released done) = push.Idle
 
 -- the ring holds a list of samples that were given back and not taken back, which its two ends know
-pub record IsReturning (cells : ℕ) (table : TableWords) (moments connection : ℕ) (sends : PublisherCall) (receives : SubscriberCall) : Type 0 where
+pub record IsReturning (cells : ℕ) (table : TableWords) (moments connection : ℕ) (sends : PublisherCall) (receives : SubscriberCall) :
+    Type 0 where
   pub list : List ℕ
   pub shape : Shape cells (back_ring table connection cells) list (release_on connection receives) (reclaim_on connection sends)
   pub few : (back_ring table connection cells).write ≤ moments + 2 ^ 62
@@ -82,8 +83,10 @@ GoesRound cells routes = All (λ route. route.completion_cells ≡ cells) routes
 -- what every step keeps of the samples given back
 pub record ReturnsKept (m : World) : Type 0 where
   pub some : 0 < m.table.sizes.completion_cells
-  pub publishers : (place : ℕ) (lane : PublisherLaneState) → slice_get m.publishers place ≡ Some lane → GoesRound m.table.sizes.completion_cells lane.port.routes
-  pub subscribers : (place : ℕ) (lane : SubscriberLaneState) → slice_get m.subscribers place ≡ Some lane → GoesRound m.table.sizes.completion_cells lane.port.routes
+  pub publishers : (place : ℕ) (lane : PublisherLaneState) → slice_get m.publishers place ≡ Some lane
+      → GoesRound m.table.sizes.completion_cells lane.port.routes
+  pub subscribers : (place : ℕ) (lane : SubscriberLaneState) → slice_get m.subscribers place ≡ Some lane
+      → GoesRound m.table.sizes.completion_cells lane.port.routes
   pub rings : m.moments ≤ 2 ^ 63 → AreReturning m
 
 -- no more samples stand given back and not taken back than there are cells

@@ -1,4 +1,5 @@
--- Room at each connection: no more slots stand there than the ring of samples given back has cells, and one fewer once a call took back all; so no release is refused.
+-- Room at each connection: no more slots stand there than the ring of samples given back has cells, and one fewer once a call
+-- took back all; so no release is refused.
 use Rattle.std.specs.Prelude.{ℕ, ◌≡◌, ◌+◌, ◌<◌, ◌≤◌, ◌^◌, true, List, length, slice_get, Option, Some, None}
 use Rattle.std.specs.List.{All}
 use Rattle.iox_lanes_machine.specs.LanesBase.declared.calls.route.Route.{Route}
@@ -17,14 +18,16 @@ may_borrow (Some lane) = lane.port.most_borrowed
 
 -- the list has each connection of a subscriber, and each but once
 pub record HasReceived (links : List LinkState) (who : ℕ) (routes : List Route) : Type 0 where
-  pub each : (connection : ℕ) (link : LinkState) → slice_get links connection ≡ Some link → link.subscriber ≡ who → IsAmong routes connection
-  pub once : (i j : ℕ) (one other : Route) → slice_get routes i ≡ Some one → slice_get routes j ≡ Some other → one.connection ≡ other.connection → i ≡ j
+  pub each : (connection : ℕ) (link : LinkState) → slice_get links connection ≡ Some link → link.subscriber ≡ who
+      → IsAmong routes connection
+  pub once : (i j : ℕ) (one other : Route) → slice_get routes i ≡ Some one → slice_get routes j ≡ Some other
+      → one.connection ≡ other.connection → i ≡ j
 
 -- a release gave its sample back
 abbrev pub GaveBack : Answer → Type 0
 GaveBack (answer.Lent loan) = Unit {0}
 GaveBack answer.Written = Unit {0}
-GaveBack (answer.Sent delivery) = Unit {0}
+GaveBack (answer.Sent given) = Unit {0}
 GaveBack answer.Dropped = Unit {0}
 GaveBack (answer.Received given) = Unit {0}
 GaveBack (answer.Read from) = Unit {0}
@@ -40,10 +43,13 @@ ReleasesFollow m = m.moments ≤ 2 ^ 63 → ReleasesGaveBack m
 
 -- what every step keeps of the room at connections: the cells are more than may wait and be borrowed
 pub record RoomsKept (m : World) : Type 0 where
-  pub publishers : (place : ℕ) (lane : PublisherLaneState) → slice_get m.publishers place ≡ Some lane → HasRooms m.table.sizes.completion_cells (length lane.port.routes) lane.port.book lane.port.call
+  pub publishers : (place : ℕ) (lane : PublisherLaneState) → slice_get m.publishers place ≡ Some lane
+      → HasRooms m.table.sizes.completion_cells (length lane.port.routes) lane.port.book lane.port.call
   pub subscribers : (place : ℕ) (lane : SubscriberLaneState) → slice_get m.subscribers place ≡ Some lane → CountsBorrowed lane
-  pub receivers : (place : ℕ) (lane : SubscriberLaneState) → slice_get m.subscribers place ≡ Some lane → HasReceived m.links place lane.port.routes
-  pub cells : (connection : ℕ) (link : LinkState) → slice_get m.links connection ≡ Some link → link.limit + may_borrow (slice_get m.subscribers link.subscriber) < m.table.sizes.completion_cells
+  pub receivers : (place : ℕ) (lane : SubscriberLaneState) → slice_get m.subscribers place ≡ Some lane
+      → HasReceived m.links place lane.port.routes
+  pub cells : (connection : ℕ) (link : LinkState) → slice_get m.links connection ≡ Some link
+      → link.limit + may_borrow (slice_get m.subscribers link.subscriber) < m.table.sizes.completion_cells
   pub releases : ReleasesGaveBack m
 
 -- so it is as long as at most 2^63 steps were made

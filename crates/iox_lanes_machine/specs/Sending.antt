@@ -61,6 +61,7 @@ SendsLacking connections book (publishing.Written slot) = Unit {0}
 SendsLacking connections book (publishing.Heading slot word value) = Unit {0}
 SendsLacking connections book (publishing.Remembering slot) = Unit {0}
 SendsLacking connections book (publishing.SendReclaims slot place route pop) = IsSending book slot × LacksFrom connections book 0 slot
-SendsLacking connections book (publishing.Pushing slot place route push delivery) = IsSending book slot × PushLacks book place slot push × LacksFrom connections book (place + 1) slot
+SendsLacking connections book (publishing.Pushing slot place route push delivery) = IsSending book slot × PushLacks book place slot push
+    × LacksFrom connections book (place + 1) slot
 SendsLacking connections book (publishing.Sent slot delivery) = IsSending book slot
 SendsLacking connections book (publishing.Dropping slot) = Unit {0}

@@ -15,6 +15,7 @@ use Rattle.iox_lanes_machine.specs.LanesBase.declared.calls.publisher.PublisherC
 use Rattle.iox_lanes_machine.specs.LanesBase.declared.calls.publisher.PublisherCall.TheVariants as publishing
 use Rattle.iox_lanes_machine.specs.LanesBase.declared.calls.route.Route.{Route}
 use Rattle.iox_lanes_machine.specs.LanesParties.Parties.{PublisherLaneState}
+use Rattle.iox_lanes_machine.specs.LanesParties.SendAnswers.{send_answer}
 use Rattle.iox_lanes_machine.specs.LanesParties.declared.call.Answer.{Answer}
 use Rattle.iox_lanes_machine.specs.LanesParties.declared.call.Answer.TheVariants as answer
 use Rattle.iox_lanes_machine.specs.LanesParties.declared.call.CallName.TheVariants as name
@@ -61,19 +62,21 @@ PutsRise orders number low [] high = low ≤ high
 PutsRise orders number low (route ∷ routes) high =
     (put : PushCall) × (slice_get (puts_at orders route) number ≡ Some put) × (low ≤ put.first) × PutsRise orders number put.first routes high
 
--- a slot has one put at each of some connections, all of one number and in the order of the connections, and the delivery counts how they were answered
+-- a slot has one put at each of some connections, all of one number and in the order of the connections, and the delivery counts
+-- how they were answered
 pub record ArePut (orders : List (List Placed)) (routes : List Route) (number slot first last : ℕ) (delivery : Delivery) : Type 0 where
   pub answers : List PushAnswer
   pub puts : AllZip (IsPutAt orders number slot first last) routes answers
   pub in_order : PutsRise orders number first routes last
   pub counted : delivery ≡ delivery_of answers
 
--- a call is a send: its slot has one put at each connection of its publisher, inside the call, and its answer counts how they were answered
-pub record IsSent (orders : List (List Placed)) (routes : List Route) (number : ℕ) (call : FinishedCall) : Type 0 where
+-- a call is a send: its slot has one put at each connection of its publisher, inside the call, and its answer tells how they were
+-- answered: it is unable to deliver just where the publisher fails at a full mailbox and some put was refused
+pub record IsSent (orders : List (List Placed)) (fails : Bool) (routes : List Route) (number : ℕ) (call : FinishedCall) : Type 0 where
   pub slot : ℕ
   pub delivery : Delivery
   pub asked : call.call ≡ name.Send slot
-  pub answered : call.answer ≡ answer.Sent delivery
+  pub answered : call.answer ≡ answer.Sent (send_answer fails delivery)
   pub puts : ArePut orders routes number slot call.first call.last delivery
 
 -- the party is this publisher
@@ -85,7 +88,7 @@ is_sender (Subscriber place) who = false
 abbrev pub is_send : Answer → Bool
 is_send (answer.Lent loan) = false
 is_send answer.Written = false
-is_send (answer.Sent delivery) = true
+is_send (answer.Sent given) = true
 is_send answer.Dropped = false
 is_send (answer.Received given) = false
 is_send (answer.Read from) = false
@@ -101,7 +104,8 @@ abbrev pub read_at : TableWords → Route → ℕ
 read_at table route = held_by table (sent_word route.connection Read)
 
 -- a send that pushes has put at each connection before its place, up to some moment; from then on stands at its place what its push has put
-pub record IsPushing (orders : List (List Placed)) (routes : List Route) (number first last slot place read : ℕ) (route : Route) (push : Push) (delivery : Delivery) : Type 0 where
+pub record IsPushing (orders : List (List Placed)) (routes : List Route) (number first last slot place read : ℕ) (route : Route)
+    (push : Push) (delivery : Delivery) : Type 0 where
   pub at : slice_get routes place ≡ Some route
   pub few : place ≤ last
   pub value : push_value push ≡ slot
@@ -153,19 +157,23 @@ pub record IsAmong (routes : List Route) (connection : ℕ) : Type 0 where
 -- the list has each connection of a publisher, and each but once
 pub record HasConnections (links : List LinkState) (who : ℕ) (routes : List Route) : Type 0 where
   pub each : (connection : ℕ) (link : LinkState) → slice_get links connection ≡ Some link → link.publisher ≡ who → IsAmong routes connection
-  pub once : (i j : ℕ) (one other : Route) → slice_get routes i ≡ Some one → slice_get routes j ≡ Some other → one.connection ≡ other.connection → i ≡ j
+  pub once : (i j : ℕ) (one other : Route) → slice_get routes i ≡ Some one → slice_get routes j ≡ Some other
+      → one.connection ≡ other.connection → i ≡ j
 
--- the sends of a publisher, in their order, have put just the puts that stand at its connections, but for what the send that it is in has put so far
-pub record SendsPut (m : World) (who : ℕ) (routes : List Route) (first : ℕ) (call : PublisherCall) : Type 0 where
+-- the sends of a publisher, in their order, have put just the puts that stand at its connections, but for what the send that it
+-- is in has put so far
+pub record SendsPut (m : World) (who : ℕ) (fails : Bool) (routes : List Route) (first : ℕ) (call : PublisherCall) : Type 0 where
   pub connections : HasConnections m.links who routes
-  pub sent : (number : ℕ) (send : FinishedCall) → slice_get (sends_of who m.finished) number ≡ Some send → IsSent m.orders routes number send
+  pub sent : (number : ℕ) (send : FinishedCall) → slice_get (sends_of who m.finished) number ≡ Some send
+      → IsSent m.orders fails routes number send
   pub so_far : PutSoFar m.table m.orders routes (length (sends_of who m.finished)) first m.moments call
   pub no_more : (place : ℕ) (route : Route) → slice_get routes place ≡ Some route
       → length (puts_at m.orders route) ≡ length (sends_of who m.finished) + done_at place call + in_hand_at m.table route call
 
 -- so it is for each publisher
 abbrev pub AllSendsPut : World → Type 0
-AllSendsPut m = (who : ℕ) (lane : PublisherLaneState) → slice_get m.publishers who ≡ Some lane → SendsPut m who lane.port.routes lane.first lane.port.call
+AllSendsPut m = (who : ℕ) (lane : PublisherLaneState) → slice_get m.publishers who ≡ Some lane
+    → SendsPut m who lane.fails lane.port.routes lane.first lane.port.call
 
 -- so it is as long as at most 2^63 steps were made
 abbrev pub SendsFollow : World → Type 0

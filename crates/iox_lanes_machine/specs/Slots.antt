@@ -25,7 +25,8 @@ IsLoanOf m (Subscriber place) slot = ⊥
 
 -- a step changes no word of a slot that is no loan of its party
 abbrev pub SlotsStay : World → Party → World → Type 0
-SlotsStay m party n = (slot : ℕ) (word : SlotWord) → IsWord m.table.sizes (Slot slot word) → (IsLoanOf m party slot → ⊥) → held_by n.table (Slot slot word) ≡ held_by m.table (Slot slot word)
+SlotsStay m party n = (slot : ℕ) (word : SlotWord) → IsWord m.table.sizes (Slot slot word) → (IsLoanOf m party slot → ⊥)
+    → held_by n.table (Slot slot word) ≡ held_by m.table (Slot slot word)
 
 -- no slot is a loan of two publishers
 abbrev pub LoansApart : World → Type 0
@@ -47,10 +48,12 @@ StandsAtLoan book (publishing.Dropping slot) = is_out (loan_of slot book) ≡ tr
 
 -- the slots of a publisher lie before those of the publishers behind it
 abbrev pub SlotsInRows : World → Type 0
-SlotsInRows m = (one other : ℕ) (lane behind : PublisherLaneState) → slice_get m.publishers one ≡ Some lane → slice_get m.publishers other ≡ Some behind → one < other
+SlotsInRows m = (one other : ℕ) (lane behind : PublisherLaneState) → slice_get m.publishers one ≡ Some lane
+    → slice_get m.publishers other ≡ Some behind → one < other
     → lane.port.book.first + length lane.port.book.loans ≤ behind.port.book.first
 
 -- each publisher stands at a loan of its own slots
 pub record LoansStand (m : World) : Type 0 where
-  pub stages : (place : ℕ) (lane : PublisherLaneState) → slice_get m.publishers place ≡ Some lane → StandsAtLoan lane.port.book lane.port.call
+  pub stages : (place : ℕ) (lane : PublisherLaneState) → slice_get m.publishers place ≡ Some lane
+      → StandsAtLoan lane.port.book lane.port.call
   pub rows : SlotsInRows m

@@ -1,5 +1,6 @@
--- What it takes for lanes to take in a finding, and what it adds to what they hold: to the messages that wait at a connection, the samples given back there, a history, a word of a slot, the buffer
--- of a connection, the slots or the headers of a publisher, or the places of a subscriber's connections.
+-- What it takes for lanes to take in a finding, and what it adds to what they hold: to the messages that wait at a connection,
+-- the samples given back there, a history, a word of a slot, the buffer of a connection, the slots or the headers of a publisher
+-- and whether its sends fail, or the places of a subscriber's connections.
 use Rattle.std.specs.Prelude.{ℕ, ◌≡◌, ◌+◌, ◌<◌, ◌≤◌, ◌==◌, ◌&&◌, if◌then◌else◌, Bool, true, false, List, [], ◌∷◌, ◌++◌, length, get_or, slice_get, Option, Some, None}
 use Rattle.iox_lanes_machine.specs.QueuesSteps.Access.{RingWords}
 use Rattle.iox_lanes_machine.specs.QueuesSteps.Ends.{cells_of}
@@ -21,8 +22,8 @@ use Rattle.iox_lanes_machine.specs.World.{World}
 use Rattle.iox_lanes_machine.specs.declared.found.Found.{Found}
 use Rattle.iox_lanes_machine.specs.declared.found.Found.TheVariants as found
 
--- A slot may be found at the connection at a place of a publisher: it is the publisher's, neither waits there nor was given back there, and those that do are
--- together fewer than may be given back.
+-- A slot may be found at the connection at a place of a publisher: it is the publisher's, neither waits there nor was given back
+-- there, and those that do are together fewer than may be given back.
 pub record MayStand (m : World) (who place slot : ℕ) : Type 0 where
   pub lane : PublisherLaneState
   pub publisher : slice_get m.publishers who ≡ Some lane
@@ -47,8 +48,8 @@ pub record MayBeMessage (m : World) (who place slot : ℕ) : Type 0 where
   pub stands : MayStand m who place slot
   pub fewer : length stands.link.found < stands.link.limit
 
--- The connection at a place of a publisher may be found to have a buffer: for one message at least and for no more than may wait there, and nothing waits there yet, nor was anything
--- given back.
+-- The connection at a place of a publisher may be found to have a buffer: for one message at least and for no more than may wait
+-- there, and nothing waits there yet, nor was anything given back.
 pub record MayHaveBuffer (m : World) (who place messages : ℕ) : Type 0 where
   pub lane : PublisherLaneState
   pub publisher : slice_get m.publishers who ≡ Some lane
@@ -61,13 +62,15 @@ pub record MayHaveBuffer (m : World) (who place messages : ℕ) : Type 0 where
   pub no_message : link.found ≡ []
   pub no_sample : given_back m.table route.connection ≡ []
 
--- A publisher may be found to have so many slots: no more than it has, and nothing was found of it yet: its history is empty, and at its connections nothing waits, nor was anything given back.
+-- A publisher may be found to have so many slots: no more than it has, and nothing was found of it yet: its history is empty, and
+-- at its connections nothing waits, nor was anything given back.
 pub record MayHaveSlots (m : World) (who slots : ℕ) : Type 0 where
   pub lane : PublisherLaneState
   pub publisher : slice_get m.publishers who ≡ Some lane
   pub fits : slots ≤ length lane.port.book.uses
   pub no_history : lane.port.book.history ≡ []
-  pub empty : (place : ℕ) (route : Route) (link : LinkState) → slice_get lane.port.routes place ≡ Some route → slice_get m.links route.connection ≡ Some link → (link.found ≡ []) × (given_back m.table route.connection ≡ [])
+  pub empty : (place : ℕ) (route : Route) (link : LinkState) → slice_get lane.port.routes place ≡ Some route
+      → slice_get m.links route.connection ≡ Some link → (link.found ≡ []) × (given_back m.table route.connection ≡ [])
 
 -- the connections at two places of a subscriber may change places: it has both
 pub record MayChangePlaces (m : World) (who one other : ℕ) : Type 0 where
@@ -76,7 +79,8 @@ pub record MayChangePlaces (m : World) (who one other : ℕ) : Type 0 where
   pub has_one : one < length lane.port.routes
   pub has_other : other < length lane.port.routes
 
--- what may be found, if it is before the first step; of a word, all that it takes is that the slot has it, and of headers that the publisher is there
+-- what may be found, if it is before the first step; of a word, all that it takes is that the slot has it, and of a sender that
+-- the publisher is there
 abbrev pub MayBeFound : World → Found → Type 0
 MayBeFound m (found.Waiting publisher place slot) = MayBeMessage m publisher place slot
 MayBeFound m (found.GivenBack publisher place slot) = MayStand m publisher place slot
@@ -84,7 +88,8 @@ MayBeFound m (found.Newest publisher slot) = MayBeNewest m publisher slot
 MayBeFound m (found.Held slot word value) = IsWord m.table.sizes (Slot slot word)
 MayBeFound m (found.Buffer publisher place messages) = MayHaveBuffer m publisher place messages
 MayBeFound m (found.Slots publisher slots most_loans) = MayHaveSlots m publisher slots
-MayBeFound m (found.Header publisher node_id publisher_id) = (lane : PublisherLaneState) × (slice_get m.publishers publisher ≡ Some lane)
+MayBeFound m (found.Sender publisher node_id publisher_id fails) =
+    (lane : PublisherLaneState) × (slice_get m.publishers publisher ≡ Some lane)
 MayBeFound m (found.Swapped subscriber one other) = MayChangePlaces m subscriber one other
 
 -- what may be found: before the first step alone
@@ -104,24 +109,26 @@ slot_if false slot = []
 
 -- what a finding adds to the messages that wait at a connection
 abbrev pub more_messages : World → Found → ℕ → List ℕ
-more_messages m (found.Waiting publisher place slot) connection = slot_if (leads_of (slice_get m.publishers publisher) place connection) slot
+more_messages m (found.Waiting publisher place slot) connection
+    = slot_if (leads_of (slice_get m.publishers publisher) place connection) slot
 more_messages m (found.GivenBack publisher place slot) connection = []
 more_messages m (found.Newest publisher slot) connection = []
 more_messages m (found.Held slot word value) connection = []
 more_messages m (found.Buffer publisher place messages) connection = []
 more_messages m (found.Slots publisher slots most_loans) connection = []
-more_messages m (found.Header publisher node_id publisher_id) connection = []
+more_messages m (found.Sender publisher node_id publisher_id fails) connection = []
 more_messages m (found.Swapped subscriber one other) connection = []
 
 -- what it adds to the samples given back there
 abbrev pub more_samples : World → Found → ℕ → List ℕ
 more_samples m (found.Waiting publisher place slot) connection = []
-more_samples m (found.GivenBack publisher place slot) connection = slot_if (leads_of (slice_get m.publishers publisher) place connection) slot
+more_samples m (found.GivenBack publisher place slot) connection
+    = slot_if (leads_of (slice_get m.publishers publisher) place connection) slot
 more_samples m (found.Newest publisher slot) connection = []
 more_samples m (found.Held slot word value) connection = []
 more_samples m (found.Buffer publisher place messages) connection = []
 more_samples m (found.Slots publisher slots most_loans) connection = []
-more_samples m (found.Header publisher node_id publisher_id) connection = []
+more_samples m (found.Sender publisher node_id publisher_id fails) connection = []
 more_samples m (found.Swapped subscriber one other) connection = []
 
 -- what it adds to the history of a publisher
@@ -132,7 +139,7 @@ more_history (found.Newest publisher slot) who = slot_if (publisher == who) slot
 more_history (found.Held slot word value) who = []
 more_history (found.Buffer publisher place messages) who = []
 more_history (found.Slots publisher slots most_loans) who = []
-more_history (found.Header publisher node_id publisher_id) who = []
+more_history (found.Sender publisher node_id publisher_id fails) who = []
 more_history (found.Swapped subscriber one other) who = []
 
 -- what it adds to what a publisher's record says that the connection at a place has
@@ -143,7 +150,7 @@ more_referred (found.Newest publisher slot) who at = []
 more_referred (found.Held slot word value) who at = []
 more_referred (found.Buffer publisher place messages) who at = []
 more_referred (found.Slots publisher slots most_loans) who at = []
-more_referred (found.Header publisher node_id publisher_id) who at = []
+more_referred (found.Sender publisher node_id publisher_id fails) who at = []
 more_referred (found.Swapped subscriber one other) who at = []
 
 -- the slot of a publisher to which it adds a use
@@ -154,7 +161,7 @@ more_uses (found.Newest publisher slot) who = slot_if (publisher == who) slot
 more_uses (found.Held slot word value) who = []
 more_uses (found.Buffer publisher place messages) who = []
 more_uses (found.Slots publisher slots most_loans) who = []
-more_uses (found.Header publisher node_id publisher_id) who = []
+more_uses (found.Sender publisher node_id publisher_id fails) who = []
 more_uses (found.Swapped subscriber one other) who = []
 
 -- a number, if the test holds
@@ -168,9 +175,10 @@ new_buffer m (found.Waiting publisher place slot) connection = None
 new_buffer m (found.GivenBack publisher place slot) connection = None
 new_buffer m (found.Newest publisher slot) connection = None
 new_buffer m (found.Held slot word value) connection = None
-new_buffer m (found.Buffer publisher place messages) connection = number_if (leads_of (slice_get m.publishers publisher) place connection) messages
+new_buffer m (found.Buffer publisher place messages) connection
+    = number_if (leads_of (slice_get m.publishers publisher) place connection) messages
 new_buffer m (found.Slots publisher slots most_loans) connection = None
-new_buffer m (found.Header publisher node_id publisher_id) connection = None
+new_buffer m (found.Sender publisher node_id publisher_id fails) connection = None
 new_buffer m (found.Swapped subscriber one other) connection = None
 
 -- a number that a finding gives, or else the one that stood
@@ -191,7 +199,7 @@ new_slots (found.Newest publisher slot) who = None
 new_slots (found.Held slot word value) who = None
 new_slots (found.Buffer publisher place messages) who = None
 new_slots (found.Slots publisher slots most_loans) who = number_if (publisher == who) slots
-new_slots (found.Header publisher node_id publisher_id) who = None
+new_slots (found.Sender publisher node_id publisher_id fails) who = None
 new_slots (found.Swapped subscriber one other) who = None
 
 -- how many of its loans may be out then
@@ -202,7 +210,7 @@ new_loans (found.Newest publisher slot) who = None
 new_loans (found.Held slot word value) who = None
 new_loans (found.Buffer publisher place messages) who = None
 new_loans (found.Slots publisher slots most_loans) who = number_if (publisher == who) most_loans
-new_loans (found.Header publisher node_id publisher_id) who = None
+new_loans (found.Sender publisher node_id publisher_id fails) who = None
 new_loans (found.Swapped subscriber one other) who = None
 
 -- the node that the headers of its messages say then
@@ -213,7 +221,7 @@ new_node (found.Newest publisher slot) who = None
 new_node (found.Held slot word value) who = None
 new_node (found.Buffer publisher place messages) who = None
 new_node (found.Slots publisher slots most_loans) who = None
-new_node (found.Header publisher node_id publisher_id) who = number_if (publisher == who) node_id
+new_node (found.Sender publisher node_id publisher_id fails) who = number_if (publisher == who) node_id
 new_node (found.Swapped subscriber one other) who = None
 
 -- and the publisher
@@ -224,8 +232,19 @@ new_publisher (found.Newest publisher slot) who = None
 new_publisher (found.Held slot word value) who = None
 new_publisher (found.Buffer publisher place messages) who = None
 new_publisher (found.Slots publisher slots most_loans) who = None
-new_publisher (found.Header publisher node_id publisher_id) who = number_if (publisher == who) publisher_id
+new_publisher (found.Sender publisher node_id publisher_id fails) who = number_if (publisher == who) publisher_id
 new_publisher (found.Swapped subscriber one other) who = None
+
+-- whether the sends of a publisher fail at a full mailbox behind a finding, if they did or didn't before
+abbrev pub fails_behind : Found → ℕ → Bool → Bool
+fails_behind (found.Waiting publisher place slot) who fails = fails
+fails_behind (found.GivenBack publisher place slot) who fails = fails
+fails_behind (found.Newest publisher slot) who fails = fails
+fails_behind (found.Held slot word value) who fails = fails
+fails_behind (found.Buffer publisher place messages) who fails = fails
+fails_behind (found.Slots publisher slots most_loans) who fails = fails
+fails_behind (found.Sender publisher node_id publisher_id given) who fails = if publisher == who then given else fails
+fails_behind (found.Swapped subscriber one other) who fails = fails
 
 -- the place at which a connection stood that stands at a place now, if those at two places changed places
 abbrev pub other_place : ℕ → ℕ → ℕ → ℕ
@@ -244,12 +263,13 @@ place_before (found.Newest publisher slot) who at = at
 place_before (found.Held slot word value) who at = at
 place_before (found.Buffer publisher place messages) who at = at
 place_before (found.Slots publisher slots most_loans) who at = at
-place_before (found.Header publisher node_id publisher_id) who at = at
+place_before (found.Sender publisher node_id publisher_id fails) who at = at
 place_before (found.Swapped subscriber one other) who at = place_if (subscriber == who) one other at
 
 -- so a port knows each of its connections, each at the place that it has then, and nothing else of them changes
 pub record RoutesKnow (m : World) (f : Found) (before : ℕ → ℕ) (was now : List Route) : Type 0 where
-  pub each : (place : ℕ) (route : Route) → slice_get was (before place) ≡ Some route → slice_get now place ≡ Some (route_with (new_buffer m f route.connection) route)
+  pub each : (place : ℕ) (route : Route) → slice_get was (before place) ≡ Some route
+      → slice_get now place ≡ Some (route_with (new_buffer m f route.connection) route)
   pub as_many : length now ≡ length was
 
 -- these slots stand in a ring behind those that stood there, and it begins where it began
@@ -272,22 +292,28 @@ pub record HeadSays (node_id publisher_id : Option ℕ) (was now : List ℕ) : T
 
 -- so it is with the headers of a publisher's slots, of which there are as many as it has slots then
 pub record HeadsSay (f : Found) (who : ℕ) (was now : List (List ℕ)) : Type 0 where
-  pub each : (slot : ℕ) (before behind : List ℕ) → slice_get was slot ≡ Some before → slice_get now slot ≡ Some behind → HeadSays (new_node f who) (new_publisher f who) before behind
+  pub each : (slot : ℕ) (before behind : List ℕ) → slice_get was slot ≡ Some before → slice_get now slot ≡ Some behind
+      → HeadSays (new_node f who) (new_publisher f who) before behind
   pub as_many : length now ≡ number_with (new_slots f who) (length was)
 
--- The history of a publisher, what its record says of its connections and the uses of its slots have more; it has as many slots as it is given, may have as many loans out, and no other slot becomes
--- a loan; it knows the buffers of its connections, and its headers say what they are given. Nothing else of it changes.
+-- The history of a publisher, what its record says of its connections and the uses of its slots have more; it has as many slots
+-- as it is given, may have as many loans out, and no other slot becomes a loan; it knows the buffers of its connections, its
+-- headers say what they are given, and its sends fail as they are told. Nothing else of it changes.
 pub record PublisherGrows (m : World) (f : Found) (who : ℕ) (was now : PublisherLaneState) : Type 0 where
   pub routes : RoutesKnow m f (λ place. place) was.port.routes now.port.routes
   pub history : now.port.book.history ≡ was.port.book.history ++ more_history f who
-  pub referred : (place slot : ℕ) → one_if (refers_to now.port.book place slot) ≡ one_if (refers_to was.port.book place slot) + count slot (more_referred f who place)
-  pub uses : (slot : ℕ) → entry now.port.book.first now.port.book.uses slot 0 ≡ entry was.port.book.first was.port.book.uses slot 0 + count slot (more_uses f who)
+  pub referred : (place slot : ℕ) → one_if (refers_to now.port.book place slot)
+      ≡ one_if (refers_to was.port.book place slot) + count slot (more_referred f who place)
+  pub uses : (slot : ℕ) → entry now.port.book.first now.port.book.uses slot 0
+      ≡ entry was.port.book.first was.port.book.uses slot 0 + count slot (more_uses f who)
   pub slots : length now.port.book.uses ≡ number_with (new_slots f who) (length was.port.book.uses)
   pub marks : length now.port.book.loans ≡ number_with (new_slots f who) (length was.port.book.loans)
   pub loans : (slot : ℕ) → loan_of slot now.port.book ≡ loan_of slot was.port.book
   pub most : now.port.book.most_loans ≡ number_with (new_loans f who) was.port.book.most_loans
   pub heads : HeadsSay f who was.heads now.heads
+  pub fails : now.fails ≡ fails_behind f who was.fails
   pub same : now ≡ record was {
+    fails = now.fails;
     heads = now.heads;
     port = record was.port {
       routes = now.port.routes;
@@ -300,18 +326,23 @@ pub record SubscriberKnows (m : World) (f : Found) (who : ℕ) (was now : Subscr
   pub routes : RoutesKnow m f (place_before f who) was.port.routes now.port.routes
   pub same : now ≡ record was { port = record was.port { routes = now.port.routes } }
 
--- Lanes that took in a finding: it stands at the end of the list that it is about, or the word that it is about holds what it says, or the connection, the publisher or the subscriber that it is about has what it says; and all else is as it was.
+-- Lanes that took in a finding: it stands at the end of the list that it is about, or the word that it is about holds what it
+-- says, or the connection, the publisher or the subscriber that it is about has what it says; and all else is as it was.
 pub record IsTakenIn (m : World) (f : Found) (n : World) : Type 0 where
-  pub links : (connection : ℕ) → slice_get n.links connection ≡ link_with (more_messages m f connection) (new_buffer m f connection) (slice_get m.links connection)
+  pub links : (connection : ℕ) → slice_get n.links connection
+      ≡ link_with (more_messages m f connection) (new_buffer m f connection) (slice_get m.links connection)
   pub messages : (connection : ℕ) (link : LinkState) → slice_get m.links connection ≡ Some link
       → RingGrows (ring_in m.table connection (cells_of link.kind link.limit)) (ring_in n.table connection (cells_of link.kind (number_with (new_buffer m f connection) link.limit))) (more_messages m f connection)
   pub samples : (connection : ℕ) (link : LinkState) → slice_get m.links connection ≡ Some link
       → RingGrows (back_ring m.table connection m.table.sizes.completion_cells) (back_ring n.table connection m.table.sizes.completion_cells) (more_samples m f connection)
   pub word : (slot : ℕ) (word : SlotWord) (value : ℕ) → f ≡ found.Held slot word value → held_by n.table (Slot slot word) ≡ value
-  pub words : (slot : ℕ) (word : SlotWord) → IsWord m.table.sizes (Slot slot word) → ((value : ℕ) → f ≡ found.Held slot word value → ⊥) → held_by n.table (Slot slot word) ≡ held_by m.table (Slot slot word)
-  pub publishers : (who : ℕ) (was now : PublisherLaneState) → slice_get m.publishers who ≡ Some was → slice_get n.publishers who ≡ Some now → PublisherGrows m f who was now
+  pub words : (slot : ℕ) (word : SlotWord) → IsWord m.table.sizes (Slot slot word) → ((value : ℕ) → f ≡ found.Held slot word value → ⊥)
+      → held_by n.table (Slot slot word) ≡ held_by m.table (Slot slot word)
+  pub publishers : (who : ℕ) (was now : PublisherLaneState) → slice_get m.publishers who ≡ Some was
+      → slice_get n.publishers who ≡ Some now → PublisherGrows m f who was now
   pub as_many : length n.publishers ≡ length m.publishers
-  pub subscribers : (who : ℕ) (was now : SubscriberLaneState) → slice_get m.subscribers who ≡ Some was → slice_get n.subscribers who ≡ Some now → SubscriberKnows m f who was now
+  pub subscribers : (who : ℕ) (was now : SubscriberLaneState) → slice_get m.subscribers who ≡ Some was
+      → slice_get n.subscribers who ≡ Some now → SubscriberKnows m f who was now
   pub as_many_receive : length n.subscribers ≡ length m.subscribers
   pub same : n ≡ record m { table = record m.table { words = n.table.words }; links = n.links; publishers = n.publishers; subscribers = n.subscribers }
 
@@ -328,7 +359,7 @@ IsAppended (found.Newest publisher slot) = ⊥
 IsAppended (found.Held slot word value) = ⊥
 IsAppended (found.Buffer publisher place messages) = ⊥
 IsAppended (found.Slots publisher slots most_loans) = ⊥
-IsAppended (found.Header publisher node_id publisher_id) = ⊥
+IsAppended (found.Sender publisher node_id publisher_id fails) = ⊥
 IsAppended (found.Swapped subscriber one other) = ⊥
 
 -- memory may be wanting only for a finding that would be taken in, and is appended to what waited

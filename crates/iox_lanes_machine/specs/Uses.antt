@@ -30,7 +30,8 @@ stands_at table connection link order call receiver slot =
 
 -- what a publisher's record says of each of its connections stands there
 abbrev pub IsBalanced : World → PublisherLaneState → Type 0
-IsBalanced m lane = (place : ℕ) (route : Route) (link : LinkState) (order : List Placed) → slice_get lane.port.routes place ≡ Some route → slice_get m.links route.connection ≡ Some link → slice_get m.orders route.connection ≡ Some order
+IsBalanced m lane = (place : ℕ) (route : Route) (link : LinkState) (order : List Placed) → slice_get lane.port.routes place ≡ Some route
+    → slice_get m.links route.connection ≡ Some link → slice_get m.orders route.connection ≡ Some order
     → (slot : ℕ) → stands_at m.table route.connection link order lane.port.call (slice_get m.subscribers link.subscriber) slot ≡ one_if (refers_to lane.port.book place slot)
 
 -- what every step keeps of a publisher's slots
@@ -50,7 +51,8 @@ pub record UsesKept (m : World) : Type 0 where
   pub publishers : (place : ℕ) (lane : PublisherLaneState) → slice_get m.publishers place ≡ Some lane → PublisherUses m lane
   pub subscribers : (place : ℕ) (lane : SubscriberLaneState) → slice_get m.subscribers place ≡ Some lane → SubscriberUses m lane
   pub senders : (connection : ℕ) (link : LinkState) → slice_get m.links connection ≡ Some link → link.publisher < length m.publishers
-  pub pairs : (one other : ℕ) (link behind : LinkState) → slice_get m.links one ≡ Some link → slice_get m.links other ≡ Some behind → link.publisher ≡ behind.publisher → link.subscriber ≡ behind.subscriber → one ≡ other
+  pub pairs : (one other : ℕ) (link behind : LinkState) → slice_get m.links one ≡ Some link → slice_get m.links other ≡ Some behind
+      → link.publisher ≡ behind.publisher → link.subscriber ≡ behind.subscriber → one ≡ other
 
 -- so it is as long as at most 2^63 steps were made
 abbrev pub UsesFollow : World → Type 0

@@ -35,7 +35,8 @@ pub record CameTo (m : World) : Type 0 where
 
 -- However a step is answered, lanes that were made and led somewhere are led by it to where it leaves them.
 abbrev pub StepsComeOn : Type 0
-StepsComeOn = (m : World) → CameTo m → (party : Party) (step : Move) (answer : Stepped) (n : World) → StepsTo m party step answer n → CameTo n
+StepsComeOn = (m : World) → CameTo m → (party : Party) (step : Move) (answer : Stepped) (n : World) → StepsTo m party step answer n
+    → CameTo n
 
 -- So does a list of entries, however many of them were made.
 abbrev pub RunsComeOn : Type 0
@@ -49,10 +50,11 @@ UsedThrough slot m (entry ∷ entries) n =
     × (((fits m entry.party entry.step ≡ false) × UsedThrough slot m entries n)
     ⊎ ((fits m entry.party entry.step ≡ true) × UsedThrough slot (happens m entry.party entry.step) entries n))
 
--- However lanes came to where they are, and whatever steps follow: if the slot has a use before each of them, then a read of it that ends behind them gives just the words that the slot
--- held at first. So it is as long as at most 2^63 steps were made.
+-- However lanes came to where they are, and whatever steps follow: if the slot has a use before each of them, then a read of it
+-- that ends behind them gives just the words that the slot held at first. So it is as long as at most 2^63 steps were made.
 abbrev pub ReadsGiveWhatStood : Type 0
-ReadsGiveWhatStood = (m : World) → CameTo m → (slot : ℕ) (entries : List Entry) (n : World) → UsedThrough slot m entries n → n.moments ≤ 2 ^ 63
+ReadsGiveWhatStood = (m : World) → CameTo m → (slot : ℕ) (entries : List Entry) (n : World) → UsedThrough slot m entries n
+    → n.moments ≤ 2 ^ 63
     → (party : Party) (step : Move) (call : FinishedCall) → fits n party step ≡ true → (happens n party step).finished ≡ n.finished ++ call ∷ [] → call.call ≡ name.Read slot
     → (happens n party step).read ≡ n.read ++ slot_held m.table slot
 
@@ -63,8 +65,9 @@ UntouchedThrough word m (entry ∷ entries) n =
     ((fits m entry.party entry.step ≡ false) × UntouchedThrough word m entries n)
     ⊎ ((fits m entry.party entry.step ≡ true) × (MayChange (access_of m entry.party entry.step) word → ⊥) × UntouchedThrough word (happens m entry.party entry.step) entries n)
 
--- However lanes came to where they are, and whatever steps follow of which none may change a word of a slot: a read of the slot that ends behind them gives, at the place of this word, just
--- what it held at first, be it of the header, the user header or the payload. So it is as long as at most 2^63 steps were made.
+-- However lanes came to where they are, and whatever steps follow of which none may change a word of a slot: a read of the slot
+-- that ends behind them gives, at the place of this word, just what it held at first, be it of the header, the user header or the
+-- payload. So it is as long as at most 2^63 steps were made.
 abbrev pub ReadsGiveWhatWasStored : Type 0
 ReadsGiveWhatWasStored = (m : World) → CameTo m → (slot place : ℕ) → place < width m.table.sizes
     → (entries : List Entry) (n : World) → UntouchedThrough (Slot slot (word_at (extent_of m.table.sizes) place)) m entries n → n.moments ≤ 2 ^ 63

@@ -30,8 +30,8 @@ use Rattle.iox_lanes_machine.specs.LanesParties.declared.call.Party.TheVariants.
 use Rattle.iox_lanes_machine.specs.Rings.{sent_word, ring_in, push_on}
 use Rattle.iox_lanes_machine.specs.Links.{LinkState}
 
--- The shared words, the links that the connections are, the parties, for each connection the order of its puts, takes and looks, how many steps were made,
--- the calls that ended, and the words that all finished reads loaded, one read after the other.
+-- The shared words, the links that the connections are, the parties, for each connection the order of its puts, takes and looks,
+-- how many steps were made, the calls that ended, and the words that all finished reads loaded, one read after the other.
 pub record World : Type 0 where
   pub table : TableWords
   pub links : List LinkState
@@ -120,7 +120,7 @@ subscriber_given table lane = shared_answer table (subscriber_next lane.port.cal
 -- what a publisher's call answers if its next step is its last
 abbrev pub publisher_ending : TableWords → PublisherLaneState → Option Answer
 publisher_ending table lane =
-    publisher_answer lane.port.call (publisher_after (publisher_given table lane) lane).port.book.answer
+    publisher_answer lane.fails lane.port.call (publisher_after (publisher_given table lane) lane).port.book.answer
 
 -- a publisher makes its next access, and takes what that is answered
 abbrev pub publisher_goes_on : World → ℕ → Option PublisherLaneState → World
@@ -260,7 +260,8 @@ StepsTo m party step stepped.Finished n = (fits m party step ≡ true) × (ends 
 StepsTo m party step stepped.Skipped n = (fits m party step ≡ false) × (n ≡ m)
 StepsTo m party step stepped.NoMemory n = (fits m party step ≡ true) × Records m party step × (n ≡ m)
 
--- A list of entries, of which `made` were made, one after the other. One that doesn't fit is left out, and so is one that finds no memory for what it records.
+-- A list of entries, of which `made` were made, one after the other. One that doesn't fit is left out, and so is one that finds
+-- no memory for what it records.
 abbrev pub RunsTo : World → List Entry → ℕ → World → Type 0
 RunsTo m [] made n = (made ≡ 0) × (n ≡ m)
 RunsTo m (entry ∷ entries) made n =

@@ -57,11 +57,12 @@ pub enum Found {
         slots: u64,
         most_loans: u64,
     },
-    /// The headers of a publisher's messages say this node and this publisher.
-    Header {
+    /// The headers of a publisher's messages say this node and this publisher, and its sends fail at a full mailbox or don't.
+    Sender {
         publisher: usize,
         node_id: u64,
         publisher_id: u64,
+        fails: bool,
     },
     /// The connections at two places of a subscriber change places.
     Swapped {
@@ -110,7 +111,7 @@ impl State {
                 slots,
                 ..
             } => self.resizes_of(publisher, slots),
-            Found::Header { publisher, .. } => self.publishers.get(publisher).is_some(),
+            Found::Sender { publisher, .. } => self.publishers.get(publisher).is_some(),
             Found::Swapped {
                 subscriber,
                 one,
@@ -277,12 +278,13 @@ impl State {
                 self.find_slots(publisher, slots, most_loans);
                 Ok(())
             }
-            Found::Header {
+            Found::Sender {
                 publisher,
                 node_id,
                 publisher_id,
+                fails,
             } => {
-                self.find_header(publisher, node_id, publisher_id);
+                self.find_sender(publisher, node_id, publisher_id, fails);
                 Ok(())
             }
             Found::Swapped {
@@ -299,7 +301,8 @@ impl State {
     fn find_waiting(&mut self, publisher: usize, place: u64, slot: u64) -> Result<(), AllocError>
         requires fits { waits_of (world_of self.old) place slot (slice_get self.old.publishers.items publisher) ≡ true }
         requires within { IsWithin (world_of self.old) }
-        ensures found { OnOk result (world_of self.new ≡ waiting_of (world_of self.old) publisher place slot (slice_get self.old.publishers.items publisher)) }
+        ensures found { OnOk result (world_of self.new
+            ≡ waiting_of (world_of self.old) publisher place slot (slice_get self.old.publishers.items publisher)) }
         ensures same { OnErr result (world_of self.new ≡ world_of self.old) }
     {
         let Some(lane) = self.publishers.get_mut(publisher) else {
@@ -365,7 +368,8 @@ impl State {
     fn find_buffer(&mut self, publisher: usize, place: u64, messages: u64)
         requires fits { buffers_of (world_of self.old) place messages (slice_get self.old.publishers.items publisher) ≡ true }
         requires within { IsWithin (world_of self.old) }
-        ensures { world_of self.new ≡ buffered_of (world_of self.old) publisher place messages (slice_get self.old.publishers.items publisher) }
+        ensures { world_of self.new ≡ buffered_of (world_of self.old) publisher place messages
+            (slice_get self.old.publishers.items publisher) }
     {
         let Some(lane) = self.publishers.get_mut(publisher) else {
             return;
@@ -384,24 +388,27 @@ impl State {
     }
 
     fn find_slots(&mut self, publisher: usize, slots: u64, most_loans: u64)
-        ensures { world_of self.new ≡ resized_of (world_of self.old) publisher slots most_loans (slice_get self.old.publishers.items publisher) }
+        ensures { world_of self.new ≡ resized_of (world_of self.old) publisher slots most_loans
+            (slice_get self.old.publishers.items publisher) }
     {
         if let Some(lane) = self.publishers.get_mut(publisher) {
             lane.resize(slots, most_loans);
         }
     }
 
-    fn find_header(&mut self, publisher: usize, node_id: u64, publisher_id: u64)
-        ensures { world_of self.new ≡ named_of (world_of self.old) publisher node_id publisher_id (slice_get self.old.publishers.items publisher) }
+    fn find_sender(&mut self, publisher: usize, node_id: u64, publisher_id: u64, fails: bool)
+        ensures { world_of self.new ≡ named_of (world_of self.old) publisher node_id publisher_id fails
+            (slice_get self.old.publishers.items publisher) }
     {
         if let Some(lane) = self.publishers.get_mut(publisher) {
-            lane.name(node_id, publisher_id);
+            lane.name(node_id, publisher_id, fails);
         }
     }
 
     fn find_swapped(&mut self, subscriber: usize, one: u64, other: u64)
         requires fits { swaps_of one other (slice_get self.old.subscribers.items subscriber) ≡ true }
-        ensures { world_of self.new ≡ swapped_of (world_of self.old) subscriber one other (slice_get self.old.subscribers.items subscriber) }
+        ensures { world_of self.new ≡ swapped_of (world_of self.old) subscriber one other
+            (slice_get self.old.subscribers.items subscriber) }
     {
         if let Some(lane) = self.subscribers.get_mut(subscriber) {
             lane.swap(one, other);

@@ -10,8 +10,8 @@ use iox_queues_steps::{Placed, Stepped};
 use std::alloc::{AllocError, Global};
 use std::marker::Model;
 
-/// Any number of publishers and subscribers of one service, and the words that they share. They go one step at a time, in any order that the caller
-/// wants, and any of them may stop anywhere.
+/// Any number of publishers and subscribers of one service, and the words that they share. They go one step at a time, in any
+/// order that the caller wants, and any of them may stop anywhere.
 ///
 /// A port's own data stand still but at its own steps, and each step touches at most one shared word. This port's own.
 #[derive(Drop)]
@@ -55,8 +55,9 @@ impl Lanes {
     ghost use Rattle.iox_lanes_machine.specs.Told.{Told};
     ghost use Rattle.iox_lanes_machine.specs.Mailboxes.{OrderFollows, OrdersFollow, PositionsNear, positions_of};
 
-    /// Lanes of these sizes, on which nothing was done yet: each publisher has a connection to each subscriber, numbered publisher by publisher. It fails
-    /// only where an allocation fails; no memory has room for buffers of 2^61 messages, for the rings of as many samples given back, or for as many subscribers.
+    /// Lanes of these sizes, on which nothing was done yet: each publisher has a connection to each subscriber, numbered
+    /// publisher by publisher. It fails only where an allocation fails; no memory has room for buffers of 2^61 messages, for the
+    /// rings of as many samples given back, or for as many subscribers.
     pub fn new(alloc: Global, sizes: LaneSizes) -> Result<Lanes, AllocError>
         requires { 0 < sizes.buffer }
         ensures { IfOk result (λ made. made ≡ start sizes) }
@@ -77,14 +78,19 @@ impl Lanes {
         Ok(Lanes { state })
     }
 
-    /// This is found before the first step: a message that waits, a sample that was given back, the newest of a history, what a word of a slot holds, the buffer of
-    /// a connection, how many slots and loans a publisher has, what the headers of its messages say, or places of a subscriber's connections. Answers whether it was taken in; else nothing changes. It is taken in before the first step alone, and only if: of a message or a sample, the connection is there
-    /// and has not the slot yet, which is one of its publisher's; no more messages wait than may, and together with the samples given back no more than may be
-    /// given back; of a history, the slot is the publisher's, does not stand there yet, and fewer do than may; of a word, the slot has it;
-    /// of a buffer, it has room for one message at least and for no more than may wait there, where nothing waits and nothing was given back; of slots, the publisher has as
-    /// many at least, and no message, sample or history of it was found; of a header, the publisher is there; of places, the subscriber has connections at both. What was taken
-    /// in stands behind what was found there before; a buffer is known at both ends from then on, a publisher has just its first slots and as many loans out at most as it is
-    /// said, its messages say the node and publisher of their header, and a subscriber receives by the places of its connections. It fails, and nothing changes, only where an allocation fails: for a message that would be taken in.
+    /// This is found before the first step: a message that waits, a sample that was given back, the newest of a history, what a
+    /// word of a slot holds, the buffer of a connection, how many slots and loans a publisher has, what the headers of its
+    /// messages say and whether its sends fail at a full mailbox, or places of a subscriber's connections. Answers whether it was
+    /// taken in; else nothing changes. It is taken in before the first step alone, and only if: of a message or a sample, the
+    /// connection is there and has not the slot yet, which is one of its publisher's; no more messages wait than may, and together
+    /// with the samples given back no more than may be given back; of a history, the slot is the publisher's, does not stand there
+    /// yet, and fewer do than may; of a word, the slot has it; of a buffer, it has room for one message at least and for no more
+    /// than may wait there, where nothing waits and nothing was given back; of slots, the publisher has as many at least, and no
+    /// message, sample or history of it was found; of a sender, the publisher is there; of places, the subscriber has connections
+    /// at both. What was taken in stands behind what was found there before; a buffer is known at both ends from then on, a
+    /// publisher has just its first slots and as many loans out at most as it is said, its messages say the node and publisher of
+    /// their header, its sends fail as it is said, and a subscriber receives by the places of its connections. It fails, and
+    /// nothing changes, only where an allocation fails: for a message that would be taken in.
     pub fn find(&mut self, found: Found) -> Result<bool, AllocError>
         ensures finds { IfOk result (λ answer. FindsTo self.old found answer self.new) }
         ensures takes { IfOk result (λ answer. TakesIn self.old found answer self.new) }
@@ -98,17 +104,20 @@ impl Lanes {
         Ok(true)
     }
 
-    /// Begins a call of a party, or goes on inside one. Answers whether the step was made, and whether it was the last of its call; where it doesn't fit, or
-    /// where it finds no memory for the call that it ends or for what it puts into an order, nothing changes. A begin fits between calls, if the call is of the party's kind, and the
-    /// loan or sample that it names is its own and out; a send needs a finished write of its loan. A go on fits inside a call.
+    /// Begins a call of a party, or goes on inside one. Answers whether the step was made, and whether it was the last of its
+    /// call; where it doesn't fit, or where it finds no memory for the call that it ends or for what it puts into an order,
+    /// nothing changes. A begin fits between calls, if the call is of the party's kind, and the loan or sample that it names is
+    /// its own and out; a send needs a finished write of its loan. A go on fits inside a call.
     ///
-    /// No step changes the connections, the sizes of the words, how many publishers and subscribers there are, or of a publisher the number of its first slot,
-    /// how many slots it has, how many of them may be lent at once, and how many its history may have.
+    /// No step changes the connections, the sizes of the words, how many publishers and subscribers there are, or of a publisher
+    /// the number of its first slot, how many slots it has, how many of them may be lent at once, and how many its history may
+    /// have.
     ///
-    /// As long as at most 2^63 steps were made: a loan stands in no history and at no connection; no step changes a word of a slot that does; a write and a
-    /// send leave in their slot what they were given; and a read gives just what its slot holds. A loan is refused just where as many loans are out as may be,
-    /// and finds no slot only where each has a use; with fewer out, and as many slots as the worst case wants, it gives one. A release gives its sample back, behind
-    /// those given back before it at its connection, and a loan or a send takes them back from the first on.
+    /// As long as at most 2^63 steps were made: a loan stands in no history and at no connection; no step changes a word of a
+    /// slot that does; a write and a send leave in their slot what they were given; and a read gives just what its slot holds. A
+    /// loan is refused just where as many loans are out as may be, and finds no slot only where each has a use; with fewer out,
+    /// and as many slots as the worst case wants, it gives one. A release gives its sample back, behind those given back before
+    /// it at its connection, and a loan or a send takes them back from the first on.
     pub fn step(&mut self, party: Party, step: &Move) -> Stepped
         ensures steps { StepsTo self.old party step.now result self.new }
         ensures apart { StaysApart self.old party step.now result self.new }
@@ -177,9 +186,9 @@ impl Lanes {
         self.state.links.as_slice()
     }
 
-    /// The puts, takes and looks of a connection, in their order; none of a connection that isn't there. As long as at most 2^63 steps were made, they answer
-    /// as the connection's mailbox does, and their moments never fall; so the slots taken are part of those put, in the order of the puts, and each put is
-    /// taken at most once.
+    /// The puts, takes and looks of a connection, in their order; none of a connection that isn't there. As long as at most 2^63
+    /// steps were made, they answer as the connection's mailbox does, and their moments never fall; so the slots taken are part
+    /// of those put, in the order of the puts, and each put is taken at most once.
     pub fn order(&self, connection: u64) -> &[Placed]
         ensures value { result.now ≡ get_or self.now.orders connection [] }
         ensures follows { OrderFollows self.now connection result.now }
@@ -188,9 +197,9 @@ impl Lanes {
         self.state.order(connection)
     }
 
-    /// The four positions of a connection. As long as at most 2^63 steps were made, no more messages stand between the two of the messages than may wait, and
-    /// at most one more where the ring drops its oldest; and no more samples stand given back and not taken back than the ring of these has cells, which is
-    /// one more than may wait and be borrowed together.
+    /// The four positions of a connection. As long as at most 2^63 steps were made, no more messages stand between the two of the
+    /// messages than may wait, and at most one more where the ring drops its oldest; and no more samples stand given back and not
+    /// taken back than the ring of these has cells, which is one more than may wait and be borrowed together.
     pub fn position(&self, connection: u64) -> Positions
         requires { connection < length self.now.links }
         ensures value { result ≡ positions_of self.now.table connection }
@@ -200,11 +209,12 @@ impl Lanes {
         self.state.positions(connection)
     }
 
-    /// The calls that ended, in their order. As long as at most 2^63 steps were made: each was answered in its own kind, and those of one party don't overlap;
-    /// the receives gave just the slots that were taken at each connection, in that order, but for the one that a receive has in hand; and each send has one
-    /// put at each connection of its publisher, of its slot and inside it, one connection after the other, and counts how many were taken in and how many
-    /// refused. At each connection these puts stand in the order of the sends; what stands behind them is of the send that the publisher is in. Each release gave
-    /// its sample back.
+    /// The calls that ended, in their order. As long as at most 2^63 steps were made: each was answered in its own kind, and
+    /// those of one party don't overlap; the receives gave just the slots that were taken at each connection, in that order, but
+    /// for the one that a receive has in hand; and each send has one put at each connection of its publisher, of its slot and
+    /// inside it, one connection after the other, and counts how many were taken in and how many refused. At each connection
+    /// these puts stand in the order of the sends; what stands behind them is of the send that the publisher is in. Each release
+    /// gave its sample back.
     pub fn finished(&self) -> &[FinishedCall]
         ensures value { result.now ≡ self.now.finished }
         ensures receipts { ReceiptsFollow self.now }
@@ -216,7 +226,8 @@ impl Lanes {
         self.state.finished.as_slice()
     }
 
-    /// The words that finished reads loaded, one read after the other: header, user header and payload of each. Each read tells where its words begin.
+    /// The words that finished reads loaded, one read after the other: header, user header and payload of each. Each read tells
+    /// where its words begin.
     pub fn words_read(&self) -> &[u64]
         ensures value { result.now ≡ self.now.read }
         ensures reads { ReadsLie self.now }

@@ -5,7 +5,8 @@ use iox_queues_steps::rings::RingKind;
 use std::alloc::AllocError;
 use std::marker::Model;
 
-/// A connection: which publisher sends to which subscriber, by their numbers, what its ring of messages does, and what waited before the first step.
+/// A connection: which publisher sends to which subscriber, by their numbers, what its ring of messages does, and what waited
+/// before the first step.
 #[derive(Drop)]
 pub struct Link {
     pub(crate) publisher: u64,

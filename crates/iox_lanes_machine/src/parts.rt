@@ -19,8 +19,8 @@ impl Lanes {
         &self.state.table
     }
 
-    /// The publishers, by their numbers. As long as at most 2^63 steps were made, each has slots of its own alone in its history, and no more of them than it
-    /// may.
+    /// The publishers, by their numbers. As long as at most 2^63 steps were made, each has slots of its own alone in its history,
+    /// and no more of them than it may.
     pub fn publishers(&self) -> &[PublisherLane]
         ensures value { result.now ≡ self.now.publishers }
         ensures histories { HistoriesAreOwn self.now }
@@ -35,9 +35,10 @@ impl Lanes {
         self.state.subscribers.as_slice()
     }
 
-    /// What all lanes are: ports, connections and words are those of one service, and the slots of each publisher lie before those of the publishers behind
-    /// it; each cell of a ring names a slot. As long as at most 2^63 steps were made, no read position is beyond its write position, what waits at a connection and what a
-    /// history has are slots of its publisher, and no more wait at a connection between calls than may.
+    /// What all lanes are: ports, connections and words are those of one service, and the slots of each publisher lie before
+    /// those of the publishers behind it; each cell of a ring names a slot. As long as at most 2^63 steps were made, no read
+    /// position is beyond its write position, what waits at a connection and what a history has are slots of its publisher, and
+    /// no more wait at a connection between calls than may.
     pub fn are_of_one_service(&self)
         ensures within { IsWithin self.now }
         ensures rows { SlotsInRows self.now }

@@ -94,8 +94,8 @@ fn have_samples(lanes: &[SubscriberLane], slots: u64) -> bool
 }
 
 impl Lanes {
-    /// Why these lanes can't be handed on, where they can't: a party is inside a call, or none is and a loan or a sample is out. None where all parties stand
-    /// between calls and nothing is out.
+    /// Why these lanes can't be handed on, where they can't: a party is inside a call, or none is and a loan or a sample is out.
+    /// None where all parties stand between calls and nothing is out.
     pub fn unrest(&self) -> Option<Unrest>
         ensures some { IfSome result (λ unrest. IsUnrest unrest self.now) }
         ensures none { IfNone result (AllBetween self.now × NoneOut self.now) }

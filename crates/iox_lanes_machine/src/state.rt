@@ -313,7 +313,8 @@ impl State {
 
     fn go_on_publisher(&mut self, place: usize)
         requires within { IsWithin (world_of self.old) }
-        requires call { party_ends (world_of self.old) (Party.Publisher place) ≡ true → vec_len self.old.finished < vec_capacity self.old.finished }
+        requires call { party_ends (world_of self.old) (Party.Publisher place) ≡ true
+            → vec_len self.old.finished < vec_capacity self.old.finished }
         ensures { world_of self.new ≡ publisher_goes_on (world_of self.old) place (slice_get self.old.publishers.items place) }
     {
         if let Some(lane) = self.publishers.get_mut(place) {
@@ -332,8 +333,10 @@ impl State {
 
     fn go_on_subscriber(&mut self, place: usize)
         requires within { IsWithin (world_of self.old) }
-        requires call { party_ends (world_of self.old) (Party.Subscriber place) ≡ true → vec_len self.old.finished < vec_capacity self.old.finished }
-        requires words { vec_len self.old.read + length (words_ending (world_of self.old) (Party.Subscriber place)) ≤ vec_capacity self.old.read }
+        requires call { party_ends (world_of self.old) (Party.Subscriber place) ≡ true
+            → vec_len self.old.finished < vec_capacity self.old.finished }
+        requires words { vec_len self.old.read + length (words_ending (world_of self.old) (Party.Subscriber place))
+            ≤ vec_capacity self.old.read }
         ensures { world_of self.new ≡ subscriber_goes_on (world_of self.old) place (slice_get self.old.subscribers.items place) }
     {
         if let Some(lane) = self.subscribers.get_mut(place) {

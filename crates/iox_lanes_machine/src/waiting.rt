@@ -61,8 +61,8 @@ impl State {
 impl Lanes {
     /// How many messages wait at a connection: as many as lie between the positions of its ring, and no more than may wait there.
     ///
-    /// Where its publisher and its subscriber are between calls, and at most 2^63 steps were made, just these wait there by its order. As long as at most 2^63
-    /// steps were made, what waits there by its order are slots of its publisher's own.
+    /// Where its publisher and its subscriber are between calls, and at most 2^63 steps were made, just these wait there by its
+    /// order. As long as at most 2^63 steps were made, what waits there by its order are slots of its publisher's own.
     pub fn waiting(&self, connection: u64) -> u64
         requires { connection < length self.now.links }
         ensures few { (link : LinkState) → slice_get self.now.links connection ≡ Some link → result ≤ link.limit }
@@ -74,10 +74,12 @@ impl Lanes {
 
     /// The slot of the message that waits at this place of a connection, the oldest at 0.
     ///
-    /// Where its publisher and its subscriber are between calls, and at most 2^63 steps were made, it is the one that waits there by its order.
+    /// Where its publisher and its subscriber are between calls, and at most 2^63 steps were made, it is the one that waits there
+    /// by its order.
     pub fn waiting_slot(&self, connection: u64, at: u64) -> u64
         requires { connection < length self.now.links }
-        ensures { Rests self.now connection → at < length (mail_at self.now connection) → slice_get (mail_at self.now connection) at ≡ Some result }
+        ensures { Rests self.now connection → at < length (mail_at self.now connection)
+            → slice_get (mail_at self.now connection) at ≡ Some result }
     {
         let positions = self.state.positions(connection);
         self.state

@@ -1,4 +1,4 @@
--- Who decides by an object, and who waits at a full mailbox.
+-- Who decides by an object, and who waits or fails at a full mailbox.
 use Rattle.std.specs.Prelude.{ℕ, ◌&&◌, ◌||◌, Bool, true, false, is_none, not, List, Option, None, Some}
 use Rattle.std.specs.List.{list_any}
 use Rattle.iox_domain.specs.DomainValues.Actions.{decision_of}
@@ -34,7 +34,8 @@ is_kept_object None = false
 is_kept_object (Some handler) = is_object handler
 
 -- An object that the caller made decides for some port.
-abbrev pub has_handlers : {T U X Y Z : Type 0} {F : X → Type 0} {G : Y → Type 0} {H : Z → Type 0} → Domain T U (Handlers X Y F G) (DegradationHandler Z H) → Bool
+abbrev pub has_handlers : {T U X Y Z : Type 0} {F : X → Type 0} {G : Y → Type 0} {H : Z → Type 0}
+    → Domain T U (Handlers X Y F G) (DegradationHandler Z H) → Bool
 has_handlers domain = list_any (λ entry. has_object (kept_under entry.0 domain.state.publisher_handlers)) domain.state.ports.publishers
     || list_any (λ entry. is_kept_object (kept_under entry.0 domain.state.subscriber_handlers)) domain.state.ports.subscribers
 
@@ -55,10 +56,22 @@ abbrev pub would_wait : {X Y : Type 0} {F : X → Type 0} {G : Y → Type 0} →
 would_wait None = true
 would_wait (Some handlers) = is_retry (decision_of handlers.strategy (fixed_answer handlers.backpressure))
 
+-- whether that is to pass over the mailbox and to fail
+abbrev pub is_failure : BackpressureDecision → Bool
+is_failure decided.Retry = false
+is_failure decided.DiscardData = false
+is_failure decided.DiscardDataAndFail = true
+
+-- whether a send fails at a full mailbox: the fixed action says so
+abbrev pub would_fail : {X Y : Type 0} {F : X → Type 0} {G : Y → Type 0} → Option (Handlers X Y F G) → Bool
+would_fail None = false
+would_fail (Some handlers) = is_failure (decision_of handlers.strategy (fixed_answer handlers.backpressure))
+
 -- whether a publisher that didn't leave would wait at a full mailbox
 abbrev pub retries : {T U X Y : Type 0} {F : X → Type 0} {G : Y → Type 0} → List (ℕ × Handlers X Y F G) → ℕ × PublisherPort T U → Bool
 retries handlers entry = entry.1.stands && would_wait (kept_under entry.0 handlers)
 
 -- A full mailbox doesn't drop its oldest message, and a send of some publisher would wait there.
 abbrev pub is_retrying : {T U X Y D : Type 0} {F : X → Type 0} {G : Y → Type 0} → Domain T U (Handlers X Y F G) D → Bool
-is_retrying domain = not domain.state.ports.sizes.enable_safe_overflow && list_any (retries domain.state.publisher_handlers) domain.state.ports.publishers
+is_retrying domain = not domain.state.ports.sizes.enable_safe_overflow
+    && list_any (retries domain.state.publisher_handlers) domain.state.ports.publishers

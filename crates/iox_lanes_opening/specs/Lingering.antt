@@ -43,7 +43,8 @@ leads_nowhere publishers (Some attached) = not (stands_in attached.publisher pub
 
 -- whether a subscriber holds a sample, or a connection of it expired or leads to a publisher that left
 abbrev pub has_left_over : {T U : Type 0} → List (ℕ × PublisherPort T U) → SubscriberPort → Bool
-has_left_over publishers port = nat_lt 0 port.held || (nat_lt 0 (length port.expired.items) || list_any (leads_nowhere publishers) port.connections.values)
+has_left_over publishers port = nat_lt 0 port.held
+    || (nat_lt 0 (length port.expired.items) || list_any (leads_nowhere publishers) port.connections.values)
 
 -- whether the subscriber of a number is on the list, at its place
 abbrev pub is_listed_subscriber : RollState SubscriberEntry → ℕ → SubscriberPort → Bool
@@ -51,8 +52,10 @@ is_listed_subscriber list number port = is_member (λ entry. entry.subscriber) n
 
 -- whether a subscriber left, or something is left over of it
 abbrev pub subscriber_lingers : {T U : Type 0} → RollState SubscriberEntry → List (ℕ × PublisherPort T U) → ℕ × SubscriberPort → Bool
-subscriber_lingers list publishers entry = not entry.1.stands || (not (is_listed_subscriber list entry.0 entry.1) || has_left_over publishers entry.1)
+subscriber_lingers list publishers entry = not entry.1.stands
+    || (not (is_listed_subscriber list entry.0 entry.1) || has_left_over publishers entry.1)
 
 -- A loan or a sample is out, a connection whose publisher left still stands, expired or at its place, or a port that left isn't gone.
 abbrev pub is_lingering : {T U : Type 0} → ServicePorts T U → Bool
-is_lingering ports = list_any (publisher_lingers ports.publisher_list) ports.publishers || list_any (subscriber_lingers ports.subscriber_list ports.publishers) ports.subscribers
+is_lingering ports = list_any (publisher_lingers ports.publisher_list) ports.publishers
+    || list_any (subscriber_lingers ports.subscriber_list ports.publishers) ports.subscribers

@@ -30,7 +30,8 @@ abbrev pub has_growing : {T U : Type 0} → ServicePorts T U → Bool
 has_growing ports = list_any (λ entry. may_grow entry.1.allocation) ports.publishers
 
 -- The first of the reasons that applies; none where none does.
-abbrev pub first_reason : {T U X Y Z : Type 0} {F : X → Type 0} {G : Y → Type 0} {H : Z → Type 0} → Domain T U (Handlers X Y F G) (DegradationHandler Z H) → Option IntoLanesError
+abbrev pub first_reason : {T U X Y Z : Type 0} {F : X → Type 0} {G : Y → Type 0} {H : Z → Type 0}
+    → Domain T U (Handlers X Y F G) (DegradationHandler Z H) → Option IntoLanesError
 first_reason domain =
     if is_blocked domain.state.ports then Some reason.Blocked
     else if not (is_up_to_date domain.state.ports) then Some reason.ConnectionsNotUpToDate

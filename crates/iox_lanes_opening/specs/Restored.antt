@@ -34,9 +34,11 @@ MayWaitAt lanes from first index sender (Some place) = MayWaitAll lanes (from + 
 
 -- Only what waits at connections and the history have changed. What the lanes leave at a connection waits at that of its index,
 -- if it may, and nothing at one of which the lanes have none; and the history is that of the lanes, if it may be.
-pub record IsRestored {T U : Type 0} (value_of : List ℕ → T) (header_of : List ℕ → U) (lanes : World) (from : ℕ) (indices : List ℕ) (first : ℕ) (history : List ℕ) (old new : SenderState T U) : Type 0 where
+pub record IsRestored {T U : Type 0} (value_of : List ℕ → T) (header_of : List ℕ
+    → U) (lanes : World) (from : ℕ) (indices : List ℕ) (first : ℕ) (history : List ℕ) (old new : SenderState T U) : Type 0 where
   pub rest : new ≡ with_uses (record old.uses { history = new.uses.history; connections = new.uses.connections }) old
   pub count : length new.uses.connections ≡ length old.uses.connections
   pub each : (index : ℕ) → connection_at index new.uses ≡ with_waiting (connection_at index old.uses) (connection_at index new.uses).waiting
-  pub waits : (index : ℕ) → MayWaitAt lanes from first index old (place_of index indices) → (connection_at index new.uses).waiting ≡ left_at value_of header_of lanes from first (place_of index indices)
+  pub waits : (index : ℕ) → MayWaitAt lanes from first index old (place_of index indices)
+      → (connection_at index new.uses).waiting ≡ left_at value_of header_of lanes from first (place_of index indices)
   pub remembers : MayRememberAll lanes.table history first old → new.uses.history ≡ messages_in value_of header_of lanes.table first history

@@ -22,9 +22,11 @@ abbrev pub IsLeft : {T U : Type 0} → (List ℕ → T) → (List ℕ → U) →
 IsLeft value_of header_of table first message = message ≡ message_in value_of header_of table first message.slot
 
 -- each message of the history and of the connections is the one that lies in its slot
-pub record AreLeft {T U : Type 0} (value_of : List ℕ → T) (header_of : List ℕ → U) (table : TableWords) (first : ℕ) (uses : Uses (Loan T U) (Message T U)) : Type 0 where
+pub record AreLeft {T U : Type 0} (value_of : List ℕ → T) (header_of : List ℕ
+    → U) (table : TableWords) (first : ℕ) (uses : Uses (Loan T U) (Message T U)) : Type 0 where
   pub history : All (IsLeft value_of header_of table first) uses.history
-  pub connections : All (λ connection. All (IsLeft value_of header_of table first) connection.waiting × All (IsLeft value_of header_of table first) connection.borrowed) uses.connections
+  pub connections : All (λ connection. All (IsLeft value_of header_of table first) connection.waiting
+      × All (IsLeft value_of header_of table first) connection.borrowed) uses.connections
 
 -- a publisher sends nothing, lends nothing, and has room for a value in each slot
 pub record IsQuiet {T U : Type 0} (sender : SenderState T U) : Type 0 where

@@ -36,4 +36,5 @@ deals_in_slices port = not (port.unit == 1) || (not (port.sender.room == 1) || k
 
 -- The messages of a domain are slices, or some publisher deals in slices.
 abbrev pub has_slices : {T U B D : Type 0} → Domain T U B D → Bool
-has_slices domain = is_dynamic domain.agreed.types.payload.variant || list_any (λ entry. deals_in_slices entry.1) domain.state.ports.publishers
+has_slices domain = is_dynamic domain.agreed.types.payload.variant
+    || list_any (λ entry. deals_in_slices entry.1) domain.state.ports.publishers

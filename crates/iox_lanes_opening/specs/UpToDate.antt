@@ -36,7 +36,8 @@ reads_from publisher index subscriber (Some key) = is_of publisher index (attach
 -- subscriber's place go to goes on, the subscriber reads there, and by the key that it has for the publisher's place.
 abbrev pub shares : {T U : Type 0} → ℕ → ℕ → PublisherPort T U → ℕ → SubscriberPort → Option ℕ → Bool
 shares place number port reader subscriber None = false
-shares place number port reader subscriber (Some index) = is_read_by reader port index && reads_from number index subscriber (get_or subscriber.places.items place None)
+shares place number port reader subscriber (Some index) = is_read_by reader port index
+    && reads_from number index subscriber (get_or subscriber.places.items place None)
 
 -- the same of the connection that the publisher's messages for the subscriber's place go to
 abbrev pub is_joined_to : {T U : Type 0} → ℕ → ℕ → PublisherPort T U → ℕ → ℕ → SubscriberPort → Bool
@@ -49,7 +50,8 @@ is_joined_if place number port other reader (Some subscriber) = is_joined_to pla
 
 -- whether a publisher shares a connection with the subscriber that is listed at a place
 abbrev pub is_connected : {T U : Type 0} → ℕ → ℕ → PublisherPort T U → List (ℕ × SubscriberPort) → ℕ → SubscriberEntry → Bool
-is_connected place number port subscribers other entry = is_joined_if place number port other entry.subscriber (subscriber_of entry.subscriber subscribers)
+is_connected place number port subscribers other entry
+    = is_joined_if place number port other entry.subscriber (subscriber_of entry.subscriber subscribers)
 
 -- whether a publisher has followed the list of subscribers as it is, and shares a connection with each of them
 abbrev pub is_current_port : {T U : Type 0} → ServicePorts T U → ℕ → ℕ → Option (PublisherPort T U) → Bool
@@ -72,4 +74,5 @@ is_current_subscriber ports entry = is_current_reader ports (subscriber_of entry
 
 -- Each listed port has followed the list of the others as it is, and each listed publisher shares a connection with each listed subscriber.
 abbrev pub is_up_to_date : {T U : Type 0} → ServicePorts T U → Bool
-is_up_to_date ports = of_each_listed (is_current_publisher ports) 0 ports.publisher_list.places && of_each_listed (λ place entry. is_current_subscriber ports entry) 0 ports.subscriber_list.places
+is_up_to_date ports = of_each_listed (is_current_publisher ports) 0 ports.publisher_list.places
+    && of_each_listed (λ place entry. is_current_subscriber ports entry) 0 ports.subscriber_list.places

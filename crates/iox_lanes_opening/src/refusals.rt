@@ -2,7 +2,7 @@
 //!
 //! - [`into_lanes_error`]: the reasons.
 //! - [`up_to_date`]: whether each port follows the others as they are, and is connected to them.
-//! - [`deciding`]: who decides by an object, and who waits at a full mailbox.
+//! - [`deciding`]: who decides by an object, and who waits or fails at a full mailbox.
 //! - [`lingering`]: what is still out, and who left and isn't gone.
 //! - [`slices`]: what isn't one value.
 //! - [`reasons`]: the first reason that applies.

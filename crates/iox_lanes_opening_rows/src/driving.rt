@@ -62,6 +62,12 @@ pub(crate) const PLAIN: Plan = Plan {
     asked: Asked::Nobody,
 };
 
+/// The same, whose sends fail at a full mailbox.
+pub(crate) const FAILING: Plan = Plan {
+    asked: Asked::Fixed(BackpressureAction::DiscardDataAndFail),
+    ..PLAIN
+};
+
 /// What is done to the domain, and what comes of it.
 pub(crate) enum Step {
     /// A publisher comes, of so many loans, and of so many slots if that is named; its number.
@@ -74,6 +80,8 @@ pub(crate) enum Step {
     Watch(u64),
     /// A publisher sends a value; what comes of it.
     Put(u64, u64, Sent),
+    /// A publisher sends a value that it is unable to deliver.
+    Fails(u64, u64),
     /// A publisher sends so many values, from 0 on; what comes of each.
     Puts(u64, u64, Sent),
     /// A publisher lends so many values, and the loan is kept.
@@ -356,6 +364,20 @@ fn sends(
     }
 }
 
+// A slot with this value, which is lent and written.
+fn written(
+    domain: &mut Numbers,
+    alloc: Global,
+    number: u64,
+    value: u64,
+) -> Result<Option<usize>, AllocError> {
+    let loan = lent(domain, alloc, number, 1)?;
+    if let Some(slot) = loan {
+        domain.state.ports.write_payload(number, slot, value);
+    }
+    Ok(loan)
+}
+
 // Whether this comes of a value that is lent, written and sent.
 fn puts(
     domain: &mut Numbers,
@@ -364,13 +386,26 @@ fn puts(
     value: u64,
     sent: Sent,
 ) -> Result<bool, AllocError> {
-    match lent(domain, alloc, number, 1) {
-        Ok(Some(slot)) => {
-            domain.state.ports.write_payload(number, slot, value);
-            sends(domain, alloc, number, slot, sent)
-        }
-        Ok(None) => Ok(false),
-        Err(error) => Err(error),
+    match written(domain, alloc, number, value)? {
+        Some(slot) => sends(domain, alloc, number, slot, sent),
+        None => Ok(false),
+    }
+}
+
+// Whether a publisher is unable to deliver a value that is lent, written and sent.
+fn fails(domain: &mut Numbers, alloc: Global, number: u64, value: u64) -> Result<bool, AllocError> {
+    match written(domain, alloc, number, value)? {
+        Some(slot) => is_failure(domain.state.send(alloc, number, slot)),
+        None => Ok(false),
+    }
+}
+
+// Whether a send was unable to deliver.
+fn is_failure(answer: Option<Result<Sent, SendError>>) -> Result<bool, AllocError> {
+    match answer {
+        Some(Err(SendError::UnableToDeliver)) => Ok(true),
+        Some(Err(SendError::ConnectionError(_))) => Err(AllocError),
+        _ => Ok(false),
     }
 }
 
@@ -461,6 +496,7 @@ fn hands_on(
     match *step {
         Step::Lend(number, values) => lend(domain, kept, alloc, number, values),
         Step::Put(number, value, sent) => puts(domain, alloc, number, value, sent),
+        Step::Fails(number, value) => fails(domain, alloc, number, value),
         Step::Puts(number, count, sent) => puts_all(domain, alloc, number, count, sent),
         Step::Send(number, sent) => sends(domain, alloc, number, kept.loan, sent),
         Step::Hold(number, value) => holds(domain, kept, alloc, number, value),

@@ -2,7 +2,7 @@
 use iox_lanes_base::calls::{Delivery, Receipt};
 use iox_lanes_machine::Lanes;
 use iox_lanes_parties::publisher::LoanAnswer;
-use iox_lanes_parties::{Answer, Call, Move, Party};
+use iox_lanes_parties::{Answer, Call, Move, Party, SendAnswer};
 use iox_queues_steps::Stepped;
 use std::alloc::{AllocError, Global};
 use std::process::Abort;
@@ -15,6 +15,8 @@ pub(crate) enum Lane {
     Nothing(usize),
     /// A publisher sends a value: so many connections take it, and so many refuse it.
     Sends(usize, u64, u64, u64),
+    /// A publisher sends a value that it is unable to deliver: so many connections take it all the same, and so many refuse it.
+    Fails(usize, u64, u64, u64),
     /// A publisher lends so many slots, and then this is answered.
     Lends(usize, u64, LoanAnswer),
     /// So many messages stand in the history of a publisher.
@@ -144,7 +146,12 @@ fn goes(alloc: Global, lanes: &mut Lanes, step: &Lane) -> Result<bool, AllocErro
         Lane::Gets(place, number, value) => gets(lanes, place, number, value),
         Lane::Nothing(place) => gets_nothing(lanes, place),
         Lane::Sends(place, value, taken, refused) => {
-            send(alloc, lanes, place, value)? == Some(Answer::Sent(Delivery { taken, refused }))
+            let told = SendAnswer::Delivered(Delivery { taken, refused });
+            send(alloc, lanes, place, value)? == Some(Answer::Sent(told))
+        }
+        Lane::Fails(place, value, taken, refused) => {
+            let told = SendAnswer::UnableToDeliver(Delivery { taken, refused });
+            send(alloc, lanes, place, value)? == Some(Answer::Sent(told))
         }
         Lane::Lends(place, count, last) => lends(lanes, place, count, last),
         Lane::Keeps(place, count) => keeps(lanes, place, count),

@@ -1,5 +1,5 @@
 //! What the ports of a domain do in threads, and the domain that these leave.
-use crate::driving::{Service, Step};
+use crate::driving::{FAILING, Service, Step};
 use crate::lanes::Lane;
 use crate::threads::Turn;
 use crate::ways::{Case, Next, Then, go_all};
@@ -64,16 +64,67 @@ const PAIR: [Step; 3] = [
 
 const NO_STEP: [Lane; 0] = [];
 
+// One message may wait, and a full mailbox refuses.
+const NARROW: Service = Service {
+    variant: TypeVariant::FixedSize,
+    overflow: false,
+    buffer: 1,
+    history: 0,
+};
+
+// Two publishers, of which the first one fails at a full mailbox.
+const FAILS: [Step; 7] = [
+    Step::Subscribe(1, None),
+    Step::Come(2, FAILING),
+    Step::Publish(3, 1, None),
+    Step::Follow(1),
+    Step::Put(2, 21, Sent::Delivered(1)),
+    Step::Fails(2, 22),
+    Step::Take(1, 21),
+];
+
+const FAILS_BY_LANES: [Lane; 6] = [
+    Lane::Sends(0, 23, 1, 0),
+    Lane::Fails(0, 24, 0, 1),
+    Lane::Sends(1, 31, 1, 0),
+    Lane::Sends(1, 32, 0, 1),
+    Lane::Gets(0, 2, 23),
+    Lane::Sends(0, 25, 1, 0),
+];
+
+const FAILS_IN_THREADS: [Turn; 4] = [
+    Turn::Fails(0, 26, 1),
+    Turn::Gets(0, 2, 25),
+    Turn::Sends(0, 27, 1),
+    Turn::Fails(0, 28, 1),
+];
+
+const FAILS_AGAIN: [Step; 4] = [
+    Step::Put(2, 29, Sent::Delivered(1)),
+    Step::Fails(2, 30),
+    Step::Put(3, 33, Sent::Delivered(1)),
+    Step::Put(3, 34, Sent::Delivered(0)),
+];
+
 const BEGUN: [Lane; 1] = [Lane::Begins(Party::Publisher(0))];
 
 const LENT: [Lane; 1] = [Lane::Lends(0, 1, LoanAnswer::ExceedsMaxLoans)];
 
-const CASES: [Case; 4] = [
+const CASES: [Case; 5] = [
     Case {
         name: "by calls and lanes and in threads and by calls",
         service: &SERVICE,
         steps: &PORTS,
         then: Then::Opens(&LANES, Next::Threads(&TURNS, &AGAIN)),
+    },
+    Case {
+        name: "a publisher that fails at a full mailbox",
+        service: &NARROW,
+        steps: &FAILS,
+        then: Then::Opens(
+            &FAILS_BY_LANES,
+            Next::Threads(&FAILS_IN_THREADS, &FAILS_AGAIN),
+        ),
     },
     Case {
         name: "all come back where a port is missing",

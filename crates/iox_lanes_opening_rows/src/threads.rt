@@ -1,6 +1,7 @@
 //! What the ports of a domain do in threads.
 use iox_lanes::threads::DomainThreads;
 use iox_lanes_base::calls::{Delivery, Receipt};
+use iox_lanes_parties::SendAnswer;
 use iox_lanes_parties::publisher::LoanAnswer;
 use iox_lanes_threads::{LanePublisher, LaneSubscriber};
 use std::process::Abort;
@@ -14,10 +15,12 @@ pub(crate) enum Turn {
     Nothing(usize),
     /// A publisher sends a value: so many connections take it.
     Sends(usize, u64, u64),
+    /// A publisher sends a value that it is unable to deliver: so many connections refuse it, and no other is there.
+    Fails(usize, u64, u64),
 }
 
 // What a publisher's send of a value answers.
-fn send(port: &mut LanePublisher, value: u64) -> Option<Delivery> {
+fn send(port: &mut LanePublisher, value: u64) -> Option<SendAnswer> {
     let Some(LoanAnswer::Slot(loan)) = port.loan_uninit() else {
         return None;
     };
@@ -54,7 +57,12 @@ fn goes(rt: &impl Wait, threads: &mut DomainThreads<u64, u8>, turn: &Turn) -> Op
         }
         Turn::Sends(place, value, taken) => {
             let all = Delivery { taken, refused: 0 };
-            send(threads.publishers.get_mut(place)?, value) == Some(all)
+            send(threads.publishers.get_mut(place)?, value) == Some(SendAnswer::Delivered(all))
+        }
+        Turn::Fails(place, value, refused) => {
+            let none = Delivery { taken: 0, refused };
+            let told = SendAnswer::UnableToDeliver(none);
+            send(threads.publishers.get_mut(place)?, value) == Some(told)
         }
     })
 }

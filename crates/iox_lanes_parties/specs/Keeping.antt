@@ -12,8 +12,8 @@ use Rattle.iox_lanes_base.specs.declared.calls.subscriber.SubscriberCall.TheVari
 use Rattle.iox_lanes_base.specs.declared.calls.subscriber.SubscriberChange.{SubscriberChange}
 use Rattle.iox_lanes_base.specs.declared.calls.subscriber.SubscriberChange.TheVariants.{Nothing, Borrow, Note, GiveBack}
 
--- A subscriber. `routes` are its connections, `borrowed` how many samples of each it borrows, `samples` for each slot the place of the connection that it
--- is borrowed of, `words` what it read last.
+-- A subscriber. `routes` are its connections, `borrowed` how many samples of each it borrows, `samples` for each slot the place
+-- of the connection that it is borrowed of, `words` what it read last.
 pub record SubscriberState : Type 0 where
   pub routes : List Route
   pub extent : SlotExtent
@@ -58,9 +58,11 @@ counted_down list at = put_at list at (get_or list at 0 - 1)
 -- a sample is borrowed or given back, or a word of it was read
 abbrev pub changed : SubscriberChange → SubscriberState → SubscriberState
 changed Nothing state = state
-changed (Borrow place slot) state = record state { borrowed = counted_up state.borrowed place; samples = put_at state.samples slot (Some place) }
+changed (Borrow place slot) state = record state
+    { borrowed = counted_up state.borrowed place; samples = put_at state.samples slot (Some place) }
 changed (Note word value) state = record state { words = put_at state.words word value }
-changed (GiveBack place slot) state = record state { borrowed = counted_down state.borrowed place; samples = put_at state.samples slot None }
+changed (GiveBack place slot) state
+    = record state { borrowed = counted_down state.borrowed place; samples = put_at state.samples slot None }
 
 -- after the answer of the next access
 abbrev pub after_answer : ℕ → SubscriberState → SubscriberState

@@ -4,5 +4,6 @@ pub mod Within
 pub mod Keeping
 pub mod PublisherKeeping
 pub mod Publishers
+pub mod SendAnswers
 pub use Rattle.iox_lanes_base.specs as LanesBase
 pub use Rattle.iox_lanes_base.specs.QueuesSteps as QueuesSteps

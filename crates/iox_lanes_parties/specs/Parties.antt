@@ -16,6 +16,7 @@ use Rattle.iox_lanes_parties.specs.declared.publisher.slot_book.LoanAnswer.{Loan
 use Rattle.iox_lanes_parties.specs.declared.publisher.slot_book.LoanAnswer.TheVariants as loan_answer
 use Rattle.iox_lanes_parties.specs.Keeping as subscribers
 use Rattle.iox_lanes_parties.specs.Keeping.{SubscriberState}
+use Rattle.iox_lanes_parties.specs.SendAnswers.{send_answer}
 use Rattle.iox_lanes_parties.specs.declared.call.Call.{Call}
 use Rattle.iox_lanes_parties.specs.declared.call.Call.TheVariants as call
 use Rattle.iox_lanes_parties.specs.declared.call.CallName.{CallName}
@@ -25,9 +26,11 @@ use Rattle.iox_lanes_parties.specs.declared.call.Move.TheVariants.{Begin, GoOn}
 use Rattle.iox_lanes_parties.specs.declared.call.Answer.{Answer}
 use Rattle.iox_lanes_parties.specs.declared.call.Answer.TheVariants as answer
 
--- A publisher: its port, for each of its slots the header and user header that a send stores, and the call that it began last, at its first moment.
+-- A publisher: its port, for each of its slots the header and user header that a send stores, whether its sends fail at a full
+-- mailbox, and the call that it began last, at its first moment.
 pub record PublisherLaneState : Type 0 where
   pub port : PublisherState
+  pub fails : Bool
   pub heads : List (List ℕ)
   pub call : CallName
   pub first : ℕ
@@ -58,9 +61,9 @@ lane_resized slots most_loans lane = record lane { port = publishers.with_slots 
 abbrev pub with_origin : ℕ → ℕ → List ℕ → List ℕ
 with_origin node_id publisher_id head = if nat_lt 1 (length head) then set (set head 0 node_id) 1 publisher_id else head
 
--- so do the headers of all slots of a publisher
-abbrev pub lane_named : ℕ → ℕ → PublisherLaneState → PublisherLaneState
-lane_named node_id publisher_id lane = record lane { heads = map (with_origin node_id publisher_id) lane.heads }
+-- so do the headers of all slots of a publisher, whose sends fail at a full mailbox or don't
+abbrev pub lane_named : ℕ → ℕ → Bool → PublisherLaneState → PublisherLaneState
+lane_named node_id publisher_id fails lane = record lane { fails = fails; heads = map (with_origin node_id publisher_id) lane.heads }
 
 -- two connections of a subscriber change places
 abbrev pub receiver_swapped : ℕ → ℕ → SubscriberLaneState → SubscriberLaneState
@@ -163,19 +166,20 @@ abbrev pub lent : Option LoanAnswer → Answer
 lent None = answer.Lent loan_answer.OutOfMemory
 lent (Some given) = answer.Lent given
 
--- what a publisher's call answers, if its next step is its last; `loan` is what a loan says after that step
-abbrev pub publisher_answer : PublisherCall → Option LoanAnswer → Option Answer
-publisher_answer publishing.Idle loan = None
-publisher_answer (publishing.LoanReclaims place route pop) loan = None
-publisher_answer publishing.Lending loan = Some (lent loan)
-publisher_answer (publishing.Writing slot word value) loan = None
-publisher_answer (publishing.Written slot) loan = Some answer.Written
-publisher_answer (publishing.Heading slot word value) loan = None
-publisher_answer (publishing.Remembering slot) loan = None
-publisher_answer (publishing.SendReclaims slot place route pop) loan = None
-publisher_answer (publishing.Pushing slot place route push delivery) loan = None
-publisher_answer (publishing.Sent slot delivery) loan = Some (answer.Sent delivery)
-publisher_answer (publishing.Dropping slot) loan = Some answer.Dropped
+-- what a publisher's call answers, if its next step is its last; `loan` is what a loan says after that step, and `fails` whether a
+-- send fails at a full mailbox
+abbrev pub publisher_answer : Bool → PublisherCall → Option LoanAnswer → Option Answer
+publisher_answer fails publishing.Idle loan = None
+publisher_answer fails (publishing.LoanReclaims place route pop) loan = None
+publisher_answer fails publishing.Lending loan = Some (lent loan)
+publisher_answer fails (publishing.Writing slot word value) loan = None
+publisher_answer fails (publishing.Written slot) loan = Some answer.Written
+publisher_answer fails (publishing.Heading slot word value) loan = None
+publisher_answer fails (publishing.Remembering slot) loan = None
+publisher_answer fails (publishing.SendReclaims slot place route pop) loan = None
+publisher_answer fails (publishing.Pushing slot place route push delivery) loan = None
+publisher_answer fails (publishing.Sent slot delivery) loan = Some (answer.Sent (send_answer fails delivery))
+publisher_answer fails (publishing.Dropping slot) loan = Some answer.Dropped
 
 -- the place of the connection that a subscriber borrows a slot of
 abbrev pub place_of : ℕ → SubscriberLaneState → Option ℕ

@@ -8,8 +8,9 @@ use Rattle.iox_lanes_parties.specs.declared.publisher.slot_book.LoanMark.TheVari
 use Rattle.iox_lanes_parties.specs.declared.publisher.slot_book.LoanAnswer.{LoanAnswer}
 use Rattle.iox_lanes_parties.specs.declared.publisher.slot_book.LoanAnswer.TheVariants as answer
 
--- The slots of a publisher begin at `first`. `out` loans are out, of at most `most_loans`; `loans` says which slots are, `history` are the last messages, of
--- at most `kept`, the oldest first; `referred` says for each connection and slot whether the connection has it, `uses` how many uses each slot has.
+-- The slots of a publisher begin at `first`. `out` loans are out, of at most `most_loans`; `loans` says which slots are,
+-- `history` are the last messages, of at most `kept`, the oldest first; `referred` says for each connection and slot whether the
+-- connection has it, `uses` how many uses each slot has.
 pub record BookState : Type 0 where
   pub first : ℕ
   pub most_loans : ℕ
@@ -107,7 +108,8 @@ lent_from book (Some index) = record book {
 
 -- fewer loans are out than may be, and a slot is free
 abbrev pub lent : BookState → BookState
-lent book = if nat_lt book.out book.most_loans then lent_from book (first_free book.uses 0) else record book { answer = Some answer.ExceedsMaxLoans }
+lent book = if nat_lt book.out book.most_loans then lent_from book (first_free book.uses 0) else record book
+    { answer = Some answer.ExceedsMaxLoans }
 
 -- a loan is written
 abbrev pub marked : ℕ → BookState → BookState

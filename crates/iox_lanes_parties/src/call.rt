@@ -1,4 +1,7 @@
 //! What may be asked of lanes, and what they answered.
+ghost use Rattle.std.specs.Prelude.{◌≡◌};
+ghost use Rattle.iox_lanes_parties.specs.SendAnswers.{delivery_in, send_answer};
+
 use crate::publisher::LoanAnswer;
 use iox_lanes_base::calls::{Delivery, Receipt};
 
@@ -70,6 +73,41 @@ pub enum CallName {
     Release { sample: u64 },
 }
 
+/// What a send answered.
+#[derive(Clone, Copy, Debug, PartialEq, Eq)]
+pub enum SendAnswer {
+    /// The message was delivered.
+    Delivered(Delivery),
+    /// The publisher fails at a full mailbox, and one refused the message. The others took it all the same.
+    UnableToDeliver(Delivery),
+}
+
+impl SendAnswer {
+    /// What a publisher tells of a delivery, that fails at a full mailbox or doesn't.
+    ///
+    /// Example: `SendAnswer::of(true, delivery)` is `UnableToDeliver(delivery)` where `delivery.refused` is 1.
+    pub fn of(fails: bool, delivery: Delivery) -> SendAnswer
+        ensures { result ≡ send_answer fails delivery }
+    {
+        if fails && delivery.refused > 0 {
+            SendAnswer::UnableToDeliver(delivery)
+        } else {
+            SendAnswer::Delivered(delivery)
+        }
+    }
+
+    /// To how many connections the message went, and how many refused it.
+    ///
+    /// Example: `answer.delivery().taken`.
+    pub fn delivery(&self) -> Delivery
+        ensures { result ≡ delivery_in self.now }
+    {
+        match *self {
+            SendAnswer::Delivered(delivery) | SendAnswer::UnableToDeliver(delivery) => delivery,
+        }
+    }
+}
+
 /// What a call answered.
 #[derive(Clone, Copy, Debug, PartialEq, Eq)]
 pub enum Answer {
@@ -77,8 +115,8 @@ pub enum Answer {
     Lent(LoanAnswer),
     /// The loan is written.
     Written,
-    /// To how many connections the message went.
-    Sent(Delivery),
+    /// What a send answered.
+    Sent(SendAnswer),
     /// The loan is given up.
     Dropped,
     /// What a receive answered.

@@ -23,7 +23,7 @@ pub mod publisher_lane;
 pub mod subscriber;
 pub mod subscriber_lane;
 
-pub use call::{Answer, Call, CallName, Entry, FinishedCall, Move, Party};
+pub use call::{Answer, Call, CallName, Entry, FinishedCall, Move, Party, SendAnswer};
 pub use head::Head;
 pub use publisher_lane::PublisherLane;
 pub use subscriber_lane::SubscriberLane;

@@ -3,7 +3,8 @@
 //! - [`slot_book`]: what its slots are used for.
 //! - [`lane_publisher`]: the publisher.
 //!
-//! First calls, of a loan of a publisher that nobody is connected to; `Lanes` of `iox_lanes_machine` makes them with the words of a service.
+//! First calls, of a loan of a publisher that nobody is connected to; `Lanes` of `iox_lanes_machine` makes them with the words of
+//! a service.
 //!
 //! ```
 //! let book = SlotBook::new(alloc, 8, 2, 0, most_loans, 0)?;

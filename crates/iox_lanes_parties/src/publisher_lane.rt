@@ -6,7 +6,7 @@ ghost use Rattle.iox_lanes_parties.specs.PublisherKeeping.{may_have, may_remembe
 ghost use Rattle.iox_lanes_parties.specs.Publishers.{words_of};
 ghost use Rattle.iox_lanes_parties.specs.Parties.{lane_found, lane_meets, lane_named, lane_remembers, lane_resized, name_of, is_out, is_written, publisher_may, publisher_fits, publisher_begun, publisher_after, publisher_answer, lent, index_of, head_of, kept, send_begun};
 
-use crate::call::{Answer, Call, CallName, Move};
+use crate::call::{Answer, Call, CallName, Move, SendAnswer};
 use crate::head::Head;
 use crate::publisher::{LanePublisher, LoanAnswer, LoanMark};
 use iox_lanes_base::calls::{PublisherCall, Route};
@@ -14,10 +14,12 @@ use iox_lanes_base::words::SharedAccess;
 use std::alloc::{AllocError, Global};
 use std::marker::Model;
 
-/// A publisher, the header and user header that each of its slots will be sent with, and the call that it began last.
+/// A publisher, the header and user header that each of its slots will be sent with, whether its sends fail at a full mailbox, and
+/// the call that it began last.
 #[derive(Drop)]
 pub struct PublisherLane {
     port: LanePublisher,
+    fails: bool,
     heads: Vec<Head>,
     call: CallName,
     first: u64,
@@ -28,16 +30,17 @@ impl Model for PublisherLane {
 
     ghost Value = { PublisherLaneState };
 
-    ghost view = { λ l. record { port = l.port; heads = l.heads.items; call = l.call; first = l.first } };
+    ghost view = { λ l. record { port = l.port; fails = l.fails; heads = l.heads.items; call = l.call; first = l.first } };
 }
 
 impl PublisherLane {
-    /// A publisher between calls whose slots will be sent with these headers.
+    /// A publisher between calls whose slots will be sent with these headers, and whose sends don't fail at a full mailbox.
     pub fn new(port: LanePublisher, heads: Vec<Head>) -> PublisherLane
-        ensures { result ≡ record { port = port; heads = heads.items; call = CallName.LoanUninit; first = 0 } }
+        ensures { result ≡ record { port = port; fails = false; heads = heads.items; call = CallName.LoanUninit; first = 0 } }
     {
         PublisherLane {
             port,
+            fails: false,
             heads,
             call: CallName::LoanUninit,
             first: 0,
@@ -146,7 +149,7 @@ impl PublisherLane {
     #[inline(always)]
     pub fn go_on(&mut self, given: u64) -> Option<Answer>
         ensures lane { self.new ≡ publisher_after given self.old }
-        ensures answer { result ≡ publisher_answer self.old.port.call self.new.port.book.answer }
+        ensures answer { result ≡ publisher_answer self.old.fails self.old.port.call self.new.port.book.answer }
         ensures ends { is_some result ≡ publisher_is_over self.old.port.call }
     {
         match *self.port.call() {
@@ -160,7 +163,7 @@ impl PublisherLane {
             }
             PublisherCall::Sent { delivery, .. } => {
                 self.port.take(given);
-                Some(Answer::Sent(delivery))
+                Some(Answer::Sent(SendAnswer::of(self.fails, delivery)))
             }
             PublisherCall::Dropping { .. } => {
                 self.port.take(given);
@@ -213,6 +216,13 @@ impl PublisherLane {
         ensures { result ≡ self.now.port.book.most_loans }
     {
         self.port.most_loans()
+    }
+
+    /// Whether its sends fail at a full mailbox: then a send that a mailbox refuses is `UnableToDeliver`.
+    pub fn fails(&self) -> bool
+        ensures { result ≡ self.now.fails }
+    {
+        self.fails
     }
 
     /// Of how many of the last messages its history is.
@@ -294,10 +304,11 @@ impl PublisherLane {
         self.heads.truncate(slots as usize);
     }
 
-    /// From now on the headers of its messages say this node and this publisher.
-    pub fn name(&mut self, node_id: u64, publisher_id: u64)
-        ensures { self.new ≡ lane_named node_id publisher_id self.old }
+    /// From now on the headers of its messages say this node and this publisher, and its sends fail at a full mailbox or don't.
+    pub fn name(&mut self, node_id: u64, publisher_id: u64, fails: bool)
+        ensures { self.new ≡ lane_named node_id publisher_id fails self.old }
     {
+        self.fails = fails;
         for head in self.heads.iter_mut() {
             head.name(node_id, publisher_id);
         }

@@ -138,7 +138,8 @@ impl SubscriberLane {
 
     fn begin_release(&mut self, moment: u64, sample: u64)
         requires { subscriber_is_idle self.old.port.call ≡ true }
-        ensures { self.new ≡ release_begun moment sample (place_of sample self.old) (route_at (place_of sample self.old) self.old) self.old }
+        ensures { self.new ≡ release_begun moment sample (place_of sample self.old) (route_at (place_of sample self.old) self.old)
+            self.old }
     {
         let Some(place) = self.place(sample) else {
             return;
@@ -168,7 +169,8 @@ impl SubscriberLane {
         }
     }
 
-    /// Goes on after the answer of that access. It tells what the call answers, if that was its last step; the words of a read begin at `from`.
+    /// Goes on after the answer of that access. It tells what the call answers, if that was its last step; the words of a read
+    /// begin at `from`.
     #[inline(always)]
     pub fn go_on(&mut self, given: u64, from: usize) -> Option<Answer>
         ensures lane { self.new ≡ subscriber_after given self.old }

@@ -3,7 +3,7 @@ use crate::service::{lanes, read_back, sent};
 use iox_lanes_base::calls::{Delivery, Receipt};
 use iox_lanes_machine::Lanes;
 use iox_lanes_parties::publisher::LoanAnswer;
-use iox_lanes_parties::{Answer, Call, Move, Party};
+use iox_lanes_parties::{Answer, Call, Move, Party, SendAnswer};
 use iox_lanes_threads::{LanePublisher, LaneSubscriber, LaneThreads, end, open_threads};
 use iox_queues_steps::rings::RingKind;
 use std::alloc::{AllocError, Global};
@@ -12,10 +12,10 @@ use std::test::Fail;
 
 const PUBLISHER: Party = Party::Publisher(0);
 
-const BOTH: Delivery = Delivery {
+const BOTH: SendAnswer = SendAnswer::Delivered(Delivery {
     taken: 2,
     refused: 0,
-};
+});
 
 // Makes a whole call of the first publisher, which no call of these sizes takes so many steps to end, and gives its answer.
 fn whole(lanes: &mut Lanes, call: Call) -> Option<Answer> {

@@ -1,8 +1,8 @@
 //! A service of two publishers and two subscribers, with payloads of 8 words.
 ghost use Rattle.std.specs.Prelude.{◌≡◌};
 
-use iox_lanes_base::calls::Delivery;
 use iox_lanes_machine::{LaneSizes, Lanes};
+use iox_lanes_parties::SendAnswer;
 use iox_lanes_parties::publisher::LoanAnswer;
 use iox_lanes_threads::{LanePublisher, LaneSubscriber};
 use iox_queues_steps::rings::RingKind;
@@ -53,8 +53,8 @@ pub(crate) fn narrow_lanes(alloc: Global, kind: RingKind) -> Result<Lanes, Alloc
     Lanes::new(alloc, narrow_sizes(kind))
 }
 
-/// Sends this word eight times over; how many took it, and how many refused it.
-pub(crate) fn sent(port: &mut LanePublisher, value: u64) -> Option<Delivery> {
+/// Sends this word eight times over; what that answered.
+pub(crate) fn sent(port: &mut LanePublisher, value: u64) -> Option<SendAnswer> {
     let Some(LoanAnswer::Slot(loan)) = port.loan_uninit() else {
         return None;
     };

@@ -1,7 +1,8 @@
 //! Numbers through four threads: two publishers and two subscribers.
 use crate::service::lanes;
 use crate::start::Start;
-use iox_lanes_base::calls::{Delivery, Receipt};
+use iox_lanes_base::calls::Receipt;
+use iox_lanes_parties::SendAnswer;
 use iox_lanes_parties::publisher::LoanAnswer;
 use iox_lanes_threads::{LanePublisher, LaneSubscriber, LaneThreads, end, open_threads};
 use iox_queues_steps::rings::RingKind;
@@ -24,8 +25,8 @@ fn word(publisher: u64, number: u64, place: u64) -> u64 {
         .saturating_add(place)
 }
 
-// How many took the number, and how many refused it.
-fn send(port: &mut LanePublisher, publisher: u64, number: u64) -> Option<Delivery> {
+// What the send of a number answered.
+fn send(port: &mut LanePublisher, publisher: u64, number: u64) -> Option<SendAnswer> {
     let Some(LoanAnswer::Slot(loan)) = port.loan_uninit() else {
         return None;
     };
@@ -60,7 +61,7 @@ fn send_numbers(port: &mut LanePublisher, publisher: u64) -> bool {
     }
     for _ in 0..TRIES {
         match send(port, publisher, COUNT) {
-            Some(delivery) if delivery.taken == 2 => return true,
+            Some(told) if told.delivery().taken == 2 => return true,
             Some(_) => thread::yield_now(),
             None => return false,
         }

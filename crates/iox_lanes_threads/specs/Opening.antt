@@ -41,7 +41,8 @@ publishers_from m place (lane ∷ lanes) = opened m place (Publisher place) (par
 -- subscribers as ports, from a place on: they are numbered behind all publishers
 abbrev pub subscribers_from : World → ℕ → List SubscriberLaneState → List Port
 subscribers_from m place [] = []
-subscribers_from m place (lane ∷ lanes) = opened m (length m.publishers + place) (Subscriber place) (party.Subscriber lane) ∷ subscribers_from m (place + 1) lanes
+subscribers_from m place (lane ∷ lanes) = opened m (length m.publishers + place) (Subscriber place) (party.Subscriber lane)
+    ∷ subscribers_from m (place + 1) lanes
 
 -- all ports of lanes
 abbrev pub ports_of : World → List Port

@@ -11,7 +11,8 @@ use Rattle.iox_lanes_threads.specs.Opening.{opened}
 -- each publisher of a list, from a place on, stands so and is between calls
 abbrev pub PublishersStand : World → ℕ → List PublisherLaneState → Type 0
 PublishersStand m place [] = Unit {0}
-PublishersStand m place (lane ∷ lanes) = PublisherStands (opened m place (Publisher place) (party.Publisher lane)) lane × PublishersStand m (place + 1) lanes
+PublishersStand m place (lane ∷ lanes) = PublisherStands (opened m place (Publisher place) (party.Publisher lane)) lane
+    × PublishersStand m (place + 1) lanes
 
 -- each subscriber likewise
 abbrev pub SubscribersStand : World → ℕ → List SubscriberLaneState → Type 0

@@ -105,8 +105,11 @@ pub fn end(
     publishers: Vec<LanePublisher>,
     subscribers: Vec<LaneSubscriber>,
 ) -> Result<EndedThreads, (EndError, LaneThreads)>
-    ensures ended { IfOk result (λ ended. AreAll board publishers.items subscribers.items × (ended.publishers.items ≡ map (λ p. p.own.lane) publishers.items) × (ended.subscribers.items ≡ map (λ s. s.own.lane) subscribers.items)) }
-    ensures refused { IfErr result (λ refused. (AreAll board publishers.items subscribers.items → ⊥) × (refused.1 ≡ record { board = board; publishers = publishers; subscribers = subscribers })) }
+    ensures ended { IfOk result (λ ended. AreAll board publishers.items subscribers.items
+        × (ended.publishers.items ≡ map (λ p. p.own.lane) publishers.items)
+        × (ended.subscribers.items ≡ map (λ s. s.own.lane) subscribers.items)) }
+    ensures refused { IfErr result (λ refused. (AreAll board publishers.items subscribers.items → ⊥)
+        × (refused.1 ≡ record { board = board; publishers = publishers; subscribers = subscribers })) }
 {
     if !are_all(&board, &publishers, &subscribers) {
         let threads = LaneThreads {

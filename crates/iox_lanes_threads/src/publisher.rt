@@ -7,9 +7,8 @@ ghost use Rattle.iox_lanes_threads.specs.Ports.{StaysPublisher};
 
 use crate::table::Share;
 use crate::threads::OnBoard;
-use iox_lanes_base::calls::Delivery;
-use iox_lanes_parties::PublisherLane;
 use iox_lanes_parties::publisher::LoanAnswer;
+use iox_lanes_parties::{PublisherLane, SendAnswer};
 use iox_lanes_threads_ports::ThreadedPublisher;
 use std::marker::Model;
 
@@ -77,19 +76,22 @@ impl LanePublisher {
         ensures same { StaysPublisher self.old self.new }
         ensures call { Writes self.old.own loan payload.now user_header.now self.new.own result }
         ensures payload { result ≡ true → KnowsPayload self.new.own.port loan payload.now }
-        ensures header { result ≡ true → head_of loan self.new.own.lane ≡ with_user_header (head_of loan self.old.own.lane) user_header.now }
+        ensures header { result ≡ true → head_of loan self.new.own.lane
+            ≡ with_user_header (head_of loan self.old.own.lane) user_header.now }
     {
         self.port
             .write(self.words.words(), loan, payload, user_header)
     }
 
-    /// Sends a loan that is written, and tells how many connections took it. None where the slot is no such loan of this port, or
-    /// as of a loan.
-    pub fn send(&mut self, loan: u64) -> Option<Delivery>
+    /// Sends a loan that is written, and tells how many connections took it. It is `UnableToDeliver` just where the publisher
+    /// fails at a full mailbox and one refused. None where the slot is no such loan of this port, or as of a loan.
+    pub fn send(&mut self, loan: u64) -> Option<SendAnswer>
         ensures same { StaysPublisher self.old self.new }
         ensures call { Sends self.old.own loan self.new.own result }
-        ensures slot { is_some result ≡ true → KnowsHead self.new.own.port loan (head_of loan self.old.own.lane) × KeepsPayload self.old.own.port self.new.own.port loan }
-        ensures sent { IfSome result (λ delivery. KnowsSent self.old.own.port self.new.own.port self.old.own.lane.port.routes loan delivery) }
+        ensures slot { is_some result ≡ true → KnowsHead self.new.own.port loan (head_of loan self.old.own.lane)
+            × KeepsPayload self.old.own.port self.new.own.port loan }
+        ensures sent { IfSome result (λ told. KnowsSent self.old.own.port self.new.own.port self.old.own.lane.fails
+            self.old.own.lane.port.routes loan told) }
     {
         self.port.send(self.words.words(), loan)
     }

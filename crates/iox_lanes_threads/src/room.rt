@@ -127,10 +127,12 @@ fn seat_publishers(
     requires sizes { (sizes ≡ of.now.value.table.sizes) × IsSmall sizes × (home.old.table_id.words ≡ words_of sizes) }
     requires home { home.old.me ≡ (first_view of.now.value, []) }
     requires shares { All (λ share. share ≡ home.old.table_id) shares.items }
-    requires enough { (length lanes.items ≡ length shares.items) × (length lanes.items ≡ length writes.items) × All (HasRoom sizes) writes.items }
+    requires enough { (length lanes.items ≡ length shares.items) × (length lanes.items ≡ length writes.items)
+        × All (HasRoom sizes) writes.items }
     requires room { (seated.items ≡ []) × (length lanes.items ≤ vec_capacity seated) }
     ensures seated { result.items ≡ opened_publishers board home.old.table_id of.now.value 0 lanes.items }
-    ensures home { (home.new.table_id ≡ home.old.table_id) × (home.new.me ≡ (waits (length lanes.items) (subscribers_from of.now.value 0 of.now.value.subscribers), [])) }
+    ensures home { (home.new.table_id ≡ home.old.table_id)
+        × (home.new.me ≡ (waits (length lanes.items) (subscribers_from of.now.value 0 of.now.value.subscribers), [])) }
 {
     let mut rest = lanes.into_iter();
     while let Some(lane) = rest.next() {

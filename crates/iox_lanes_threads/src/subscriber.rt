@@ -63,7 +63,8 @@ impl LaneSubscriber {
     /// Asks for a message. It may go on forever where its publishers move a ring on again and again.
     pub fn receive<R: Wait>(&mut self, rt: &R) -> Receipt
         ensures same { StaysSubscriber self.old self.new }
-        ensures call { SubscriberEnds self.old.own.port (subscriber_begun 0 Call.Receive self.old.own.lane) self.new.own.port self.new.own.lane (Answer.Received result) }
+        ensures call { SubscriberEnds self.old.own.port (subscriber_begun 0 Call.Receive self.old.own.lane) self.new.own.port
+            self.new.own.lane (Answer.Received result) }
     {
         self.port.receive(rt, self.words.words())
     }
@@ -73,7 +74,8 @@ impl LaneSubscriber {
         ensures same { StaysSubscriber self.old self.new }
         ensures call { Reads self.old.own sample self.new.own result }
         ensures words { result ≡ true → KnowsRead self.new.own.port self.old.own.lane.port.extent sample self.new.own.words }
-        ensures whole { result ≡ true → length self.new.own.words ≡ 3 + self.old.own.lane.port.extent.user_header_words + self.old.own.lane.port.extent.payload_words }
+        ensures whole { result ≡ true → length self.new.own.words
+            ≡ 3 + self.old.own.lane.port.extent.user_header_words + self.old.own.lane.port.extent.payload_words }
     {
         self.port.read(self.words.words(), sample)
     }
@@ -85,7 +87,7 @@ impl LaneSubscriber {
         self.port.words()
     }
 
-    /// Gives a sample back, and answers whether it went back, which it does. None where the slot is no sample of this port.
+    /// Gives a sample back, and answers whether it went back. None where the slot is no sample of this port.
     pub fn release(&mut self, sample: u64) -> Option<bool>
         ensures same { StaysSubscriber self.old self.new }
         ensures call { Releases self.old.own sample self.new.own result }

@@ -83,7 +83,8 @@ impl Split<View> for GiveOut {
 /// A table that starts from the words of lanes, with a seat at which all their ports wait. It fails only where an allocation fails.
 pub(crate) fn open_table(alloc: Global, lanes: &Lanes) -> Result<(LaneTable, WordSeat), AllocError>
     requires { Fitting lanes.now }
-    ensures { IfOk result (λ made. (made.1.table_id ≡ made.0.shared.table_id) × WaitsFor lanes.now made.0.shared.table_id made.1.me 0 (ports_of lanes.now)) }
+    ensures { IfOk result (λ made. (made.1.table_id ≡ made.0.shared.table_id)
+        × WaitsFor lanes.now made.0.shared.table_id made.1.me 0 (ports_of lanes.now)) }
 {
     let from = OpenedFrom {
         lanes: Snapshot::of(lanes),

@@ -27,7 +27,8 @@ impl Model for Board {
 
     ghost view = { λ b. record { number = b.number; table = b.words; publishers = b.publishers; subscribers = b.subscribers } };
 
-    ghost invariant = { λ b. (b.publisher_room.items ≡ []) × (b.publishers ≤ vec_capacity b.publisher_room) × (b.subscriber_room.items ≡ []) × (b.subscribers ≤ vec_capacity b.subscriber_room) };
+    ghost invariant = { λ b. (b.publisher_room.items ≡ []) × (b.publishers ≤ vec_capacity b.publisher_room)
+        × (b.subscriber_room.items ≡ []) × (b.subscribers ≤ vec_capacity b.subscriber_room) };
 }
 
 /// A port of some board.

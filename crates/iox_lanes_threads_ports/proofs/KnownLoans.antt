@@ -1,5 +1,5 @@
 -- What a loan of a port in threads answers.
-use Rattle.std.proofs.Common.{ℕ, ◌≡◌, true, List, slice_get, Option, Some, None, sym, subst, inl, inr}
+use Rattle.std.proofs.Common.{ℕ, ◌≡◌, Bool, true, List, slice_get, Option, Some, None, sym, subst, inl, inr}
 use Rattle.iox_lanes_machine.specs.QueuesSteps.Access.{successor}
 use Rattle.iox_lanes_machine.specs.QueuesSteps.declared.order.PopAnswer.{PopAnswer}
 use Rattle.iox_lanes_machine.specs.QueuesSteps.declared.order.PopAnswer.TheVariants.{Got, Saw}
@@ -66,25 +66,25 @@ lends : (loan : Option LoanAnswer) (a : Answer) → Some (lent loan) ≡ Some a 
 lends None a e = (loan_answer.OutOfMemory, cc e)
 lends (Some given) a e = (given, cc e)
 
-over_answer : (c : PublisherCall) (loan : Option LoanAnswer) (a : Answer) → InLoan c → publisher_is_over c ≡ true → publisher_answer c loan ≡ Some a → (given : LoanAnswer) × (a ≡ answer.Lent given)
-over_answer publishing.Idle loan a h over e = absurd (cc e)
-over_answer (publishing.LoanReclaims place route pop) loan a h over e = absurd (cc over)
-over_answer publishing.Lending loan a h over e = lends loan a e
-over_answer (publishing.Writing slot word value) loan a h over e = absurd h
-over_answer (publishing.Written slot) loan a h over e = absurd h
-over_answer (publishing.Heading slot word value) loan a h over e = absurd h
-over_answer (publishing.Remembering slot) loan a h over e = absurd h
-over_answer (publishing.SendReclaims slot place route pop) loan a h over e = absurd h
-over_answer (publishing.Pushing slot place route push delivery) loan a h over e = absurd h
-over_answer (publishing.Sent slot delivery) loan a h over e = absurd h
-over_answer (publishing.Dropping slot) loan a h over e = absurd h
+over_answer : (fails : Bool) (c : PublisherCall) (loan : Option LoanAnswer) (a : Answer) → InLoan c → publisher_is_over c ≡ true → publisher_answer fails c loan ≡ Some a → (given : LoanAnswer) × (a ≡ answer.Lent given)
+over_answer fails publishing.Idle loan a h over e = absurd (cc e)
+over_answer fails (publishing.LoanReclaims place route pop) loan a h over e = absurd (cc over)
+over_answer fails publishing.Lending loan a h over e = lends loan a e
+over_answer fails (publishing.Writing slot word value) loan a h over e = absurd h
+over_answer fails (publishing.Written slot) loan a h over e = absurd h
+over_answer fails (publishing.Heading slot word value) loan a h over e = absurd h
+over_answer fails (publishing.Remembering slot) loan a h over e = absurd h
+over_answer fails (publishing.SendReclaims slot place route pop) loan a h over e = absurd h
+over_answer fails (publishing.Pushing slot place route push delivery) loan a h over e = absurd h
+over_answer fails (publishing.Sent slot delivery) loan a h over e = absurd h
+over_answer fails (publishing.Dropping slot) loan a h over e = absurd h
 
 loan_ends : (most : ℕ) (p : Port) (lane : PublisherLaneState) (q : Port) (now : PublisherLaneState) (a : Answer) → PublisherStands p lane → publisher_fits lane (Begin call.LoanUninit) ≡ true → PublisherEnds most p (publisher_begun 0 call.LoanUninit lane) q now a
     → (given : LoanAnswer) × (a ≡ answer.Lent given)
 loan_ends most p lane q now a stands fit run =
     let end = publisher_along (λ z l. InLoan l.port.call) (λ z l n there told h. loan_goes l.port.routes (call_words l.port) l.port.call n h) p (publisher_begun 0 call.LoanUninit lane) q run.last run.goes
     (publisher_begun_stands p lane (Begin call.LoanUninit) stands fit) (begins_loan 0 (slice_get lane.port.routes 0)) in
-    over_answer run.last.port.call now.port.book.answer a end.1 run.ends run.answers
+    over_answer run.last.fails run.last.port.call now.port.book.answer a end.1 run.ends run.answers
 
 -- what a loan does
 pub loan_called : (old new : PublisherPort) (given : Option Answer) → PublisherStands old.port old.lane → new.table ≡ old.table

@@ -45,6 +45,8 @@ use Rattle.iox_lanes_machine.specs.LanesParties.Publishers.{words_of as call_wor
 use Rattle.iox_lanes_machine.specs.LanesParties.declared.publisher.slot_book.LoanAnswer.{LoanAnswer}
 use Rattle.iox_lanes_machine.specs.LanesParties.Parties.{PublisherLaneState, publisher_fits, publisher_begun, publisher_after, publisher_answer, head_of}
 use Rattle.iox_lanes_machine.specs.LanesParties.Within.{IsPublishing, IsRoute}
+use Rattle.iox_lanes_machine.specs.LanesParties.SendAnswers.{send_answer}
+use Rattle.iox_lanes_machine.specs.LanesParties.declared.call.SendAnswer.{SendAnswer}
 use Rattle.iox_lanes_machine.specs.LanesParties.declared.call.Answer.TheVariants as answer
 use Rattle.iox_lanes_machine.specs.LanesParties.declared.call.Call.TheVariants as call
 use Rattle.iox_lanes_machine.specs.LanesParties.declared.call.Move.TheVariants.{Begin}
@@ -446,60 +448,72 @@ module _ (p : Port) (slot : ℕ) (q : Port) (now : PublisherLaneState) (stands :
   pushes_go (publishing.Dropping s) at is told h = absurd h
 
 -- a publisher that sends: few connections, and where it stands
-record Pushes (p : Port) (slot : ℕ) (routes : List Route) (q : Port) (lane : PublisherLaneState) : Type 0 where
+record Pushes (p : Port) (slot : ℕ) (fails : Bool) (routes : List Route) (q : Port) (lane : PublisherLaneState) : Type 0 where
   same : lane.port.routes ≡ routes
+  failing : lane.fails ≡ fails
   small : length lane.port.routes < 2 ^ 62
   stage : InPushes p slot lane.port.routes q lane.port.call
 
-pushes_on : (p : Port) (slot : ℕ) (routes : List Route) (q : Port) (now : PublisherLaneState) (n : ℕ) → PublisherStands q now → ToldBy q (publisher_next now.port.call) n → Pushes p slot routes q now
-    → Pushes p slot routes (publisher_stepped q now n) (publisher_after n now)
-pushes_on p slot routes q now n stands told h = record {
+pushes_on : (p : Port) (slot : ℕ) (fails : Bool) (routes : List Route) (q : Port) (now : PublisherLaneState) (n : ℕ) → PublisherStands q now → ToldBy q (publisher_next now.port.call) n → Pushes p slot fails routes q now
+    → Pushes p slot fails routes (publisher_stepped q now n) (publisher_after n now)
+pushes_on p slot fails routes q now n stands told h = record {
   same = h.same;
+  failing = h.failing;
   small = h.small;
   stage = pushes_go p slot q now stands n (publisher_party now) h.small now.port.call stands.within.call (publishers.of_table q now stands) told h.stage;
 }
 
-over_sent : (p : Port) (slot : ℕ) (routes : List Route) (q : Port) (c : PublisherCall) (loan : Option LoanAnswer) (delivery : Delivery) → InPushes p slot routes q c → publisher_answer c loan ≡ Some (answer.Sent delivery) → SentTo p q routes slot (length routes) delivery
-over_sent p slot routes q publishing.Idle loan delivery h e = absurd (cc e)
-over_sent p slot routes q (publishing.LoanReclaims place route pop) loan delivery h e = absurd h
-over_sent p slot routes q publishing.Lending loan delivery h e = absurd h
-over_sent p slot routes q (publishing.Writing s w v) loan delivery h e = absurd h
-over_sent p slot routes q (publishing.Written s) loan delivery h e = absurd h
-over_sent p slot routes q (publishing.Heading s w v) loan delivery h e = absurd (cc e)
-over_sent p slot routes q (publishing.Remembering s) loan delivery h e = absurd (cc e)
-over_sent p slot routes q (publishing.SendReclaims s place route pop) loan delivery h e = absurd (cc e)
-over_sent p slot routes q (publishing.Pushing s place route push given) loan delivery h e = absurd (cc e)
-over_sent p slot routes q (publishing.Sent s given) loan delivery h e = subst (SentTo p q routes slot (length routes)) (same_delivery e) h
-  where
-    same_delivery : Some (answer.Sent given) ≡ Some (answer.Sent delivery) → given ≡ delivery
-    same_delivery f = cc f
-over_sent p slot routes q (publishing.Dropping s) loan delivery h e = absurd h
+-- what a send tells that ends, and what it did
+record Told (p q : Port) (fails : Bool) (routes : List Route) (slot : ℕ) (given : SendAnswer) : Type 0 where
+  delivery : Delivery
+  told : given ≡ send_answer fails delivery
+  sent : SentTo p q routes slot (length routes) delivery
 
-sent_all : (p q : Port) (routes : List Route) (slot : ℕ) (delivery : Delivery) → SentTo p q routes slot (length routes) delivery → KnowsSent p q routes slot delivery
-sent_all p q routes slot delivery sent = record {
-  got = sent.got;
-  puts = λ place route found yes. sent.puts place route found (slice_get_within routes place route found) yes;
-  left = λ place route found no. sent.left place route found (slice_get_within routes place route found) no;
-  taken = sent.taken;
-  refused = sent.refused;
+over_sent : (p : Port) (slot : ℕ) (fails : Bool) (routes : List Route) (q : Port) (c : PublisherCall) (loan : Option LoanAnswer) (given : SendAnswer) → InPushes p slot routes q c → publisher_answer fails c loan ≡ Some (answer.Sent given) → Told p q fails routes slot given
+over_sent p slot fails routes q publishing.Idle loan given h e = absurd (cc e)
+over_sent p slot fails routes q (publishing.LoanReclaims place route pop) loan given h e = absurd h
+over_sent p slot fails routes q publishing.Lending loan given h e = absurd h
+over_sent p slot fails routes q (publishing.Writing s w v) loan given h e = absurd h
+over_sent p slot fails routes q (publishing.Written s) loan given h e = absurd h
+over_sent p slot fails routes q (publishing.Heading s w v) loan given h e = absurd (cc e)
+over_sent p slot fails routes q (publishing.Remembering s) loan given h e = absurd (cc e)
+over_sent p slot fails routes q (publishing.SendReclaims s place route pop) loan given h e = absurd (cc e)
+over_sent p slot fails routes q (publishing.Pushing s place route push delivery) loan given h e = absurd (cc e)
+over_sent p slot fails routes q (publishing.Sent s delivery) loan given h e = record { delivery = delivery; told = same_answer e; sent = h }
+  where
+    same_answer : Some (answer.Sent (send_answer fails delivery)) ≡ Some (answer.Sent given) → given ≡ send_answer fails delivery
+    same_answer f = cc f
+over_sent p slot fails routes q (publishing.Dropping s) loan given h e = absurd h
+
+sent_all : (p q : Port) (fails : Bool) (routes : List Route) (slot : ℕ) (given : SendAnswer) → Told p q fails routes slot given → KnowsSent p q fails routes slot given
+sent_all p q fails routes slot given t = record {
+  delivery = t.delivery;
+  told = t.told;
+  got = t.sent.got;
+  puts = λ place route found yes. t.sent.puts place route found (slice_get_within routes place route found) yes;
+  left = λ place route found no. t.sent.left place route found (slice_get_within routes place route found) no;
+  taken = t.sent.taken;
+  refused = t.sent.refused;
 }
 
 -- a send that was answered
-send_pushes : (most : ℕ) (p : Port) (lane : PublisherLaneState) (loan : ℕ) (q : Port) (now : PublisherLaneState) (delivery : Delivery) → IsSmall p.service.sizes → PublisherStands p lane → publisher_fits lane (Begin (call.Send loan)) ≡ true
-    → PublisherEnds most p (publisher_begun 0 (call.Send loan) lane) q now (answer.Sent delivery) → KnowsSent p q lane.port.routes loan delivery
-send_pushes most p lane loan q now delivery small stands fit run =
+send_pushes : (most : ℕ) (p : Port) (lane : PublisherLaneState) (loan : ℕ) (q : Port) (now : PublisherLaneState) (given : SendAnswer) → IsSmall p.service.sizes → PublisherStands p lane → publisher_fits lane (Begin (call.Send loan)) ≡ true
+    → PublisherEnds most p (publisher_begun 0 (call.Send loan) lane) q now (answer.Sent given) → KnowsSent p q lane.fails lane.port.routes loan given
+send_pushes most p lane loan q now given small stands fit run =
     let ready : PublisherStands p (publisher_begun 0 (call.Send loan) lane) = publisher_begun_stands p lane (Begin (call.Send loan)) stands fit in
     let few = few_connections p.service.sizes lane.port.routes stands.once stands.within.routes in
-    let first : Pushes p loan lane.port.routes p (publisher_begun 0 (call.Send loan) lane) = record {
+    let first : Pushes p loan lane.fails lane.port.routes p (publisher_begun 0 (call.Send loan) lane) = record {
       same = refl;
+      failing = refl;
       small = omega (arith, few, small_connections p.service.sizes small);
       stage = head_pushes p loan lane.port.routes p loan 0 (slice_get (head_of loan lane) 0) refl (λ place route found more. refl);
     } in
-    let end = publisher_along (Pushes p loan lane.port.routes) (pushes_on p loan lane.port.routes) p (publisher_begun 0 (call.Send loan) lane) q run.last run.goes ready first in
-    subst (λ (rs : List Route). KnowsSent p q rs loan delivery) end.1.same
-    (sent_all p q run.last.port.routes loan delivery (over_sent p loan run.last.port.routes q run.last.port.call now.port.book.answer delivery end.1.stage run.answers))
+    let end = publisher_along (Pushes p loan lane.fails lane.port.routes) (pushes_on p loan lane.fails lane.port.routes) p (publisher_begun 0 (call.Send loan) lane) q run.last run.goes ready first in
+    subst (λ (f : Bool). KnowsSent p q f lane.port.routes loan given) end.1.failing
+    (subst (λ (rs : List Route). KnowsSent p q run.last.fails rs loan given) end.1.same
+    (sent_all p q run.last.fails run.last.port.routes loan given (over_sent p loan run.last.fails run.last.port.routes q run.last.port.call now.port.book.answer given end.1.stage run.answers)))
 
-pub send_sent : (old new : PublisherPort) (loan : ℕ) (given : Option Delivery) → IsSmall old.port.service.sizes → PublisherStands old.port old.lane → Sends old loan new given
-    → IfSome given (λ delivery. KnowsSent old.port new.port old.lane.port.routes loan delivery)
+pub send_sent : (old new : PublisherPort) (loan : ℕ) (given : Option SendAnswer) → IsSmall old.port.service.sizes → PublisherStands old.port old.lane → Sends old loan new given
+    → IfSome given (λ told. KnowsSent old.port new.port old.lane.fails old.lane.port.routes loan told)
 send_sent old new loan None small stands does = tt
-send_sent old new loan (Some delivery) small stands does = send_pushes (send_steps old.port.service.sizes) old.port old.lane loan new.port new.lane delivery small stands does.0 does.1
+send_sent old new loan (Some told) small stands does = send_pushes (send_steps old.port.service.sizes) old.port old.lane loan new.port new.lane told small stands does.0 does.1

@@ -32,6 +32,8 @@ use Rattle.iox_lanes_machine.specs.LanesParties.declared.publisher.slot_book.Loa
 use Rattle.iox_lanes_machine.specs.LanesParties.Parties.{PublisherLaneState, publisher_fits, publisher_begun, publisher_after, publisher_answer, head_of}
 use Rattle.iox_lanes_machine.specs.LanesParties.Within.{IsPublishing}
 use Rattle.iox_lanes_machine.specs.LanesParties.declared.call.Answer.{Answer}
+use Rattle.iox_lanes_machine.specs.LanesParties.SendAnswers.{send_answer}
+use Rattle.iox_lanes_machine.specs.LanesParties.declared.call.SendAnswer.{SendAnswer}
 use Rattle.iox_lanes_machine.specs.LanesParties.declared.call.Answer.TheVariants as answer
 use Rattle.iox_lanes_machine.specs.LanesParties.declared.call.Call.TheVariants as call
 use Rattle.iox_lanes_machine.specs.LanesParties.declared.call.Move.TheVariants.{Begin}
@@ -237,22 +239,22 @@ over_known p slot head q (publishing.Pushing s place route push delivery) h over
 over_known p slot head q (publishing.Sent s delivery) h over = h
 over_known p slot head q (publishing.Dropping s) h over = absurd h
 
-over_answer : (p : Port) (slot : ℕ) (head : List ℕ) (q : Port) (c : PublisherCall) (loan : Option LoanAnswer) (a : Answer) → InSend p slot head q c → publisher_is_over c ≡ true → publisher_answer c loan ≡ Some a → (delivery : Delivery) × (a ≡ answer.Sent delivery)
-over_answer p slot head q publishing.Idle loan a h over e = absurd (cc e)
-over_answer p slot head q (publishing.LoanReclaims place route pop) loan a h over e = absurd h
-over_answer p slot head q publishing.Lending loan a h over e = absurd h
-over_answer p slot head q (publishing.Writing s w v) loan a h over e = absurd h
-over_answer p slot head q (publishing.Written s) loan a h over e = absurd h
-over_answer p slot head q (publishing.Heading s w v) loan a h over e = absurd (cc over)
-over_answer p slot head q (publishing.Remembering s) loan a h over e = absurd (cc over)
-over_answer p slot head q (publishing.SendReclaims s place route pop) loan a h over e = absurd (cc over)
-over_answer p slot head q (publishing.Pushing s place route push delivery) loan a h over e = absurd (cc over)
-over_answer p slot head q (publishing.Sent s delivery) loan a h over e = (delivery, cc e)
-over_answer p slot head q (publishing.Dropping s) loan a h over e = absurd h
+over_answer : (fails : Bool) (p : Port) (slot : ℕ) (head : List ℕ) (q : Port) (c : PublisherCall) (loan : Option LoanAnswer) (a : Answer) → InSend p slot head q c → publisher_is_over c ≡ true → publisher_answer fails c loan ≡ Some a → (given : SendAnswer) × (a ≡ answer.Sent given)
+over_answer fails p slot head q publishing.Idle loan a h over e = absurd (cc e)
+over_answer fails p slot head q (publishing.LoanReclaims place route pop) loan a h over e = absurd h
+over_answer fails p slot head q publishing.Lending loan a h over e = absurd h
+over_answer fails p slot head q (publishing.Writing s w v) loan a h over e = absurd h
+over_answer fails p slot head q (publishing.Written s) loan a h over e = absurd h
+over_answer fails p slot head q (publishing.Heading s w v) loan a h over e = absurd (cc over)
+over_answer fails p slot head q (publishing.Remembering s) loan a h over e = absurd (cc over)
+over_answer fails p slot head q (publishing.SendReclaims s place route pop) loan a h over e = absurd (cc over)
+over_answer fails p slot head q (publishing.Pushing s place route push delivery) loan a h over e = absurd (cc over)
+over_answer fails p slot head q (publishing.Sent s delivery) loan a h over e = (send_answer fails delivery, cc e)
+over_answer fails p slot head q (publishing.Dropping s) loan a h over e = absurd h
 
 -- a send that was answered
 send_ends : (most : ℕ) (p : Port) (lane : PublisherLaneState) (loan : ℕ) (q : Port) (now : PublisherLaneState) (a : Answer) → PublisherStands p lane → publisher_fits lane (Begin (call.Send loan)) ≡ true
-    → PublisherEnds most p (publisher_begun 0 (call.Send loan) lane) q now a → Headed p loan (head_of loan lane) q × ((delivery : Delivery) × (a ≡ answer.Sent delivery))
+    → PublisherEnds most p (publisher_begun 0 (call.Send loan) lane) q now a → Headed p loan (head_of loan lane) q × ((given : SendAnswer) × (a ≡ answer.Sent given))
 send_ends most p lane loan q now a stands fit run =
     let ready : PublisherStands p (publisher_begun 0 (call.Send loan) lane) = publisher_begun_stands p lane (Begin (call.Send loan)) stands fit in
     let mine = publishers.send_is_own lane loan fit in
@@ -266,7 +268,7 @@ send_ends most p lane loan q now a stands fit run =
     } in
     let end = publisher_along (Sends p loan (head_of loan lane)) (sends_on p loan (head_of loan lane)) p (publisher_begun 0 (call.Send loan) lane) q run.last run.goes ready first in (
       over_known p loan (head_of loan lane) q run.last.port.call end.1.stage run.ends,
-      over_answer p loan (head_of loan lane) q run.last.port.call now.port.book.answer a end.1.stage run.ends run.answers,
+      over_answer run.last.fails p loan (head_of loan lane) q run.last.port.call now.port.book.answer a end.1.stage run.ends run.answers,
     )
 
 pub send_known : (most : ℕ) (p : Port) (lane : PublisherLaneState) (loan : ℕ) (q : Port) (now : PublisherLaneState) (given : Option Answer) → PublisherStands p lane → PublisherDoes most p lane (Begin (call.Send loan)) q now given

@@ -166,18 +166,18 @@ none_taken slot payload p lane _ _ (goes q now n run told) place stands h =
     omega (arith, before, none_back slot payload q now.port.call n place was.1.stage)
 
 -- and answers that it was made
-over_answer : (slot : ℕ) (payload : List ℕ) (q : Port) (c : PublisherCall) (loan : Option LoanAnswer) (a : Answer) → InWrite slot payload q c → publisher_is_over c ≡ true → publisher_answer c loan ≡ Some a → a ≡ answer.Written
-over_answer slot payload q publishing.Idle loan a h over e = absurd (cc e)
-over_answer slot payload q (publishing.LoanReclaims at route pop) loan a h over e = absurd h
-over_answer slot payload q publishing.Lending loan a h over e = absurd h
-over_answer slot payload q (publishing.Writing s w v) loan a h over e = absurd (cc over)
-over_answer slot payload q (publishing.Written s) loan a h over e = cc e
-over_answer slot payload q (publishing.Heading s w v) loan a h over e = absurd h
-over_answer slot payload q (publishing.Remembering s) loan a h over e = absurd h
-over_answer slot payload q (publishing.SendReclaims s at route pop) loan a h over e = absurd h
-over_answer slot payload q (publishing.Pushing s at route push delivery) loan a h over e = absurd h
-over_answer slot payload q (publishing.Sent s delivery) loan a h over e = absurd h
-over_answer slot payload q (publishing.Dropping s) loan a h over e = absurd h
+over_answer : (fails : Bool) (slot : ℕ) (payload : List ℕ) (q : Port) (c : PublisherCall) (loan : Option LoanAnswer) (a : Answer) → InWrite slot payload q c → publisher_is_over c ≡ true → publisher_answer fails c loan ≡ Some a → a ≡ answer.Written
+over_answer fails slot payload q publishing.Idle loan a h over e = absurd (cc e)
+over_answer fails slot payload q (publishing.LoanReclaims at route pop) loan a h over e = absurd h
+over_answer fails slot payload q publishing.Lending loan a h over e = absurd h
+over_answer fails slot payload q (publishing.Writing s w v) loan a h over e = absurd (cc over)
+over_answer fails slot payload q (publishing.Written s) loan a h over e = cc e
+over_answer fails slot payload q (publishing.Heading s w v) loan a h over e = absurd h
+over_answer fails slot payload q (publishing.Remembering s) loan a h over e = absurd h
+over_answer fails slot payload q (publishing.SendReclaims s at route pop) loan a h over e = absurd h
+over_answer fails slot payload q (publishing.Pushing s at route push delivery) loan a h over e = absurd h
+over_answer fails slot payload q (publishing.Sent s delivery) loan a h over e = absurd h
+over_answer fails slot payload q (publishing.Dropping s) loan a h over e = absurd h
 
 -- a write of these words as it is asked for
 as_write : (lane : PublisherLaneState) (loan : ℕ) (payload user_header : List ℕ) (step : Move) → Asks loan payload user_header step
@@ -199,7 +199,7 @@ module _ (p : Port) (lane : PublisherLaneState) (loan : ℕ) (payload user_heade
   write_ends : (most : ℕ) (q : Port) (now : PublisherLaneState) (a : Answer) → PublisherEnds most p (write_begins lane loan payload user_header) q now a → KnowsPayload q loan payload × (a ≡ answer.Written)
   write_ends most q now a run =
       let end = publisher_along (Writing loan payload) (writing_on loan payload) p (write_begins lane loan payload user_header) q run.last run.goes stands writing_begins in
-      (over_known loan payload q run.last.port.call end.1.stage run.ends, over_answer loan payload q run.last.port.call now.port.book.answer a end.1.stage run.ends run.answers)
+      (over_known loan payload q run.last.port.call end.1.stage run.ends, over_answer run.last.fails loan payload q run.last.port.call now.port.book.answer a end.1.stage run.ends run.answers)
 
   never_inside : (most : ℕ) (q : Port) (now : PublisherLaneState) → StaysInside most p (write_begins lane loan payload user_header) q now → ⊥
   never_inside most q now run =

@@ -149,7 +149,7 @@ stays_local : (p : Port) (access : SharedAccess) (n : ℕ) (after : ℕ → Port
 stays_local p access n after e told = (subst (λ (a : SharedAccess). stepped p a n after ≡ p) (sym e) refl, subst (λ (a : SharedAccess). ToldBy p a n) e told)
 
 publisher_ends : (most made : ℕ) (p : Port) (lane : PublisherLaneState) (me : Me ℕ View) (now : PublisherLaneState) (me' : Me ℕ View) (now' : PublisherLaneState) (a : Answer) → made < most → Paced most made p lane (port_of me) now
-    → PublisherSteps (port_of me) now me' now' → publisher_is_over now.port.call ≡ true → publisher_answer now.port.call now'.port.book.answer ≡ Some a → PublisherEnds most p lane (port_of me') now' a
+    → PublisherSteps (port_of me) now me' now' → publisher_is_over now.port.call ≡ true → publisher_answer now.fails now.port.call now'.port.book.answer ≡ Some a → PublisherEnds most p lane (port_of me') now' a
 publisher_ends most made p lane me now me' now' a few run step over answers =
     let same = stays_local (port_of me) (publisher_next now.port.call) step.0 (publisher_party now) (publisher_over now.port.call over) step.1 in
     let port : port_of me' ≡ port_of me = ap port_of step.2 ∙ same.0 in
@@ -166,7 +166,7 @@ publisher_ends most made p lane me now me' now' a few run step over answers =
 
 -- a run that stops after its last step, by what that step answered
 pub publisher_stops : (most made : ℕ) (p : Port) (lane : PublisherLaneState) (me : Me ℕ View) (now : PublisherLaneState) (me' : Me ℕ View) (now' : PublisherLaneState) (a : Option Answer) → made < most → Paced most made p lane (port_of me) now
-    → PublisherSteps (port_of me) now me' now' → a ≡ publisher_answer now.port.call now'.port.book.answer → is_some a ≡ publisher_is_over now.port.call → is_some a ≡ true → PublisherRuns most p lane (port_of me') now' a
+    → PublisherSteps (port_of me) now me' now' → a ≡ publisher_answer now.fails now.port.call now'.port.book.answer → is_some a ≡ publisher_is_over now.port.call → is_some a ≡ true → PublisherRuns most p lane (port_of me') now' a
 publisher_stops most made p lane me now me' now' None few run step answers ends some = absurd (cc some)
 publisher_stops most made p lane me now me' now' (Some a) few run step answers ends some = publisher_ends most made p lane me now me' now' a few run step (sym ends) (sym answers)
 

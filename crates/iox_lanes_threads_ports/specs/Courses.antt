@@ -41,11 +41,13 @@ pub data SubscriberGoes (p : Port) (lane : SubscriberLaneState) : Port → Subsc
 
 -- one step of a publisher on the shared words, with what its answer tells
 abbrev pub PublisherSteps : Port → PublisherLaneState → Me ℕ View → PublisherLaneState → Type 0
-PublisherSteps p lane me now = (answer : ℕ) × ToldBy p (publisher_next lane.port.call) answer × (me ≡ single (publisher_stepped p lane answer)) × (now ≡ publisher_after answer lane)
+PublisherSteps p lane me now = (answer : ℕ) × ToldBy p (publisher_next lane.port.call) answer
+    × (me ≡ single (publisher_stepped p lane answer)) × (now ≡ publisher_after answer lane)
 
 -- one step of a subscriber
 abbrev pub SubscriberSteps : Port → SubscriberLaneState → Me ℕ View → SubscriberLaneState → Type 0
-SubscriberSteps p lane me now = (answer : ℕ) × ToldBy p (subscriber_next lane.port.call) answer × (me ≡ single (subscriber_stepped p lane answer)) × (now ≡ subscriber_after answer lane)
+SubscriberSteps p lane me now = (answer : ℕ) × ToldBy p (subscriber_next lane.port.call) answer
+    × (me ≡ single (subscriber_stepped p lane answer)) × (now ≡ subscriber_after answer lane)
 
 -- the steps of a subscriber's call up to its last, and that one, which answers
 pub record SubscriberEnds (p : Port) (lane : SubscriberLaneState) (q : Port) (now : SubscriberLaneState) (answer : Answer) : Type 0 where

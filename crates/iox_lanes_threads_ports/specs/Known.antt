@@ -15,6 +15,8 @@ use Rattle.iox_lanes_machine.specs.LanesBase.declared.calls.route.Route.{Route}
 use Rattle.iox_lanes_machine.specs.LanesBase.declared.calls.subscriber.SlotExtent.{SlotExtent}
 use Rattle.iox_lanes_machine.specs.LedgerUses.{total}
 use Rattle.iox_lanes_machine.specs.LanesParties.Parties.{SubscriberLaneState, place_of}
+use Rattle.iox_lanes_machine.specs.LanesParties.SendAnswers.{send_answer}
+use Rattle.iox_lanes_machine.specs.LanesParties.declared.call.SendAnswer.{SendAnswer}
 use Rattle.iox_lanes_threads_rule.specs.declared.view.Port.{Port}
 use Rattle.iox_lanes_threads_ports.specs.Ends.{knows}
 
@@ -53,7 +55,8 @@ KnowsGivenBack old new lane sample =
 
 -- a slot's payload is as it was
 abbrev pub KeepsPayload : Port → Port → ℕ → Type 0
-KeepsPayload old new slot = (k : ℕ) → k < old.service.sizes.payload_words → knows new (payload_word slot k) ≡ knows old (payload_word slot k)
+KeepsPayload old new slot = (k : ℕ) → k < old.service.sizes.payload_words
+    → knows new (payload_word slot k) ≡ knows old (payload_word slot k)
 
 -- a sample was not given back: the ring at the connection that it is borrowed of is as it was
 abbrev pub KeepsGivenBack : Port → Port → SubscriberLaneState → ℕ → Type 0
@@ -61,10 +64,15 @@ KeepsGivenBack old new lane sample =
     (place : ℕ) (route : Route) → place_of sample lane ≡ Some place → slice_get lane.port.routes place ≡ Some route → KeepsWrite old new route.connection Completion
 
 -- What a send did, by the places of its connections: those that got the slot have it in their rings of messages, and they are as
--- many as took it; the others refuse, and their rings are as they were.
-pub record KnowsSent (old new : Port) (routes : List Route) (slot : ℕ) (delivery : Delivery) : Type 0 where
+-- many as took it; the others refuse, and their rings are as they were. It tells so: it is unable to deliver just where the
+-- publisher fails at a full mailbox and some connection refused the slot.
+pub record KnowsSent (old new : Port) (fails : Bool) (routes : List Route) (slot : ℕ) (answer : SendAnswer) : Type 0 where
+  pub delivery : Delivery
+  pub told : answer ≡ send_answer fails delivery
   pub got : ℕ → Bool
-  pub puts : (place : ℕ) (route : Route) → slice_get routes place ≡ Some route → got place ≡ true → KnowsPut old new route.connection Submission route.submission_cells slot
-  pub left : (place : ℕ) (route : Route) → slice_get routes place ≡ Some route → got place ≡ false → (route.kind ≡ Refusing) × KeepsWrite old new route.connection Submission
+  pub puts : (place : ℕ) (route : Route) → slice_get routes place ≡ Some route → got place ≡ true
+      → KnowsPut old new route.connection Submission route.submission_cells slot
+  pub left : (place : ℕ) (route : Route) → slice_get routes place ≡ Some route → got place ≡ false → (route.kind ≡ Refusing)
+      × KeepsWrite old new route.connection Submission
   pub taken : delivery.taken ≡ total got (length routes)
   pub refused : delivery.refused ≡ total (λ place. not (got place)) (length routes)

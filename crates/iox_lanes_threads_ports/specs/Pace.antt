@@ -27,14 +27,18 @@ IsGoing sizes words (publishing.Dropping slot) = Unit {0}
 -- its steps, if it took so many back at each place already, and stores so many words
 abbrev pub steps_to_go : ℕ → ℕ → ℕ → (ℕ → ℕ) → PublisherCall → ℕ
 steps_to_go most connections words taken publishing.Idle = 0
-steps_to_go most connections words taken (publishing.LoanReclaims at route pop) = taking_left (most - taken at) pop + sweeps_left most (connections - at - 1) + 1
+steps_to_go most connections words taken (publishing.LoanReclaims at route pop)
+    = taking_left (most - taken at) pop + sweeps_left most (connections - at - 1) + 1
 steps_to_go most connections words taken publishing.Lending = 1
 steps_to_go most connections words taken (publishing.Writing slot word value) = words - word + 1
 steps_to_go most connections words taken (publishing.Written slot) = 1
-steps_to_go most connections words taken (publishing.Heading slot word value) = words - word + sweeps_left most connections + 6 * connections + 2
+steps_to_go most connections words taken (publishing.Heading slot word value)
+    = words - word + sweeps_left most connections + 6 * connections + 2
 steps_to_go most connections words taken (publishing.Remembering slot) = sweeps_left most connections + 6 * connections + 2
-steps_to_go most connections words taken (publishing.SendReclaims slot at route pop) = taking_left (most - taken at) pop + sweeps_left most (connections - at - 1) + 6 * connections + 1
-steps_to_go most connections words taken (publishing.Pushing slot at route push delivery) = pushing_left push + 6 * (connections - at - 1) + 1
+steps_to_go most connections words taken (publishing.SendReclaims slot at route pop)
+    = taking_left (most - taken at) pop + sweeps_left most (connections - at - 1) + 6 * connections + 1
+steps_to_go most connections words taken (publishing.Pushing slot at route push delivery)
+    = pushing_left push + 6 * (connections - at - 1) + 1
 steps_to_go most connections words taken (publishing.Sent slot delivery) = 1
 steps_to_go most connections words taken (publishing.Dropping slot) = 1
 

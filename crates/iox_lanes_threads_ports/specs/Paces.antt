@@ -51,13 +51,14 @@ abbrev pub send_steps : TableSizes → ℕ
 send_steps sizes = 3 + sizes.user_header_words + 1 + sweep_steps sizes + 6 * sizes.connections + 1
 
 -- the steps of a publisher's call up to its last, and that one, which answers: at most so many in all
-pub record PublisherEnds (most : ℕ) (p : Port) (lane : PublisherLaneState) (q : Port) (now : PublisherLaneState) (answer : Answer) : Type 0 where
+pub record PublisherEnds (most : ℕ) (p : Port) (lane : PublisherLaneState) (q : Port) (now : PublisherLaneState) (answer : Answer) :
+    Type 0 where
   pub last : PublisherLaneState
   pub goes : PublisherGoes p lane q last
   pub few : steps_in goes < most
   pub ends : publisher_is_over last.port.call ≡ true
   pub after : now ≡ publisher_after 0 last
-  pub answers : publisher_answer last.port.call now.port.book.answer ≡ Some answer
+  pub answers : publisher_answer last.fails last.port.call now.port.book.answer ≡ Some answer
 
 -- So many steps of a publisher's call, without its last. That is so only where one connection gave back more samples in this one
 -- call than its ring of samples given back has cells.

@@ -46,7 +46,8 @@ pub record IsEnd (s : Service) (end : Line → Party) (name : Party) (route : Ro
 
 -- no connection stands twice in the list
 abbrev pub EachOnce : List Route → Type 0
-EachOnce routes = (i j : ℕ) (one other : Route) → slice_get routes i ≡ Some one → slice_get routes j ≡ Some other → one.connection ≡ other.connection → i ≡ j
+EachOnce routes = (i j : ℕ) (one other : Route) → slice_get routes i ≡ Some one → slice_get routes j ≡ Some other
+    → one.connection ≡ other.connection → i ≡ j
 
 -- a slot of the publisher's own
 abbrev pub IsOwnSlot : BookState → ℕ → Type 0

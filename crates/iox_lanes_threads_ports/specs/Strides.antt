@@ -18,7 +18,8 @@ called call lane = record lane { port = record lane.port { call = call } }
 -- so many steps of a publisher, one after the other, and not the last of its call: each makes the access that its call names next
 pub data PublisherStrides (p : Port) (lane : PublisherLaneState) : ℕ → Port → PublisherLaneState → Type 0 where
   stays : PublisherStrides p lane 0 p lane
-  goes : (made : ℕ) (q : Port) (now : PublisherLaneState) (answer : ℕ) → PublisherStrides p lane made q now → publisher_is_over now.port.call ≡ false
+  goes : (made : ℕ) (q : Port) (now : PublisherLaneState) (answer : ℕ) → PublisherStrides p lane made q now
+      → publisher_is_over now.port.call ≡ false
       → ToldBy q (publisher_next now.port.call) answer → PublisherStrides p lane (made + 1) (publisher_stepped q now answer) (publisher_after answer now)
 
 -- a publisher with a seat of its own that made so many steps

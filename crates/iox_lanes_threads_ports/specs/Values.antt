@@ -9,12 +9,12 @@ use Rattle.iox_lanes_machine.specs.LanesBase.Publishing.{publisher_is_idle}
 use Rattle.iox_lanes_machine.specs.LanesBase.Subscribing.{subscriber_is_idle, subscriber_is_over}
 use Rattle.iox_lanes_machine.specs.LanesBase.declared.calls.subscriber.SubscriberCall.{SubscriberCall}
 use Rattle.iox_lanes_machine.specs.LanesBase.declared.calls.subscriber.SubscriberCall.TheVariants as subscribing
-use Rattle.iox_lanes_machine.specs.LanesBase.declared.calls.publisher.Delivery.{Delivery}
 use Rattle.iox_lanes_machine.specs.LanesBase.declared.calls.subscriber.Receipt.{Receipt}
 use Rattle.iox_lanes_machine.specs.LanesBase.declared.calls.subscriber.Receipt.TheVariants as receipt
 use Rattle.iox_lanes_machine.specs.LanesParties.PublisherKeeping.{loan_of}
 use Rattle.iox_lanes_machine.specs.LanesParties.declared.publisher.slot_book.LoanAnswer.{LoanAnswer}
 use Rattle.iox_lanes_machine.specs.LanesParties.Parties.{PublisherLaneState, SubscriberLaneState, is_out, publisher_fits, publisher_begun, write_begun, subscriber_fits, subscriber_begun, subscriber_after}
+use Rattle.iox_lanes_machine.specs.LanesParties.declared.call.SendAnswer.{SendAnswer}
 use Rattle.iox_lanes_machine.specs.LanesParties.declared.call.Answer.{Answer}
 use Rattle.iox_lanes_machine.specs.LanesParties.declared.call.Answer.TheVariants as answer
 use Rattle.iox_lanes_machine.specs.LanesParties.declared.call.Call.TheVariants as call
@@ -51,7 +51,8 @@ pub record IsSeated (table : TableId) (me : Me ℕ View) (sizes : TableSizes) : 
 abbrev pub HasRoom : TableSizes → Move → Type 0
 HasRoom sizes GoOn = ⊥
 HasRoom sizes (Begin call.LoanUninit) = ⊥
-HasRoom sizes (Begin (call.Write loan payload user_header)) = (length payload.items ≡ sizes.payload_words) × (length user_header.items ≡ sizes.user_header_words)
+HasRoom sizes (Begin (call.Write loan payload user_header)) = (length payload.items ≡ sizes.payload_words)
+    × (length user_header.items ≡ sizes.user_header_words)
 HasRoom sizes (Begin (call.Send loan)) = ⊥
 HasRoom sizes (Begin (call.DropLoan loan)) = ⊥
 HasRoom sizes (Begin call.Receive) = ⊥
@@ -62,7 +63,8 @@ HasRoom sizes (Begin (call.Release sample)) = ⊥
 abbrev pub Asks : ℕ → List ℕ → List ℕ → Move → Type 0
 Asks loan payload user_header GoOn = ⊥
 Asks loan payload user_header (Begin call.LoanUninit) = ⊥
-Asks loan payload user_header (Begin (call.Write slot words header)) = (slot ≡ loan) × (words.items ≡ payload) × (header.items ≡ user_header)
+Asks loan payload user_header (Begin (call.Write slot words header)) = (slot ≡ loan) × (words.items ≡ payload)
+    × (header.items ≡ user_header)
 Asks loan payload user_header (Begin (call.Send slot)) = ⊥
 Asks loan payload user_header (Begin (call.DropLoan slot)) = ⊥
 Asks loan payload user_header (Begin call.Receive) = ⊥
@@ -99,18 +101,18 @@ abbrev pub lent_of : Option Answer → Option LoanAnswer
 lent_of None = None
 lent_of (Some (answer.Lent given)) = Some given
 lent_of (Some answer.Written) = None
-lent_of (Some (answer.Sent delivery)) = None
+lent_of (Some (answer.Sent told)) = None
 lent_of (Some answer.Dropped) = None
 lent_of (Some (answer.Received receipt)) = None
 lent_of (Some (answer.Read from)) = None
 lent_of (Some (answer.Released done)) = None
 
 -- what a send answers
-abbrev pub sent_of : Option Answer → Option Delivery
+abbrev pub sent_of : Option Answer → Option SendAnswer
 sent_of None = None
 sent_of (Some (answer.Lent given)) = None
 sent_of (Some answer.Written) = None
-sent_of (Some (answer.Sent delivery)) = Some delivery
+sent_of (Some (answer.Sent told)) = Some told
 sent_of (Some answer.Dropped) = None
 sent_of (Some (answer.Received receipt)) = None
 sent_of (Some (answer.Read from)) = None
@@ -124,7 +126,8 @@ StaysPut old new = (new.table ≡ old.table) × (new.port ≡ old.port) × (new.
 -- answer where it doesn't fit, which does nothing, or where it is still inside after all of these steps; else the answer is that
 -- of its last step.
 abbrev pub Publishes : PublisherPort → PublisherPort → Bool → PublisherLaneState → ℕ → Option Answer → Type 0
-Publishes old new fits begun most None = ((fits ≡ false) × StaysPut old new) ⊎ ((fits ≡ true) × StaysInside most old.port begun new.port new.lane)
+Publishes old new fits begun most None = ((fits ≡ false) × StaysPut old new)
+    ⊎ ((fits ≡ true) × StaysInside most old.port begun new.port new.lane)
 Publishes old new fits begun most (Some answer) = (fits ≡ true) × PublisherEnds most old.port begun new.port new.lane answer
 
 -- a loan's answer
@@ -138,12 +141,12 @@ Loans old new given =
     Publishes old new (publisher_fits old.lane (Begin call.LoanUninit)) (publisher_begun 0 call.LoanUninit old.lane) (loan_steps old.port.service.sizes) (as_lent given)
 
 -- a send's answer
-abbrev pub as_sent : Option Delivery → Option Answer
+abbrev pub as_sent : Option SendAnswer → Option Answer
 as_sent None = None
-as_sent (Some delivery) = Some (answer.Sent delivery)
+as_sent (Some told) = Some (answer.Sent told)
 
 -- a send
-abbrev pub Sends : PublisherPort → ℕ → PublisherPort → Option Delivery → Type 0
+abbrev pub Sends : PublisherPort → ℕ → PublisherPort → Option SendAnswer → Type 0
 Sends old loan new given =
     Publishes old new (publisher_fits old.lane (Begin (call.Send loan))) (publisher_begun 0 (call.Send loan) old.lane) (send_steps old.port.service.sizes) (as_sent given)
 
@@ -211,7 +214,7 @@ abbrev pub received_of : Option Answer → Receipt
 received_of None = receipt.Nothing
 received_of (Some (answer.Lent given)) = receipt.Nothing
 received_of (Some answer.Written) = receipt.Nothing
-received_of (Some (answer.Sent delivery)) = receipt.Nothing
+received_of (Some (answer.Sent told)) = receipt.Nothing
 received_of (Some answer.Dropped) = receipt.Nothing
 received_of (Some (answer.Received got)) = got
 received_of (Some (answer.Read from)) = receipt.Nothing
@@ -222,7 +225,7 @@ abbrev pub released_of : Option Answer → Option Bool
 released_of None = None
 released_of (Some (answer.Lent given)) = None
 released_of (Some answer.Written) = None
-released_of (Some (answer.Sent delivery)) = None
+released_of (Some (answer.Sent told)) = None
 released_of (Some answer.Dropped) = None
 released_of (Some (answer.Received got)) = None
 released_of (Some (answer.Read from)) = None

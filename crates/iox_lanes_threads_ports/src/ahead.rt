@@ -70,7 +70,9 @@ pub(crate) fn load_ahead<K: Opening>(
     requires stands { PublisherStands (port_of seat.old.me) (called call lane.now) }
     requires next { publisher_next call ≡ access.Load word }
     ensures table { (seat.new.table_id ≡ seat.old.table_id) × (seat.new.id ≡ seat.old.id) }
-    ensures strode { (p : Port) (begun : PublisherLaneState) (made : ℕ) → PublisherStrode p begun made seat.old.me (called call lane.now) → PublisherStrode p begun (made + 1) seat.new.me (publisher_after result (called call lane.now)) }
+    ensures strode { (p : Port) (begun : PublisherLaneState) (made : ℕ)
+        → PublisherStrode p begun made seat.old.me (called call lane.now)
+        → PublisherStrode p begun (made + 1) seat.new.me (publisher_after result (called call lane.now)) }
 {
     load_as::<K, Brand>(words, seat, sizes, lane, call, word)
 }
@@ -90,7 +92,9 @@ pub(crate) fn store_ahead<K: Opening>(
     requires stands { PublisherStands (port_of seat.old.me) (called call lane.now) }
     requires next { publisher_next call ≡ access.Store word new }
     ensures table { (seat.new.table_id ≡ seat.old.table_id) × (seat.new.id ≡ seat.old.id) }
-    ensures strode { (p : Port) (begun : PublisherLaneState) (made : ℕ) → PublisherStrode p begun made seat.old.me (called call lane.now) → PublisherStrode p begun (made + 1) seat.new.me (publisher_after 0 (called call lane.now)) }
+    ensures strode { (p : Port) (begun : PublisherLaneState) (made : ℕ)
+        → PublisherStrode p begun made seat.old.me (called call lane.now)
+        → PublisherStrode p begun (made + 1) seat.new.me (publisher_after 0 (called call lane.now)) }
 {
     store_as::<K, Brand>(words, seat, sizes, lane, call, word, new);
 }

@@ -11,10 +11,9 @@ ghost use Rattle.iox_lanes_threads_ports.specs.Paces.{sweep_steps, loan_steps, w
 ghost use Rattle.iox_lanes_threads_ports.specs.Values.{IsSeated, HasRoom, Asks, PublisherDoes, publisher_begins, SamePublisher, lent_of, sent_of, Loans, Sends, Writes};
 
 use crate::publishing::run;
-use iox_lanes_base::calls::Delivery;
 use iox_lanes_base::words::TableSizes;
 use iox_lanes_parties::publisher::LoanAnswer;
-use iox_lanes_parties::{Answer, Call, Move, PublisherLane};
+use iox_lanes_parties::{Answer, Call, Move, PublisherLane, SendAnswer};
 use iox_lanes_threads_rule::{Opening, WordSeat, Words};
 use std::alloc::{AllocError, Global};
 use std::marker::Model;
@@ -38,7 +37,8 @@ impl Model for ThreadedPublisher {
 
     ghost view = { λ t. record { table = t.seat.table_id; port = port_of t.seat.me; lane = t.lane } };
 
-    ghost invariant = { λ t. IsSeated t.seat.table_id t.seat.me t.sizes × PublisherStands (port_of t.seat.me) t.lane × HasRoom t.sizes t.asked };
+    ghost invariant = { λ t. IsSeated t.seat.table_id t.seat.me t.sizes × PublisherStands (port_of t.seat.me) t.lane
+        × HasRoom t.sizes t.asked };
 }
 
 /// Room for a write. It fails only where an allocation fails.
@@ -55,7 +55,8 @@ pub fn write_room(alloc: Global, sizes: &TableSizes) -> Result<Move, AllocError>
 // Puts what is to be written into the write that a publisher is asked for, if it has as many words as there is room for.
 fn fill(asked: &mut Move, loan: u64, words: &[u64], header: &[u64]) -> bool
     ensures fills { result ≡ true → Asks loan words.now header.now asked.new }
-    ensures refuses { (sizes : TableSizes) → HasRoom sizes asked.old → HasRoom sizes asked.new × (result ≡ false → length words.now ≡ sizes.payload_words → length header.now ≡ sizes.user_header_words → ⊥) }
+    ensures refuses { (sizes : TableSizes) → HasRoom sizes asked.old → HasRoom sizes asked.new
+        × (result ≡ false → length words.now ≡ sizes.payload_words → length header.now ≡ sizes.user_header_words → ⊥) }
 {
     match asked {
         Move::Begin(call) => fill_call(call, loan, words, header),
@@ -65,7 +66,8 @@ fn fill(asked: &mut Move, loan: u64, words: &[u64], header: &[u64]) -> bool
 
 fn fill_call(asked: &mut Call, loan: u64, words: &[u64], header: &[u64]) -> bool
     ensures fills { result ≡ true → Asks loan words.now header.now (Move.Begin asked.new) }
-    ensures refuses { (sizes : TableSizes) → HasRoom sizes (Move.Begin asked.old) → HasRoom sizes (Move.Begin asked.new) × (result ≡ false → length words.now ≡ sizes.payload_words → length header.now ≡ sizes.user_header_words → ⊥) }
+    ensures refuses { (sizes : TableSizes) → HasRoom sizes (Move.Begin asked.old) → HasRoom sizes (Move.Begin asked.new)
+        × (result ≡ false → length words.now ≡ sizes.payload_words → length header.now ≡ sizes.user_header_words → ⊥) }
 {
     match asked {
         Call::Write {
@@ -94,11 +96,11 @@ fn lent(answer: Option<Answer>) -> Option<LoanAnswer>
     }
 }
 
-fn sent(answer: Option<Answer>) -> Option<Delivery>
+fn sent(answer: Option<Answer>) -> Option<SendAnswer>
     ensures { result ≡ sent_of answer }
 {
     match answer {
-        Some(Answer::Sent(delivery)) => Some(delivery),
+        Some(Answer::Sent(told)) => Some(told),
         _ => None,
     }
 }
@@ -162,7 +164,8 @@ fn does<K: Opening>(
     ensures table { seat.new.table_id ≡ seat.old.table_id }
     ensures seat { IsSeated seat.new.table_id seat.new.me sizes.now }
     ensures stands { PublisherStands (port_of seat.new.me) lane.new }
-    ensures same { ((port_of seat.new.me).name ≡ (port_of seat.old.me).name) × ((port_of seat.new.me).service ≡ (port_of seat.old.me).service) }
+    ensures same { ((port_of seat.new.me).name ≡ (port_of seat.old.me).name)
+        × ((port_of seat.new.me).service ≡ (port_of seat.old.me).service) }
     ensures does { PublisherDoes most (port_of seat.old.me) lane.old step.now (port_of seat.new.me) lane.new result }
 {
     if !lane.fits(step) {
@@ -245,14 +248,16 @@ impl ThreadedPublisher {
         answer.is_some()
     }
 
-    /// Sends a loan that is written, and tells how many connections took it. None where the slot is no such loan of this port, or
-    /// as of a loan.
-    pub fn send<K: Opening>(&mut self, words: &Words<K>, loan: u64) -> Option<Delivery>
+    /// Sends a loan that is written, and tells how many connections took it. It is `UnableToDeliver` just where the publisher
+    /// fails at a full mailbox and one refused. None where the slot is no such loan of this port, or as of a loan.
+    pub fn send<K: Opening>(&mut self, words: &Words<K>, loan: u64) -> Option<SendAnswer>
         requires { self.old.table ≡ words.now.table_id }
         ensures same { SamePublisher self.old self.new }
         ensures call { Sends self.old loan self.new result }
-        ensures slot { is_some result ≡ true → KnowsHead self.new.port loan (head_of loan self.old.lane) × KeepsPayload self.old.port self.new.port loan }
-        ensures sent { IfSome result (λ delivery. KnowsSent self.old.port self.new.port self.old.lane.port.routes loan delivery) }
+        ensures slot { is_some result ≡ true → KnowsHead self.new.port loan (head_of loan self.old.lane)
+            × KeepsPayload self.old.port self.new.port loan }
+        ensures sent { IfSome result (λ told. KnowsSent self.old.port self.new.port self.old.lane.fails self.old.lane.port.routes loan
+            told) }
     {
         let most = send_steps(&self.sizes);
         let step = Move::Begin(Call::Send { loan });

@@ -27,7 +27,7 @@ fn step_as<K: Opening, M: Doing>(
     requires after { M.after ≡ publisher_party lane.old }
     ensures table { (seat.new.table_id ≡ seat.old.table_id) × (seat.new.id ≡ seat.old.id) }
     ensures steps { PublisherSteps M.port lane.old seat.new.me lane.new }
-    ensures answer { result ≡ publisher_answer lane.old.port.call lane.new.port.book.answer }
+    ensures answer { result ≡ publisher_answer lane.old.fails lane.old.port.call lane.new.port.book.answer }
     ensures ends { is_some result ≡ publisher_is_over lane.old.port.call }
 {
     let given = act::<K, M>(words, seat, sizes, lane.next());
@@ -46,7 +46,7 @@ pub(crate) fn step<K: Opening>(
     requires stands { PublisherStands (port_of seat.old.me) lane.old }
     ensures table { (seat.new.table_id ≡ seat.old.table_id) × (seat.new.id ≡ seat.old.id) }
     ensures steps { PublisherSteps (port_of seat.old.me) lane.old seat.new.me lane.new }
-    ensures answer { result ≡ publisher_answer lane.old.port.call lane.new.port.book.answer }
+    ensures answer { result ≡ publisher_answer lane.old.fails lane.old.port.call lane.new.port.book.answer }
     ensures ends { is_some result ≡ publisher_is_over lane.old.port.call }
 {
     step_as::<K, Brand>(words, seat, sizes, lane)
@@ -65,7 +65,8 @@ pub(crate) fn run<K: Opening>(
     requires stands { PublisherStands (port_of seat.old.me) lane.old }
     requires begins { StartsWithin sizes.now most lane.old.port.call }
     ensures table { (seat.new.table_id ≡ seat.old.table_id) × (seat.new.id ≡ seat.old.id) }
-    ensures seat { (seat.new.me ≡ single (port_of seat.new.me)) × ((port_of seat.new.me).service ≡ (port_of seat.old.me).service) × ((port_of seat.new.me).name ≡ (port_of seat.old.me).name) }
+    ensures seat { (seat.new.me ≡ single (port_of seat.new.me)) × ((port_of seat.new.me).service ≡ (port_of seat.old.me).service)
+        × ((port_of seat.new.me).name ≡ (port_of seat.old.me).name) }
     ensures stands { PublisherStands (port_of seat.new.me) lane.new }
     ensures runs { PublisherRuns most (port_of seat.old.me) lane.old (port_of seat.new.me) lane.new result }
 {

@@ -271,7 +271,8 @@ pub(crate) fn push_over<K: Opening>(
     requires table { (seat.old.table_id ≡ words.now.table_id) × (words.now.table_id.words ≡ words_of sizes.now) × IsSmall sizes.now }
     requires seat { (seat.old.me ≡ single (port_of seat.old.me)) × ((port_of seat.old.me).service.sizes ≡ sizes.now) }
     requires stands { PublisherStands (port_of seat.old.me) lane.old }
-    requires call { lane.old.port.call ≡ call.Pushing slot place route (ring_push.Overflowing (overflowing_push.Begun limit value)) delivery }
+    requires call { lane.old.port.call ≡ call.Pushing slot place route (ring_push.Overflowing (overflowing_push.Begun limit value))
+        delivery }
     ensures table { (seat.new.table_id ≡ seat.old.table_id) × (seat.new.id ≡ seat.old.id) }
     ensures some { (0 < result) × (result ≤ 4) }
     ensures strode { PublisherStrode (port_of seat.old.me) lane.old result seat.new.me lane.new }

@@ -35,7 +35,8 @@ impl Model for ThreadedSubscriber {
 
     ghost view = { λ t. record { table = t.seat.table_id; port = port_of t.seat.me; lane = settled t.lane; words = words_read t.lane.port.call t.lane.port.words } };
 
-    ghost invariant = { λ t. IsSeated t.seat.table_id t.seat.me t.sizes × SubscriberStands (port_of t.seat.me) t.lane × IsBetween t.lane.port.call };
+    ghost invariant = { λ t. IsSeated t.seat.table_id t.seat.me t.sizes × SubscriberStands (port_of t.seat.me) t.lane
+        × IsBetween t.lane.port.call };
 }
 
 // Makes the last step of a call, if only that is left.
@@ -82,7 +83,8 @@ impl ThreadedSubscriber {
     pub fn receive<R: Wait, K: Opening>(&mut self, rt: &R, words: &Words<K>) -> Receipt
         requires { self.old.table ≡ words.now.table_id }
         ensures same { SameSubscriber self.old self.new }
-        ensures call { SubscriberEnds self.old.port (subscriber_begun 0 Call.Receive self.old.lane) self.new.port self.new.lane (Answer.Received result) }
+        ensures call { SubscriberEnds self.old.port (subscriber_begun 0 Call.Receive self.old.lane) self.new.port self.new.lane
+            (Answer.Received result) }
     {
         settle(&mut self.lane);
         self.lane.begin(0, &Call::Receive);
@@ -96,7 +98,8 @@ impl ThreadedSubscriber {
         ensures same { SameSubscriber self.old self.new }
         ensures call { Reads self.old sample self.new result }
         ensures words { result ≡ true → KnowsRead self.new.port self.old.lane.port.extent sample self.new.words }
-        ensures whole { result ≡ true → length self.new.words ≡ 3 + self.old.lane.port.extent.user_header_words + self.old.lane.port.extent.payload_words }
+        ensures whole { result ≡ true → length self.new.words
+            ≡ 3 + self.old.lane.port.extent.user_header_words + self.old.lane.port.extent.payload_words }
     {
         settle(&mut self.lane);
         if !self.lane.fits(&Move::Begin(Call::Read { sample })) {

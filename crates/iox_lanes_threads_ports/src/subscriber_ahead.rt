@@ -70,7 +70,8 @@ pub(crate) fn load_ahead<K: Opening>(
     requires stands { SubscriberStands (port_of seat.old.me) (subscriber_called call lane.now) }
     requires next { subscriber_next call ≡ access.Load word }
     ensures table { (seat.new.table_id ≡ seat.old.table_id) × (seat.new.id ≡ seat.old.id) }
-    ensures strode { (p : Port) (begun : SubscriberLaneState) → SubscriberStrode p begun seat.old.me (subscriber_called call lane.now) → SubscriberStrode p begun seat.new.me (subscriber_after result (subscriber_called call lane.now)) }
+    ensures strode { (p : Port) (begun : SubscriberLaneState) → SubscriberStrode p begun seat.old.me (subscriber_called call lane.now)
+        → SubscriberStrode p begun seat.new.me (subscriber_after result (subscriber_called call lane.now)) }
 {
     load_as::<K, Brand>(words, seat, sizes, lane, call, word)
 }
@@ -90,7 +91,8 @@ pub(crate) fn store_ahead<K: Opening>(
     requires stands { SubscriberStands (port_of seat.old.me) (subscriber_called call lane.now) }
     requires next { subscriber_next call ≡ access.Store word new }
     ensures table { (seat.new.table_id ≡ seat.old.table_id) × (seat.new.id ≡ seat.old.id) }
-    ensures strode { (p : Port) (begun : SubscriberLaneState) → SubscriberStrode p begun seat.old.me (subscriber_called call lane.now) → SubscriberStrode p begun seat.new.me (subscriber_after 0 (subscriber_called call lane.now)) }
+    ensures strode { (p : Port) (begun : SubscriberLaneState) → SubscriberStrode p begun seat.old.me (subscriber_called call lane.now)
+        → SubscriberStrode p begun seat.new.me (subscriber_after 0 (subscriber_called call lane.now)) }
 {
     store_as::<K, Brand>(words, seat, sizes, lane, call, word, new);
 }

@@ -59,7 +59,8 @@ pub(crate) fn finish<K: Opening>(
     requires stands { SubscriberStands (port_of seat.old.me) lane.old }
     requires short { IsShort lane.old.port.call }
     ensures table { (seat.new.table_id ≡ seat.old.table_id) × (seat.new.id ≡ seat.old.id) }
-    ensures seat { (seat.new.me ≡ single (port_of seat.new.me)) × ((port_of seat.new.me).service ≡ (port_of seat.old.me).service) × ((port_of seat.new.me).name ≡ (port_of seat.old.me).name) }
+    ensures seat { (seat.new.me ≡ single (port_of seat.new.me)) × ((port_of seat.new.me).service ≡ (port_of seat.old.me).service)
+        × ((port_of seat.new.me).name ≡ (port_of seat.old.me).name) }
     ensures stands { SubscriberStands (port_of seat.new.me) lane.new }
     ensures goes { SubscriberGoes (port_of seat.old.me) lane.old (port_of seat.new.me) lane.new }
     ensures short { IsShort lane.new.port.call }
@@ -83,7 +84,8 @@ pub(crate) fn run_on<R: Wait, K: Opening>(
     requires seat { (seat.old.me ≡ single (port_of seat.old.me)) × ((port_of seat.old.me).service.sizes ≡ sizes.now) }
     requires stands { SubscriberStands (port_of seat.old.me) lane.old }
     ensures table { (seat.new.table_id ≡ seat.old.table_id) × (seat.new.id ≡ seat.old.id) }
-    ensures seat { (seat.new.me ≡ single (port_of seat.new.me)) × ((port_of seat.new.me).service ≡ (port_of seat.old.me).service) × ((port_of seat.new.me).name ≡ (port_of seat.old.me).name) }
+    ensures seat { (seat.new.me ≡ single (port_of seat.new.me)) × ((port_of seat.new.me).service ≡ (port_of seat.old.me).service)
+        × ((port_of seat.new.me).name ≡ (port_of seat.old.me).name) }
     ensures stands { SubscriberStands (port_of seat.new.me) lane.new }
     ensures goes { SubscriberGoes (port_of seat.old.me) lane.old (port_of seat.new.me) lane.new }
     ensures over { subscriber_is_over lane.new.port.call ≡ true }

@@ -24,8 +24,8 @@ use Rattle.iox_lanes_threads_rule.proofs.Held.{word_at, at_same, at_other, at_ke
 pub same_port : (s : Service) (p : Port) (known : List ℕ) (party : PortParty) → IsPort s p.number p → length known ≡ length p.known → IsPort s p.number (learned p known party)
 same_port s p known party k e = record { service = k.service; number = refl; name = k.name; wide = e ∙ k.wide }
 
--- What a step changes: one word, what its port knows. It lowers no position, puts the number of a slot into a cell, and stores into no other port's word; and its
--- port knows of the words what it must.
+-- What a step changes: one word, what its port knows. It lowers no position, puts the number of a slot into a cell, and stores
+-- into no other port's word; and its port knows of the words what it must.
 pub record Change (s : Service) (words : List ℕ) (p : Port) (known : List ℕ) (w : SharedWord) (x : ℕ) : Type 0 where
   pub word : IsWord s.sizes w
   pub wide : length known ≡ length p.known

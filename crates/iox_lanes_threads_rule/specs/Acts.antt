@@ -75,7 +75,8 @@ ToldBy p Local answer = answer ≡ 0
 abbrev pub stepped : Port → SharedAccess → ℕ → (ℕ → PortParty) → Port
 stepped p (Load w) answer after = learned p (set p.known (number_of p.service.sizes w) answer) (after answer)
 stepped p (Store w new) answer after = learned p (set p.known (number_of p.service.sizes w) new) (after answer)
-stepped p (Exchange w old new) answer after = learned p (known_exchanged p.name p.known (number_of p.service.sizes w) old new answer) (after answer)
+stepped p (Exchange w old new) answer after
+    = learned p (known_exchanged p.name p.known (number_of p.service.sizes w) old new answer) (after answer)
 stepped p Local answer after = p
 
 -- what a load of the word of a number tells the seat of a port
@@ -89,6 +90,7 @@ stored p after step before found me = me ≡ single (learned p (set p.known step
 
 -- what an exchange tells
 abbrev pub exchanged : Port → (ℕ → PortParty) → Step ℕ → Me ℕ View → ℕ → Me ℕ View → Type 0
-exchanged p after step before found me = (me ≡ single (learned p (known_exchanged p.name p.known step.word step.first step.second found) (after found)))
+exchanged p after step before found me
+    = (me ≡ single (learned p (known_exchanged p.name p.known step.word step.first step.second found) (after found)))
     × (found < 2 ^ 64)
     × ((w : SharedWord) → IsWord p.service.sizes w → number_of p.service.sizes w ≡ step.word → held p.service p.known w ≤ found)

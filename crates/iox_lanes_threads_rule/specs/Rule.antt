@@ -30,32 +30,39 @@ pub record Overflows (s : Service) (connection : ℕ) (line : Line) : Type 0 whe
   pub found : slice_get s.lines connection ≡ Some line
   pub kind : line.kind ≡ Overflowing
 
--- Words and ports fit. Each word that one port alone stores is what that port knows of it. No port knows more of a position than it has come to. Each cell
--- names a slot below the count. In a ring that overflows the read position is at most the write position, and below it where the subscriber doesn't know of
--- its last move.
+-- Words and ports fit. Each word that one port alone stores is what that port knows of it. No port knows more of a position than
+-- it has come to. Each cell names a slot below the count. In a ring that overflows the read position is at most the write
+-- position, and below it where the subscriber doesn't know of its last move.
 pub record Fits (s : Service) (words : List ℕ) (all : List Port) : Type 0 where
   pub rows : RangesInRows s
   pub spare : slice_index words 0 ≡ 0
   pub wide : length words ≡ words_of s.sizes
   pub ports : (number : ℕ) (p : Port) → get_elem? all number ≡ some p → IsPort s number p
-  pub copied : (number : ℕ) (p : Port) (w : SharedWord) → get_elem? all number ≡ some p → IsWord s.sizes w → Stores s p.name w → held s p.known w ≡ held s words w
-  pub grows : (number : ℕ) (p : Port) (w : SharedWord) → get_elem? all number ≡ some p → IsWord s.sizes w → IsPosition w → held s p.known w ≤ held s words w
+  pub copied : (number : ℕ) (p : Port) (w : SharedWord) → get_elem? all number ≡ some p → IsWord s.sizes w → Stores s p.name w
+      → held s p.known w ≡ held s words w
+  pub grows : (number : ℕ) (p : Port) (w : SharedWord) → get_elem? all number ≡ some p → IsWord s.sizes w → IsPosition w
+      → held s p.known w ≤ held s words w
   pub cells : (w : SharedWord) → IsWord s.sizes w → IsCell w → 0 < s.sizes.slots → held s words w < s.sizes.slots
-  pub shared : (connection : ℕ) (line : Line) → Overflows s connection line → held s words (read_word connection) ≤ held s words (write_word connection)
-  pub moved : (connection : ℕ) (line : Line) (number : ℕ) (p : Port) → Overflows s connection line → get_elem? all number ≡ some p → p.name ≡ Subscriber line.subscriber
+  pub shared : (connection : ℕ) (line : Line) → Overflows s connection line
+      → held s words (read_word connection) ≤ held s words (write_word connection)
+  pub moved : (connection : ℕ) (line : Line) (number : ℕ) (p : Port) → Overflows s connection line → get_elem? all number ≡ some p
+      → p.name ≡ Subscriber line.subscriber
       → (held s p.known (read_word connection) ≡ held s words (read_word connection) → ⊥) → held s words (read_word connection) < held s words (write_word connection)
 
 -- the seat has the port, which is the one at its number
 abbrev pub Sits : (ℕ → ℕ) → List Port → ℕ → Port → Type 0
 Sits owner ports seat p = (owner p.number ≡ seat) × (get_elem? ports p.number ≡ some p)
 
--- There is a list of all ports that fits the words, and each port is with one seat: those that wait stand at their numbers, one behind the other.
+-- There is a list of all ports that fits the words, and each port is with one seat: those that wait stand at their numbers, one
+-- behind the other.
 pub record Ruled (fits : List ℕ → List Port → Type 0) {S : Type 0} (state : State S View) : Type 0 where
   pub ports : List Port
   pub owner : ℕ → ℕ
   pub fit : fits state.words ports
-  pub waiting : (seat : ℕ) (v : View) (i : ℕ) (p : Port) → get_elem? state.views seat ≡ some v → get_elem? v.waiting i ≡ some p → (p.number ≡ v.from + i) × Sits owner ports seat p
-  pub seated : (seat : ℕ) (v : View) (i : ℕ) (p : Port) → get_elem? state.views seat ≡ some v → get_elem? v.ports i ≡ some p → Sits owner ports seat p
+  pub waiting : (seat : ℕ) (v : View) (i : ℕ) (p : Port) → get_elem? state.views seat ≡ some v → get_elem? v.waiting i ≡ some p
+      → (p.number ≡ v.from + i) × Sits owner ports seat p
+  pub seated : (seat : ℕ) (v : View) (i : ℕ) (p : Port) → get_elem? state.views seat ≡ some v → get_elem? v.ports i ≡ some p
+      → Sits owner ports seat p
 
 -- the view of a seat with one port
 abbrev pub one : Port → View

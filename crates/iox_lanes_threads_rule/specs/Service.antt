@@ -39,7 +39,8 @@ IsLoneReader (Some line) name = Refuses line.kind × (name ≡ Subscriber line.s
 
 -- the slot is one of the port
 abbrev pub HasSlot : Service → Party → ℕ → Type 0
-HasSlot s (Publisher place) slot = (range : SlotRange) × (slice_get s.ranges place ≡ Some range) × (range.first ≤ slot) × (slot < range.first + range.count)
+HasSlot s (Publisher place) slot = (range : SlotRange) × (slice_get s.ranges place ≡ Some range) × (range.first ≤ slot)
+    × (slot < range.first + range.count)
 HasSlot s (Subscriber place) slot = ⊥
 
 -- the port alone stores the word; the read position of a ring that overflows is moved by both its ends
@@ -68,7 +69,8 @@ IsCell (Slot slot word) = ⊥
 
 -- the slots of a publisher lie before those of the publishers behind it
 abbrev pub RangesInRows : Service → Type 0
-RangesInRows s = (one other : ℕ) (range behind : SlotRange) → slice_get s.ranges one ≡ Some range → slice_get s.ranges other ≡ Some behind → one < other
+RangesInRows s = (one other : ℕ) (range behind : SlotRange) → slice_get s.ranges one ≡ Some range
+    → slice_get s.ranges other ≡ Some behind → one < other
     → range.first + range.count ≤ behind.first
 
 -- the write position of the ring of messages of a connection

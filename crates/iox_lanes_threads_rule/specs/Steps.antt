@@ -17,8 +17,8 @@ use Rattle.iox_lanes_threads_rule.specs.declared.view.PortParty.{PortParty}
 abbrev pub learned : Port → List ℕ → PortParty → Port
 learned p known party = record p { known = known; party = party }
 
--- after an exchange was lost on the word of number `i`: a subscriber then knows that something waits, so that the write position, which is the word before,
--- is beyond what was found
+-- after an exchange was lost on the word of number `i`: a subscriber then knows that something waits, so that the write position,
+-- which is the word before, is beyond what was found
 abbrev pub known_lost : Party → List ℕ → ℕ → ℕ → List ℕ
 known_lost (Publisher place) known i found = set known i found
 known_lost (Subscriber place) known i found = set (set known i found) (i - 1) (max (slice_index known (i - 1)) (found + 1))
@@ -27,14 +27,15 @@ known_lost (Subscriber place) known i found = set (set known i found) (i - 1) (m
 abbrev pub known_exchanged : Party → List ℕ → ℕ → ℕ → ℕ → ℕ → List ℕ
 known_exchanged name known i old new found = if found == old then set known i new else known_lost name known i found
 
--- What a load of a word that holds `found` tells: a word that the port alone stores holds what it knows; a position isn't below what it knows; a cell names a
--- slot; the write position of a ring that overflows isn't below the read position that it knows.
+-- What a load of a word that holds `found` tells: a word that the port alone stores holds what it knows; a position isn't below
+-- what it knows; a cell names a slot; the write position of a ring that overflows isn't below the read position that it knows.
 pub record Told (s : Service) (p : Port) (w : SharedWord) (found : ℕ) : Type 0 where
   pub small : found < 2 ^ 64
   pub own : Stores s p.name w → held s p.known w ≡ found
   pub grows : IsPosition w → held s p.known w ≤ found
   pub cell : IsCell w → 0 < s.sizes.slots → found < s.sizes.slots
-  pub above : (connection : ℕ) (line : Line) → Overflows s connection line → w ≡ write_word connection → held s p.known (read_word connection) ≤ found
+  pub above : (connection : ℕ) (line : Line) → Overflows s connection line → w ≡ write_word connection
+      → held s p.known (read_word connection) ≤ found
 
 -- a store that a port may make
 pub record MayStore (s : Service) (p : Port) (w : SharedWord) (new : ℕ) : Type 0 where
@@ -60,20 +61,23 @@ pub record MayExchange (s : Service) (p : Port) (w : SharedWord) (old new : ℕ)
 
 -- a load keeps the rule, and tells
 abbrev pub LoadsKeep : Type 0
-LoadsKeep = (s : Service) (words : List ℕ) (ports : List Port) (p : Port) (w : SharedWord) (party : PortParty) → Fits s words ports → get_elem? ports p.number ≡ some p → IsWord s.sizes w
+LoadsKeep = (s : Service) (words : List ℕ) (ports : List Port) (p : Port) (w : SharedWord) (party : PortParty) → Fits s words ports
+    → get_elem? ports p.number ≡ some p → IsWord s.sizes w
     → held s words w < 2 ^ 64
     → Told s p w (held s words w)
     × Fits s (set words (number_of s.sizes w) (held s words w)) (set ports p.number (learned p (set p.known (number_of s.sizes w) (held s words w)) party))
 
 -- a store that a port may make keeps the rule
 abbrev pub StoresKeep : Type 0
-StoresKeep = (s : Service) (words : List ℕ) (ports : List Port) (p : Port) (w : SharedWord) (new : ℕ) (party : PortParty) → Fits s words ports → get_elem? ports p.number ≡ some p
+StoresKeep = (s : Service) (words : List ℕ) (ports : List Port) (p : Port) (w : SharedWord) (new : ℕ) (party : PortParty)
+    → Fits s words ports → get_elem? ports p.number ≡ some p
     → MayStore s p w new
     → Fits s (set words (number_of s.sizes w) new) (set ports p.number (learned p (set p.known (number_of s.sizes w) new) party))
 
 -- an exchange that a port may make keeps the rule, and isn't told less than it knows
 abbrev pub ExchangesKeep : Type 0
-ExchangesKeep = (s : Service) (words : List ℕ) (ports : List Port) (p : Port) (w : SharedWord) (old new : ℕ) (party : PortParty) → Fits s words ports → get_elem? ports p.number ≡ some p
+ExchangesKeep = (s : Service) (words : List ℕ) (ports : List Port) (p : Port) (w : SharedWord) (old new : ℕ) (party : PortParty)
+    → Fits s words ports → get_elem? ports p.number ≡ some p
     → MayExchange s p w old new
     → (held s p.known w ≤ held s words w)
     × Fits s (set words (number_of s.sizes w) (if held s words w == old then new else held s words w))

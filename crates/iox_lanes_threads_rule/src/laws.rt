@@ -11,8 +11,8 @@ pub fn stores_keep_the_rule()
     ensures { StoresKeep }
 {}
 
-/// An exchange of the read position of a ring that overflows keeps the rule, won or lost, where either end of the ring moves it on, though not past the
-/// write position that it knows.
+/// An exchange of the read position of a ring that overflows keeps the rule, won or lost, where either end of the ring moves it
+/// on, though not past the write position that it knows.
 pub fn exchanges_keep_the_rule()
     ensures { ExchangesKeep }
 {}

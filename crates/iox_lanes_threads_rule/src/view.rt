@@ -19,8 +19,8 @@ pub struct Port {
     pub name: Party,
     /// Its service.
     pub service: Service,
-    /// What it knows of each word, by the words' numbers: of one that it alone stores what it holds, of any other position how far it has come at least, of
-    /// all else what it saw last.
+    /// What it knows of each word, by the words' numbers: of one that it alone stores what it holds, of any other position how
+    /// far it has come at least, of all else what it saw last.
     pub known: LinkedList<u64>,
     /// The port itself, as its last step on a shared word left it.
     pub party: PortParty,

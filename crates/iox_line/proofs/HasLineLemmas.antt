@@ -1,30 +1,30 @@
 -- Each command that fits has a line.
 use Rattle.std.proofs.Common.{◌≡◌, ℕ, true, List, [], ◌∷◌, refl, decimal, map, codes}
-use Rattle.iox_line_base.specs.Command.declared.command.Command.{Command}
-use Rattle.iox_line_base.specs.Command.declared.command.Command.TheVariants as command
-use Rattle.iox_line_base.specs.Command.declared.port.PortNumber.{PortNumber}
-use Rattle.iox_line_base.specs.Command.declared.port.PortNumber.TheVariants as port
-use Rattle.iox_line_base.specs.Command.declared.port.PublisherOptions.{PublisherOptions}
-use Rattle.iox_line_base.specs.Command.declared.port.SubscriberOptions.{SubscriberOptions}
-use Rattle.iox_line_base.specs.DomainValues.declared.backpressure_strategy.BackpressureStrategy.{BackpressureStrategy}
-use Rattle.iox_line_base.specs.DomainValues.declared.backpressure_strategy.BackpressureStrategy.TheVariants as strategy
-use Rattle.iox_line_base.specs.DomainValues.declared.data_segment.AllocationStrategy.{AllocationStrategy}
-use Rattle.iox_line_base.specs.DomainValues.declared.data_segment.AllocationStrategy.TheVariants as allocation
-use Rattle.iox_line_base.specs.DomainValues.declared.backpressure.BackpressureAction.{BackpressureAction}
-use Rattle.iox_line_base.specs.DomainValues.declared.backpressure.BackpressureAction.TheVariants as handler
-use Rattle.iox_line_base.specs.DomainValues.declared.degradation.DegradationAction.{DegradationAction}
-use Rattle.iox_line_base.specs.DomainValues.declared.degradation.DegradationAction.TheVariants as degradation
-use Rattle.iox_line_base.specs.Words.{AreWords, has_no_space, spaced}
-use Rattle.iox_line_base.specs.Numbers.{IfNumber, tag}
-use Rattle.iox_line_base.specs.Values.{strategy_word, allocation_word, handler_word, degradation_word}
-use Rattle.iox_line_base.proofs.NumberLemmas.{decimal_no_space}
-use Rattle.iox_line_base.proofs.NoSpaceLemmas.{any_own, options_lack, number_lacks, text_lacks, pattern_no_space, named_words, named_so, named_are_words}
-use Rattle.iox_line_base.specs.Services.{pattern_word}
-use Rattle.iox_line_base.specs.Attributes.{pair_word}
-use Rattle.iox_line_base.proofs.SpellingLemmas.{pairs_are_words, requirement_words, requirements_so, requirements_are_words}
-use Rattle.iox_line_base.proofs.WrittenLemmas.{foreign_words, foreign_so, foreign_are_words, list_words, lists_so, lists_are_words}
-use Rattle.iox_line_base.specs.Command.Patterns.{pattern_of}
-use Rattle.iox_line_base.proofs.VisibleLemmas.{visible_no_space}
+use Rattle.iox_command.specs.declared.command.Command.{Command}
+use Rattle.iox_command.specs.declared.command.Command.TheVariants as command
+use Rattle.iox_command.specs.declared.port.PortNumber.{PortNumber}
+use Rattle.iox_command.specs.declared.port.PortNumber.TheVariants as port
+use Rattle.iox_command.specs.declared.port.PublisherOptions.{PublisherOptions}
+use Rattle.iox_command.specs.declared.port.SubscriberOptions.{SubscriberOptions}
+use Rattle.iox_domain_values.specs.declared.backpressure_strategy.BackpressureStrategy.{BackpressureStrategy}
+use Rattle.iox_domain_values.specs.declared.backpressure_strategy.BackpressureStrategy.TheVariants as strategy
+use Rattle.iox_domain_values.specs.declared.data_segment.AllocationStrategy.{AllocationStrategy}
+use Rattle.iox_domain_values.specs.declared.data_segment.AllocationStrategy.TheVariants as allocation
+use Rattle.iox_domain_values.specs.declared.backpressure.BackpressureAction.{BackpressureAction}
+use Rattle.iox_domain_values.specs.declared.backpressure.BackpressureAction.TheVariants as handler
+use Rattle.iox_domain_values.specs.declared.degradation.DegradationAction.{DegradationAction}
+use Rattle.iox_domain_values.specs.declared.degradation.DegradationAction.TheVariants as degradation
+use Rattle.iox_line.specs.Words.{AreWords, has_no_space, spaced}
+use Rattle.iox_line.specs.Numbers.{IfNumber, tag}
+use Rattle.iox_line.specs.Values.{strategy_word, allocation_word, handler_word, degradation_word}
+use Rattle.iox_line.proofs.NumberLemmas.{decimal_no_space}
+use Rattle.iox_line.proofs.NoSpaceLemmas.{any_own, options_lack, number_lacks, text_lacks, pattern_no_space, named_words, named_so, named_are_words}
+use Rattle.iox_line.specs.Services.{pattern_word}
+use Rattle.iox_line.specs.Attributes.{pair_word}
+use Rattle.iox_line.proofs.SpellingLemmas.{pairs_are_words, requirement_words, requirements_so, requirements_are_words}
+use Rattle.iox_line.proofs.WrittenLemmas.{foreign_words, foreign_so, foreign_are_words, list_words, lists_so, lists_are_words}
+use Rattle.iox_command.specs.Patterns.{pattern_of}
+use Rattle.iox_line.proofs.VisibleLemmas.{visible_no_space}
 use Rattle.iox_line.specs.PortOptions.{PublisherFits, publisher_keys, publisher_values, publisher_words, subscriber_keys, subscriber_values, subscriber_words}
 use Rattle.iox_line.specs.Spelling.{AreNumbers, port_word, IsPort, Fits, Writes, Spells}
 

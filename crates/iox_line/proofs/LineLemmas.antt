@@ -1,8 +1,8 @@
 -- A line is read as the command that it spells.
 use Rattle.std.proofs.Common.{◌≡◌, ℕ, ◌+◌, ◌≤◌, ◌==◌, Bool, true, false, List, [], ◌∷◌, None, Some, cond, sym, ap, ◌∙◌, length, arith}
-use Rattle.iox_line_base.specs.Command.declared.command.Command.{Command}
-use Rattle.iox_line_base.specs.Words.{words_of, spaced, onto_first, AreWords}
-use Rattle.iox_line_base.proofs.SpacedLemmas.{spaced-words_of, words_of-spaced, are_words}
+use Rattle.iox_command.specs.declared.command.Command.{Command}
+use Rattle.iox_line.specs.Words.{words_of, spaced, onto_first, AreWords}
+use Rattle.iox_line.proofs.SpacedLemmas.{spaced-words_of, words_of-spaced, are_words}
 use Rattle.iox_line.specs.Reading.{of_words}
 use Rattle.iox_line.specs.Spelling.{Spells}
 use Rattle.iox_line.proofs.ReadingLemmas.{words_sound, words_complete}

@@ -2,16 +2,16 @@
 use Rattle.std.proofs.Common.{◌≡◌, ℕ, Bool, true, false, ◌||◌, List, ◌∷◌, Option, None, Some, Result, Ok, Err, refl, sym, ap, ◌∙◌, subst}
 use Rattle.std.specs.Option.{option_map}
 use Rattle.std.specs.declared.alloc.AllocError.{AllocError}
-use Rattle.iox_line_base.specs.DescribeBase.declared.pattern.MessagingPattern.{MessagingPattern}
-use Rattle.iox_line_base.specs.Command.declared.command.Command.{Command}
-use Rattle.iox_line_base.specs.Command.declared.command.Command.TheVariants as command
-use Rattle.iox_line_base.specs.Command.declared.step.ForeignStep.{ForeignStep}
-use Rattle.iox_line_base.specs.Command.declared.step.StepBefore.{StepBefore}
-use Rattle.iox_line_base.specs.Command.Patterns.{pattern_of}
-use Rattle.iox_line_base.specs.Memory.{MayLack, some}
-use Rattle.iox_line_base.specs.declared.services.service.NamedService.{NamedService}
-use Rattle.iox_line_base.specs.Reading.{pattern_named, name_of, service_of}
-use Rattle.iox_line_base.specs.StepsReading.{steps_of, lists_of}
+use Rattle.iox_command.specs.DescribeBase.declared.pattern.MessagingPattern.{MessagingPattern}
+use Rattle.iox_command.specs.declared.command.Command.{Command}
+use Rattle.iox_command.specs.declared.command.Command.TheVariants as command
+use Rattle.iox_command.specs.declared.step.ForeignStep.{ForeignStep}
+use Rattle.iox_command.specs.declared.step.StepBefore.{StepBefore}
+use Rattle.iox_command.specs.Patterns.{pattern_of}
+use Rattle.iox_line.specs.Memory.{MayLack, some}
+use Rattle.iox_line.specs.declared.services.service.NamedService.{NamedService}
+use Rattle.iox_line.specs.ServicesReading.{pattern_named, name_of, service_of}
+use Rattle.iox_line.specs.StepsReading.{steps_of, lists_of}
 use Rattle.iox_line.specs.Reading.{bind, both, service_command, foreign_parts, foreign_command, together}
 use Rattle.iox_line.specs.Outcome.{takes_memory}
 

@@ -2,24 +2,24 @@
 use Rattle.std.proofs.Common.{◌≡◌, ◌⊎◌, inl, inr, ◌≤◌, ℕ, List, [], ◌∷◌, Option, None, Some, IfSome, length, refl, cond, true, false, Bool, sym, ap, ◌∙◌}
 use Rattle.std.specs.Option.{option_map}
 use Rattle.iox_command.specs.Ports.{command_of}
-use Rattle.iox_line_base.specs.Command.Patterns.{pattern_of}
-use Rattle.iox_line_base.specs.Command.declared.command.Command.{Command}
-use Rattle.iox_line_base.specs.Command.declared.command.Command.TheVariants as command
+use Rattle.iox_command.specs.Patterns.{pattern_of}
+use Rattle.iox_command.specs.declared.command.Command.{Command}
+use Rattle.iox_command.specs.declared.command.Command.TheVariants as command
 use Rattle.iox_command.specs.declared.ports.port_command.PortCommand.{PortCommand}
 use Rattle.iox_command.specs.declared.ports.port_command.PortCommand.TheVariants as port
-use Rattle.iox_line_base.specs.Command.declared.step.StepBefore.{StepBefore}
-use Rattle.iox_line_base.specs.declared.services.service.NamedService.{NamedService}
-use Rattle.iox_line_base.specs.Reading.{pattern_named, name_of, service_of}
-use Rattle.iox_line_base.specs.DescribeBase.declared.pattern.MessagingPattern.{MessagingPattern}
-use Rattle.iox_line_base.specs.AttributesReading.{specifier_of, verifier_of}
-use Rattle.iox_line_base.specs.Words.{no_words, words_of}
-use Rattle.iox_line_base.specs.StepsReading.{steps_of, lists_of}
+use Rattle.iox_command.specs.declared.step.StepBefore.{StepBefore}
+use Rattle.iox_line.specs.declared.services.service.NamedService.{NamedService}
+use Rattle.iox_line.specs.ServicesReading.{pattern_named, name_of, service_of}
+use Rattle.iox_command.specs.DescribeBase.declared.pattern.MessagingPattern.{MessagingPattern}
+use Rattle.iox_line.specs.AttributesReading.{specifier_of, verifier_of}
+use Rattle.iox_line.specs.Words.{no_words, words_of}
+use Rattle.iox_line.specs.StepsReading.{steps_of, lists_of}
 use Rattle.iox_line.specs.declared.verb.Verb.{Verb}
 use Rattle.iox_line.specs.declared.verb.Verb.TheVariants as verb
 use Rattle.iox_line.specs.declared.verb.ServiceVerb.{ServiceVerb}
 use Rattle.iox_line.specs.declared.verb.ServiceVerb.TheVariants as service
 use Rattle.iox_line.specs.Reading.{bind, both, only, if_of_port, publisher_command, subscriber_command, publisher_of, subscriber_of, foreign_parts, foreign_command, of_service, of_verb, of_read, of_words}
-use Rattle.iox_line_base.specs.Numbers.{tagged}
+use Rattle.iox_line.specs.Numbers.{tagged}
 use Rattle.iox_line.specs.Spelling.{Spells}
 use Rattle.iox_line.specs.Verbs.{verb_of, service_verb_of}
 use Rattle.iox_line.proofs.LineLemmas.{line_sound, line_complete}

@@ -2,22 +2,22 @@
 use Rattle.std.proofs.Common.{◌≡◌, ℕ, ◌+◌, ◌==◌, Bool, true, false, List, [], ◌∷◌, Option, None, Some, refl, cond, sym, ap, ◌∙◌, subst, length, decimal, codes, arith, eqb-true}
 use Rattle.std.specs.Option.{option_map}
 use Rattle.std.proofs.lemmas.Grind.{common_steps}
-use Rattle.iox_line_base.specs.Command.declared.port.PublisherOptions.{PublisherOptions}
-use Rattle.iox_line_base.specs.Command.declared.port.SubscriberOptions.{SubscriberOptions}
-use Rattle.iox_line_base.specs.DomainValues.declared.backpressure_strategy.BackpressureStrategy.{BackpressureStrategy}
-use Rattle.iox_line_base.specs.DomainValues.declared.backpressure_strategy.BackpressureStrategy.TheVariants as strategy
-use Rattle.iox_line_base.specs.DomainValues.declared.data_segment.AllocationStrategy.{AllocationStrategy}
-use Rattle.iox_line_base.specs.DomainValues.declared.data_segment.AllocationStrategy.TheVariants as allocation
-use Rattle.iox_line_base.specs.DomainValues.declared.backpressure.BackpressureAction.{BackpressureAction}
-use Rattle.iox_line_base.specs.DomainValues.declared.backpressure.BackpressureAction.TheVariants as handler
-use Rattle.iox_line_base.specs.DomainValues.declared.degradation.DegradationAction.{DegradationAction}
-use Rattle.iox_line_base.specs.DomainValues.declared.degradation.DegradationAction.TheVariants as degradation
-use Rattle.iox_line_base.specs.Numbers.{IsNumber, IfNumber, number_of}
-use Rattle.iox_line_base.specs.Options.{AnyOrder, find, named, count, one}
-use Rattle.iox_line_base.specs.Values.{strategy_word, allocation_word, handler_word, degradation_word, strategies, allocations, handlers, degradations, strategy_of, allocation_of, handler_of, degradation_of}
-use Rattle.iox_line_base.proofs.NumberLemmas.{number_some, number_own}
-use Rattle.iox_line_base.proofs.ChoiceLemmas.{choice_some, named_some, named_own, IfThere}
-use Rattle.iox_line_base.proofs.OptionLemmas.{options_sound, options_complete}
+use Rattle.iox_command.specs.declared.port.PublisherOptions.{PublisherOptions}
+use Rattle.iox_command.specs.declared.port.SubscriberOptions.{SubscriberOptions}
+use Rattle.iox_domain_values.specs.declared.backpressure_strategy.BackpressureStrategy.{BackpressureStrategy}
+use Rattle.iox_domain_values.specs.declared.backpressure_strategy.BackpressureStrategy.TheVariants as strategy
+use Rattle.iox_domain_values.specs.declared.data_segment.AllocationStrategy.{AllocationStrategy}
+use Rattle.iox_domain_values.specs.declared.data_segment.AllocationStrategy.TheVariants as allocation
+use Rattle.iox_domain_values.specs.declared.backpressure.BackpressureAction.{BackpressureAction}
+use Rattle.iox_domain_values.specs.declared.backpressure.BackpressureAction.TheVariants as handler
+use Rattle.iox_domain_values.specs.declared.degradation.DegradationAction.{DegradationAction}
+use Rattle.iox_domain_values.specs.declared.degradation.DegradationAction.TheVariants as degradation
+use Rattle.iox_line.specs.Numbers.{IsNumber, IfNumber, number_of}
+use Rattle.iox_line.specs.Options.{AnyOrder, find, named, count, one}
+use Rattle.iox_line.specs.Values.{strategy_word, allocation_word, handler_word, degradation_word, strategies, allocations, handlers, degradations, strategy_of, allocation_of, handler_of, degradation_of}
+use Rattle.iox_line.proofs.NumberLemmas.{number_some, number_own}
+use Rattle.iox_line.proofs.ChoiceLemmas.{choice_some, named_some, named_own, IfThere}
+use Rattle.iox_line.proofs.OptionLemmas.{options_sound, options_complete}
 use Rattle.iox_line.specs.PortOptions.{PublisherFits, publisher_keys, publisher_values, publisher_words, subscriber_keys, subscriber_values, subscriber_words}
 use Rattle.iox_line.specs.Reading.{bind, publisher_of, subscriber_of, publisher_options, subscriber_options}
 

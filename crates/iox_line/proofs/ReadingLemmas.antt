@@ -1,31 +1,31 @@
 -- What is read of words is what they write, and what is written is read.
 use Rattle.std.proofs.Common.{◌≡◌, ℕ, ◌<◌, List, [], ◌∷◌, Option, None, Some, refl, cond, sym, ap, ◌∙◌, subst, length, decimal, map, codes}
 use Rattle.std.specs.Option.{option_map}
-use Rattle.iox_line_base.specs.Command.declared.command.Command.{Command}
-use Rattle.iox_line_base.specs.Command.declared.command.Command.TheVariants as command
-use Rattle.iox_line_base.specs.Command.declared.port.PortNumber.{PortNumber}
-use Rattle.iox_line_base.specs.Command.declared.port.PortNumber.TheVariants as port
-use Rattle.iox_line_base.specs.Command.declared.service.ServiceOptions.{ServiceOptions}
-use Rattle.iox_line_base.specs.DescribeBase.declared.pattern.MessagingPattern.{MessagingPattern}
-use Rattle.iox_line_base.specs.Command.declared.step.ForeignStep.{ForeignStep}
-use Rattle.iox_line_base.specs.Command.declared.step.StepBefore.{StepBefore}
-use Rattle.iox_line_base.specs.Command.Patterns.{pattern_of}
-use Rattle.iox_line_base.specs.declared.services.service.NamedService.{NamedService}
-use Rattle.iox_line_base.specs.Services.{pattern_word, IsName, ServiceFits, Names}
-use Rattle.iox_line_base.specs.Reading.{pattern_named, name_of, named_service, service_of}
-use Rattle.iox_line_base.proofs.ServiceLemmas.{pattern_some, pattern_own, name_some, name_own, service_some, service_own}
-use Rattle.iox_line_base.specs.Attributes.{SpecifierFits, VerifierFits, Defines, Requires}
-use Rattle.iox_line_base.specs.AttributesReading.{specifier_of, verifier_of}
-use Rattle.iox_line_base.proofs.SpellingLemmas.{specifier_some, specifier_own, verifier_some, verifier_own, AreMarked, defined_marked, required_marked, marked_unbarred, marked_starts}
-use Rattle.iox_line_base.specs.Steps.{StepFits, WritesSteps, WritesLists, ListsFit}
-use Rattle.iox_line_base.specs.StepsReading.{steps_of, lists_of}
-use Rattle.iox_line_base.proofs.StepLemmas.{steps_some, steps_own}
-use Rattle.iox_line_base.proofs.ListLemmas.{lists_some, lists_own, lists_start}
-use Rattle.iox_line_base.specs.Words.{AllOf, no_words, AreWritten}
-use Rattle.iox_line_base.specs.Numbers.{IsNumber, tag, number_of, tagged}
-use Rattle.iox_line_base.specs.Options.{or_else}
-use Rattle.iox_line_base.proofs.NumberLemmas.{number_some, number_own, tagged_some, tagged_own}
-use Rattle.iox_line_base.proofs.ChoiceLemmas.{choice_some, map_some}
+use Rattle.iox_command.specs.declared.command.Command.{Command}
+use Rattle.iox_command.specs.declared.command.Command.TheVariants as command
+use Rattle.iox_command.specs.declared.port.PortNumber.{PortNumber}
+use Rattle.iox_command.specs.declared.port.PortNumber.TheVariants as port
+use Rattle.iox_command.specs.declared.service.ServiceOptions.{ServiceOptions}
+use Rattle.iox_command.specs.DescribeBase.declared.pattern.MessagingPattern.{MessagingPattern}
+use Rattle.iox_command.specs.declared.step.ForeignStep.{ForeignStep}
+use Rattle.iox_command.specs.declared.step.StepBefore.{StepBefore}
+use Rattle.iox_command.specs.Patterns.{pattern_of}
+use Rattle.iox_line.specs.declared.services.service.NamedService.{NamedService}
+use Rattle.iox_line.specs.Services.{pattern_word, IsName, ServiceFits, Names}
+use Rattle.iox_line.specs.ServicesReading.{pattern_named, name_of, named_service, service_of}
+use Rattle.iox_line.proofs.ServiceLemmas.{pattern_some, pattern_own, name_some, name_own, service_some, service_own}
+use Rattle.iox_line.specs.Attributes.{SpecifierFits, VerifierFits, Defines, Requires}
+use Rattle.iox_line.specs.AttributesReading.{specifier_of, verifier_of}
+use Rattle.iox_line.proofs.SpellingLemmas.{specifier_some, specifier_own, verifier_some, verifier_own, AreMarked, defined_marked, required_marked, marked_unbarred, marked_starts}
+use Rattle.iox_line.specs.Steps.{StepFits, WritesSteps, WritesLists, ListsFit}
+use Rattle.iox_line.specs.StepsReading.{steps_of, lists_of}
+use Rattle.iox_line.proofs.StepLemmas.{steps_some, steps_own}
+use Rattle.iox_line.proofs.ListLemmas.{lists_some, lists_own, lists_start}
+use Rattle.iox_line.specs.Words.{AllOf, no_words, AreWritten}
+use Rattle.iox_line.specs.Numbers.{IsNumber, tag, number_of, tagged}
+use Rattle.iox_line.specs.Options.{or_else}
+use Rattle.iox_line.proofs.NumberLemmas.{number_some, number_own, tagged_some, tagged_own}
+use Rattle.iox_line.proofs.ChoiceLemmas.{choice_some, map_some}
 use Rattle.iox_line.specs.declared.verb.Verb.{Verb}
 use Rattle.iox_line.specs.declared.verb.Verb.TheVariants as verb
 use Rattle.iox_line.specs.declared.verb.ServiceVerb.{ServiceVerb}

@@ -1,4 +1,17 @@
 -- The definitions that contracts about lines cite.
+pub mod Letters
+pub mod Words
+pub mod Numbers
+pub mod Options
+pub mod Values
+pub mod Visible
+pub mod Memory
+pub mod Services
+pub mod ServicesReading
+pub mod Attributes
+pub mod AttributesReading
+pub mod Steps
+pub mod StepsReading
 pub mod LineFault
 pub mod Verbs
 pub mod PortOptions
@@ -6,5 +19,5 @@ pub mod Spelling
 pub mod Reading
 pub mod Outcome
 pub mod ReplyText
-pub use Rattle.iox_line_base.specs.DescribeBase as DescribeBase
-pub use Rattle.iox_line_base.specs.DomainValues as DomainValues
+pub use Rattle.iox_command.specs.DescribeBase as DescribeBase
+pub use Rattle.iox_domain_values.specs as DomainValues

@@ -1,10 +1,10 @@
 -- What is answered of a line.
 use Rattle.std.specs.Prelude.{ℕ, ◌<◌, ◌≤◌, ◌≡◌, Bool, true, false, ◌||◌, List, length, Result, Ok, Err}
 use Rattle.std.specs.declared.alloc.AllocError.{AllocError}
-use Rattle.iox_line_base.specs.Command.declared.command.Command.{Command}
-use Rattle.iox_line_base.specs.Command.declared.command.Command.TheVariants as command
-use Rattle.iox_line_base.specs.Memory.{some}
-use Rattle.iox_line_base.specs.AttributesReading.{requires_some}
+use Rattle.iox_command.specs.declared.command.Command.{Command}
+use Rattle.iox_command.specs.declared.command.Command.TheVariants as command
+use Rattle.iox_line.specs.Memory.{some}
+use Rattle.iox_line.specs.AttributesReading.{requires_some}
 use Rattle.iox_line.specs.declared.error.LineError.{LineError}
 use Rattle.iox_line.specs.declared.error.LineError.TheVariants as fault
 use Rattle.iox_line.specs.Spelling.{Spells}
@@ -17,7 +17,8 @@ takes_memory (command.OpenOrCreate node name options requirements steps) = requi
 takes_memory (command.Foreign pattern name steps) = some steps
 takes_memory other = false
 
--- the command that a line of at most 1,024 bytes spells; that it spells none; that it is longer; or want of memory, where it spells a command that takes some
+-- the command that a line of at most 1,024 bytes spells; that it spells none; that it is longer; or want of memory, where it
+-- spells a command that takes some
 abbrev pub Answers : List ℕ → Result (Result (Command ℕ) LineError) AllocError → Type 0
 Answers line (Ok (Ok c)) = (length line ≤ 1024) × Spells line c
 Answers line (Ok (Err fault.Faulty)) = (length line ≤ 1024) × ((c : Command ℕ) → Spells line c → ⊥)

@@ -1,19 +1,21 @@
 -- How the options of a publisher and of a subscriber are written.
 use Rattle.std.specs.Prelude.{ℕ, List, [], ◌∷◌, Option, codes, decimal}
 use Rattle.std.specs.Option.{option_map}
-use Rattle.iox_line_base.specs.Command.declared.port.PublisherOptions.{PublisherOptions}
-use Rattle.iox_line_base.specs.Command.declared.port.SubscriberOptions.{SubscriberOptions}
-use Rattle.iox_line_base.specs.Numbers.{IfNumber}
-use Rattle.iox_line_base.specs.Options.{option_words}
-use Rattle.iox_line_base.specs.Values.{strategy_word, allocation_word, handler_word, degradation_word}
+use Rattle.iox_command.specs.declared.port.PublisherOptions.{PublisherOptions}
+use Rattle.iox_command.specs.declared.port.SubscriberOptions.{SubscriberOptions}
+use Rattle.iox_line.specs.Numbers.{IfNumber}
+use Rattle.iox_line.specs.Options.{option_words}
+use Rattle.iox_line.specs.Values.{strategy_word, allocation_word, handler_word, degradation_word}
 
 -- the keys of a publisher's options
 abbrev pub publisher_keys : List (List ℕ)
-publisher_keys = codes "loans=" ∷ codes "strategy=" ∷ codes "slots=" ∷ codes "slice=" ∷ codes "alloc=" ∷ codes "handler=" ∷ codes "degrade=" ∷ []
+publisher_keys = codes "loans=" ∷ codes "strategy=" ∷ codes "slots=" ∷ codes "slice=" ∷ codes "alloc=" ∷ codes "handler="
+    ∷ codes "degrade=" ∷ []
 
 -- their values
 abbrev pub publisher_values : PublisherOptions → List (Option (List ℕ))
-publisher_values o = option_map decimal o.max_loaned_samples ∷ option_map strategy_word o.backpressure_strategy ∷ option_map decimal o.preallocated_samples
+publisher_values o = option_map decimal o.max_loaned_samples ∷ option_map strategy_word o.backpressure_strategy
+    ∷ option_map decimal o.preallocated_samples
     ∷ option_map decimal o.initial_max_slice_len ∷ option_map allocation_word o.allocation_strategy ∷ option_map handler_word o.backpressure_handler
     ∷ option_map degradation_word o.degradation_handler ∷ []
 

@@ -1,29 +1,29 @@
 -- How a line is read, word for word.
 use Rattle.std.specs.Prelude.{ℕ, ◌+◌, ◌==◌, length, codes, List, [], ◌∷◌, Option, None, Some, Result, Ok, Err, if◌then◌else◌}
 use Rattle.std.specs.Option.{option_map}
-use Rattle.iox_line_base.specs.Command.declared.command.Command.{Command}
-use Rattle.iox_line_base.specs.Command.declared.command.Command.TheVariants as command
-use Rattle.iox_line_base.specs.Command.declared.port.PortNumber.{PortNumber}
-use Rattle.iox_line_base.specs.Command.declared.port.PortNumber.TheVariants as port
-use Rattle.iox_line_base.specs.Words.{no_words}
-use Rattle.iox_line_base.specs.Numbers.{number_of, tagged}
-use Rattle.iox_line_base.specs.Command.declared.port.PublisherOptions.{PublisherOptions}
-use Rattle.iox_line_base.specs.Command.declared.port.SubscriberOptions.{SubscriberOptions}
-use Rattle.iox_line_base.specs.DomainValues.declared.backpressure_strategy.BackpressureStrategy.{BackpressureStrategy}
-use Rattle.iox_line_base.specs.DomainValues.declared.data_segment.AllocationStrategy.{AllocationStrategy}
-use Rattle.iox_line_base.specs.DomainValues.declared.backpressure.BackpressureAction.{BackpressureAction}
-use Rattle.iox_line_base.specs.DomainValues.declared.degradation.DegradationAction.{DegradationAction}
-use Rattle.iox_line_base.specs.Options.{or_else, find, named, one}
-use Rattle.iox_line_base.specs.Values.{strategy_of, allocation_of, handler_of, degradation_of}
-use Rattle.iox_line_base.specs.Letters.{factory_letter, loan_letter, publisher_letter, sample_letter, subscriber_letter}
+use Rattle.iox_command.specs.declared.command.Command.{Command}
+use Rattle.iox_command.specs.declared.command.Command.TheVariants as command
+use Rattle.iox_command.specs.declared.port.PortNumber.{PortNumber}
+use Rattle.iox_command.specs.declared.port.PortNumber.TheVariants as port
+use Rattle.iox_line.specs.Words.{no_words}
+use Rattle.iox_line.specs.Numbers.{number_of, tagged}
+use Rattle.iox_command.specs.declared.port.PublisherOptions.{PublisherOptions}
+use Rattle.iox_command.specs.declared.port.SubscriberOptions.{SubscriberOptions}
+use Rattle.iox_domain_values.specs.declared.backpressure_strategy.BackpressureStrategy.{BackpressureStrategy}
+use Rattle.iox_domain_values.specs.declared.data_segment.AllocationStrategy.{AllocationStrategy}
+use Rattle.iox_domain_values.specs.declared.backpressure.BackpressureAction.{BackpressureAction}
+use Rattle.iox_domain_values.specs.declared.degradation.DegradationAction.{DegradationAction}
+use Rattle.iox_line.specs.Options.{or_else, find, named, one}
+use Rattle.iox_line.specs.Values.{strategy_of, allocation_of, handler_of, degradation_of}
+use Rattle.iox_line.specs.Letters.{factory_letter, loan_letter, publisher_letter, sample_letter, subscriber_letter}
 use Rattle.std.specs.declared.alloc.AllocError.{AllocError}
-use Rattle.iox_line_base.specs.DescribeBase.declared.pattern.MessagingPattern.{MessagingPattern}
-use Rattle.iox_line_base.specs.Command.declared.step.StepBefore.{StepBefore}
-use Rattle.iox_line_base.specs.Command.Patterns.{pattern_of}
-use Rattle.iox_line_base.specs.declared.services.service.NamedService.{NamedService}
-use Rattle.iox_line_base.specs.Reading.{pattern_named, name_of, service_of}
-use Rattle.iox_line_base.specs.AttributesReading.{specifier_of, verifier_of}
-use Rattle.iox_line_base.specs.StepsReading.{steps_of, lists_of}
+use Rattle.iox_command.specs.DescribeBase.declared.pattern.MessagingPattern.{MessagingPattern}
+use Rattle.iox_command.specs.declared.step.StepBefore.{StepBefore}
+use Rattle.iox_command.specs.Patterns.{pattern_of}
+use Rattle.iox_line.specs.declared.services.service.NamedService.{NamedService}
+use Rattle.iox_line.specs.ServicesReading.{pattern_named, name_of, service_of}
+use Rattle.iox_line.specs.AttributesReading.{specifier_of, verifier_of}
+use Rattle.iox_line.specs.StepsReading.{steps_of, lists_of}
 use Rattle.iox_line.specs.declared.verb.Verb.{Verb}
 use Rattle.iox_line.specs.declared.verb.Verb.TheVariants as verb
 use Rattle.iox_line.specs.declared.verb.ServiceVerb.{ServiceVerb}
@@ -37,7 +37,8 @@ both (Some x) None = None
 both (Some x) (Some y) = Some (x, y)
 
 -- the options of a publisher, by their parts
-abbrev pub publisher_options : Option ℕ → Option BackpressureStrategy → Option ℕ → Option ℕ → Option AllocationStrategy → Option BackpressureAction → Option DegradationAction → PublisherOptions
+abbrev pub publisher_options : Option ℕ → Option BackpressureStrategy → Option ℕ → Option ℕ → Option AllocationStrategy
+    → Option BackpressureAction → Option DegradationAction → PublisherOptions
 publisher_options a b c d e f g = record {
   max_loaned_samples = a;
   backpressure_strategy = b;
@@ -86,7 +87,8 @@ with_values letter (w ∷ ws) = both (tagged letter w) (numbers ws)
 
 -- one port
 abbrev pub port_of : List (List ℕ) → Option PortNumber
-port_of words = or_else (option_map (λ n. port.Publisher n) (only publisher_letter words)) (option_map (λ n. port.Subscriber n) (only subscriber_letter words))
+port_of words = or_else (option_map (λ n. port.Publisher n) (only publisher_letter words))
+    (option_map (λ n. port.Subscriber n) (only subscriber_letter words))
 
 -- what a first part makes of what is read, if it is read
 abbrev pub bind : {X Y : Type 0} → Option X → (X → Option Y) → Option Y
@@ -119,8 +121,10 @@ subscriber_command [] = None
 subscriber_command (w ∷ ws) = option_map (λ p. command.Subscriber p.0 p.1) (both (tagged factory_letter w) (subscriber_of ws))
 
 -- the command that is made of a service, of its attributes and of its lists of steps, if all are read
-abbrev pub service_command : {A : Type 0} → (NamedService → A → List StepBefore → Command ℕ) → (List (List ℕ) → Option A) → List (List ℕ) → Option (Command ℕ)
-service_command make read words = bind (service_of words) (λ s. option_map (λ p. make s p.0 p.1) (both (read s.attributes) (lists_of (pattern_of s.options) s.lists)))
+abbrev pub service_command : {A : Type 0} → (NamedService → A → List StepBefore → Command ℕ) → (List (List ℕ) → Option A)
+    → List (List ℕ) → Option (Command ℕ)
+service_command make read words = bind (service_of words)
+    (λ s. option_map (λ p. make s p.0 p.1) (both (read s.attributes) (lists_of (pattern_of s.options) s.lists)))
 
 -- a service that is created
 abbrev pub create_command : List (List ℕ) → Option (Command ℕ)

@@ -1,9 +1,9 @@
 -- The bytes of each reply, without its newline.
 use Rattle.std.specs.Prelude.{ℕ, Bool, true, false, List, [], ◌∷◌, ◌++◌, codes, decimal}
 use Rattle.std.specs.Vec.{vec_items}
-use Rattle.iox_line_base.specs.Command.RefusalText.{refusal_text}
-use Rattle.iox_line_base.specs.Command.declared.reply.Reply.{Reply}
-use Rattle.iox_line_base.specs.Command.declared.reply.Reply.TheVariants as reply
+use Rattle.iox_command.specs.RefusalText.{refusal_text}
+use Rattle.iox_command.specs.declared.reply.Reply.{Reply}
+use Rattle.iox_command.specs.declared.reply.Reply.TheVariants as reply
 
 -- each value after a space
 abbrev pub values_text : List ℕ → List ℕ

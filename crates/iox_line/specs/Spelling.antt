@@ -1,17 +1,17 @@
 -- Which bytes spell a command: how a command is written, word for word.
 use Rattle.std.specs.Prelude.{ℕ, ◌<◌, ◌≡◌, List, [], ◌∷◌, length, codes, decimal, map}
-use Rattle.iox_line_base.specs.Command.declared.command.Command.{Command}
-use Rattle.iox_line_base.specs.Command.declared.command.Command.TheVariants as command
-use Rattle.iox_line_base.specs.Command.declared.port.PortNumber.{PortNumber}
-use Rattle.iox_line_base.specs.Command.declared.port.PortNumber.TheVariants as port
-use Rattle.iox_line_base.specs.Command.Patterns.{pattern_of}
-use Rattle.iox_line_base.specs.Words.{AllOf, AreWords, spaced}
-use Rattle.iox_line_base.specs.Numbers.{IsNumber, IfNumber, tag}
-use Rattle.iox_line_base.specs.Options.{AnyOrder}
-use Rattle.iox_line_base.specs.Letters.{factory_letter, loan_letter, publisher_letter, sample_letter, subscriber_letter}
-use Rattle.iox_line_base.specs.Services.{pattern_word, IsName, ServiceFits, Names}
-use Rattle.iox_line_base.specs.Attributes.{SpecifierFits, VerifierFits, Defines, Requires}
-use Rattle.iox_line_base.specs.Steps.{StepFits, WritesSteps, WritesLists, ListsFit}
+use Rattle.iox_command.specs.declared.command.Command.{Command}
+use Rattle.iox_command.specs.declared.command.Command.TheVariants as command
+use Rattle.iox_command.specs.declared.port.PortNumber.{PortNumber}
+use Rattle.iox_command.specs.declared.port.PortNumber.TheVariants as port
+use Rattle.iox_command.specs.Patterns.{pattern_of}
+use Rattle.iox_line.specs.Words.{AllOf, AreWords, spaced}
+use Rattle.iox_line.specs.Numbers.{IsNumber, IfNumber, tag}
+use Rattle.iox_line.specs.Options.{AnyOrder}
+use Rattle.iox_line.specs.Letters.{factory_letter, loan_letter, publisher_letter, sample_letter, subscriber_letter}
+use Rattle.iox_line.specs.Services.{pattern_word, IsName, ServiceFits, Names}
+use Rattle.iox_line.specs.Attributes.{SpecifierFits, VerifierFits, Defines, Requires}
+use Rattle.iox_line.specs.Steps.{StepFits, WritesSteps, WritesLists, ListsFit}
 use Rattle.iox_line.specs.PortOptions.{PublisherFits, publisher_words, subscriber_words}
 
 -- numbers of 64 bits
@@ -29,13 +29,15 @@ abbrev pub IsPort : PortNumber → Type 0
 IsPort (port.Publisher n) = IsNumber n
 IsPort (port.Subscriber n) = IsNumber n
 
--- a command whose numbers have 64 bits, whose name and attributes are within the limits, whose lists are in their order, and whose foreign steps are at least one
+-- a command whose numbers have 64 bits, whose name and attributes are within the limits, whose lists are in their order, and
+-- whose foreign steps are at least one
 abbrev pub Fits : Command ℕ → Type 0
 Fits (command.Create node name options attributes steps) = IsNumber node × IsName name × ServiceFits options × SpecifierFits attributes
     × ListsFit (pattern_of options) 0 steps
 Fits (command.Open node name options requirements steps) = IsNumber node × IsName name × ServiceFits options × VerifierFits requirements
     × ListsFit (pattern_of options) 0 steps
-Fits (command.OpenOrCreate node name options requirements steps) = IsNumber node × IsName name × ServiceFits options × VerifierFits requirements
+Fits (command.OpenOrCreate node name options requirements steps) = IsNumber node × IsName name × ServiceFits options
+    × VerifierFits requirements
     × ListsFit (pattern_of options) 0 steps
 Fits (command.Foreign pattern name steps) = IsName name × (0 < length steps) × AllOf (StepFits pattern) steps
 Fits (command.Close factory) = IsNumber factory
@@ -61,11 +63,14 @@ Fits command.Node = Unit {0}
 -- these words write the command
 abbrev pub Writes : Command ℕ → List (List ℕ) → Type 0
 Writes command.Node words = words ≡ codes "node" ∷ []
-Writes (command.Create node name options attributes steps) words = (attributed : List (List ℕ)) × (listed : List (List ℕ)) × (named : List (List ℕ))
+Writes (command.Create node name options attributes steps) words = (attributed : List (List ℕ)) × (listed : List (List ℕ))
+    × (named : List (List ℕ))
     × Defines attributes attributed × WritesLists 0 steps listed × Names node name options attributed listed named × (words ≡ codes "create" ∷ named)
-Writes (command.Open node name options requirements steps) words = (attributed : List (List ℕ)) × (listed : List (List ℕ)) × (named : List (List ℕ))
+Writes (command.Open node name options requirements steps) words = (attributed : List (List ℕ)) × (listed : List (List ℕ))
+    × (named : List (List ℕ))
     × Requires requirements attributed × WritesLists 0 steps listed × Names node name options attributed listed named × (words ≡ codes "open" ∷ named)
-Writes (command.OpenOrCreate node name options requirements steps) words = (attributed : List (List ℕ)) × (listed : List (List ℕ)) × (named : List (List ℕ))
+Writes (command.OpenOrCreate node name options requirements steps) words = (attributed : List (List ℕ)) × (listed : List (List ℕ))
+    × (named : List (List ℕ))
     × Requires requirements attributed × WritesLists 0 steps listed × Names node name options attributed listed named × (words ≡ codes "open_or_create" ∷ named)
 Writes (command.Foreign pattern name steps) words = (stepped : List (List ℕ)) × WritesSteps steps stepped
     × (words ≡ codes "foreign" ∷ pattern_word pattern ∷ name ∷ stepped)

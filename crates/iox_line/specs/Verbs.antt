@@ -1,6 +1,6 @@
 -- The first word of a line.
 use Rattle.std.specs.Prelude.{ℕ, List, [], ◌∷◌, Option, codes}
-use Rattle.iox_line_base.specs.Words.{choice}
+use Rattle.iox_line.specs.Words.{choice}
 use Rattle.iox_line.specs.declared.verb.Verb.{Verb}
 use Rattle.iox_line.specs.declared.verb.Verb.TheVariants as verb
 use Rattle.iox_line.specs.declared.verb.ServiceVerb.{ServiceVerb}
@@ -30,13 +30,15 @@ verb_word verb.Has = codes "has"
 
 -- verbs that are seldom met, each beside its text
 abbrev pub seldom_verbs : List (List ℕ × Verb)
-seldom_verbs = (codes "node", verb.Node) ∷ (codes "close", verb.Close) ∷ (codes "publisher", verb.Publisher) ∷ (codes "subscriber", verb.Subscriber)
+seldom_verbs = (codes "node", verb.Node) ∷ (codes "close", verb.Close) ∷ (codes "publisher", verb.Publisher)
+    ∷ (codes "subscriber", verb.Subscriber)
     ∷ (codes "loan_uninit", verb.LoanUninit) ∷ (codes "drop", verb.Drop) ∷ (codes "retry", verb.Retry) ∷ (codes "giveup", verb.GiveUp)
     ∷ (codes "leave", verb.Leave) ∷ []
 
 -- all verbs but those that name a service, each beside its text
 abbrev pub verbs : List (List ℕ × Verb)
-verbs = (codes "put", verb.Put) ∷ (codes "receive", verb.Receive) ∷ (codes "release", verb.Release) ∷ (codes "loan", verb.Loan) ∷ (codes "send", verb.Send)
+verbs = (codes "put", verb.Put) ∷ (codes "receive", verb.Receive) ∷ (codes "release", verb.Release) ∷ (codes "loan", verb.Loan)
+    ∷ (codes "send", verb.Send)
     ∷ (codes "fill", verb.Fill) ∷ (codes "set", verb.Set) ∷ (codes "read", verb.Read) ∷ (codes "has", verb.Has) ∷ (codes "update", verb.Update) ∷ seldom_verbs
 
 -- the verb that a word is, of those seldom met

@@ -3,9 +3,9 @@ ghost use Rattle.std.specs.Prelude.{◌≡◌, ◌≤◌, length};
 ghost use Rattle.iox_line.specs.Reading.{only, with_number, with_two, numbers, with_values, port_of};
 
 use crate::scratch::Scratch;
+use crate::text::Words;
+use crate::text::number::{number, numbered};
 use iox_command::{PortNumber, Values};
-use iox_line_base::text::Words;
-use iox_line_base::text::number::{number, numbered};
 
 /// One made value.
 pub(crate) fn only(letter: u8, words: Words) -> Option<u64>

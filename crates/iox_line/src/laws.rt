@@ -1,6 +1,6 @@
 //! Laws of spelling, as functions that do nothing: each contract is the law.
 ghost use Rattle.std.specs.Prelude.{◌≡◌, ℕ, List};
-ghost use Rattle.iox_line_base.specs.Command.declared.command.Command.{Command};
+ghost use Rattle.iox_command.specs.declared.command.Command.{Command};
 ghost use Rattle.iox_line.specs.Spelling.{Fits, Spells};
 
 /// No line spells two commands.

@@ -4,6 +4,10 @@
 //!
 //! | Module | What it has |
 //! |---|---|
+//! | `text` | words, numbers and options |
+//! | `services` | how a line names a service |
+//! | `attributes` | how it gives attributes |
+//! | `steps` | how it gives steps of foreign processes |
 //! | `verb` | the first word of a line |
 //! | `scratch` | room for the values of a line |
 //! | `arguments` | the numbers after the first word |
@@ -30,6 +34,7 @@
 #![tactic(auto)]
 
 mod arguments;
+pub mod attributes;
 pub mod error;
 pub mod laws;
 mod port_options;
@@ -37,6 +42,9 @@ pub mod print;
 pub mod read;
 pub mod scratch;
 mod service;
+pub mod services;
+pub mod steps;
+pub mod text;
 pub mod verb;
 
 pub use error::LineError;

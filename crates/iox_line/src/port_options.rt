@@ -2,12 +2,12 @@
 ghost use Rattle.std.specs.Prelude.{◌≡◌};
 ghost use Rattle.iox_line.specs.Reading.{publisher_of, subscriber_of};
 
-use iox_command::{PublisherOptions, SubscriberOptions};
-use iox_line_base::text::Words;
-use iox_line_base::text::options::one;
-use iox_line_base::text::value::{
+use crate::text::Words;
+use crate::text::options::one;
+use crate::text::value::{
     named_allocation, named_degradation, named_handler, named_number, named_strategy,
 };
+use iox_command::{PublisherOptions, SubscriberOptions};
 
 /// The options of a publisher; `None` if a word is none of them, or one comes twice.
 pub(crate) fn publisher_options(words: &Words) -> Option<PublisherOptions>

@@ -2,7 +2,7 @@
 ghost use Rattle.std.specs.Prelude.{◌≡◌, ◌≤◌, ℕ, None, length, IfSome};
 ghost use Rattle.std.specs.Option.{option_map};
 ghost use Rattle.iox_line.specs.Reading.{if_of_port, of_verb, of_words, publisher_command, subscriber_command};
-ghost use Rattle.iox_line_base.specs.Memory.{MayLack};
+ghost use Rattle.iox_line.specs.Memory.{MayLack};
 ghost use Rattle.iox_command.specs.Ports.{command_of};
 ghost use Rattle.iox_command.specs.declared.ports.port_command.PortCommand.{PortCommand};
 ghost use Rattle.iox_line.specs.Outcome.{Answers, takes_memory};
@@ -13,11 +13,11 @@ use crate::error::LineError;
 use crate::port_options::{publisher_options, subscriber_options};
 use crate::scratch::Scratch;
 use crate::service::of_service;
+use crate::text::Words;
+use crate::text::number::numbered;
 use crate::verb::{Verb, first_verb, service_verb};
 use iox_command::Command;
 use iox_command::ports::PortCommand;
-use iox_line_base::text::Words;
-use iox_line_base::text::number::numbered;
 use std::alloc::{AllocError, Global};
 
 /// The command that a line spells, without its newline. The values of a message are put into the scratch.

@@ -1,16 +1,16 @@
 //! Lines that name a service.
 ghost use Rattle.std.specs.Prelude.{◌≡◌};
-ghost use Rattle.iox_line_base.specs.Memory.{MayLack};
+ghost use Rattle.iox_line.specs.Memory.{MayLack};
 ghost use Rattle.iox_line.specs.Reading.{of_service, create_command, open_command, open_or_create_command, foreign_command, together};
 ghost use Rattle.iox_line.specs.Outcome.{takes_memory};
 
+use crate::attributes::{defined_attributes, required_attributes};
+use crate::services::value::{name, pattern};
+use crate::services::{NamedService, named_service};
+use crate::steps::{foreign_steps, listed_steps};
+use crate::text::Words;
 use crate::verb::ServiceVerb;
 use iox_command::Command;
-use iox_line_base::attributes::{defined_attributes, required_attributes};
-use iox_line_base::services::value::{name, pattern};
-use iox_line_base::services::{NamedService, named_service};
-use iox_line_base::steps::{foreign_steps, listed_steps};
-use iox_line_base::text::Words;
 use std::alloc::{AllocError, Global};
 
 /// The command of a verb that names a service, and the words after it.

@@ -1,6 +1,6 @@
 //! The first word of a line.
 ghost use Rattle.std.specs.Prelude.{◌≡◌};
-ghost use Rattle.iox_line_base.specs.Words.{same};
+ghost use Rattle.iox_line.specs.Words.{same};
 ghost use Rattle.iox_line.specs.Verbs.{verb_of, seldom_verb_of, service_verb_of};
 
 /// What a line asks for. This port's own.

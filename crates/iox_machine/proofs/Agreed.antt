@@ -16,14 +16,14 @@ use Rattle.iox_machine.proofs.Beginning.{or-first, or-second}
 use Rattle.iox_machine.proofs.Calls.{IsSettled, create-settles, open-settles, either-settles, fold-all}
 use Rattle.iox_machine.proofs.Cases.{same-some, never-some, both-true}
 use Rattle.iox_machine.proofs.Counts.{has, joined-has, one-has, filter-has, one_if}
-use Rattle.iox_machine.proofs.Lists.{all-weaker, all-joined, all-filtered}
+use Rattle.iox_machine.proofs.Lists.{all-both, all-weaker, all-joined, all-filtered}
 use Rattle.iox_machine.proofs.Moving.{closed}
 use Rattle.iox_machine.proofs.Names.{pattern-is, name-is, name-itself, and-true, phases-where, at-itself, at-off}
 use Rattle.iox_machine.proofs.Phases.{each-all}
 use Rattle.iox_machine.proofs.Ported.{ports-move}
 use Rattle.iox_machine.proofs.Shares.{Counts, share, more_of, in-share, counts-same}
 use Rattle.iox_machine.proofs.Stands.{Stands, any-joined, any-last, any-weaker, each-false, any-filtered, all-passing, all-swapped, one-there, one-later, distinct-joined, distinct-filtered, tally-some, manned-of, phase-stands, moved-stands, IsOpened, opened-so}
-use Rattle.iox_machine.proofs.Standing.{all-both, tally, Apart, tally-joined, tally-removed, removed-none, apart-joined, apart-filtered, Linked, settings-pattern, Fits, fits-acted, fits-lost, fits-won, fits-entered, fits-closed, absurd-count}
+use Rattle.iox_machine.proofs.Standing.{tally, Apart, tally-joined, tally-removed, removed-none, apart-joined, apart-filtered, Linked, settings-pattern, Fits, fits-acted, fits-lost, fits-won, fits-entered, fits-closed, absurd-count}
 use Rattle.iox_command.specs.NegotiateBase.DescribeBase.declared.message_type.MessageTypeDetails.{MessageTypeDetails}
 use Rattle.iox_command.specs.NegotiateBase.DescribeBase.declared.pattern.MessagingPattern.{MessagingPattern}
 use Rattle.iox_command.specs.NegotiateBase.DescribeBase.declared.pattern.MessagingPattern.TheVariants as messaging
@@ -467,8 +467,8 @@ module _ {T : Type 0} where
         (Fits (tally (pattern_of named) name old.factories) (pattern_of named) name old.services)
         (Fits (more_of node (tally (pattern_of named) name old.factories)) (pattern_of named) name old.services)
         (acts-all (factory_of node name named) old stands steps) old answer new (stands.fits (pattern_of named) name) named required
-        (fits-entered types (tally (pattern_of named) name old.factories) (pattern_of named) name old.services
-        (manned-of (pattern_of named) name old stands) node) h
+        (λ life agreed nodes room. fits-entered types (tally (pattern_of named) name old.factories) (pattern_of named) name old.services
+        (manned-of (pattern_of named) name old stands) node life agreed nodes) h
 
     pub either-view : (node : ℕ) (name : List ℕ) (named : ServiceOptions) (required : Required) (steps : List StepBefore)
         (old : State T) (answer : Reply T) (new : State T) (stands : Stands old)
@@ -479,8 +479,8 @@ module _ {T : Type 0} where
         (Fits (tally (pattern_of named) name old.factories) (pattern_of named) name old.services)
         (Fits (more_of node (tally (pattern_of named) name old.factories)) (pattern_of named) name old.services)
         (acts-all (factory_of node name named) old stands steps) old answer new (stands.fits (pattern_of named) name) named required
-        (fits-entered types (tally (pattern_of named) name old.factories) (pattern_of named) name old.services
-        (manned-of (pattern_of named) name old stands) node)
+        (λ life agreed nodes room. fits-entered types (tally (pattern_of named) name old.factories) (pattern_of named) name old.services
+        (manned-of (pattern_of named) name old stands) node life agreed nodes)
         (fits-lost types (tally (pattern_of named) name old.factories) (pattern_of named) name old.services
         (manned-of (pattern_of named) name old stands))
         (λ lives fits. fits-won types (tally (pattern_of named) name old.factories) (pattern_of named) name old.services

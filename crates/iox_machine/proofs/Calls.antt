@@ -1,5 +1,5 @@
 -- What a call that creates or opens a service makes of its phase.
-use Rattle.std.proofs.Common.{◌≡◌, ◌⊎◌, ◌+◌, ℕ, zero, suc, Bool, true, false, cond, ◌&&◌, ◌||◌, List, [], ◌∷◌, ◌++◌, length, take, map, None, Some, Result, Ok, Err, sym, subst, inl, inr}
+use Rattle.std.proofs.Common.{◌≡◌, ◌⊎◌, ◌+◌, ℕ, zero, suc, Bool, true, false, cond, ◌&&◌, ◌||◌, List, [], ◌∷◌, ◌++◌, length, take, map, None, Some, Result, Ok, Err, refl, sym, subst, inl, inr}
 use Rattle.std.specs.List.{AllByRecursion}
 use Rattle.std.specs.Prelude.{◌==◌, nat_le, nat_lt, filter, fold, MatchResult}
 use Rattle.iox_machine.specs.Agreement.{Agreement, unfit, event_verdict, publish_subscribe_verdict, request_response_verdict}
@@ -33,6 +33,10 @@ use Rattle.iox_command.specs.declared.service.ServiceOptions.{ServiceOptions}
 use Rattle.iox_command.specs.declared.service.ServiceOptions.TheVariants as options
 use Rattle.iox_command.specs.declared.step.ForeignStep.{ForeignStep}
 use Rattle.iox_command.specs.declared.step.StepBefore.{StepBefore}
+
+-- A node is in, or there is room for it.
+abbrev pub HasRoom : Node → Agreement → List (Node × ℕ) → Type 0
+HasRoom node agreed nodes = (is_in node nodes || nat_lt (length nodes) (max_nodes_of agreed.settings)) ≡ true
 
 pub fold-all : {A X : Type 0} (P : A → Type 0) (f : A → X → A) (xs : List X) → AllByRecursion (λ (x : X). (a : A) → P a → P (f a x)) xs
     → (a : A) → P a → P (fold f a xs)
@@ -148,7 +152,7 @@ module _ (types : MessageTypeDetails) (pattern : MessagingPattern) (steps : List
         ]
 
   module _ {V : Type 0} (verdict : Agreement → Result (Unit {0}) V)
-      (entering : (life : ℕ) (agreed : Agreement) (nodes : List (Node × ℕ)) → R (Published life agreed nodes)
+      (entering : (life : ℕ) (agreed : Agreement) (nodes : List (Node × ℕ)) → HasRoom node agreed nodes → R (Published life agreed nodes)
       → Q (Published life agreed (entered node nodes))) where
     registered-ends : (life : ℕ) (phase : Phase) → R phase
         → Ends {F = OpenFailure V} (registered {V = V} life node phase).0 (registered {V = V} life node phase).1
@@ -156,7 +160,7 @@ module _ (types : MessageTypeDetails) (pattern : MessagingPattern) (steps : List
     registered-ends life (BeingMade now by) r = r
     registered-ends life (Published now agreed nodes) r =
         found (now == life) (is_in node nodes || nat_lt (length nodes) (max_nodes_of agreed.settings)) (Some (Ok false), joined)
-        (Some (Err unopened.ExceedsMaxNumberOfNodes), same) (None, same) (entering now agreed nodes r) r r
+        (Some (Err unopened.ExceedsMaxNumberOfNodes), same) (None, same) (λ room. entering now agreed nodes room r) r r
       where
         joined : Phase
         joined = Published now agreed (entered node nodes)
@@ -164,10 +168,10 @@ module _ (types : MessageTypeDetails) (pattern : MessagingPattern) (steps : List
         same : Phase
         same = Published now agreed nodes
 
-        found : (b c : Bool) (one two three : Answer (OpenFailure V) × Phase) → Ends {F = OpenFailure V} one.0 one.1
+        found : (b c : Bool) (one two three : Answer (OpenFailure V) × Phase) → (c ≡ true → Ends {F = OpenFailure V} one.0 one.1)
             → Ends {F = OpenFailure V} two.0 two.1 → Ends {F = OpenFailure V} three.0 three.1
             → Ends {F = OpenFailure V} (cond b (cond c one two) three).0 (cond b (cond c one two) three).1
-        found true true one two three p q r = p
+        found true true one two three p q r = p refl
         found true false one two three p q r = q
         found false c one two three p q r = r
     registered-ends life (Emptied now agreed by) r = found (now == life)
@@ -333,7 +337,8 @@ module _ {T : Type 0} (types : MessageTypeDetails) (steps : List StepBefore) (fa
       (record { settings = settings_of types named; attributes = attributes }) lost won) h
 
   abbrev Entering : Type 0
-  Entering = (life : ℕ) (agreed : Agreement) (nodes : List (Node × ℕ)) → R (Published life agreed nodes)
+  Entering = (life : ℕ) (agreed : Agreement) (nodes : List (Node × ℕ)) → HasRoom (Own factory.node) agreed nodes
+      → R (Published life agreed nodes)
       → Q (Published life agreed (entered (Own factory.node) nodes))
 
   pub open-settles : (named : ServiceOptions) (required : Required) → Entering

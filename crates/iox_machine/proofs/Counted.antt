@@ -13,7 +13,7 @@ use Rattle.iox_machine.specs.State.{State, Made, Factory, new_state, counted, is
 use Rattle.iox_machine.specs.Table.{contains, removed}
 use Rattle.iox_machine.proofs.Cases.{same-some, never-some}
 use Rattle.iox_machine.proofs.Counts.{Adds, adds-itself, adds-filtered, adds-joined, times, of_told, one_if, behind, never-one}
-use Rattle.iox_machine.proofs.Kept.{IsNext, Kept}
+use Rattle.iox_machine.proofs.Kept.{IsNext}
 use Rattle.iox_machine.proofs.Moving.{IsNegotiated, IsClosed, creates, opens, opens-or-creates, closed}
 use Rattle.iox_machine.proofs.Ported.{IsBeside, ports-move}
 use Rattle.iox_command.specs.NegotiateBase.DescribeBase.declared.message_type.MessageTypeDetails.{MessageTypeDetails}
@@ -28,7 +28,7 @@ use Rattle.iox_command.specs.declared.refusal.Refusal.TheVariants as refusal
 use Rattle.iox_command.specs.declared.reply.Reply.{Reply}
 use Rattle.iox_command.specs.declared.reply.Reply.TheVariants as reply
 
-times-append : (number : ℕ) (xs ys : List ℕ) → times number (xs ++ ys) ≡ times number xs + times number ys
+pub times-append : (number : ℕ) (xs ys : List ℕ) → times number (xs ++ ys) ≡ times number xs + times number ys
 times-append number [] ys = none (times number ys)
   where
     none : (x : ℕ) → x ≡ 0 + x
@@ -40,7 +40,7 @@ times-append number (x ∷ xs) ys =
 
 module _ {T V : Type 0} (table : Service T → List (ℕ × V)) where
   -- the numbers by which something goes in a table of some service
-  abbrev standing : List (Service T) → List ℕ
+  abbrev pub standing : List (Service T) → List ℕ
   standing services = flat_map (λ (service : Service T). numbers_in (table service)) services
 
   standing-replaced : (number : ℕ) (e : ℕ) (has_it : Service T → Bool) (service after : Service T) (services : List (Service T))
@@ -149,19 +149,19 @@ one-goes-on (Some number) low high rest is on = (is.0, subst (λ (n : ℕ). GoOn
 
 module _ {T : Type 0} where
   -- So much more stands in a table of some service than before.
-  abbrev Grows : {V : Type 0} → (Service T → List (ℕ × V)) → Option ℕ → List (Service T) → List (Service T) → Type 0
+  abbrev pub Grows : {V : Type 0} → (Service T → List (ℕ × V)) → Option ℕ → List (Service T) → List (Service T) → Type 0
   Grows {V} table told old new = (number : ℕ)
       → times number (standing table new) ≤ times number (standing table old) + of_told told number
 
   -- What a step does to all that goes by numbers: no more goes by one, but for what the reply tells, and that is the next one.
-  record Passes (old : State T) (answer : Reply T) (new : State T) : Type 0 where
-    next : IsNext old.made answer
-    made : new.made ≡ counted answer old.made
-    factories : Adds old.factories (factory_told answer) new.factories
-    publishers : Grows (λ service. service.publishers) (publisher_told answer) old.services new.services
-    subscribers : Grows (λ service. service.subscribers) (subscriber_told answer) old.services new.services
-    loans : Grows (λ service. service.loans) (loan_told answer) old.services new.services
-    samples : Grows (λ service. service.samples) (sample_told answer) old.services new.services
+  pub record Passes (old : State T) (answer : Reply T) (new : State T) : Type 0 where
+    pub next : IsNext old.made answer
+    pub made : new.made ≡ counted answer old.made
+    pub factories : Adds old.factories (factory_told answer) new.factories
+    pub publishers : Grows (λ service. service.publishers) (publisher_told answer) old.services new.services
+    pub subscribers : Grows (λ service. service.subscribers) (subscriber_told answer) old.services new.services
+    pub loans : Grows (λ service. service.loans) (loan_told answer) old.services new.services
+    pub samples : Grows (λ service. service.samples) (sample_told answer) old.services new.services
 
   -- where services, if they change at all, end or begin without anything
   passes : (told : Reply T) (old mid new : State T) (answer : Reply T) → answer ≡ told → new ≡ mid → IsNext old.made told
@@ -288,7 +288,7 @@ module _ {T : Type 0} where
   sample-on made other next = refl
 
   module _ (types : MessageTypeDetails) (IsDefault : T → Type 0) (buffer : ℕ) where
-    step-passes : (asked : Command T) (old : State T) (answer : Reply T) (new : State T) → Step types IsDefault buffer asked old answer new
+    pub step-passes : (asked : Command T) (old : State T) (answer : Reply T) (new : State T) → Step types IsDefault buffer asked old answer new
         → Passes old answer new
     step-passes command.Node old answer new (inl (told, came)) =
         rests (reply.NodeMade (old.made.nodes + 1)) old (record old { made = counted answer old.made }) new answer (told, came) refl
@@ -375,7 +375,7 @@ above last (x ∷ xs) on number low =
         plus : (y : ℕ) → y ≤ 0 → 0 + y ≤ 0
         plus y h = omega (arith, h)
 
-told-once : (last : ℕ) (xs : List ℕ) → GoOn last xs → (number : ℕ) → times number xs ≤ 1
+pub told-once : (last : ℕ) (xs : List ℕ) → GoOn last xs → (number : ℕ) → times number xs ≤ 1
 told-once last [] on number = omega arith
 told-once last (x ∷ xs) on number = here (x == number) refl (told-once x xs on.1 number)
   where
@@ -406,7 +406,7 @@ none-same x (y ∷ ys) none = (
     here true is h = more (times x ys) h
     here false is h = true≢false (sym is)
 
-distinct : (xs : List ℕ) → ((number : ℕ) → times number xs ≤ 1) → IsDistinct (λ one other. one == other) xs
+pub distinct : (xs : List ℕ) → ((number : ℕ) → times number xs ≤ 1) → IsDistinct (λ one other. one == other) xs
 unfolding IsDistinct
 distinct [] once = tt
 distinct (x ∷ xs) once = (
@@ -451,7 +451,7 @@ each-told told (x ∷ xs) few = (
         first r t h = omega (arith, h)
     here false is h = absurd (true≢false (sym is))
 
-once-each : (told xs : List ℕ) → GoOn 0 told → ((number : ℕ) → times number xs ≤ 0 + times number told) → AreToldOnce told xs
+pub once-each : (told xs : List ℕ) → GoOn 0 told → ((number : ℕ) → times number xs ≤ 0 + times number told) → AreToldOnce told xs
 once-each told xs on few = (
   distinct xs (λ number. within (times number xs) (times number told) (few number) (told-once 0 told on number)),
   each-told told xs (λ number. plain (times number xs) (times number told) (few number)),

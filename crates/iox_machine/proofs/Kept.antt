@@ -1,13 +1,14 @@
 -- What a command leaves of a service: its name, its settings, and what goes by numbers, but for what it makes.
-use Rattle.std.proofs.Common.{◌≡◌, ◌⊎◌, ◌+◌, ◌^◌, ℕ, Bool, true, false, cond, not, ◌&&◌, ◌||◌, List, [], ◌∷◌, ◌++◌, Option, None, Some, refl, sym, subst, inl, inr, ◌∙◌}
+use Rattle.std.proofs.Common.{◌≡◌, ◌⊎◌, ◌+◌, ◌^◌, ℕ, Bool, true, false, cond, not, ◌&&◌, ◌||◌, List, [], ◌∷◌, ◌++◌, length, Option, None, Some, refl, sym, subst, inl, inr, ◌∙◌}
+use Rattle.std.proofs.lemmas.List.{length-map, length-set}
 use Rattle.std.specs.List.{list_any, list_all}
 use Rattle.std.specs.Option.{option_map_or}
 use Rattle.std.specs.Prelude.{◌==◌, ⊤, nat_lt, nat_le, is_some, filter, slice_get, replicate, MatchBool, MatchResult}
 use Rattle.iox_machine.specs.Arriving.{worst_case, PublisherArrives, SubscriberArrives}
-use Rattle.iox_machine.specs.Mailbox.{Mailbox, newest, put, taken, given_back}
+use Rattle.iox_machine.specs.Mailbox.{Mailbox, newest, put, given_back}
 use Rattle.iox_machine.specs.Message.{Message, Loan, Sample, sent_as, is_written}
 use Rattle.iox_machine.specs.NumberLaws.{publisher_told, subscriber_told, loan_told, sample_told}
-use Rattle.iox_machine.specs.PortList.{those, registered, left}
+use Rattle.iox_machine.specs.PortList.{those, unless, registered, left}
 use Rattle.iox_machine.specs.Ports.{LendsLoan, Puts, SendsLoan, Writes, Releases}
 use Rattle.iox_machine.specs.PublisherUpdate as publishing
 use Rattle.iox_machine.specs.PublisherUpdate.{update_answer}
@@ -48,6 +49,8 @@ IsNext made other = ⊤
 pub record Kept {T : Type 0} (made : Made) (old : Service T) (answer : Reply T) (new : Service T) : Type 0 where
   pub name : new.name ≡ old.name
   pub settings : new.settings ≡ old.settings
+  pub publisher_places : length new.publisher_list.places ≡ length old.publisher_list.places
+  pub subscriber_places : length new.subscriber_list.places ≡ length old.subscriber_list.places
   pub publishers : Adds old.publishers (publisher_told answer) new.publishers
   pub subscribers : Adds old.subscribers (subscriber_told answer) new.subscribers
   pub loans : Adds old.loans (loan_told answer) new.loans
@@ -59,6 +62,8 @@ module _ {T : Type 0} where
   itself made service = record {
     name = refl;
     settings = refl;
+    publisher_places = refl;
+    subscriber_places = refl;
     publishers = adds-itself service.publishers;
     subscribers = adds-itself service.subscribers;
     loans = adds-itself service.loans;
@@ -82,6 +87,8 @@ module _ {T : Type 0} (counts : Made) (origin : Service T) (answer : Reply T) wh
       (subst (λ (it : Service T). Kept counts origin told it) (sym came) (record {
         name = k.name;
         settings = k.settings;
+        publisher_places = k.publisher_places;
+        subscriber_places = k.subscriber_places;
         publishers = adds-still origin.publishers mid.publishers (publisher_told told) k.publishers;
         subscribers = adds-still origin.subscribers mid.subscribers (subscriber_told told) k.subscribers;
         loans = adds-still origin.loans mid.loans (loan_told told) k.loans;
@@ -94,6 +101,8 @@ module _ {T : Type 0} (counts : Made) (origin : Service T) (answer : Reply T) wh
   publisher-turned number publisher service k = record {
     name = k.name;
     settings = k.settings;
+    publisher_places = k.publisher_places;
+    subscriber_places = k.subscriber_places;
     publishers = adds-changed origin.publishers service.publishers None k.publishers number publisher;
     subscribers = k.subscribers;
     loans = k.loans;
@@ -106,6 +115,8 @@ module _ {T : Type 0} (counts : Made) (origin : Service T) (answer : Reply T) wh
   subscriber-turned number subscriber service k = record {
     name = k.name;
     settings = k.settings;
+    publisher_places = k.publisher_places;
+    subscriber_places = k.subscriber_places;
     publishers = k.publishers;
     subscribers = adds-changed origin.subscribers service.subscribers None k.subscribers number subscriber;
     loans = k.loans;
@@ -118,6 +129,8 @@ module _ {T : Type 0} (counts : Made) (origin : Service T) (answer : Reply T) wh
   box-turned publisher subscriber box service k = record {
     name = k.name;
     settings = k.settings;
+    publisher_places = k.publisher_places;
+    subscriber_places = k.subscriber_places;
     publishers = k.publishers;
     subscribers = k.subscribers;
     loans = k.loans;
@@ -147,6 +160,8 @@ module _ {T : Type 0} (counts : Made) (origin : Service T) (answer : Reply T) wh
   ended-turned number service k = record {
     name = k.name;
     settings = k.settings;
+    publisher_places = k.publisher_places;
+    subscriber_places = k.subscriber_places;
     publishers = k.publishers;
     subscribers = k.subscribers;
     loans = k.loans;
@@ -254,6 +269,8 @@ module _ {T : Type 0} (counts : Made) (origin : Service T) (answer : Reply T) wh
       (subst (λ (it : Service T). Kept counts origin (reply.LoanMade loan) it) (sym came) (record {
         name = k.name;
         settings = k.settings;
+        publisher_places = k.publisher_places;
+        subscriber_places = k.subscriber_places;
         publishers = adds-changed origin.publishers old.publishers None k.publishers number after;
         subscribers = k.subscribers;
         loans = adds-joined origin.loans old.loans k.loans loan
@@ -276,6 +293,8 @@ module _ {T : Type 0} (counts : Made) (origin : Service T) (answer : Reply T) wh
   loans-fewer number service k = record {
     name = k.name;
     settings = k.settings;
+    publisher_places = k.publisher_places;
+    subscriber_places = k.subscriber_places;
     publishers = k.publishers;
     subscribers = k.subscribers;
     loans = adds-filtered origin.loans service.loans None k.loans (λ (entry : ℕ × Loan T). not (entry.0 == number));
@@ -315,6 +334,8 @@ module _ {T : Type 0} (counts : Made) (origin : Service T) (answer : Reply T) wh
       ends reply.Done (record old { loans = changed number (record loan { values = values }) old.loans }) new (record {
         name = k.name;
         settings = k.settings;
+        publisher_places = k.publisher_places;
+        subscriber_places = k.subscriber_places;
         publishers = k.publishers;
         subscribers = k.subscribers;
         loans = adds-changed origin.loans old.loans None k.loans number (record loan { values = values });
@@ -366,6 +387,8 @@ module _ {T : Type 0} (counts : Made) (origin : Service T) (answer : Reply T) wh
       (subst (λ (it : Service T). Kept counts origin (reply.Received sample values) it) (sym came) (record {
         name = k.name;
         settings = k.settings;
+        publisher_places = k.publisher_places;
+        subscriber_places = k.subscriber_places;
         publishers = k.publishers;
         subscribers = k.subscribers;
         loans = k.loans;
@@ -390,6 +413,8 @@ module _ {T : Type 0} (counts : Made) (origin : Service T) (answer : Reply T) wh
       let on : K fewer = record {
         name = k.name;
         settings = k.settings;
+        publisher_places = k.publisher_places;
+        subscriber_places = k.subscriber_places;
         publishers = k.publishers;
         subscribers = k.subscribers;
         loans = k.loans;
@@ -408,6 +433,8 @@ module _ {T : Type 0} (counts : Made) (origin : Service T) (answer : Reply T) wh
       ends reply.Done (with_publisher number one (record old { publisher_list = left number old.publisher_list })) new (record {
         name = k.name;
         settings = k.settings;
+        publisher_places = length-map old.publisher_list.places (unless (number ∷ [])) ∙ k.publisher_places;
+        subscriber_places = k.subscriber_places;
         publishers = adds-changed origin.publishers old.publishers None k.publishers number one;
         subscribers = k.subscribers;
         loans = k.loans;
@@ -422,6 +449,8 @@ module _ {T : Type 0} (counts : Made) (origin : Service T) (answer : Reply T) wh
       ends reply.Done (with_subscriber number one (record old { subscriber_list = left number old.subscriber_list })) new (record {
         name = k.name;
         settings = k.settings;
+        publisher_places = k.publisher_places;
+        subscriber_places = length-map old.subscriber_list.places (unless (number ∷ [])) ∙ k.subscriber_places;
         publishers = k.publishers;
         subscribers = adds-changed origin.subscribers old.subscribers None k.subscribers number one;
         loans = k.loans;
@@ -479,6 +508,9 @@ module _ {T : Type 0} (counts : Made) (origin : Service T) (answer : Reply T) wh
           (subst (λ (it : Service T). Kept counts origin (reply.PublisherMade number) it) (sym is) (record {
             name = end.name ∙ k.name;
             settings = end.settings ∙ k.settings;
+            publisher_places =
+                length-set mid.publisher_list.places place (Some number) ∙ (end.publisher_places ∙ k.publisher_places);
+            subscriber_places = end.subscriber_places ∙ k.subscriber_places;
             publishers = adds-on origin.publishers more.publishers mid.publishers (Some number) end.publishers
                 (adds-joined origin.publishers old.publishers k.publishers number one);
             subscribers = adds-on origin.subscribers old.subscribers mid.subscribers None end.subscribers k.subscribers;
@@ -520,6 +552,9 @@ module _ {T : Type 0} (counts : Made) (origin : Service T) (answer : Reply T) wh
           (subst (λ (it : Service T). Kept counts origin (reply.SubscriberMade number) it) (sym is) (record {
             name = end.name ∙ k.name;
             settings = end.settings ∙ k.settings;
+            publisher_places = end.publisher_places ∙ k.publisher_places;
+            subscriber_places =
+                length-set mid.subscriber_list.places place (Some number) ∙ (end.subscriber_places ∙ k.subscriber_places);
             publishers = adds-on origin.publishers old.publishers mid.publishers None end.publishers k.publishers;
             subscribers = adds-on origin.subscribers more.subscribers mid.subscribers (Some number) end.subscribers
                 (adds-joined origin.subscribers old.subscribers k.subscribers number one);

@@ -39,3 +39,12 @@ mod Own
 mod Alone
 mod Counted
 mod Going
+mod Totals
+mod Spent
+mod Nexts
+mod StillSent
+mod Once
+mod Nodes
+mod Places
+mod Taken
+mod RefusedCalls

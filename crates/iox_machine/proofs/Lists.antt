@@ -1,5 +1,5 @@
 -- What holds of all of a list, of part of it, and of what goes by numbers.
-use Rattle.std.proofs.Common.{◌≡◌, ◌≤◌, ◌+◌, ◌-◌, ℕ, zero, suc, Bool, true, false, cond, List, [], ◌∷◌, ◌++◌, length, take, drop, Option, Some, refl, subst, arith, length-drop}
+use Rattle.std.proofs.Common.{◌≡◌, ◌≤◌, ◌-◌, ℕ, zero, suc, Bool, true, false, cond, List, [], ◌∷◌, ◌++◌, length, take, drop, Option, Some, refl, subst, arith, length-drop}
 use Rattle.std.proofs.lemmas.Bool.{eqb-true}
 use Rattle.std.specs.List.{AllByRecursion}
 use Rattle.std.specs.Prelude.{filter, fold, find, slice_get, option_map, ◌==◌}
@@ -40,6 +40,11 @@ module _ {X : Type 0} (P : X → Type 0) where
 pub all-weaker : {X : Type 0} (P Q : X → Type 0) → ((x : X) → P x → Q x) → (xs : List X) → AllByRecursion P xs → AllByRecursion Q xs
 all-weaker P Q on [] all = tt
 all-weaker P Q on (x ∷ xs) all = (on x all.0, all-weaker P Q on xs all.1)
+
+pub all-both : {X : Type 0} (P Q R : X → Type 0) → ((x : X) → P x → Q x → R x) → (xs : List X) → AllByRecursion P xs → AllByRecursion Q xs
+    → AllByRecursion R xs
+all-both P Q R on [] ps qs = tt
+all-both P Q R on (x ∷ xs) ps qs = (on x ps.0 qs.0, all-both P Q R on xs ps.1 qs.1)
 
 pub newest-fits : {X : Type 0} (n : ℕ) (xs : List X) → length (newest n xs) ≤ n
 newest-fits n xs = omega (arith, length-drop (length xs - n) xs)

@@ -1,36 +1,27 @@
 -- In every run a subscriber gets what its service's publishers sent, in the order of sending.
 use Rattle.std.proofs.Common.{◌≡◌, ◌⊎◌, ◌≤◌, ◌+◌, ℕ, Bool, true, false, cond, List, [], ◌∷◌, ◌++◌, Option, None, Some, refl, sym, ap, subst, inl, inr, arith, ◌∙◌, append_assoc, append-nil}
 use Rattle.std.proofs.lemmas.Bool.{ne_eqb}
-use Rattle.std.specs.Global.{Vec}
 use Rattle.std.specs.List.{AllByRecursion}
 use Rattle.std.specs.Prelude.{⊤, ◌==◌, is_some, find, slice_get, option_map}
-use Rattle.std.specs.Vec.{vec_items}
 use Rattle.iox_machine.specs.Message.{Message, Sample}
-use Rattle.iox_machine.specs.MessageLaws.{IsPartOf, with_one, begun_by, received_by, sent_by, received_from, IsOfService, StaysOfService, BeganIn, ReceivedInOrder, ReceivedWasSent}
+use Rattle.iox_machine.specs.MessageLaws.{IsPartOf, with_one, begun_by, received_by, sent_by, received_from, IsOfService, StaysOfService, BeganIn, ReceivedInOrder}
 use Rattle.iox_machine.specs.Ports.{subscriber_in}
-use Rattle.iox_machine.specs.Receiving.{Receives, has_samples, lasting}
-use Rattle.iox_machine.specs.Run.{Step, Runs}
+use Rattle.iox_machine.specs.Run.{Runs}
 use Rattle.iox_machine.specs.RunLaws.{BeginsToSend}
-use Rattle.iox_machine.specs.Service.{Service, Publisher, Subscriber, with_subscriber}
+use Rattle.iox_machine.specs.Service.{Service, Publisher}
 use Rattle.iox_machine.specs.State.{State, new_state}
-use Rattle.iox_machine.specs.SubscriberUpdate as subscribing
 use Rattle.iox_machine.specs.Table.{at}
 use Rattle.iox_machine.proofs.Cases.{same-some, never-some}
-use Rattle.iox_machine.proofs.Frames.{waiting_in, BySubscriber, soft-both, soft-set, soft-updates, subscriber-stands}
+use Rattle.iox_machine.proofs.Frames.{waiting_in}
 use Rattle.iox_machine.proofs.Lists.{all-weaker}
-use Rattle.iox_machine.proofs.Moving.{at-one}
 use Rattle.iox_machine.proofs.OrderCommands.{step-ordered}
 use Rattle.iox_machine.proofs.OrderSteps.{noted, Lacks, Fits, IsOfOne, IsOrdered, has_it}
-use Rattle.iox_machine.proofs.Runs.{AnyMessage, AreSound, Numbered, values_in, all-found, runs-numbered, never-told, never-received}
+use Rattle.iox_machine.proofs.Runs.{AnyMessage, AreSound, Numbered, all-found, runs-numbered}
 use Rattle.iox_machine.proofs.Sound.{Sound, SampleFits}
-use Rattle.iox_command.specs.DomainValues.declared.port_error.ReceiveError.TheVariants as receive_error
 use Rattle.iox_command.specs.NegotiateBase.DescribeBase.declared.message_type.MessageTypeDetails.{MessageTypeDetails}
 use Rattle.iox_command.specs.NegotiateBase.DescribeSettings.declared.static_config.publish_subscribe.StaticConfig.{StaticConfig}
 use Rattle.iox_command.specs.declared.command.Command.{Command}
-use Rattle.iox_command.specs.declared.command.Command.TheVariants as command
-use Rattle.iox_command.specs.declared.refusal.Refusal.TheVariants as refusal
 use Rattle.iox_command.specs.declared.reply.Reply.{Reply}
-use Rattle.iox_command.specs.declared.reply.Reply.TheVariants as reply
 
 -- what holds of all of a list holds of what is part of it
 part-all : {X : Type 0} (P : X → Type 0) (part whole : List X) → IsPartOf part whole → AllByRecursion P whole → AllByRecursion P part
@@ -128,7 +119,7 @@ module _ {T : Type 0} (p s : ℕ) where
       step false same = inl (all-found (Lacks p s state.made.subscribers) has more service same all)
 
   module _ (types : MessageTypeDetails) (IsDefault : T → Type 0) (buffer : ℕ) where
-    fresh-numbers : (state : State T) → AreSound AnyMessage (Numbered types IsDefault buffer state) state
+    pub fresh-numbers : (state : State T) → AreSound AnyMessage (Numbered types IsDefault buffer state) state
         → AllByRecursion (λ (other : Service T). at (state.made.samples + 1) other.samples ≡ None) state.services
     fresh-numbers state sound =
         all-weaker (Sound AnyMessage (Numbered types IsDefault buffer state))
@@ -201,58 +192,13 @@ pub received-in-order : {T : Type 0} (IsDefault : T → Type 0) → ReceivedInOr
 received-in-order {T} IsDefault types buffer asked answers new run publisher subscriber =
     (new-ordered publisher subscriber types IsDefault buffer (λ name c message. ⊤) asked answers new run).2
 
--- What is received waits in the mailbox of a publisher, in the service where the subscriber is.
-module _ {T : Type 0} (types : MessageTypeDetails) (IsDefault : T → Type 0) (buffer : ℕ) where
-  abbrev Waited : ℕ → Vec T → Service T → Type 0
-  Waited subscriber values service =
-      (publisher : ℕ) × (message : Message T) × (slice_get (waiting_in (service.mailboxes publisher subscriber)) 0 ≡ Some message)
-      × (vec_items values ≡ message.values)
-
-  waits-for : (number next : ℕ) (one : Subscriber) (service mid : Service T) (sample : ℕ) (values : Vec T) (after : Service T)
-      → BySubscriber service mid → at number mid.subscribers ≡ Some one
-      → Receives number next one mid (reply.Received sample values) after → Waited number values service
-  waits-for number next one service mid sample values after soft found (None, is, (told, came)) =
-      never-received sample values (has_samples number one mid) (refusal.Receive receive_error.ExceedsMaxBorrows) told
-  waits-for number next one service mid sample values after soft found (Some publisher, is, took) =
-      let now : Subscriber = record one { expired = lasting number mid one.expired } in
-      let swept : Service T = with_subscriber number now mid in
-      let softly : BySubscriber service swept = soft-both service mid swept soft (soft-set number one now mid found refl) in (
-        publisher,
-        took.0,
-        ap (λ (l : List (Message T)). slice_get l 0) (sym (softly.6 publisher number).0) ∙ took.2,
-        ap (λ (answer : Reply T). vec_items (values_in answer values)) took.4 ∙ took.3,
-      )
-
-  received-waited : (subscriber : ℕ) (old : State T) (sample : ℕ) (values : Vec T) (new : State T)
-      → Step types IsDefault buffer (command.Receive subscriber) old (reply.Received sample values) new
-      → (service : Service T) × (find (λ (other : Service T). is_some (subscriber_in subscriber other)) old.services ≡ Some service)
-      × Waited subscriber values service
-  received-waited subscriber old sample values new h =
-      elim (at-one (subscriber_in subscriber)
-      (subscribing.UpdatesFirst buffer subscriber (λ failure. refusal.Receive (receive_error.ConnectionFailure failure))
-      (Receives subscriber (old.made.samples + 1))) old (reply.Received sample values) new h) [
-        | inl w ↦ never-told (reply.Received sample values) reply.Skipped w.0 refl refl
-        | inr w ↦ (w.0, w.3, taken w.0 w.1 w.2 w.4 w.5)
-      ]
-    where
-      taken : (service : Service T) (one : Subscriber) (after : Service T) → subscriber_in subscriber service ≡ Some one
-          → subscribing.UpdatesFirst buffer subscriber (λ failure. refusal.Receive (receive_error.ConnectionFailure failure))
-          (Receives subscriber (old.made.samples + 1)) one service (reply.Received sample values) after
-          → Waited subscriber values service
-      taken service one after found did =
-          soft-updates (Waited subscriber values service) buffer subscriber
-          (λ failure. refusal.Receive (receive_error.ConnectionFailure failure)) (Receives subscriber (old.made.samples + 1)) one service
-          (reply.Received sample values) after (subscriber-stands subscriber service one found).0
-          (λ now mid soft there same took. waits-for subscriber (old.made.samples + 1) now service mid sample values after soft there took)
-          (λ why mid soft refused. never-told (reply.Received sample values) (reply.Refused why) refused.0 refl refl) did
-
 module _ {T : Type 0} (IsDefault : T → Type 0) (types : MessageTypeDetails) (buffer : ℕ) (asked : List (Command T))
     (answers : List (Reply T)) (old : State T) (run : Runs types IsDefault buffer asked new_state answers old) where
-  abbrev Never : List ℕ → StaticConfig → Message T → Type 0
+  abbrev pub Never : List ℕ → StaticConfig → Message T → Type 0
   Never name c message = ⊥
 
   -- What is first in a mailbox was sent, in the service of both, of which the publisher is since.
-  first-sent : (subscriber publisher : ℕ) (service : Service T) (message : Message T)
+  pub first-sent : (subscriber publisher : ℕ) (service : Service T) (message : Message T)
       → find (λ (other : Service T). is_some (subscriber_in subscriber other)) old.services ≡ Some service
       → slice_get (waiting_in (service.mailboxes publisher subscriber)) 0 ≡ Some message
       → (find (λ (other : Service T). is_some (at publisher other.publishers)) old.services ≡ Some service)
@@ -281,18 +227,3 @@ module _ {T : Type 0} (IsDefault : T → Type 0) (types : MessageTypeDetails) (b
           → BeganIn types IsDefault buffer publisher service.name service.settings message.values asked new_state answers old run
       began service message (inl w) = absurd w.0
       began service message (inr it) = it
-
-pub received-was-sent : {T : Type 0} (IsDefault : T → Type 0) → ReceivedWasSent IsDefault
-received-was-sent {T} IsDefault types buffer asked answers old run subscriber sample values new h =
-    let it : (service : Service T) × (find (λ (other : Service T). is_some (subscriber_in subscriber other)) old.services ≡ Some service)
-    × Waited types IsDefault buffer subscriber values service = received-waited types IsDefault buffer subscriber old sample values new h in
-    let sent : (find (λ (other : Service T). is_some (at it.2.0 other.publishers)) old.services ≡ Some it.0)
-    × BeganIn types IsDefault buffer it.2.0 it.0.name it.0.settings it.2.1.values asked new_state answers old run =
-    first-sent IsDefault types buffer asked answers old run subscriber it.2.0 it.0 it.2.1 it.1 it.2.2 in (
-      it.2.0,
-      it.0,
-      it.1,
-      sent.0,
-      subst (λ (items : List T). BeganIn types IsDefault buffer it.2.0 it.0.name it.0.settings items asked new_state answers old run)
-          (sym it.2.3) sent.1,
-    )

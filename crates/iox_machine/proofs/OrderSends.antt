@@ -30,6 +30,28 @@ use Rattle.iox_command.specs.declared.refusal.Refusal.TheVariants as refusal
 use Rattle.iox_command.specs.declared.reply.Reply.{Reply}
 use Rattle.iox_command.specs.declared.reply.Reply.TheVariants as reply
 
+module _ {T : Type 0} where
+  pub first-fresh : (number : ℕ) (has : Service T → Bool) (service after : Service T) (it : Sample T) (services : List (Service T))
+      → AllByRecursion (λ (other : Service T). at number other.samples ≡ None) services → find has services ≡ Some service
+      → at number after.samples ≡ Some it
+      → find (λ (other : Service T). is_some (at number other.samples)) (replaced has after services) ≡ Some after
+  first-fresh number has service after it [] fresh first is = never-some service first
+  first-fresh number has service after it (other ∷ more) fresh first is =
+      step (first-fresh number has service after it more) (has other) first
+    where
+      step : (AllByRecursion (λ (one : Service T). at number one.samples ≡ None) more → find has more ≡ Some service
+          → at number after.samples ≡ Some it
+          → find (λ (one : Service T). is_some (at number one.samples)) (replaced has after more) ≡ Some after) → (b : Bool)
+          → cond b (Some other) (find has more) ≡ Some service
+          → find (λ (one : Service T). is_some (at number one.samples)) (cond b (after ∷ more) (other ∷ replaced has after more)) ≡ Some after
+      step next true same =
+          ap (λ (o : Option (Sample T)). cond (is_some o) (Some after)
+          (find (λ (one : Service T). is_some (at number one.samples)) more)) is
+      step next false same =
+          ap (λ (o : Option (Sample T)). cond (is_some o) (Some other)
+          (find (λ (one : Service T). is_some (at number one.samples)) (replaced has after more))) fresh.0
+          ∙ next fresh.1 same is
+
 module _ {T : Type 0} (p s : ℕ) (G : List ℕ → StaticConfig → Message T → Type 0) (sent received : List (Message T)) where
   abbrev IsFirst : State T → Service T → Type 0
   IsFirst old service = find (has_it p s G) old.services ≡ Some service
@@ -192,27 +214,6 @@ module _ {T : Type 0} (p s : ℕ) (G : List ℕ → StaticConfig → Message T �
           (subst (λ (k : ℕ). Sends k (sent_as one) publisher fewer answer after) e h))
 
   -- ---- a receive
-
-  first-fresh : (number : ℕ) (has : Service T → Bool) (service after : Service T) (it : Sample T) (services : List (Service T))
-      → AllByRecursion (λ (other : Service T). at number other.samples ≡ None) services → find has services ≡ Some service
-      → at number after.samples ≡ Some it
-      → find (λ (other : Service T). is_some (at number other.samples)) (replaced has after services) ≡ Some after
-  first-fresh number has service after it [] fresh first is = never-some service first
-  first-fresh number has service after it (other ∷ more) fresh first is =
-      step (first-fresh number has service after it more) (has other) first
-    where
-      step : (AllByRecursion (λ (one : Service T). at number one.samples ≡ None) more → find has more ≡ Some service
-          → at number after.samples ≡ Some it
-          → find (λ (one : Service T). is_some (at number one.samples)) (replaced has after more) ≡ Some after) → (b : Bool)
-          → cond b (Some other) (find has more) ≡ Some service
-          → find (λ (one : Service T). is_some (at number one.samples)) (cond b (after ∷ more) (other ∷ replaced has after more)) ≡ Some after
-      step next true same =
-          ap (λ (o : Option (Sample T)). cond (is_some o) (Some after)
-          (find (λ (one : Service T). is_some (at number one.samples)) more)) is
-      step next false same =
-          ap (λ (o : Option (Sample T)). cond (is_some o) (Some other)
-          (find (λ (one : Service T). is_some (at number one.samples)) (replaced has after more))) fresh.0
-          ∙ next fresh.1 same is
 
   pub receive-goes : (buffer number : ℕ) (old : State T) (answer : Reply T) (new : State T) (service : Service T) (one : Subscriber)
       (after : Service T)

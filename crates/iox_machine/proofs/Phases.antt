@@ -8,7 +8,7 @@ use Rattle.iox_machine.specs.Asked.{settings_of}
 use Rattle.iox_machine.specs.Phase.{Node, Own, Foreign, Phase, Absent, BeingMade, Published, Emptied, same_pattern, same_node, is_in, entered, left, left_by, removed_by, closed_by, acted}
 use Rattle.iox_machine.specs.Run.{Step, Runs, factory_of}
 use Rattle.iox_machine.specs.State.{State, Factory}
-use Rattle.iox_machine.proofs.Calls.{IsSettled, create-settles, open-settles, either-settles, fold-all}
+use Rattle.iox_machine.proofs.Calls.{HasRoom, IsSettled, create-settles, open-settles, either-settles, fold-all}
 use Rattle.iox_machine.proofs.Cases.{same-some, never-some, both-true}
 use Rattle.iox_machine.proofs.Lists.{all-weaker, all-taken}
 use Rattle.iox_machine.proofs.Moving.{IsClosed, closed}
@@ -30,17 +30,17 @@ use Rattle.iox_command.specs.declared.step.StepBefore.{StepBefore}
 
 module _ (types : MessageTypeDetails) (R : MessagingPattern → List ℕ → Phase → Type 0) where
   -- What holds of phases holds after the steps of nodes outside the hub.
-  abbrev ActsBefore : MessagingPattern → List ℕ → List StepBefore → Type 0
+  abbrev pub ActsBefore : MessagingPattern → List ℕ → List StepBefore → Type 0
   ActsBefore pattern name steps =
       AllByRecursion (λ (before : StepBefore). (phase : Phase) → R pattern name phase → R pattern name
       (acted types pattern phase before.step)) steps
 
-  abbrev Wins : MessagingPattern → List ℕ → ℕ → Agreement → Type 0
+  abbrev pub Wins : MessagingPattern → List ℕ → ℕ → Agreement → Type 0
   Wins pattern name node agreed =
       (lives : ℕ) → R pattern name (Absent lives) → R pattern name (Published (lives + 1) agreed ((Own node, 1) ∷ []))
 
   -- What a command may do to a phase.
-  abbrev Begins : {T : Type 0} → Command T → Type 0
+  abbrev pub Begins : {T : Type 0} → Command T → Type 0
   Begins (command.Create node name options attributes steps) =
       ActsBefore (pattern_of options) name steps
       × Wins (pattern_of options) name node (record { settings = settings_of types options; attributes = attributes })
@@ -56,7 +56,7 @@ module _ (types : MessageTypeDetails) (R : MessagingPattern → List ℕ → Pha
   module _ (lost : (pattern : MessagingPattern) (name : List ℕ) (lives : ℕ) → R pattern name (Absent lives)
       → R pattern name (Absent (lives + 1)))
       (comes : (pattern : MessagingPattern) (name : List ℕ) (node : Node) (life : ℕ) (agreed : Agreement) (nodes : List (Node × ℕ))
-      → R pattern name (Published life agreed nodes) → R pattern name (Published life agreed (entered node nodes)))
+      → HasRoom node agreed nodes → R pattern name (Published life agreed nodes) → R pattern name (Published life agreed (entered node nodes)))
       (goes : (pattern : MessagingPattern) (name : List ℕ) (node : ℕ) (phase : Phase) → R pattern name phase
       → R pattern name (closed_by node phase)) where
     abbrev AllPhases : {T : Type 0} → State T → Type 0
@@ -332,7 +332,7 @@ module _ {T : Type 0} (types : MessageTypeDetails) (IsDefault : T → Type 0) (b
       runs-since more run.1 run.2 new run.4
       (phases-move types SinceStart
       (λ pattern name lives since. since-lost (start.phases pattern name) lives since)
-      (λ pattern name node life agreed nodes since. since-come (start.phases pattern name) node life agreed nodes since)
+      (λ pattern name node life agreed nodes room since. since-come (start.phases pattern name) node life agreed nodes since)
       (λ pattern name node phase since. since-closed (start.phases pattern name) node phase since)
       IsDefault buffer one old run.0 run.1 (begins-since one) run.3 all)
 
@@ -466,7 +466,7 @@ begins-told types other old = tt
 pub agreement-described : {T : Type 0} (IsDefault : T → Type 0) → AgreementIsDescribed IsDefault
 agreement-described IsDefault types buffer asked old answer new h =
     phases-move types (IsTold types asked old) (λ pattern name lives told agreed is. never-some agreed is)
-    (λ pattern name node life agreed nodes told. told)
+    (λ pattern name node life agreed nodes room told. told)
     (λ pattern name node phase told agreed is. told agreed (agreed-closed node phase agreed is))
     IsDefault buffer asked old answer new (begins-told types asked old) h (λ pattern name agreed is. inl is)
 

@@ -1,5 +1,5 @@
 -- A command on ports, loans or samples is skipped, or does something at one service, of which it leaves what is kept.
-use Rattle.std.proofs.Common.{◌≡◌, ◌⊎◌, ◌+◌, ℕ, Bool, true, false, cond, ap, ◌∙◌, true≢false, ◌&&◌, List, length, map, set, Option, None, Some, refl, sym, subst, inl, inr}
+use Rattle.std.proofs.Common.{◌≡◌, ◌⊎◌, ◌+◌, ℕ, Bool, true, false, cond, ap, ◌∙◌, true≢false, ◌&&◌, List, length, map, set, Option, None, Some, refl, sym, inl, inr}
 use Rattle.std.proofs.lemmas.Bool.{false_from_ne_true}
 use Rattle.std.specs.Global.{Vec}
 use Rattle.std.specs.Option.{option_map_or}

@@ -14,8 +14,9 @@ use Rattle.iox_machine.specs.State.{State, Made, new_state, counted}
 use Rattle.iox_machine.specs.SubscriberUpdate as subscribing
 use Rattle.iox_machine.specs.Table.{at}
 use Rattle.iox_machine.proofs.Cases.{same-some, never-some, chosen}
-use Rattle.iox_machine.proofs.Lists.{all-weaker, all-at, first-of}
+use Rattle.iox_machine.proofs.Lists.{all-both, all-weaker, all-at, first-of}
 use Rattle.iox_machine.proofs.Moving.{at-one}
+use Rattle.iox_machine.proofs.Places.{Placed, listed-few, runs-placed}
 use Rattle.iox_machine.proofs.Sound.{BoxFits, PublisherFits, SampleFits, Sound, box-fits, subscriber-fits, subscriber-updates}
 use Rattle.iox_machine.proofs.Steps.{step-sound}
 use Rattle.iox_command.specs.DomainValues.declared.port_error.ReceiveError.TheVariants as receive_error
@@ -58,7 +59,7 @@ module _ {T : Type 0} where
   values_in (reply.Values values) other = values
   values_in reply other = other
 
-  abbrev number_in : Reply T → ℕ
+  abbrev pub number_in : Reply T → ℕ
   number_in (reply.Received number values) = number
   number_in reply = 0
 
@@ -315,8 +316,8 @@ received-number types IsDefault buffer asked answers old run subscriber sample v
 
 pub sizes-agreed : {T : Type 0} (IsDefault : T → Type 0) → SizesAreAgreed IsDefault
 sizes-agreed {T} IsDefault types buffer asked answers new run =
-    all-weaker (Sound AnyMessage AnySample) IsWithinSizes
-    (λ (service : Service T) (sound : Sound AnyMessage AnySample service). (
+    all-both (Sound AnyMessage AnySample) Placed IsWithinSizes
+    (λ (service : Service T) (sound : Sound AnyMessage AnySample service) (placed : Placed service). (
       (λ publisher subscriber box e.
           let fits : BoxFits AnyMessage AnySample publisher service.settings box = sound.0 publisher subscriber box e in
           (fits.0, fits.2, fits.1)),
@@ -324,8 +325,11 @@ sizes-agreed {T} IsDefault types buffer asked answers new run =
           (λ (entry : ℕ × Publisher T). length entry.1.history ≤ service.settings.history_size)
           (λ entry fits. fits.0) service.publishers sound.1,
       sound.2,
+      listed-few service.publisher_list.places service.settings.max_publishers placed.0,
+      listed-few service.subscriber_list.places service.settings.max_subscribers placed.1,
     ))
     new.services (runs-sized types IsDefault buffer asked new_state answers new run tt)
+    (runs-placed types IsDefault buffer asked new_state answers new run tt)
 
 pub messages-sent : {T : Type 0} (IsDefault : T → Type 0) → MessagesWereSent IsDefault
 messages-sent {T} IsDefault types buffer asked answers new run =

@@ -13,7 +13,7 @@ use Rattle.iox_machine.specs.State.{Factory}
 use Rattle.iox_machine.specs.Table.{at, removed}
 use Rattle.iox_machine.proofs.Cases.{same-some, never-some}
 use Rattle.iox_machine.proofs.Counts.{has, joined-has, one-has, filter-has, one_if}
-use Rattle.iox_machine.proofs.Lists.{all-weaker}
+use Rattle.iox_machine.proofs.Lists.{all-both, all-weaker}
 use Rattle.iox_machine.proofs.Phases.{chosen-phase, left-by-phase, each-all, agreed-closed, agreed-acted}
 use Rattle.iox_machine.proofs.Shares.{Counts, more_of, counts-acted, counts-entered, counts-made, counts-closed}
 use Rattle.iox_command.specs.NegotiateBase.DescribeBase.declared.message_type.MessageTypeDetails.{MessageTypeDetails}
@@ -30,11 +30,6 @@ use Rattle.iox_command.specs.declared.step.ForeignStep.TheVariants as step
 pub both-false : (b c : Bool) → (b || c) ≡ false → (b ≡ false) × (c ≡ false)
 both-false true c e = absurd (true≢false e)
 both-false false c e = (refl, e)
-
-pub all-both : {X : Type 0} (P Q R : X → Type 0) → ((x : X) → P x → Q x → R x) → (xs : List X) → AllByRecursion P xs → AllByRecursion Q xs
-    → AllByRecursion R xs
-all-both P Q R on [] ps qs = tt
-all-both P Q R on (x ∷ xs) ps qs = (on x ps.0 qs.0, all-both P Q R on xs ps.1 qs.1)
 
 -- ---- factories
 

@@ -27,7 +27,7 @@ use Rattle.iox_command.specs.declared.reply.Reply.TheVariants as reply
 
 -- ---- lists
 
-find-replaced : {T : Type 0} (has : Service T → Bool) (service after : Service T) (services : List (Service T))
+pub find-replaced : {T : Type 0} (has : Service T → Bool) (service after : Service T) (services : List (Service T))
     → find has services ≡ Some service → has after ≡ true → find has (replaced has after services) ≡ Some after
 find-replaced has service after [] first is = never-some service first
 find-replaced {T} has service after (one ∷ more) first is =

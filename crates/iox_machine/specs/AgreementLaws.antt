@@ -1,5 +1,5 @@
 -- Laws of agreements: what nodes agree on under a pattern and a name, and what a new life of it starts with.
-use Rattle.std.specs.Prelude.{ℕ, ◌≡◌, ◌⊎◌, ◌<◌, ◌≤◌, ◌&&◌, true, false, List, [], ◌∷◌, Option, None, Some}
+use Rattle.std.specs.Prelude.{ℕ, ◌≡◌, ◌⊎◌, ◌<◌, ◌≤◌, ◌&&◌, true, false, List, [], ◌∷◌, length, Option, None, Some}
 use Rattle.std.specs.List.{AllByRecursion, IsDistinct, list_any}
 use Rattle.iox_machine.specs.Agreement.{Agreement}
 use Rattle.iox_machine.specs.Asked.{settings_of}
@@ -11,6 +11,7 @@ use Rattle.iox_command.specs.NegotiateBase.DescribeBase.declared.attribute.Attri
 use Rattle.iox_command.specs.NegotiateBase.DescribeBase.declared.message_type.MessageTypeDetails.{MessageTypeDetails}
 use Rattle.iox_command.specs.NegotiateBase.DescribeBase.declared.pattern.MessagingPattern.{MessagingPattern}
 use Rattle.iox_command.specs.NegotiateBase.DescribeBase.declared.pattern.MessagingPattern.TheVariants as pattern
+use Rattle.iox_command.specs.NegotiateBase.DescribeSettings.Agreement.{max_nodes_of}
 use Rattle.iox_command.specs.NegotiateBase.DescribeSettings.declared.static_config.Settings.TheVariants as settings
 use Rattle.iox_command.specs.Patterns.{pattern_of}
 use Rattle.iox_command.specs.declared.command.Command.{Command}
@@ -102,6 +103,13 @@ module _ {T : Type 0} (IsDefault : T → Type 0) where
   OneAgreement = (types : MessageTypeDetails) (buffer : ℕ) (asked : List (Command T)) (answers : List (Reply T)) (new : State T)
       → Runs types IsDefault buffer asked new_state answers new
       → AreApart new.services × AllByRecursion (IsAgreed new) new.services × AllByRecursion (λ entry. IsIn new entry.1) new.factories
+
+  -- In every run of a new machine no more nodes are in a service than its settings name, of the hub and outside it together.
+  abbrev pub NodesAreAgreed : Type 0
+  NodesAreAgreed = (types : MessageTypeDetails) (buffer : ℕ) (asked : List (Command T)) (answers : List (Reply T)) (new : State T)
+      → Runs types IsDefault buffer asked new_state answers new
+      → (pattern : MessagingPattern) (name : List ℕ) (life : ℕ) (agreed : Agreement) (nodes : List (Node × ℕ))
+      → new.phases pattern name ≡ Published life agreed nodes → length nodes ≤ max_nodes_of agreed.settings
 
   -- Through any run lives go on one after the other, and in one life what is agreed on stays as it is.
   abbrev pub AgreementStays : Type 0

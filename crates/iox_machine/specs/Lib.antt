@@ -27,4 +27,5 @@ pub mod AgreementLaws
 pub mod UpdateLaws
 pub mod IndependenceLaws
 pub mod NumberLaws
+pub mod OnceLaws
 pub mod GoingLaws

@@ -1,16 +1,17 @@
 -- Laws of messages in every run of the machine: from whom a subscriber has them, in which order, and how long they are there to be read.
-use Rattle.std.specs.Prelude.{ℕ, ◌≡◌, ◌⊎◌, Bool, false, ◌&&◌, ◌==◌, List, [], ◌∷◌, find, is_some, Option, None, Some, option_map, option_and_then, codes, if◌then◌else◌}
+use Rattle.std.specs.Prelude.{ℕ, ◌≡◌, ◌⊎◌, Bool, true, false, ◌&&◌, ◌==◌, List, [], ◌∷◌, ◌++◌, find, slice_get, is_some, Option, None, Some, option_map, option_and_then, codes, if◌then◌else◌}
 use Rattle.std.specs.Global.{Vec}
 use Rattle.std.specs.List.{list_any}
 use Rattle.std.specs.Vec.{vec_items}
 use Rattle.iox_machine.specs.Laws.{number_types, plain_publisher, unnamed}
 use Rattle.iox_machine.specs.Message.{Message, sent_as}
+use Rattle.iox_machine.specs.PortList.{those}
 use Rattle.iox_machine.specs.Ports.{publisher_in, subscriber_in}
 use Rattle.iox_machine.specs.Run.{Answers, Step, Runs}
 use Rattle.iox_machine.specs.RunLaws.{BeginsToSend, has_begun}
-use Rattle.iox_machine.specs.Service.{Service, Publisher}
+use Rattle.iox_machine.specs.Service.{Service, Publisher, Subscriber, mailbox}
 use Rattle.iox_machine.specs.State.{State, new_state}
-use Rattle.iox_machine.specs.Table.{at}
+use Rattle.iox_machine.specs.Table.{at, contains}
 use Rattle.iox_command.specs.NegotiateBase.DescribeSettings.declared.static_config.publish_subscribe.StaticConfig.{StaticConfig}
 use Rattle.iox_command.specs.NegotiateBase.DescribeBase.declared.message_type.MessageTypeDetails.{MessageTypeDetails}
 use Rattle.iox_command.specs.declared.command.Command.{Command}
@@ -65,6 +66,17 @@ module _ {T : Type 0} where
       (service : Service T) × (find (λ other. is_some (at publisher other.publishers)) state.services ≡ Some service)
       × (service.name ≡ name) × (service.settings ≡ settings)
 
+module _ {T : Type 0} where
+  -- A subscriber takes this message of a publisher: it was the oldest that waited in their mailbox at this service; the subscriber is
+  -- connected to the publisher, which may have left; and it holds the message as a sample that names both.
+  abbrev pub IsTaken : ℕ → ℕ → ℕ → Message T → Service T → State T → Type 0
+  IsTaken publisher subscriber sample message service new =
+      (slice_get (mailbox publisher subscriber service).waiting 0 ≡ Some message)
+      × ((one : Subscriber) × (first_in (subscriber_in subscriber) new ≡ Some one)
+      × (contains (those one.connected ++ one.expired) publisher ≡ true))
+      × (first_in (λ other. at sample other.samples) new
+      ≡ Some (record { publisher = publisher; subscriber = subscriber; message = message }))
+
 module _ {T : Type 0} (types : MessageTypeDetails) (IsDefault : T → Type 0) (buffer : ℕ) where
   -- the messages that a publisher sent in a run, in the order in which their sends began
   abbrev pub sent_by : ℕ → (asked : List (Command T)) (old : State T) (answers : List (Reply T)) (new : State T)
@@ -96,17 +108,18 @@ module _ {T : Type 0} (types : MessageTypeDetails) (IsDefault : T → Type 0) (b
       ⊎ BeganIn publisher name settings values more run.1 run.2 new run.4
 
 module _ {T : Type 0} (IsDefault : T → Type 0) where
-  -- What a subscriber receives after a run of a new machine are the values of a message of which the send began in that run. Its
-  -- publisher is of the subscriber's own service, and was so from that send on.
+  -- What a subscriber receives after a run of a new machine are the values of the message that it takes of a publisher. The send of that
+  -- message began in the run. The publisher is of the subscriber's own service, and was so from that send on.
   abbrev pub ReceivedWasSent : Type 0
   ReceivedWasSent = (types : MessageTypeDetails) (buffer : ℕ) (asked : List (Command T)) (answers : List (Reply T)) (old : State T)
       (run : Runs types IsDefault buffer asked new_state answers old)
       (subscriber sample : ℕ) (values : Vec T) (new : State T)
       → Step types IsDefault buffer (command.Receive subscriber) old (reply.Received sample values) new
-      → (publisher : ℕ) × (service : Service T)
+      → (publisher : ℕ) × (service : Service T) × (message : Message T)
       × (find (λ other. is_some (subscriber_in subscriber other)) old.services ≡ Some service)
       × (find (λ other. is_some (at publisher other.publishers)) old.services ≡ Some service)
-      × BeganIn types IsDefault buffer publisher service.name service.settings (vec_items values) asked new_state answers old run
+      × IsTaken publisher subscriber sample message service new × (vec_items values ≡ message.values)
+      × BeganIn types IsDefault buffer publisher service.name service.settings message.values asked new_state answers old run
 
   -- What a subscriber received of a publisher in a run of a new machine is part of what that sent.
   abbrev pub ReceivedInOrder : Type 0

@@ -5,12 +5,16 @@ use Rattle.std.specs.List.{AllByRecursion}
 use Rattle.std.specs.Vec.{vec_items}
 use Rattle.iox_machine.specs.Mailbox.{Mailbox}
 use Rattle.iox_machine.specs.Message.{Message, Loan, is_written, sent_as}
+use Rattle.iox_machine.specs.Phase.{Phase}
+use Rattle.iox_machine.specs.PortList.{those}
 use Rattle.iox_machine.specs.Run.{Step, Runs}
 use Rattle.iox_machine.specs.Service.{Service}
-use Rattle.iox_machine.specs.State.{State, new_state}
+use Rattle.iox_machine.specs.State.{State, new_state, with_phase}
 use Rattle.iox_machine.specs.Table.{at}
 use Rattle.iox_command.specs.DomainValues.declared.port_error.SendError.TheVariants as error
 use Rattle.iox_command.specs.NegotiateBase.DescribeBase.declared.message_type.MessageTypeDetails.{MessageTypeDetails}
+use Rattle.iox_command.specs.NegotiateBase.DescribeBase.declared.pattern.MessagingPattern.{MessagingPattern}
+use Rattle.iox_command.specs.Patterns.{pattern_of}
 use Rattle.iox_command.specs.declared.command.Command.{Command}
 use Rattle.iox_command.specs.declared.command.Command.TheVariants as command
 use Rattle.iox_command.specs.declared.refusal.Refusal.{Refusal}
@@ -53,7 +57,8 @@ AllMessages {T} Is service =
     × AllByRecursion (λ entry. AllByRecursion (Is entry.0) entry.1.history) service.publishers
     × AllByRecursion (λ entry. Is entry.1.publisher entry.1.message) service.samples
 
--- No more messages wait, are borrowed or are kept as history than the settings of the service allow.
+-- No more messages wait, are borrowed or are kept as history than the settings of the service allow, and no more publishers and
+-- subscribers are listed.
 abbrev pub IsWithinSizes : {T : Type 0} → Service T → Type 0
 IsWithinSizes {T} service =
     ((publisher subscriber : ℕ) (box : Mailbox T) → service.mailboxes publisher subscriber ≡ Some box
@@ -61,6 +66,16 @@ IsWithinSizes {T} service =
     × (length box.borrowed ≤ service.settings.subscriber_max_borrowed_samples))
     × AllByRecursion (λ entry. length entry.1.history ≤ service.settings.history_size) service.publishers
     × AllByRecursion (λ entry. entry.1.buffer_size ≤ service.settings.subscriber_max_buffer_size) service.subscribers
+    × (length (those service.publisher_list.places) ≤ service.settings.max_publishers)
+    × (length (those service.subscriber_list.places) ≤ service.settings.max_subscribers)
+
+-- A command is a call for the service of a pattern and name: it creates or opens it, or has nodes outside the hub do steps there.
+abbrev pub IsCallFor : {T : Type 0} → MessagingPattern → List ℕ → Command T → Type 0
+IsCallFor pattern name (command.Create node other options attributes steps) = (pattern_of options ≡ pattern) × (other ≡ name)
+IsCallFor pattern name (command.Open node other options required steps) = (pattern_of options ≡ pattern) × (other ≡ name)
+IsCallFor pattern name (command.OpenOrCreate node other options required steps) = (pattern_of options ≡ pattern) × (other ≡ name)
+IsCallFor pattern name (command.Foreign one other steps) = (one ≡ pattern) × (other ≡ name)
+IsCallFor pattern name other = ⊥
 
 module _ {T : Type 0} (types : MessageTypeDetails) (IsDefault : T → Type 0) (buffer : ℕ) where
   -- In a run the send of a message of these values began, by a publisher.
@@ -80,6 +95,13 @@ module _ {T : Type 0} (IsDefault : T → Type 0) where
   abbrev pub RefusedChangesNothing : Type 0
   RefusedChangesNothing = (types : MessageTypeDetails) (buffer : ℕ) (asked : Command T) (old new : State T) (why : Refusal)
       → is_refused_whole asked ≡ true → Step types IsDefault buffer asked old (reply.Refused why) new → new ≡ old
+
+  -- A call that is refused changes nothing but the phase of its pattern and name: all factories, services and numbers stay.
+  abbrev pub RefusedCallsLeaveServices : Type 0
+  RefusedCallsLeaveServices = (types : MessageTypeDetails) (buffer : ℕ) (pattern : MessagingPattern) (name : List ℕ) (asked : Command T)
+      (old new : State T) (why : Refusal)
+      → IsCallFor pattern name asked → Step types IsDefault buffer asked old (reply.Refused why) new
+      → (new ≡ old) ⊎ ((phase : Phase) × (new ≡ with_phase pattern name phase old))
 
   -- In every run of a new machine, what is in use of each service is within the sizes that its settings name.
   abbrev pub SizesAreAgreed : Type 0

@@ -10,13 +10,14 @@
 #![tactic(auto)]
 
 ghost use Rattle.iox_machine.specs.AgreementLaws.{AgreementIsDescribed, AgreementStays, CreatesAsDescribed, LivesStartAnew};
-ghost use Rattle.iox_machine.specs.AgreementLaws.{OneAgreement, ServicesStartEmpty};
+ghost use Rattle.iox_machine.specs.AgreementLaws.{NodesAreAgreed, OneAgreement, ServicesStartEmpty};
 ghost use Rattle.iox_machine.specs.GoingLaws.{EachIsAnswered};
 ghost use Rattle.iox_machine.specs.IndependenceLaws.{OthersAreLeft, ServicesAreAsIfAlone};
 ghost use Rattle.iox_machine.specs.Laws.{PutAtUnknownIsSkipped, OverflowDropsTheOldest};
 ghost use Rattle.iox_machine.specs.MessageLaws.{HeldIsRead, OrderIsOfSends, ReceivedInOrder, ReceivedWasSent};
 ghost use Rattle.iox_machine.specs.NumberLaws.{NumbersGoUp, NumbersNameOne};
-ghost use Rattle.iox_machine.specs.RunLaws.{MessagesWereSent, RefusedChangesNothing};
+ghost use Rattle.iox_machine.specs.OnceLaws.{LoansAreSpentOnce, MessagesGoOnce};
+ghost use Rattle.iox_machine.specs.RunLaws.{MessagesWereSent, RefusedCallsLeaveServices, RefusedChangesNothing};
 ghost use Rattle.iox_machine.specs.RunLaws.{SamplesReadTheSame, SizesAreAgreed, SkippedChangesNothing};
 ghost use Rattle.iox_machine.specs.UpdateLaws.{PublisherIsUpdated, SubscriberIsUpdated};
 
@@ -58,6 +59,12 @@ pub fn refused_changes_nothing<T: Default>()
     ensures { RefusedChangesNothing T.is_default }
 {}
 
+/// A creation, an opening or steps of nodes outside the hub that are refused change nothing but the phase of their pattern and name: all
+/// factories, services and numbers stay.
+pub fn refused_calls_leave_services<T: Default>()
+    ensures { RefusedCallsLeaveServices T.is_default }
+{}
+
 /// Whatever stands, each command has an answer: the machine never stands still. Of a loan that is written there must be a default value,
 /// and what a receive or a read tells must fit in a vector.
 pub fn each_command_is_answered<T: Default>()
@@ -92,6 +99,18 @@ pub fn received_in_order<T: Default>()
     ensures { ReceivedInOrder T.is_default }
 {}
 
+/// In every run of a new machine each loan is sent or dropped once at most, and was lent in that run. A send or drop that is skipped
+/// doesn't count; one that is refused does.
+pub fn loans_are_spent_once<T: Default>()
+    ensures { LoansAreSpentOnce T.is_default }
+{}
+
+/// In every run of a new machine a publisher sends each of its messages once at most, from a loan or by a put, and a subscriber receives
+/// each once at most.
+pub fn messages_go_once<T: Default>()
+    ensures { MessagesGoOnce T.is_default }
+{}
+
 /// A sample that was received is read, and gives what was received, until its own release, whatever ports and factories go meanwhile.
 pub fn held_is_read<T: Default>()
     ensures { HeldIsRead T.is_default }
@@ -108,6 +127,11 @@ pub fn order_is_of_sends()
 /// agreement; the ports of one of publish-subscribe stand in the hub.
 pub fn services_agree<T: Default>()
     ensures { OneAgreement T.is_default }
+{}
+
+/// In every run of a new machine no more nodes are in a service than its settings name, of the hub and outside it together.
+pub fn nodes_are_agreed<T: Default>()
+    ensures { NodesAreAgreed T.is_default }
 {}
 
 /// Through any run what is agreed on in a life of a pattern and name stays as it is, and lives go on one after the other.

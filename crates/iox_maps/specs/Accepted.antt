@@ -11,7 +11,8 @@ pub record IsAccepted (refuses_content refuses_characters : List ℕ → Bool) (
   pub characters : refuses_characters text ≡ false
 
 -- the answer to a content that a string is to have: the capacity is tested first, then the bytes and the rules
-pub record AnswersContent {A : Type 0} (capacity : ℕ) (refuses_content refuses_characters : List ℕ → Bool) (text : List ℕ) (answer : Result A SemanticStringError) : Type 0 where
+pub record AnswersContent {A : Type 0} (capacity : ℕ) (refuses_content refuses_characters : List ℕ
+    → Bool) (text : List ℕ) (answer : Result A SemanticStringError) : Type 0 where
   pub accepted : IsOk answer ↔ ((length text ≤ capacity) × IsAccepted refuses_content refuses_characters text)
   pub too_long : (answer ≡ Err ExceedsMaximumLength) ↔ (capacity < length text)
   pub invalid : (answer ≡ Err InvalidContent) ↔ ((length text ≤ capacity) × ¬ IsAccepted refuses_content refuses_characters text)

@@ -168,8 +168,10 @@ impl<K: Eq, V> FlatMap<K, V> {
         ensures exists { (result ≡ Err FlatMapError.KeyAlreadyExists) ↔ IsSome (value_of K.eq key self.old) }
         ensures full { (result ≡ Err FlatMapError.IsFull) ↔ ((value_of K.eq key self.old ≡ None) × (self.old.free ≡ [])) }
         ensures accepted { IsOk result ↔ ((value_of K.eq key self.old ≡ None) × (self.old.free ≢ [])) }
-        ensures full_by_pairs { (result ≡ Err FlatMapError.IsFull) ↔ ((value_of K.eq key self.old ≡ None) × (length (pairs self.old.values) ≡ length self.old.values)) }
-        ensures accepted_by_pairs { IsOk result ↔ ((value_of K.eq key self.old ≡ None) × (length (pairs self.old.values) < length self.old.values)) }
+        ensures full_by_pairs { (result ≡ Err FlatMapError.IsFull)
+            ↔ ((value_of K.eq key self.old ≡ None) × (length (pairs self.old.values) ≡ length self.old.values)) }
+        ensures accepted_by_pairs { IsOk result
+            ↔ ((value_of K.eq key self.old ≡ None) × (length (pairs self.old.values) < length self.old.values)) }
         ensures ok { OnOk result (IfSome (slice_get self.old.free 0) (λ place. self.new ≡ stored self.old place (key, value))) }
         ensures err { OnErr result (self.new ≡ self.old) }
     {

@@ -17,7 +17,10 @@ pub mod Calling
 pub mod Closing
 pub mod Rooming
 pub mod Careful
+mod Numbering
+mod Refusing
 pub mod CallRooms
+mod Building
 pub mod Gaining
 pub mod Owning
 pub mod Counting

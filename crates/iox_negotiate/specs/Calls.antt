@@ -32,7 +32,8 @@ opened_too node (Err failure) held = held
 -- one kind of service to the next: V has those of each kind.
 pub data Call (V : ℕ → Type 0) : Type 0 where
   Creates : (node : ℕ) (agreed : Agreement) (refusal : Option CreateFailure) (result : Result Opened CreateFailure) → Call V
-  Opening : (kind : ℕ) (hash : ServiceHash) (node : ℕ) (verdict : Agreement → Result (Unit {0}) (V kind)) (result : Result Opened (OpenFailure (V kind))) → Call V
+  Opening : (kind : ℕ) (hash : ServiceHash) (node : ℕ) (verdict : Agreement
+      → Result (Unit {0}) (V kind)) (result : Result Opened (OpenFailure (V kind))) → Call V
   Either : (kind node : ℕ) (verdict : Agreement → Result (Unit {0}) (V kind)) (agreed : Agreement) (refusal : Option CreateFailure)
       (result : Result Opened (OpenOrCreateFailure (V kind))) → Call V
   Closing : (before : List Factory) (factory : Factory) (after : List Factory) (result : Result (Unit {0}) CloseError) → Call V
@@ -83,7 +84,8 @@ OpenFactoriesStand V = (id : ℕ) (calls : List (Call V)) (table : Contents) (he
 
 -- and after each access inside a call, each one that the call doesn't close
 abbrev pub StandInsideCalls : (ℕ → Type 0) → Type 0
-StandInsideCalls V = (id : ℕ) (calls : List (Call V)) (table : Contents) (held : List Factory) (call : Call V) (lists : List (List ForeignStep)) (mid : Steps) (done rest : List Access)
+StandInsideCalls V = (id : ℕ) (calls : List (Call V)) (table : Contents) (held : List Factory) (call : Call V)
+    (lists : List (List ForeignStep)) (mid : Steps) (done rest : List Access)
     → Called (empty_table id) [] calls table held → MayBegin call held → Tells call (done ++ rest)
     → Went SteppedSight (record { table = table; lists = lists }) done mid → AllStand (kept call held) mid.table
 

@@ -27,7 +27,8 @@ pub record TakesOneOff (node : ℕ) (before after : Nodes) : Type 0 where
 -- where no node is left, description and segment are gone; else both stand
 abbrev pub StandsOrGone : Bool → ServiceHash → ℕ → List ℕ → Nodes → Contents → Type 0
 StandsOrGone true hash number bytes after new = (entry_at hash new ≡ None) × (segment_at hash number new ≡ None)
-StandsOrGone false hash number bytes after new = (entry_at hash new ≡ Some (Described number bytes)) × (segment_at hash number new ≡ Some (Open after))
+StandsOrGone false hash number bytes after new = (entry_at hash new ≡ Some (Described number bytes))
+    × (segment_at hash number new ≡ Some (Open after))
 
 -- what lies under another hash is as it was
 pub record IsUntouched (other : ServiceHash) (old new : Contents) : Type 0 where
@@ -37,7 +38,8 @@ pub record IsUntouched (other : ServiceHash) (old new : Contents) : Type 0 where
 -- A closing in the storage of the factory goes well; it takes one factory of its node off, and the last of the last node takes
 -- description and segment away; nothing else changes.
 abbrev pub ClosesOne : Type 0
-ClosesOne = (hash : ServiceHash) (number node : ℕ) (bytes : List ℕ) (old new : Steps) (made : List Access) (result : Result (Unit {0}) CloseError)
+ClosesOne = (hash : ServiceHash) (number node : ℕ) (bytes : List ℕ) (old new : Steps) (made : List Access)
+    (result : Result (Unit {0}) CloseError)
     (is_open : IsOpenIn hash number node bytes old.table) → IsReached old.table → Closes hash number node made result → Went SteppedSight old made new
     → (after : Nodes) × (result ≡ Ok tt) × TakesOneOff node is_open.nodes after × StandsOrGone (nat_eq (count_in after) 0) hash number bytes after new.table
     × ((other : ServiceHash) → other ≢ hash → IsUntouched other old.table new.table)

@@ -21,12 +21,15 @@ abbrev pub AreCounted : List Factory → Contents → Type 0
 AreCounted all table = (hash : ServiceHash) (number node : ℕ) (bytes : List ℕ) (nodes : Nodes)
     → entry_at hash table ≡ Some (Described number bytes) → segment_at hash number table ≡ Some (Open nodes) → factories_of nodes node ≡ any_of (times number node all)
 
--- After any calls in a new table registered are just the factories that are open, whatever foreign steps fall before each access and between the calls.
+-- After any calls in a new table registered are just the factories that are open, whatever foreign steps fall before each access
+-- and between the calls.
 abbrev pub FactoriesAreCounted : (ℕ → Type 0) → Type 0
-FactoriesAreCounted V = (id : ℕ) (calls : List (Call V)) (table : Contents) (held : List Factory) → Called (empty_table id) [] calls table held → AreCounted held table
+FactoriesAreCounted V = (id : ℕ) (calls : List (Call V)) (table : Contents) (held : List Factory)
+    → Called (empty_table id) [] calls table held → AreCounted held table
 
 -- After each access inside a call registered are just the factories that were open before it, or just those that are open after it.
 abbrev pub CountedInsideCalls : (ℕ → Type 0) → Type 0
-CountedInsideCalls V = (id : ℕ) (calls : List (Call V)) (table : Contents) (held : List Factory) (call : Call V) (lists : List (List ForeignStep)) (mid : Steps) (done rest : List Access)
+CountedInsideCalls V = (id : ℕ) (calls : List (Call V)) (table : Contents) (held : List Factory) (call : Call V)
+    (lists : List (List ForeignStep)) (mid : Steps) (done rest : List Access)
     → Called (empty_table id) [] calls table held → MayBegin call held → Tells call (done ++ rest) → Went SteppedSight (record { table = table; lists = lists }) done mid
     → AreCounted held mid.table ⊎ AreCounted (open_after call held) mid.table

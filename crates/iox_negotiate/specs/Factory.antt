@@ -22,7 +22,8 @@ segment_removed removing.Fault = Err UnableToRemoveSegment
 
 -- the segment is removed
 abbrev pub RemovesSegment : ServiceHash → ℕ → List Access → Result (Unit {0}) CloseError → Type 0
-RemovesSegment hash number (RemoveSegment under of answer ∷ rest) result = (under ≡ hash) × (of ≡ number) × (rest ≡ []) × (result ≡ segment_removed answer)
+RemovesSegment hash number (RemoveSegment under of answer ∷ rest) result = (under ≡ hash) × (of ≡ number) × (rest ≡ [])
+    × (result ≡ segment_removed answer)
 RemovesSegment hash number made result = ⊥
 
 -- the segment goes after the description, and stays where the description can't be removed
@@ -32,7 +33,8 @@ RemovalGoes hash number removing.Fault made result = (made ≡ []) × (result �
 
 -- the description is removed, and then the segment
 abbrev pub Removes : ServiceHash → ℕ → List Access → Result (Unit {0}) CloseError → Type 0
-Removes hash number (RemoveDescription under of answer ∷ rest) result = (under ≡ hash) × (of ≡ number) × RemovalGoes hash number answer rest result
+Removes hash number (RemoveDescription under of answer ∷ rest) result = (under ≡ hash) × (of ≡ number)
+    × RemovalGoes hash number answer rest result
 Removes hash number made result = ⊥
 
 -- the last node that leaves removes the service
@@ -42,5 +44,6 @@ LeaveGoes hash number leaving.Emptied made result = Removes hash number made res
 
 -- one factory of the node is taken off the segment, and the service removed if it was the last
 abbrev pub Closes : ServiceHash → ℕ → ℕ → List Access → Result (Unit {0}) CloseError → Type 0
-Closes hash number node (Leave under of by answer ∷ rest) result = (under ≡ hash) × (of ≡ number) × (by ≡ node) × LeaveGoes hash number answer rest result
+Closes hash number node (Leave under of by answer ∷ rest) result = (under ≡ hash) × (of ≡ number) × (by ≡ node)
+    × LeaveGoes hash number answer rest result
 Closes hash number node made result = ⊥

@@ -10,7 +10,8 @@ use Rattle.iox_negotiate_base.specs.declared.failure.CreateFailure.{CreateFailur
 
 -- what was read under the hash meets what is asked, and is within the limits of a description
 abbrev pub IsMet : {V : Type 0} → ServiceHash → (Agreement → Result (Unit {0}) V) → Opened → Type 0
-IsMet hash verdict service = (service.description.service_hash ≡ hash) × (verdict service.description ≡ Ok tt) × IsWithinLimits service.description
+IsMet hash verdict service = (service.description.service_hash ≡ hash) × (verdict service.description ≡ Ok tt)
+    × IsWithinLimits service.description
 
 -- a service that is opened meets what is asked
 abbrev pub OpenedIsMet : Type 0 → Type 0
@@ -19,6 +20,7 @@ OpenedIsMet V = (hash : ServiceHash) (node : ℕ) (verdict : Agreement → Resul
 
 -- a service that is opened or created meets what is asked, or is what was to be agreed, which was not refused for its settings
 abbrev pub EitherIsMet : Type 0 → Type 0
-EitherIsMet V = (hash : ServiceHash) (node : ℕ) (verdict : Agreement → Result (Unit {0}) V) (agreed : Agreement) (refusal : Option CreateFailure)
+EitherIsMet V = (hash : ServiceHash) (node : ℕ) (verdict : Agreement
+    → Result (Unit {0}) V) (agreed : Agreement) (refusal : Option CreateFailure)
     (made : List Access) (service : Opened) → OpensOrCreates hash node verdict agreed refusal made (Ok service)
     → IsMet hash verdict service ⊎ ((service.description ≡ agreed) × (refusal ≡ None))

@@ -9,6 +9,8 @@ pub mod Factories
 pub mod Calls
 pub mod Closing
 pub mod Rooms
+pub mod Built
+pub mod Refused
 pub mod Counts
 pub mod Agreements
 pub use Rattle.iox_negotiate_base.specs as NegotiateBase

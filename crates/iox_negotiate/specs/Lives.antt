@@ -65,5 +65,6 @@ FewAreIn = (table : Contents) (hash : ServiceHash) (number : ℕ) → IsReached 
 
 -- What is opened under a number is the service of just this number that stands, and after it the service is open.
 abbrev pub OpenedStands : Type 0
-OpenedStands = (hash : ServiceHash) (number node : ℕ) (old new : Contents) → IsReached old → Sight old (OpenSegment hash number node Registered) new
+OpenedStands = (hash : ServiceHash) (number node : ℕ) (old new : Contents) → IsReached old
+    → Sight old (OpenSegment hash number node Registered) new
     → (bytes : List ℕ) × (entry_at hash old ≡ Some (Described number bytes)) × IsOpenIn hash number node bytes new

@@ -1,8 +1,9 @@
 -- What creating and opening come to, as a builder answers it: the rounds, and their answer in the words of the pattern.
-use Rattle.std.specs.Prelude.{◌≡◌, ℕ, List, Option, Result}
+use Rattle.std.specs.Prelude.{◌≡◌, ℕ, List, Option, None, Result}
 use Rattle.std.specs.Result.{result_map_both}
 use Rattle.iox_negotiate_base.specs.DescribeBase.declared.hash.ServiceHash.{ServiceHash}
 use Rattle.iox_negotiate_base.specs.DescribeSettings.Agreement.{Agreement}
+use Rattle.iox_negotiate_base.specs.Describe.Within.{IsWithinLimits}
 use Rattle.iox_negotiate_base.specs.Access.{Access}
 use Rattle.iox_negotiate_base.specs.Creating.{CreatesIf}
 use Rattle.iox_negotiate_base.specs.Opening.{OpensOrCreates}
@@ -16,22 +17,29 @@ use Rattle.iox_negotiate.specs.declared.factory.Membership.{Membership}
 
 -- The accesses are those that the rounds tell, with their answer; the node is in the service that they answer, in this
 -- storage, and a failure is told as the error of the pattern.
-pub record Negotiates {S F E : Type 0} (gives : S → Access → S → Type 0) (storage node : ℕ) (error : F → E) (rounds : List Access → Result Opened F → Type 0)
+pub record Negotiates {S F E : Type 0} (gives : S → Access → S → Type 0) (storage node : ℕ) (error : F → E) (rounds : List Access
+    → Result Opened F → Type 0)
     (old : S) (result : Result Membership E) (new : S) : Type 0 where
   pub answer : Result Opened F
   pub done : Does gives old (λ made. rounds made answer) new
   pub told : result ≡ result_map_both (membership storage node) error answer
 
--- the service is created, unless its settings are refused
+-- The service is created, unless its settings are refused; what is to be agreed is within the limits of a description, unless it
+-- is refused so.
 pub record Creates {S E : Type 0} (gives : S → Access → S → Type 0) (storage : ℕ) (hash : ServiceHash) (node : ℕ) (agreed : Agreement)
     (is_within is_history_too_long : Type 0) (error : CreateFailure → E) (old : S) (result : Result Membership E) (new : S) : Type 0 where
   pub refusal : Option CreateFailure
   pub refused : IsRefusal is_within is_history_too_long refusal
+  pub within : refusal ≡ None → IsWithinLimits agreed
   pub negotiated : Negotiates gives storage node error (λ made answer. CreatesIf hash node agreed refusal made answer) old result new
 
--- the service is opened; or created, unless its settings are refused
-pub record Either {S V E : Type 0} (gives : S → Access → S → Type 0) (storage : ℕ) (hash : ServiceHash) (node : ℕ) (verdict : Agreement → Result (Unit {0}) V)
+-- The service is opened; or created, unless its settings are refused. What is to be agreed is within the limits of a description,
+-- unless it is refused so.
+pub record Either {S V E : Type 0} (gives : S → Access → S → Type 0) (storage : ℕ) (hash : ServiceHash) (node : ℕ) (verdict : Agreement
+    → Result (Unit {0}) V)
     (agreed : Agreement) (is_within is_history_too_long : Type 0) (error : OpenOrCreateFailure V → E) (old : S) (result : Result Membership E) (new : S) : Type 0 where
   pub refusal : Option CreateFailure
   pub refused : IsRefusal is_within is_history_too_long refusal
-  pub negotiated : Negotiates gives storage node error (λ made answer. OpensOrCreates hash node verdict agreed refusal made answer) old result new
+  pub within : refusal ≡ None → IsWithinLimits agreed
+  pub negotiated : Negotiates gives storage node error (λ made answer. OpensOrCreates hash node verdict agreed refusal made answer) old
+      result new

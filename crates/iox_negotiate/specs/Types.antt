@@ -1,5 +1,5 @@
 -- The types of the messages that a builder asks for.
-use Rattle.std.specs.Prelude.{ℕ, codes, max}
+use Rattle.std.specs.Prelude.{◌≡◌, ◌≤◌, ℕ, codes, max}
 use Rattle.iox_negotiate_base.specs.DescribeBase.Detail.{Detail, detail}
 use Rattle.iox_negotiate_base.specs.DescribeBase.declared.message_type.MessageTypeDetails.{MessageTypeDetails}
 use Rattle.iox_negotiate_base.specs.DescribeBase.declared.type_detail.TypeVariant.TheVariants.{FixedSize}
@@ -19,3 +19,9 @@ types_of payload = record { header = header; user_header = no_header; payload = 
 -- this payload with the larger of its alignment and this one
 abbrev pub aligned : Detail → ℕ → Detail
 aligned payload alignment = detail payload.variant payload.name payload.size (max payload.alignment alignment)
+
+-- An alignment that isn't larger than the payload's own changes nothing; any other is the one that is asked for.
+abbrev pub AsksTheLarger : Type 0
+AsksTheLarger = (payload : Detail) (alignment : ℕ)
+    → (alignment ≤ payload.alignment → aligned payload alignment ≡ payload)
+    × (payload.alignment ≤ alignment → aligned payload alignment ≡ record payload { alignment = alignment })

@@ -1,11 +1,14 @@
 //! What a builder asks of a service, as a request of the rounds.
-ghost use Rattle.std.specs.Prelude.{◌≡◌};
+ghost use Rattle.std.specs.Prelude.{◌≡◌, None};
 ghost use Rattle.iox_negotiate_base.specs.DescribeBase.Hash.{service_hash_of};
 ghost use Rattle.iox_negotiate_base.specs.DescribeSettings.Agreement.{agreement};
+ghost use Rattle.iox_negotiate_base.specs.Describe.Within.{HasForm, IsWithinLimits};
 ghost use Rattle.iox_negotiate.specs.Asked.{IsRefusal};
 
 use iox_describe::pattern::{Pattern, describe};
-use iox_describe::{AttributeSpecifier, Description, ServiceHash, ServiceName, service_hash};
+use iox_describe::{
+    AttributeSpecifier, Description, ServiceHash, ServiceName, Settings, service_hash,
+};
 use iox_negotiate_base::{CreateFailure, Request};
 use std::alloc::{AllocError, Global};
 
@@ -39,12 +42,17 @@ impl<'a, P: Pattern> Asked<'a, P> {
         ensures requirement { result.requirement.now ≡ requirement.now }
         ensures config { result.config ≡ P.adjusted (P.asked requirement.now) }
         ensures attributes { result.attributes.now ≡ attributes.now }
-        ensures refusal { let config = P.adjusted (P.asked requirement.now) in IsRefusal (P.IsWithinLimits config) (P.IsHistoryTooLong config) result.refusal }
+        ensures refusal { let config = P.adjusted (P.asked requirement.now) in IsRefusal (P.IsWithinLimits config)
+            (P.IsHistoryTooLong config) result.refusal }
+        ensures within { result.refusal ≡ None → IsWithinLimits (agreement name (service_hash_of P.pattern name)
+            (P.settings (P.adjusted (P.asked requirement.now))) attributes.now) }
     {
         let config = P::adjusted(P::asked(requirement));
+        let hash = service_hash(P::pattern(), &name);
+        have_form(&name, hash, P::settings(config), attributes);
         Asked {
             name,
-            hash: service_hash(P::pattern(), &name),
+            hash,
             node,
             requirement,
             config,
@@ -52,6 +60,21 @@ impl<'a, P: Pattern> Asked<'a, P> {
             refusal: refusal_of::<P>(&config),
         }
     }
+}
+
+/// What a description is made of has the form of one. It does nothing: a proof cites by it what holds of these parts.
+fn have_form(
+    name: &ServiceName,
+    hash: ServiceHash,
+    settings: Settings,
+    attributes: &AttributeSpecifier,
+)
+    ensures { HasForm (agreement name.now hash settings attributes.now) }
+{
+    let _name = name.as_bytes();
+    let _attributes = attributes.as_slice();
+    let _settings = settings;
+    let _hash = hash;
 }
 
 /// Why no service is created with these settings.

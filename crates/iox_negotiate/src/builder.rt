@@ -165,7 +165,11 @@ impl<P: Negotiated> ServiceBuilder<P> {
         alloc: Global,
         storage: &mut S,
     ) -> Result<PortFactory<P>, P::CreateError>
-        ensures { Creates S.gives (S.id storage.old) (service_hash_of P.pattern self.name) self.node (agreement self.name (service_hash_of P.pattern self.name) (P.settings (P.adjusted (P.asked self.requirement))) (P.attributes self.requirement).pairs) (P.IsWithinLimits (P.adjusted (P.asked self.requirement))) (P.IsHistoryTooLong (P.adjusted (P.asked self.requirement))) P.create_error storage.old (result_map_both (λ factory. factory.membership) (λ error. error) result) storage.new }
+        ensures { Creates S.gives (S.id storage.old) (service_hash_of P.pattern self.name) self.node
+            (agreement self.name (service_hash_of P.pattern self.name) (P.settings (P.adjusted (P.asked self.requirement)))
+            (P.attributes self.requirement).pairs) (P.IsWithinLimits (P.adjusted (P.asked self.requirement)))
+            (P.IsHistoryTooLong (P.adjusted (P.asked self.requirement))) P.create_error storage.old
+            (result_map_both (λ factory. factory.membership) (λ error. error) result) storage.new }
     {
         self.created(
             alloc,
@@ -185,7 +189,11 @@ impl<P: Negotiated> ServiceBuilder<P> {
         attributes: &AttributeSpecifier,
         storage: &mut S,
     ) -> Result<PortFactory<P>, P::CreateError>
-        ensures { Creates S.gives (S.id storage.old) (service_hash_of P.pattern self.name) self.node (agreement self.name (service_hash_of P.pattern self.name) (P.settings (P.adjusted (P.asked self.requirement))) attributes.now) (P.IsWithinLimits (P.adjusted (P.asked self.requirement))) (P.IsHistoryTooLong (P.adjusted (P.asked self.requirement))) P.create_error storage.old (result_map_both (λ factory. factory.membership) (λ error. error) result) storage.new }
+        ensures { Creates S.gives (S.id storage.old) (service_hash_of P.pattern self.name) self.node
+            (agreement self.name (service_hash_of P.pattern self.name) (P.settings (P.adjusted (P.asked self.requirement)))
+            attributes.now) (P.IsWithinLimits (P.adjusted (P.asked self.requirement)))
+            (P.IsHistoryTooLong (P.adjusted (P.asked self.requirement))) P.create_error storage.old
+            (result_map_both (λ factory. factory.membership) (λ error. error) result) storage.new }
     {
         self.created(alloc, attributes, storage)
     }
@@ -197,7 +205,9 @@ impl<P: Negotiated> ServiceBuilder<P> {
         alloc: Global,
         storage: &mut S,
     ) -> Result<PortFactory<P>, P::OpenError>
-        ensures { Negotiates S.gives (S.id storage.old) self.node P.open_error (λ made answer. Opens (service_hash_of P.pattern self.name) self.node (λ given. P.verdict self.requirement given) made answer) storage.old (result_map_both (λ factory. factory.membership) (λ error. error) result) storage.new }
+        ensures { Negotiates S.gives (S.id storage.old) self.node P.open_error
+            (λ made answer. Opens (service_hash_of P.pattern self.name) self.node (λ given. P.verdict self.requirement given) made
+            answer) storage.old (result_map_both (λ factory. factory.membership) (λ error. error) result) storage.new }
     {
         self.opened(alloc, storage)
     }
@@ -212,7 +222,10 @@ impl<P: Negotiated> ServiceBuilder<P> {
         attributes: AttributeVerifier,
         storage: &mut S,
     ) -> Result<PortFactory<P>, P::OpenError>
-        ensures { Negotiates S.gives (S.id storage.old) self.node P.open_error (λ made answer. Opens (service_hash_of P.pattern self.name) self.node (λ given. P.verdict (P.with_attributes self.requirement attributes) given) made answer) storage.old (result_map_both (λ factory. factory.membership) (λ error. error) result) storage.new }
+        ensures { Negotiates S.gives (S.id storage.old) self.node P.open_error
+            (λ made answer. Opens (service_hash_of P.pattern self.name) self.node
+            (λ given. P.verdict (P.with_attributes self.requirement attributes) given) made answer) storage.old
+            (result_map_both (λ factory. factory.membership) (λ error. error) result) storage.new }
     {
         let builder = ServiceBuilder {
             hub: self.hub,
@@ -230,7 +243,12 @@ impl<P: Negotiated> ServiceBuilder<P> {
         alloc: Global,
         storage: &mut S,
     ) -> Result<PortFactory<P>, P::OpenOrCreateError>
-        ensures { Either S.gives (S.id storage.old) (service_hash_of P.pattern self.name) self.node (λ given. P.verdict self.requirement given) (agreement self.name (service_hash_of P.pattern self.name) (P.settings (P.adjusted (P.asked self.requirement))) (P.attributes self.requirement).pairs) (P.IsWithinLimits (P.adjusted (P.asked self.requirement))) (P.IsHistoryTooLong (P.adjusted (P.asked self.requirement))) P.open_or_create_error storage.old (result_map_both (λ factory. factory.membership) (λ error. error) result) storage.new }
+        ensures { Either S.gives (S.id storage.old) (service_hash_of P.pattern self.name) self.node
+            (λ given. P.verdict self.requirement given)
+            (agreement self.name (service_hash_of P.pattern self.name) (P.settings (P.adjusted (P.asked self.requirement)))
+            (P.attributes self.requirement).pairs) (P.IsWithinLimits (P.adjusted (P.asked self.requirement)))
+            (P.IsHistoryTooLong (P.adjusted (P.asked self.requirement))) P.open_or_create_error storage.old
+            (result_map_both (λ factory. factory.membership) (λ error. error) result) storage.new }
     {
         self.opened_or_created(alloc, storage)
     }
@@ -246,7 +264,14 @@ impl<P: Negotiated> ServiceBuilder<P> {
         attributes: AttributeVerifier,
         storage: &mut S,
     ) -> Result<PortFactory<P>, P::OpenOrCreateError>
-        ensures { Either S.gives (S.id storage.old) (service_hash_of P.pattern self.name) self.node (λ given. P.verdict (P.with_attributes self.requirement attributes) given) (agreement self.name (service_hash_of P.pattern self.name) (P.settings (P.adjusted (P.asked (P.with_attributes self.requirement attributes)))) (P.attributes (P.with_attributes self.requirement attributes)).pairs) (P.IsWithinLimits (P.adjusted (P.asked (P.with_attributes self.requirement attributes)))) (P.IsHistoryTooLong (P.adjusted (P.asked (P.with_attributes self.requirement attributes)))) P.open_or_create_error storage.old (result_map_both (λ factory. factory.membership) (λ error. error) result) storage.new }
+        ensures { Either S.gives (S.id storage.old) (service_hash_of P.pattern self.name) self.node
+            (λ given. P.verdict (P.with_attributes self.requirement attributes) given)
+            (agreement self.name (service_hash_of P.pattern self.name)
+            (P.settings (P.adjusted (P.asked (P.with_attributes self.requirement attributes))))
+            (P.attributes (P.with_attributes self.requirement attributes)).pairs)
+            (P.IsWithinLimits (P.adjusted (P.asked (P.with_attributes self.requirement attributes))))
+            (P.IsHistoryTooLong (P.adjusted (P.asked (P.with_attributes self.requirement attributes)))) P.open_or_create_error
+            storage.old (result_map_both (λ factory. factory.membership) (λ error. error) result) storage.new }
     {
         let builder = ServiceBuilder {
             hub: self.hub,
@@ -263,7 +288,11 @@ impl<P: Negotiated> ServiceBuilder<P> {
         attributes: &AttributeSpecifier,
         storage: &mut S,
     ) -> Result<PortFactory<P>, P::CreateError>
-        ensures { Creates S.gives (S.id storage.old) (service_hash_of P.pattern self.now.name) self.now.node (agreement self.now.name (service_hash_of P.pattern self.now.name) (P.settings (P.adjusted (P.asked self.now.requirement))) attributes.now) (P.IsWithinLimits (P.adjusted (P.asked self.now.requirement))) (P.IsHistoryTooLong (P.adjusted (P.asked self.now.requirement))) P.create_error storage.old (result_map_both (λ factory. factory.membership) (λ error. error) result) storage.new }
+        ensures { Creates S.gives (S.id storage.old) (service_hash_of P.pattern self.now.name) self.now.node
+            (agreement self.now.name (service_hash_of P.pattern self.now.name) (P.settings (P.adjusted (P.asked self.now.requirement)))
+            attributes.now) (P.IsWithinLimits (P.adjusted (P.asked self.now.requirement)))
+            (P.IsHistoryTooLong (P.adjusted (P.asked self.now.requirement))) P.create_error storage.old
+            (result_map_both (λ factory. factory.membership) (λ error. error) result) storage.new }
     {
         let asked = Asked::<P>::new(self.name, self.node, &self.requirement, attributes);
         negotiation::create(alloc, &asked, storage)
@@ -274,7 +303,10 @@ impl<P: Negotiated> ServiceBuilder<P> {
         alloc: Global,
         storage: &mut S,
     ) -> Result<PortFactory<P>, P::OpenError>
-        ensures { Negotiates S.gives (S.id storage.old) self.now.node P.open_error (λ made answer. Opens (service_hash_of P.pattern self.now.name) self.now.node (λ given. P.verdict self.now.requirement given) made answer) storage.old (result_map_both (λ factory. factory.membership) (λ error. error) result) storage.new }
+        ensures { Negotiates S.gives (S.id storage.old) self.now.node P.open_error
+            (λ made answer. Opens (service_hash_of P.pattern self.now.name) self.now.node
+            (λ given. P.verdict self.now.requirement given) made answer) storage.old
+            (result_map_both (λ factory. factory.membership) (λ error. error) result) storage.new }
     {
         let attributes = P::attributes(&self.requirement).attributes();
         let asked = Asked::<P>::new(self.name, self.node, &self.requirement, attributes);
@@ -286,7 +318,12 @@ impl<P: Negotiated> ServiceBuilder<P> {
         alloc: Global,
         storage: &mut S,
     ) -> Result<PortFactory<P>, P::OpenOrCreateError>
-        ensures { Either S.gives (S.id storage.old) (service_hash_of P.pattern self.now.name) self.now.node (λ given. P.verdict self.now.requirement given) (agreement self.now.name (service_hash_of P.pattern self.now.name) (P.settings (P.adjusted (P.asked self.now.requirement))) (P.attributes self.now.requirement).pairs) (P.IsWithinLimits (P.adjusted (P.asked self.now.requirement))) (P.IsHistoryTooLong (P.adjusted (P.asked self.now.requirement))) P.open_or_create_error storage.old (result_map_both (λ factory. factory.membership) (λ error. error) result) storage.new }
+        ensures { Either S.gives (S.id storage.old) (service_hash_of P.pattern self.now.name) self.now.node
+            (λ given. P.verdict self.now.requirement given)
+            (agreement self.now.name (service_hash_of P.pattern self.now.name) (P.settings (P.adjusted (P.asked self.now.requirement)))
+            (P.attributes self.now.requirement).pairs) (P.IsWithinLimits (P.adjusted (P.asked self.now.requirement)))
+            (P.IsHistoryTooLong (P.adjusted (P.asked self.now.requirement))) P.open_or_create_error storage.old
+            (result_map_both (λ factory. factory.membership) (λ error. error) result) storage.new }
     {
         let attributes = P::attributes(&self.requirement).attributes();
         let asked = Asked::<P>::new(self.name, self.node, &self.requirement, attributes);

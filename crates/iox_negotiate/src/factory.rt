@@ -22,7 +22,8 @@ pub struct Membership {
 impl Membership {
     /// Leaves the service, and removes it if this was the last node.
     fn leave<S: Storage>(&self, storage: &mut S) -> Result<(), CloseError>
-        ensures { Does S.gives storage.old (λ made. Closes self.now.service.description.service_hash self.now.service.number self.now.node made result) storage.new }
+        ensures { Does S.gives storage.old (λ made. Closes self.now.service.description.service_hash self.now.service.number
+            self.now.node made result) storage.new }
     {
         let hash = self.service.description.service_hash();
         let answer = storage.leave(hash, self.service.number, self.node);
@@ -34,7 +35,8 @@ impl Membership {
 
     // Removes the description, and then the segment.
     fn remove<S: Storage>(&self, storage: &mut S) -> Result<(), CloseError>
-        ensures { Does S.gives storage.old (λ made. Removes self.now.service.description.service_hash self.now.service.number made result) storage.new }
+        ensures { Does S.gives storage.old (λ made. Removes self.now.service.description.service_hash self.now.service.number made
+            result) storage.new }
     {
         let hash = self.service.description.service_hash();
         let answer = storage.remove_description(hash, self.service.number);
@@ -45,7 +47,8 @@ impl Membership {
     }
 
     fn remove_segment<S: Storage>(&self, storage: &mut S) -> Result<(), CloseError>
-        ensures { Does S.gives storage.old (λ made. RemovesSegment self.now.service.description.service_hash self.now.service.number made result) storage.new }
+        ensures { Does S.gives storage.old (λ made. RemovesSegment self.now.service.description.service_hash self.now.service.number
+            made result) storage.new }
     {
         let hash = self.service.description.service_hash();
         let answer = storage.remove_segment(hash, self.service.number);
@@ -179,9 +182,14 @@ impl<P: Pattern> PortFactory<P> {
     /// answers; the factory is spent then.
     /// Example: `let closed = factory.close(&mut table);`
     pub fn close<S: Storage>(self, storage: &mut S) -> Result<(), NotClosed<P>>
-        ensures other_storage { S.id storage.old ≢ self.membership.storage → (storage.new ≡ storage.old) × (result ≡ Err (record { error = NotThisStorage; factory = Some self })) }
-        ensures this_storage { S.id storage.old ≡ self.membership.storage → Does S.gives storage.old (λ made. Closes self.membership.service.description.service_hash self.membership.service.number self.membership.node made (result_map_both (λ done. done) (λ refused. refused.error) result)) storage.new }
-        ensures spent { S.id storage.old ≡ self.membership.storage → MatchResult result (λ done. Unit {0}) (λ refused. refused.factory ≡ None) }
+        ensures other_storage { S.id storage.old ≢ self.membership.storage → (storage.new ≡ storage.old)
+            × (result ≡ Err (record { error = NotThisStorage; factory = Some self })) }
+        ensures this_storage { S.id storage.old ≡ self.membership.storage
+            → Does S.gives storage.old
+            (λ made. Closes self.membership.service.description.service_hash self.membership.service.number self.membership.node made
+            (result_map_both (λ done. done) (λ refused. refused.error) result)) storage.new }
+        ensures spent { S.id storage.old ≡ self.membership.storage
+            → MatchResult result (λ done. Unit {0}) (λ refused. refused.factory ≡ None) }
     {
         if storage.id() != self.membership.storage {
             return Err(NotClosed {

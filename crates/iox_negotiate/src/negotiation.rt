@@ -18,7 +18,10 @@ pub(crate) fn create<'a, P: Negotiated, S: Storage>(
     asked: &Asked<'a, P>,
     storage: &mut S,
 ) -> Result<PortFactory<P>, P::CreateError>
-    ensures { Negotiates S.gives (S.id storage.old) asked.now.node P.create_error (λ made answer. CreatesIf asked.now.hash asked.now.node (agreement asked.now.name (service_hash_of P.pattern asked.now.name) (P.settings asked.now.config) asked.now.attributes.now) asked.now.refusal made answer) storage.old (result_map_both (λ factory. factory.membership) (λ error. error) result) storage.new }
+    ensures { Negotiates S.gives (S.id storage.old) asked.now.node P.create_error
+        (λ made answer. CreatesIf asked.now.hash asked.now.node
+        (agreement asked.now.name (service_hash_of P.pattern asked.now.name) (P.settings asked.now.config) asked.now.attributes.now)
+        asked.now.refusal made answer) storage.old (result_map_both (λ factory. factory.membership) (λ error. error) result) storage.new }
 {
     let id = storage.id();
     match iox_negotiate_base::create(alloc, asked, storage) {
@@ -33,7 +36,9 @@ pub(crate) fn open<'a, P: Negotiated, S: Storage>(
     asked: &Asked<'a, P>,
     storage: &mut S,
 ) -> Result<PortFactory<P>, P::OpenError>
-    ensures { Negotiates S.gives (S.id storage.old) asked.now.node P.open_error (λ made answer. Opens asked.now.hash asked.now.node (λ given. P.verdict asked.now.requirement.now given) made answer) storage.old (result_map_both (λ factory. factory.membership) (λ error. error) result) storage.new }
+    ensures { Negotiates S.gives (S.id storage.old) asked.now.node P.open_error
+        (λ made answer. Opens asked.now.hash asked.now.node (λ given. P.verdict asked.now.requirement.now given) made answer)
+        storage.old (result_map_both (λ factory. factory.membership) (λ error. error) result) storage.new }
 {
     let id = storage.id();
     match iox_negotiate_base::open(alloc, asked, storage) {
@@ -48,7 +53,10 @@ pub(crate) fn open_or_create<'a, P: Negotiated, S: Storage>(
     asked: &Asked<'a, P>,
     storage: &mut S,
 ) -> Result<PortFactory<P>, P::OpenOrCreateError>
-    ensures { Negotiates S.gives (S.id storage.old) asked.now.node P.open_or_create_error (λ made answer. OpensOrCreates asked.now.hash asked.now.node (λ given. P.verdict asked.now.requirement.now given) (agreement asked.now.name (service_hash_of P.pattern asked.now.name) (P.settings asked.now.config) asked.now.attributes.now) asked.now.refusal made answer) storage.old (result_map_both (λ factory. factory.membership) (λ error. error) result) storage.new }
+    ensures { Negotiates S.gives (S.id storage.old) asked.now.node P.open_or_create_error
+        (λ made answer. OpensOrCreates asked.now.hash asked.now.node (λ given. P.verdict asked.now.requirement.now given)
+        (agreement asked.now.name (service_hash_of P.pattern asked.now.name) (P.settings asked.now.config) asked.now.attributes.now)
+        asked.now.refusal made answer) storage.old (result_map_both (λ factory. factory.membership) (λ error. error) result) storage.new }
 {
     let id = storage.id();
     match iox_negotiate_base::open_or_create(alloc, asked, storage) {

@@ -7,12 +7,15 @@
 //! few_are_in();
 //! ```
 ghost use Rattle.iox_negotiate.specs.Agreements.{AgreesAsBefore};
+ghost use Rattle.iox_negotiate.specs.Built.{BuildersMakeCalls};
 ghost use Rattle.iox_negotiate.specs.Calls.{OpenFactoriesStand, StandInsideCalls, of_three};
 ghost use Rattle.iox_negotiate.specs.Closing.{ClosesOne};
 ghost use Rattle.iox_negotiate.specs.Counts.{FactoriesAreCounted, CountedInsideCalls};
 ghost use Rattle.iox_negotiate.specs.Lives.{TakenOnce, OneLife, PublishedByItsLock, FewAreIn, OpenedStands};
+ghost use Rattle.iox_negotiate.specs.Refused.{RefusedLeavesAll};
 ghost use Rattle.iox_negotiate.specs.Rooms.{RoomsAreAgreed, RoomsInsideCalls};
 
+use iox_describe::pattern::Pattern;
 use iox_negotiate_base::Request;
 
 /// A number is never taken twice: each life's is above those of all lives before.
@@ -72,6 +75,13 @@ pub fn closes_one()
     ensures { ClosesOne }
 {}
 
+/// Whatever a builder creates, opens or does either of in a table, with whatever foreign steps before its accesses, is a call that
+/// these laws speak of, and what it agrees on is within the limits. So `rooms_are_agreed` holds of builders' calls. The builder is of the
+/// pattern `B`, and its error of any type.
+pub fn builders_make_calls<B: Pattern, P: Request, Q: Request, R: Request, E>()
+    ensures { BuildersMakeCalls B.IsWithinLimits B.IsHistoryTooLong (of_three P.ClauseError Q.ClauseError R.ClauseError) E }
+{}
+
 /// After any calls in a new table the segment of each published service has room for just the agreed number of nodes.
 pub fn rooms_are_agreed<P: Request, Q: Request, R: Request>()
     ensures { RoomsAreAgreed (of_three P.ClauseError Q.ClauseError R.ClauseError) }
@@ -86,4 +96,10 @@ pub fn rooms_inside_calls<P: Request, Q: Request, R: Request>()
 /// after the other, whoever acts on the table meanwhile. The calls may be of services of three patterns.
 pub fn agrees_as_before<P: Request, Q: Request, R: Request>()
     ensures { AgreesAsBefore (of_three P.ClauseError Q.ClauseError R.ClauseError) }
+{}
+
+/// A refused call leaves what lies in the table as it was, where no foreign steps come between its accesses; only the next number
+/// may have risen. The calls may be of services of three patterns.
+pub fn refused_leaves_all<P: Request, Q: Request, R: Request>()
+    ensures { RefusedLeavesAll (of_three P.ClauseError Q.ClauseError R.ClauseError) }
 {}

@@ -76,7 +76,7 @@ record Ends (made : List Access) (failed : Bool) (segments : ℕ) : Type 0 where
   removed : failed ≡ true → segments_removed made ≡ segments
 
 -- the attempt did not make a service
-abbrev has_failed : Attempt → Bool
+abbrev pub has_failed : Attempt → Bool
 has_failed (attempt.Made service) = false
 has_failed came = true
 
@@ -113,9 +113,9 @@ publishes-ends hash number agreed (RemoveSegment under of answer ∷ rest) came 
 publishes-ends hash number agreed made came h = absurd h
 
 -- of the accesses of a lock and what follows
-record Balanced (made : List Access) (failed : Bool) : Type 0 where
-  locks : locks_taken made ≡ locks_ended made
-  segments : failed ≡ true → segments_made made ≡ segments_removed made
+pub record Balanced (made : List Access) (failed : Bool) : Type 0 where
+  pub locks : locks_taken made ≡ locks_ended made
+  pub segments : failed ≡ true → segments_made made ≡ segments_removed made
 
 record Follows (made : List Access) (failed : Bool) : Type 0 where
   taken : locks_taken made ≡ 0
@@ -134,7 +134,7 @@ makes-follows hash node number agreed (MakeSegment under of by room making.OutOf
     record { taken = e.taken; ended = e.ended; segments = λ f. omega (arith, e.more, e.removed f) }
 makes-follows hash node number agreed made came h = absurd h
 
-nothing-more : (made : List Access) (failed : Bool) → made ≡ [] → Balanced made failed
+pub nothing-more : (made : List Access) (failed : Bool) → made ≡ [] → Balanced made failed
 nothing-more made failed none = record {
   locks = ap (λ r. locks_taken r) none ∙ sym (ap (λ r. locks_ended r) none);
   segments = λ _. ap (λ r. segments_made r) none ∙ sym (ap (λ r. segments_removed r) none);
@@ -148,7 +148,7 @@ refused-lock hash node answer rest failed none free = record {
   segments = λ _. ap (λ r. segments_made r) none ∙ sym (ap (λ r. segments_removed r) none);
 }
 
-locks-balanced : (hash : ServiceHash) (node : ℕ) (agreed : Agreement) (made : List Access) (came : Attempt) → Locks hash node agreed made came → Balanced made (has_failed came)
+pub locks-balanced : (hash : ServiceHash) (node : ℕ) (agreed : Agreement) (made : List Access) (came : Attempt) → Locks hash node agreed made came → Balanced made (has_failed came)
 locks-balanced hash node agreed (Lock under by (lock.Taken number) ∷ rest) came h =
     let e = makes-follows hash node number agreed rest came h.2 in record { locks = omega (arith, e.taken, e.ended); segments = e.segments }
 locks-balanced hash node agreed (Lock under by lock.IsLocked ∷ rest) came h = refused-lock under by lock.IsLocked rest (has_failed came) h.2.0 refl

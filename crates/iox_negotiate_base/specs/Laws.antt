@@ -16,7 +16,8 @@ use Rattle.iox_negotiate_base.specs.declared.failure.OpenOrCreateFailure.{OpenOr
 
 -- a creation makes six accesses at most
 abbrev pub CreatesInSix : Type 0
-CreatesInSix = (hash : ServiceHash) (node : ℕ) (agreed : Agreement) (refusal : Option CreateFailure) (made : List Access) (result : Result Opened CreateFailure)
+CreatesInSix = (hash : ServiceHash) (node : ℕ) (agreed : Agreement) (refusal : Option CreateFailure) (made : List Access)
+    (result : Result Opened CreateFailure)
     → CreatesIf hash node agreed refusal made result → length made ≤ 6
 
 -- how many locks were taken in these accesses
@@ -34,7 +35,8 @@ locks_ended (access ∷ rest) = locks_ended rest
 
 -- no lock is left by a creation, however it ends
 abbrev pub LeavesNoLock : Type 0
-LeavesNoLock = (hash : ServiceHash) (node : ℕ) (agreed : Agreement) (refusal : Option CreateFailure) (made : List Access) (result : Result Opened CreateFailure)
+LeavesNoLock = (hash : ServiceHash) (node : ℕ) (agreed : Agreement) (refusal : Option CreateFailure) (made : List Access)
+    (result : Result Opened CreateFailure)
     → CreatesIf hash node agreed refusal made result → locks_taken made ≡ locks_ended made
 
 -- how many segments were made
@@ -51,23 +53,39 @@ segments_removed (access ∷ rest) = segments_removed rest
 
 -- a refused creation asks to remove each segment that it made
 abbrev pub RefusedLeavesNoSegment : Type 0
-RefusedLeavesNoSegment = (hash : ServiceHash) (node : ℕ) (agreed : Agreement) (refusal : Option CreateFailure) (made : List Access) (failure : CreateFailure)
+RefusedLeavesNoSegment = (hash : ServiceHash) (node : ℕ) (agreed : Agreement) (refusal : Option CreateFailure) (made : List Access)
+    (failure : CreateFailure)
     → CreatesIf hash node agreed refusal made (Err failure) → segments_made made ≡ segments_removed made
 
 -- A creation that goes well ends so: its segment was made, with room for the agreed nodes, and under the number that it
 -- answers the line of what it answers was published, which is what was to be agreed.
 abbrev pub CreatedIsPublished : Type 0
-CreatedIsPublished = (hash : ServiceHash) (node : ℕ) (agreed : Agreement) (refusal : Option CreateFailure) (made : List Access) (service : Opened)
+CreatedIsPublished = (hash : ServiceHash) (node : ℕ) (agreed : Agreement) (refusal : Option CreateFailure) (made : List Access)
+    (service : Opened)
     → CreatesIf hash node agreed refusal made (Ok service)
     → (front : List Access) × (service.description ≡ agreed)
     × (made ≡ front ++ (MakeSegment hash service.number node (max_nodes_of agreed.settings) Made ∷ Publish hash service.number (line agreed) Published ∷ []))
 
 -- an opening makes ten accesses at most
 abbrev pub OpensInTen : Type 0 → Type 0
-OpensInTen V = (hash : ServiceHash) (node : ℕ) (verdict : Agreement → Result (Unit {0}) V) (made : List Access) (result : Result Opened (OpenFailure V))
+OpensInTen V = (hash : ServiceHash) (node : ℕ) (verdict : Agreement
+    → Result (Unit {0}) V) (made : List Access) (result : Result Opened (OpenFailure V))
     → Opens hash node verdict made result → length made ≤ 10
 
 -- an opening or creation makes fourteen accesses at most
 abbrev pub OpensOrCreatesInFourteen : Type 0 → Type 0
-OpensOrCreatesInFourteen V = (hash : ServiceHash) (node : ℕ) (verdict : Agreement → Result (Unit {0}) V) (agreed : Agreement) (refusal : Option CreateFailure)
+OpensOrCreatesInFourteen V = (hash : ServiceHash) (node : ℕ) (verdict : Agreement
+    → Result (Unit {0}) V) (agreed : Agreement) (refusal : Option CreateFailure)
     (made : List Access) (result : Result Opened (OpenOrCreateFailure V)) → OpensOrCreates hash node verdict agreed refusal made result → length made ≤ 14
+
+-- no lock is left by an opening or creation, however it ends
+abbrev pub EitherLeavesNoLock : Type 0 → Type 0
+EitherLeavesNoLock V = (hash : ServiceHash) (node : ℕ) (verdict : Agreement
+    → Result (Unit {0}) V) (agreed : Agreement) (refusal : Option CreateFailure)
+    (made : List Access) (result : Result Opened (OpenOrCreateFailure V)) → OpensOrCreates hash node verdict agreed refusal made result → locks_taken made ≡ locks_ended made
+
+-- a refused opening or creation asks to remove each segment that it made
+abbrev pub RefusedEitherLeavesNoSegment : Type 0 → Type 0
+RefusedEitherLeavesNoSegment V = (hash : ServiceHash) (node : ℕ) (verdict : Agreement
+    → Result (Unit {0}) V) (agreed : Agreement) (refusal : Option CreateFailure)
+    (made : List Access) (failure : OpenOrCreateFailure V) → OpensOrCreates hash node verdict agreed refusal made (Err failure) → segments_made made ≡ segments_removed made

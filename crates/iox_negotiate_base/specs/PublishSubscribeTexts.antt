@@ -47,6 +47,8 @@ create_text error = codes "PublishSubscribeCreateError::" ++ create_name error
 
 -- the variant is of the name of the error within
 abbrev pub open_or_create_text : PublishSubscribeOpenOrCreateError → List ℕ
-open_or_create_text (either.PublishSubscribeOpenError error) = codes "PublishSubscribeOpenOrCreateError::PublishSubscribeOpenError(" ++ open_name error ++ codes ")"
-open_or_create_text (either.PublishSubscribeCreateError error) = codes "PublishSubscribeOpenOrCreateError::PublishSubscribeCreateError(" ++ create_name error ++ codes ")"
+open_or_create_text (either.PublishSubscribeOpenError error) = codes "PublishSubscribeOpenOrCreateError::PublishSubscribeOpenError("
+    ++ open_name error ++ codes ")"
+open_or_create_text (either.PublishSubscribeCreateError error) = codes "PublishSubscribeOpenOrCreateError::PublishSubscribeCreateError("
+    ++ create_name error ++ codes ")"
 open_or_create_text either.SystemInFlux = codes "PublishSubscribeOpenOrCreateError::SystemInFlux"

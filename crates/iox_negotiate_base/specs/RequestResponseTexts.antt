@@ -21,7 +21,8 @@ open_name opening.DoesNotSupportRequestedAmountOfActiveRequestsPerClient = codes
 open_name opening.DoesNotSupportRequestedResponseBufferSize = codes "DoesNotSupportRequestedResponseBufferSize"
 open_name opening.DoesNotSupportRequestedAmountOfServers = codes "DoesNotSupportRequestedAmountOfServers"
 open_name opening.DoesNotSupportRequestedAmountOfClients = codes "DoesNotSupportRequestedAmountOfClients"
-open_name opening.DoesNotSupportRequestedAmountOfBorrowedResponsesPerPendingResponse = codes "DoesNotSupportRequestedAmountOfBorrowedResponsesPerPendingResponse"
+open_name opening.DoesNotSupportRequestedAmountOfBorrowedResponsesPerPendingResponse
+    = codes "DoesNotSupportRequestedAmountOfBorrowedResponsesPerPendingResponse"
 open_name opening.DoesNotSupportRequestedAmountOfNodes = codes "DoesNotSupportRequestedAmountOfNodes"
 open_name opening.DoesNotExist = codes "DoesNotExist"
 open_name opening.InsufficientPermissions = codes "InsufficientPermissions"
@@ -50,6 +51,8 @@ create_text error = codes "RequestResponseCreateError::" ++ create_name error
 
 -- the variant is of the name of the error within
 abbrev pub open_or_create_text : RequestResponseOpenOrCreateError → List ℕ
-open_or_create_text (either.RequestResponseOpenError error) = codes "RequestResponseOpenOrCreateError::RequestResponseOpenError(" ++ open_name error ++ codes ")"
-open_or_create_text (either.RequestResponseCreateError error) = codes "RequestResponseOpenOrCreateError::RequestResponseCreateError(" ++ create_name error ++ codes ")"
+open_or_create_text (either.RequestResponseOpenError error) = codes "RequestResponseOpenOrCreateError::RequestResponseOpenError("
+    ++ open_name error ++ codes ")"
+open_or_create_text (either.RequestResponseCreateError error) = codes "RequestResponseOpenOrCreateError::RequestResponseCreateError("
+    ++ create_name error ++ codes ")"
 open_or_create_text either.SystemInFlux = codes "RequestResponseOpenOrCreateError::SystemInFlux"

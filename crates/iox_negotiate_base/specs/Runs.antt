@@ -16,7 +16,8 @@ pub record Does {S : Type 0} (gives : S → Access → S → Type 0) (old : S) (
 -- so many rounds led on, one after the other: each came to no answer
 abbrev pub Led : {R : Type 0} → (List Access → Option R → Type 0) → ℕ → List Access → Type 0
 Led round zero made = made ≡ []
-Led round (suc count) made = (before : List Access) × (last : List Access) × (made ≡ before ++ last) × Led round count before × round last None
+Led round (suc count) made = (before : List Access) × (last : List Access) × (made ≡ before ++ last) × Led round count before
+    × round last None
 
 -- Fewer than five rounds led on, and the next one came to the answer; or five led on, and the answer is that of exhaustion.
 pub record Rounds {R : Type 0} (round : List Access → Option R → Type 0) (exhausted : R) (made : List Access) (result : R) : Type 0 where

@@ -29,7 +29,8 @@ pub enum Attempt {
 
 /// Locks the hash, and creates the service if the lock is taken.
 pub fn lock<R: Request, S: Storage>(alloc: Global, request: &R, storage: &mut S) -> Attempt
-    ensures { Does S.gives storage.old (λ made. Locks (R.hash request.now) (R.node request.now) (R.created request.now) made result) storage.new }
+    ensures { Does S.gives storage.old (λ made. Locks (R.hash request.now) (R.node request.now) (R.created request.now) made result)
+        storage.new }
 {
     let answer = storage.lock(request.hash(), request.node());
     match lock_gives(answer) {
@@ -45,7 +46,8 @@ fn make_segment<R: Request, S: Storage>(
     number: u64,
     storage: &mut S,
 ) -> Attempt
-    ensures { Does S.gives storage.old (λ made. Makes (R.hash request.now) (R.node request.now) number (R.created request.now) made result) storage.new }
+    ensures { Does S.gives storage.old (λ made. Makes (R.hash request.now) (R.node request.now) number (R.created request.now) made
+        result) storage.new }
 {
     let answer = storage.make_segment(request.hash(), number, request.node(), request.max_nodes());
     if let Some(failure) = making_failure(answer) {

@@ -1,6 +1,6 @@
 //! What holds of every creation and every opening, said in other words than their accesses one by one. Each function
 //! does nothing: its contract is the law.
-ghost use Rattle.iox_negotiate_base.specs.Laws.{CreatesInSix, LeavesNoLock, RefusedLeavesNoSegment, CreatedIsPublished, OpensInTen, OpensOrCreatesInFourteen};
+ghost use Rattle.iox_negotiate_base.specs.Laws.{CreatesInSix, LeavesNoLock, RefusedLeavesNoSegment, CreatedIsPublished, OpensInTen, OpensOrCreatesInFourteen, EitherLeavesNoLock, RefusedEitherLeavesNoSegment};
 
 use crate::request::Request;
 
@@ -32,4 +32,14 @@ pub fn opens_in_ten<R: Request>()
 /// An opening or creation makes fourteen accesses at most.
 pub fn opens_or_creates_in_fourteen<R: Request>()
     ensures { OpensOrCreatesInFourteen R.ClauseError }
+{}
+
+/// No lock is left by an opening or creation, however it ends.
+pub fn either_leaves_no_lock<R: Request>()
+    ensures { EitherLeavesNoLock R.ClauseError }
+{}
+
+/// A refused opening or creation asks to remove each segment that it made.
+pub fn refused_either_leaves_no_segment<R: Request>()
+    ensures { RefusedEitherLeavesNoSegment R.ClauseError }
 {}

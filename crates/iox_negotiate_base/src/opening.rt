@@ -17,7 +17,8 @@ pub(crate) fn open_seen<R: Request, S: Storage>(
     seen: Sight,
     storage: &mut S,
 ) -> Option<Result<Opened, OpenFailure<R::ClauseError>>>
-    ensures { Does S.gives storage.old (λ made. OpensSeen (R.hash request.now) (R.node request.now) (R.verdict request.now) seen made result) storage.new }
+    ensures { Does S.gives storage.old (λ made. OpensSeen (R.hash request.now) (R.node request.now) (R.verdict request.now) seen made
+        result) storage.new }
 {
     match seen {
         Sight::Absent => Some(Err(OpenFailure::DoesNotExist)),
@@ -36,7 +37,8 @@ pub(crate) fn open_standing<R: Request, S: Storage>(
     description: Description,
     storage: &mut S,
 ) -> Option<Result<Opened, OpenFailure<R::ClauseError>>>
-    ensures { Does S.gives storage.old (λ made. OpensJudged (R.hash request.now) (R.node request.now) (R.verdict request.now) number description (R.verdict request.now description) made result) storage.new }
+    ensures { Does S.gives storage.old (λ made. OpensJudged (R.hash request.now) (R.node request.now) (R.verdict request.now) number
+        description (R.verdict request.now description) made result) storage.new }
 {
     if let Err(unmet) = request.verdict(&description) {
         return Some(Err(OpenFailure::Clause(unmet)));
@@ -51,7 +53,8 @@ fn register<R: Request, S: Storage>(
     description: Description,
     storage: &mut S,
 ) -> Option<Result<Opened, OpenFailure<R::ClauseError>>>
-    ensures { Does S.gives storage.old (λ made. Registers (R.hash request.now) (R.node request.now) (R.verdict request.now) number description made result) storage.new }
+    ensures { Does S.gives storage.old (λ made. Registers (R.hash request.now) (R.node request.now) (R.verdict request.now) number
+        description made result) storage.new }
 {
     let answer = storage.open_segment(request.hash(), number, request.node());
     entered(number, description, answer)

@@ -27,7 +27,8 @@ pub fn create<R: Request, S: Storage>(
     request: &R,
     storage: &mut S,
 ) -> Result<Opened, CreateFailure>
-    ensures { Does S.gives storage.old (λ made. CreatesIf (R.hash request.now) (R.node request.now) (R.created request.now) (R.refusal request.now) made result) storage.new }
+    ensures { Does S.gives storage.old (λ made. CreatesIf (R.hash request.now) (R.node request.now) (R.created request.now)
+        (R.refusal request.now) made result) storage.new }
 {
     if let Some(failure) = request.refusal() {
         return Err(failure);
@@ -44,7 +45,8 @@ fn create_seen<R: Request, S: Storage>(
     seen: &Sight,
     storage: &mut S,
 ) -> Attempt
-    ensures { Does S.gives storage.old (λ made. CreatesSeen (R.hash request.now) (R.node request.now) (R.created request.now) (refusal_seen seen.now) made result) storage.new }
+    ensures { Does S.gives storage.old (λ made. CreatesSeen (R.hash request.now) (R.node request.now) (R.created request.now)
+        (refusal_seen seen.now) made result) storage.new }
 {
     if let Some(failure) = refusal_seen(seen) {
         return Attempt::Failed(failure);
@@ -63,7 +65,8 @@ pub fn open<R: Request, S: Storage>(
     request: &R,
     storage: &mut S,
 ) -> Result<Opened, OpenFailure<R::ClauseError>>
-    ensures { Does S.gives storage.old (λ made. Opens (R.hash request.now) (R.node request.now) (R.verdict request.now) made result) storage.new }
+    ensures { Does S.gives storage.old (λ made. Opens (R.hash request.now) (R.node request.now) (R.verdict request.now) made result)
+        storage.new }
 {
     for round in 0..ROUNDS {
         if let Some(answer) = open_round(alloc, request, storage) {
@@ -78,7 +81,8 @@ fn open_round<R: Request, S: Storage>(
     request: &R,
     storage: &mut S,
 ) -> Option<Result<Opened, OpenFailure<R::ClauseError>>>
-    ensures { Does S.gives storage.old (λ made. OpenRound (R.hash request.now) (R.node request.now) (R.verdict request.now) made result) storage.new }
+    ensures { Does S.gives storage.old (λ made. OpenRound (R.hash request.now) (R.node request.now) (R.verdict request.now) made result)
+        storage.new }
 {
     let answer = storage.look(request.hash());
     let seen = shown(alloc, request.hash(), &answer);
@@ -94,7 +98,8 @@ pub fn open_or_create<R: Request, S: Storage>(
     request: &R,
     storage: &mut S,
 ) -> Result<Opened, OpenOrCreateFailure<R::ClauseError>>
-    ensures { Does S.gives storage.old (λ made. OpensOrCreates (R.hash request.now) (R.node request.now) (R.verdict request.now) (R.created request.now) (R.refusal request.now) made result) storage.new }
+    ensures { Does S.gives storage.old (λ made. OpensOrCreates (R.hash request.now) (R.node request.now) (R.verdict request.now)
+        (R.created request.now) (R.refusal request.now) made result) storage.new }
 {
     for round in 0..ROUNDS {
         if let Some(answer) = either_round(alloc, request, storage) {
@@ -109,7 +114,8 @@ fn either_round<R: Request, S: Storage>(
     request: &R,
     storage: &mut S,
 ) -> Option<Result<Opened, OpenOrCreateFailure<R::ClauseError>>>
-    ensures { Does S.gives storage.old (λ made. EitherRound (R.hash request.now) (R.node request.now) (R.verdict request.now) (R.created request.now) (R.refusal request.now) made result) storage.new }
+    ensures { Does S.gives storage.old (λ made. EitherRound (R.hash request.now) (R.node request.now) (R.verdict request.now)
+        (R.created request.now) (R.refusal request.now) made result) storage.new }
 {
     let answer = storage.look(request.hash());
     let seen = shown(alloc, request.hash(), &answer);
@@ -122,7 +128,8 @@ fn either_seen<R: Request, S: Storage>(
     seen: Sight,
     storage: &mut S,
 ) -> Option<Result<Opened, OpenOrCreateFailure<R::ClauseError>>>
-    ensures { Does S.gives storage.old (λ made. EitherSeen (R.hash request.now) (R.node request.now) (R.verdict request.now) (R.created request.now) (R.refusal request.now) seen made result) storage.new }
+    ensures { Does S.gives storage.old (λ made. EitherSeen (R.hash request.now) (R.node request.now) (R.verdict request.now)
+        (R.created request.now) (R.refusal request.now) seen made result) storage.new }
 {
     match seen {
         Sight::Absent => either_creates(alloc, request, storage),
@@ -139,7 +146,8 @@ fn either_creates<R: Request, S: Storage>(
     request: &R,
     storage: &mut S,
 ) -> Option<Result<Opened, OpenOrCreateFailure<R::ClauseError>>>
-    ensures { Does S.gives storage.old (λ made. EitherCreates (R.hash request.now) (R.node request.now) (R.verdict request.now) (R.created request.now) (R.refusal request.now) (R.refusal request.now) made result) storage.new }
+    ensures { Does S.gives storage.old (λ made. EitherCreates (R.hash request.now) (R.node request.now) (R.verdict request.now)
+        (R.created request.now) (R.refusal request.now) (R.refusal request.now) made result) storage.new }
 {
     if let Some(failure) = request.refusal() {
         return Some(Err(OpenOrCreateFailure::Create(failure)));

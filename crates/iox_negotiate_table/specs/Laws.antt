@@ -26,12 +26,14 @@ pub record IsOpenIn (hash : ServiceHash) (number node : ℕ) (bytes : List ℕ) 
 
 -- a service that is open for an own node stays so, whatever one foreign node does
 abbrev pub StaysOpen : Type 0
-StaysOpen = (hash : ServiceHash) (number node : ℕ) (bytes : List ℕ) (step : ForeignStep) (old new : Contents) (result : Result (Unit {0}) AllocError)
+StaysOpen = (hash : ServiceHash) (number node : ℕ) (bytes : List ℕ) (step : ForeignStep) (old new : Contents)
+    (result : Result (Unit {0}) AllocError)
     → IsOpenIn hash number node bytes old → Acts hash step old result new → IsOpenIn hash number node bytes new
 
 -- and whatever list of foreign steps is done
 abbrev pub StaysOpenThrough : Type 0
-StaysOpenThrough = (hash : ServiceHash) (number node : ℕ) (bytes : List ℕ) (steps : List ForeignStep) (old new : Contents) (result : Result (Unit {0}) AllocError)
+StaysOpenThrough = (hash : ServiceHash) (number node : ℕ) (bytes : List ℕ) (steps : List ForeignStep) (old new : Contents)
+    (result : Result (Unit {0}) AllocError)
     → IsOpenIn hash number node bytes old → ActsAll hash steps old result new → IsOpenIn hash number node bytes new
 
 -- no more nodes are in the segment than there is room for
@@ -40,7 +42,8 @@ HasFew hash number table = (nodes : Nodes) → segment_at hash number table ≡ 
 
 -- What is opened under a number is the service of just this number that stands, and after it the service is open.
 abbrev pub OpenedIsOpen : Type 0
-OpenedIsOpen = (hash : ServiceHash) (number node : ℕ) (old new : Contents) → HasFew hash number old → Sight old (OpenSegment hash number node Registered) new
+OpenedIsOpen = (hash : ServiceHash) (number node : ℕ) (old new : Contents) → HasFew hash number old
+    → Sight old (OpenSegment hash number node Registered) new
     → (bytes : List ℕ) × (entry_at hash old ≡ Some (Described number bytes)) × IsOpenIn hash number node bytes new
 
 -- what an own node makes and publishes is open for it

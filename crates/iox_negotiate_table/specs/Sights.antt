@@ -71,7 +71,8 @@ unopened false = opening.Absent
 
 -- a segment whose description stands is opened
 abbrev pub OpensPublished : Option Segment → ServiceHash → ℕ → ℕ → Contents → OpenSegmentAnswer → Contents → Type 0
-OpensPublished (Some segment) hash number node old answer new = (after : Segment) × Opens node segment answer after × (new ≡ with_segment hash number after old)
+OpensPublished (Some segment) hash number node old answer new = (after : Segment) × Opens node segment answer after
+    × (new ≡ with_segment hash number after old)
 OpensPublished None hash number node old answer new = (answer ≡ opening.Absent) × (new ≡ old)
 
 -- where no description of this service stands, nothing is opened

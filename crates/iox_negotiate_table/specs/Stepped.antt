@@ -53,7 +53,8 @@ SteppedSight old (Look hash answer) new = Preceded hash (Look hash answer) (answ
 SteppedSight old (Lock hash node answer) new = Preceded hash (Lock hash node answer) (answer ≡ lock.OutOfMemory) old new
 SteppedSight old (MakeSegment hash number node max_nodes answer) new =
     Preceded hash (MakeSegment hash number node max_nodes answer) (answer ≡ making.OutOfMemory) old new
-SteppedSight old (Publish hash number bytes answer) new = Preceded hash (Publish hash number bytes answer) (answer ≡ publishing.OutOfMemory) old new
+SteppedSight old (Publish hash number bytes answer) new
+    = Preceded hash (Publish hash number bytes answer) (answer ≡ publishing.OutOfMemory) old new
 SteppedSight old (OpenSegment hash number node answer) new =
     Preceded hash (OpenSegment hash number node answer) (answer ≡ opening.OutOfMemory) old new
 SteppedSight old (Unlock hash number) new = Alone (Unlock hash number) old new

@@ -42,7 +42,8 @@ impl Table {
     }
 
     fn lock_foreign(&mut self, hash: &ServiceHash, node: u64) -> Result<(), AllocError>
-        ensures { DoneOrLacking (not (is_some (entry_at hash.now self.old)) && not (nat_eq self.old.next (2 ^ 64 - 1))) (with_lock hash.now (Foreign node) self.old) self.old result self.new }
+        ensures { DoneOrLacking (not (is_some (entry_at hash.now self.old))
+            && not (nat_eq self.old.next (2 ^ 64 - 1))) (with_lock hash.now (Foreign node) self.old) self.old result self.new }
     {
         match self.lock_for(hash, Node::Foreign(node)) {
             LockAnswer::OutOfMemory => Err(AllocError),
@@ -67,7 +68,8 @@ impl Table {
     }
 
     fn give_up(&mut self, hash: &ServiceHash, node: u64)
-        ensures { Done (is_some (foreign_lock node (entry_at hash.now self.old))) (without_entry hash.now self.old) self.old (Ok tt) self.new }
+        ensures { Done (is_some (foreign_lock node (entry_at hash.now self.old))) (without_entry hash.now self.old) self.old (Ok tt)
+            self.new }
     {
         if self.foreign_lock(hash, node).is_some() {
             let _ = self.entries.remove(&hash.digest);

@@ -41,5 +41,6 @@ pub record IsKept (m : SetState) : Type 0 where
   pub told : IsTold m
   pub few : length m.words.cells < 2 ^ 64
   pub small : m.max < 2 ^ 64
-  pub knows : (party : ℕ) → Knows m.max (length m.words.cells) (own party (drop (seat_at m.seats party).first m.events)) (stage_at m.seats party)
+  pub knows : (party : ℕ) → Knows m.max (length m.words.cells) (own party (drop (seat_at m.seats party).first m.events))
+      (stage_at m.seats party)
   pub began : (party : ℕ) → (seat_at m.seats party).first ≤ length m.events

@@ -45,7 +45,8 @@ first_at parts (suc n) i [] d within long = absurd (omega (arith, long))
 first_at parts (suc n) zero (item ∷ items) d within long = refl
 first_at parts (suc n) (suc i) (item ∷ items) d within long = first_at parts n i items d (omega (arith, within)) (omega (arith, long))
 
-pub one_each : {X : Type 0} (parts : X → List ℕ) (many : ℕ) → ((x : X) → length (parts x) ≡ many) → many ≡ 1 → (x : X) → length (parts x) ≡ 1
+pub one_each : {X : Type 0} (parts : X → List ℕ) (many : ℕ) → ((x : X) → length (parts x) ≡ many) → many ≡ 1 → (x : X)
+    → length (parts x) ≡ 1
 one_each parts many as_many one x = as_many x ∙ one
 
 pub one_of : (words : List ℕ) (i : ℕ) → i < length words → take (i + 1 - i) (drop i words) ≡ slice_index words i ∷ []
@@ -53,7 +54,8 @@ one_of words i within =
     let one : i + 1 - i ≡ 1 = omega arith in
     ap (λ n. take n (drop i words)) one ∙ ap (take 1) (drop_more words i 0 within)
 
-pub map_at : {X : Type 0} (g : ℕ → X) (words : List ℕ) (i : ℕ) (d : X) → i < length words → get_or (map g words) i d ≡ g (slice_index words i)
+pub map_at : {X : Type 0} (g : ℕ → X) (words : List ℕ) (i : ℕ) (d : X) → i < length words
+    → get_or (map g words) i d ≡ g (slice_index words i)
 map_at g [] i d within = absurd (omega (arith, within))
 map_at g (word ∷ words) zero d within = refl
 map_at g (word ∷ words) (suc i) d within = map_at g words i d (omega (arith, within))

@@ -15,11 +15,13 @@ use Rattle.iox_queues_base.specs.Coding.{narrowed, narrowed-same, wide-back, cha
 pub signed-narrowed : (w : Width) (x : ℤ) → FitsSigned w x → cast_signed w (narrowed (bits w) (cast_unsigned w x)) ≡ x
 signed-narrowed w x h = ap (cast_signed w) (narrowed-same (bits w) (cast_unsigned w x) (Fits-of_z h).fits) ∙ to_z-of_z w x h
 
-pub signed-wide : (x : ℤ) → FitsSigned w128 x → cast_signed w128 ((cast_unsigned w128 x % 2 ^ 64) + 2 ^ 64 * (cast_unsigned w128 x / 2 ^ 64)) ≡ x
+pub signed-wide : (x : ℤ) → FitsSigned w128 x
+    → cast_signed w128 ((cast_unsigned w128 x % 2 ^ 64) + 2 ^ 64 * (cast_unsigned w128 x / 2 ^ 64)) ≡ x
 signed-wide x h = ap (cast_signed w128) (wide-back (cast_unsigned w128 x)) ∙ to_z-of_z w128 x h
 
 pub float-narrowed : (x : Float) → T (fits binary32 x) → from_bits binary32 (narrowed 32 (to_bits binary32 x)) ≡ x
-float-narrowed x h = ap (from_bits binary32) (narrowed-same 32 (to_bits binary32 x) (to_bits-lt binary32 x h)) ∙ of_bits-to_bits binary32 x h
+float-narrowed x h = ap (from_bits binary32) (narrowed-same 32 (to_bits binary32 x) (to_bits-lt binary32 x h)) ∙ of_bits-to_bits
+    binary32 x h
 
 pub float-given_back : (x : Float) → T (fits binary64 x) → from_bits binary64 (to_bits binary64 x) ≡ x
 float-given_back x h = of_bits-to_bits binary64 x h

@@ -23,7 +23,8 @@ machine_of s = record {
 abbrev pub new_acts : RingState → Move → ℕ
 new_acts m (Begin c) = 0
 new_acts m (GoOn Producer) = length (placed_by_push m.limit m.words.read m.producer.push)
-new_acts m (GoOn Consumer) = length (taken_by_pop m.words.write m.words.read m.consumer.pop) + length (if pop_moves m.words.read m.consumer.pop then late_put m.words.read m.producer.push else [])
+new_acts m (GoOn Consumer) = length (taken_by_pop m.words.write m.words.read m.consumer.pop) + length
+    (if pop_moves m.words.read m.consumer.pop then late_put m.words.read m.producer.push else [])
 
 -- how many pushes end with a step
 abbrev pub new_pushes : RingState → Move → ℕ

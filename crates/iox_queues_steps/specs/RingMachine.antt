@@ -196,8 +196,10 @@ waiting m = after_acts (overflows m.kind) m.limit m.initial (acts_of m.log.order
 pub record FollowsOrder (m : RingState) : Type 0 where
   pub acts : Acts (overflows m.kind) m.limit m.initial (acts_of m.log.order)
   pub rises : Rises 0 m.log.order m.log.moments
-  pub puts_match : AllZip PutInside (m.producer.calls ++ map (push_call m.producer.first m.log.moments) (put_in_hand m.words.read m.producer.push)) (puts m.log.order)
-  pub takes_match : AllZip TakeInside (m.consumer.calls ++ map (pop_call m.consumer.first m.log.moments) (pop_ended m.consumer.pop)) (takes m.log.order)
+  pub puts_match : AllZip PutInside (m.producer.calls
+      ++ map (push_call m.producer.first m.log.moments) (put_in_hand m.words.read m.producer.push)) (puts m.log.order)
+  pub takes_match : AllZip TakeInside (m.consumer.calls
+      ++ map (pop_call m.consumer.first m.log.moments) (pop_ended m.consumer.pop)) (takes m.log.order)
 
 -- what every step keeps: the words hold what the order leaves, the order theorem, and what the events
 -- tell of calls

@@ -46,13 +46,15 @@ Goes next take stage (step ∷ steps) end =
 
 -- the steps of a call that ended: a local one at its first moment, the accesses between its first
 -- stage and its last one, and a local one at its last moment
-pub record IsWhole (S : Type 0) (next : S → Access) (take : S → ℕ → S) (party : Party) (begun over : S) (first last : ℕ) (steps : List Timed) : Type 0 where
+pub record IsWhole (S : Type 0) (next : S → Access) (take : S → ℕ
+    → S) (party : Party) (begun over : S) (first last : ℕ) (steps : List Timed) : Type 0 where
   pub between : List Timed
   pub all : steps ≡ local party first ∷ (between ++ local party last ∷ [])
   pub goes : Goes next take begun between over
 
 -- the steps of a call in hand: a local one at its first moment, and the accesses up to its stage
-pub record IsOpen (S : Type 0) (next : S → Access) (take : S → ℕ → S) (party : Party) (begun stage : S) (first : ℕ) (steps : List Timed) : Type 0 where
+pub record IsOpen (S : Type 0) (next : S → Access) (take : S → ℕ
+    → S) (party : Party) (begun stage : S) (first : ℕ) (steps : List Timed) : Type 0 where
   pub between : List Timed
   pub all : steps ≡ local party first ∷ between
   pub goes : Goes next take begun between stage

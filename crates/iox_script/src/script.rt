@@ -53,7 +53,8 @@ impl Script {
         out: &mut Vec<u8>,
     ) -> Result<(), AllocError>
         requires { numbers_used self.old.hub + 1 < 2 ^ 64 }
-        ensures answers { OnOk result ((text : List ℕ) × (out.new.items ≡ out.old.items ++ text) × AnswersLine self.old line.now text self.new) }
+        ensures answers { OnOk result ((text : List ℕ) × (out.new.items ≡ out.old.items ++ text)
+            × AnswersLine self.old line.now text self.new) }
         ensures kept { OnErr result (StartsWith out.new.items out.old.items) }
         ensures counts { numbers_used self.new.hub ≤ numbers_used self.old.hub + 1 }
     {
@@ -99,8 +100,10 @@ pub fn serve<R: Read, W: Write>(
     ensures conversation { OnOk result (IfSome (R.remaining input.old.reader) (λ bytes.
         (text : List ℕ) × (script : Script) × IsNewScript config script × Appends (W.contents output.old.writer) (W.contents output.new.writer) text
         × IsConversation AnswersLine script bytes text)) }
-    ensures broken { IfErr result (λ error. BreaksOffAnew config error input.new.ended (R.remaining input.old.reader) (R.remaining input.new.reader) (W.contents output.old.writer) (W.contents output.new.writer)) }
-    ensures beginning { OnErr result (WritesABeginningAnew config input.new.ended (R.remaining input.old.reader) (R.remaining input.new.reader) (W.contents output.old.writer) (W.contents output.new.writer)) }
+    ensures broken { IfErr result (λ error. BreaksOffAnew config error input.new.ended (R.remaining input.old.reader)
+        (R.remaining input.new.reader) (W.contents output.old.writer) (W.contents output.new.writer)) }
+    ensures beginning { OnErr result (WritesABeginningAnew config input.new.ended (R.remaining input.old.reader)
+        (R.remaining input.new.reader) (W.contents output.old.writer) (W.contents output.new.writer)) }
     ensures ended { OnOk result (input.new.ended ≡ true) }
     ensures read_fault { result ≡ Err failed.ReadFault → (input.new.failed ≡ true) ⊎ (input.new.calls ≡ input.old.calls + 2 ^ 20) }
     ensures write_fault { result ≡ Err failed.WriteFault → output.new.failed ≡ true }

@@ -1,4 +1,5 @@
-//! Cases of lanes, as text: standard input has them block by block, with an empty line between; standard output has each line, with what it answers.
+//! Cases of lanes, as text: standard input has them block by block, with an empty line between; standard output has each line,
+//! with what it answers.
 #![tactic(auto)]
 
 mod calling;

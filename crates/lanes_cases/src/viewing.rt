@@ -44,10 +44,11 @@ fn found(words: &mut SplitWhitespace<'_>) -> Option<Found> {
             slots: place,
             most_loans: third,
         },
-        "header" => Found::Header {
+        "sender" | "failing" => Found::Sender {
             publisher,
             node_id: place,
             publisher_id: third,
+            fails: kind == "failing",
         },
         "swapped" => Found::Swapped {
             subscriber: publisher,

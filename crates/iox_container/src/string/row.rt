@@ -33,7 +33,8 @@ fn splice_cells(cells: &mut [u8], len: usize, from: usize, to: usize, bytes: &[u
     requires in_bounds { to ≤ len }
     requires filled { len ≤ length cells.old }
     requires fits { len + length bytes.now ≤ length cells.old + (to - from) }
-    ensures { cells.new ≡ take from cells.old ++ (bytes.now ++ (take (len - to) (drop to cells.old) ++ drop (from + length bytes.now + (len - to)) cells.old)) }
+    ensures { cells.new ≡ take from cells.old
+        ++ (bytes.now ++ (take (len - to) (drop to cells.old) ++ drop (from + length bytes.now + (len - to)) cells.old)) }
 {
     let rest = from + bytes.len();
     cells.copy_within(to..len, rest);

@@ -64,7 +64,8 @@ impl<const CAPACITY: usize> StaticString<CAPACITY> {
         ensures accepted { IsOk result ↔ ((length bytes.now ≤ CAPACITY) × IsStringBytes bytes.now) }
         ensures value { IfOk result (λ text. text ≡ bytes.now) }
         ensures too_long { (result ≡ Err StringModificationError.InsertWouldExceedCapacity) ↔ (CAPACITY < length bytes.now) }
-        ensures invalid { (result ≡ Err StringModificationError.InvalidCharacter) ↔ ((length bytes.now ≤ CAPACITY) × ¬ IsStringBytes bytes.now) }
+        ensures invalid { (result ≡ Err StringModificationError.InvalidCharacter)
+            ↔ ((length bytes.now ≤ CAPACITY) × ¬ IsStringBytes bytes.now) }
     {
         if bytes.len() > CAPACITY {
             return Err(StringModificationError::InsertWouldExceedCapacity);

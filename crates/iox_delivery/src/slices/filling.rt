@@ -5,12 +5,12 @@ ghost use Rattle.iox_delivery.specs.Container.Vectors.{MakesInTurn};
 ghost use Rattle.iox_delivery.specs.Holding.{loan_found, publisher_stands, publisher_blocked};
 ghost use Rattle.iox_delivery.specs.Lent.{IsReady};
 ghost use Rattle.iox_delivery.specs.Publishing.{LendsSlot, AfterLoan};
-ghost use Rattle.iox_delivery.specs.Slices.{each_written, WritesAll, WritesEach, LendsFilled, SendsValues};
+ghost use Rattle.iox_delivery.specs.Slices.{each_written, WritesAll, WritesEach, LendsFilled};
 
 use crate::{PortId, publishing};
 use iox_domain::{Home, calls};
-use iox_domain_publisher::{PublisherPort, Sent};
-use iox_domain_values::{LoanError, SendError};
+use iox_domain_publisher::PublisherPort;
+use iox_domain_values::LoanError;
 use std::alloc::Global;
 
 /// A publisher lends a slot for so many values, each of which is written: this one. The header of the message tells as many elements. It is
@@ -28,36 +28,12 @@ pub fn loan_filled<T: Copy, U: Copy, H: Home<T, U>>(
     requires holds { publisher_stands port.number (homes.ports_of H.domain_of port.domain home.old) ≡ true }
     requires free { publisher_blocked port.number (homes.ports_of H.domain_of port.domain home.old) ≡ false }
     ensures lends { LendsFilled (homes.ports_of H.domain_of) (homes.with_ports H.changed) port len value home.old result home.new }
-    ensures ready { IfOk result (λ slot. IsReady port.number (replicate len value) len slot (homes.ports_of H.domain_of port.domain home.new)) }
+    ensures ready { IfOk result (λ slot. IsReady port.number (replicate len value) len slot
+        (homes.ports_of H.domain_of port.domain home.new)) }
 {
     let slot = publishing::loan(port, alloc, home, len, len as u64)?;
     fill(port, slot, home, len, value);
     Ok(slot)
-}
-
-/// A publisher lends as many values, writes them and sends them. A loan that is refused as `publishing::loan` says, is
-/// `SendError::LoanError`, and nothing is sent; else `ServicePorts::send` says which connections take the message, and when the send is
-/// refused or waits.
-///
-/// This port's own: `iceoryx2::port::publisher::Publisher::send_copy` for slices, with an answer that needn't be spent.
-/// Example: `let sent = send_values(port, alloc, home, &[7, 8])?;`
-pub fn send_values<T: Copy, U: Copy, H: Home<T, U>>(
-    port: PortId,
-    alloc: Global,
-    home: &mut H,
-    values: &[T],
-) -> Result<Sent, SendError>
-    requires holds { publisher_stands port.number (homes.ports_of H.domain_of port.domain home.old) ≡ true }
-    requires free { publisher_blocked port.number (homes.ports_of H.domain_of port.domain home.old) ≡ false }
-    ensures { SendsValues (homes.ports_of H.domain_of) (homes.with_ports H.changed) (homes.publisher_degrades (λ kept. H.ForPublishers.degrades kept) H.domain_of) (homes.publisher_decides (λ kept. H.ForPublishers.decides kept) H.domain_of) port values.now home.old result home.new }
-{
-    let len = values.len();
-    let slot = publishing::loan(port, alloc, home, len, len as u64)?;
-    write_all(port, slot, home, values);
-    match calls::send(home, alloc, port.domain, port.number, slot) {
-        Some(sent) => sent,
-        None => unreachable!(),
-    }
 }
 
 // Writes all values of a loan at once.
@@ -102,7 +78,8 @@ pub(crate) fn write_made<T: Copy, U: Copy, H: Home<T, U>, F: FnMut(usize) -> T>(
 )
     requires holds { is_some (loan_found port.number slot (homes.ports_of H.domain_of port.domain home.old)) ≡ true }
     requires callable { F.IsAlwaysCallable make.old }
-    ensures writes { (values : List T) × MakesInTurn (λ p place value q. F.step p place value q) make.old 0 values make.new × (length values ≡ len) × WritesEach (homes.ports_of H.domain_of) (homes.with_ports H.changed) port slot values home.old home.new }
+    ensures writes { (values : List T) × MakesInTurn (λ p place value q. F.step p place value q) make.old 0 values make.new
+        × (length values ≡ len) × WritesEach (homes.ports_of H.domain_of) (homes.with_ports H.changed) port slot values home.old home.new }
     ensures still_callable { F.IsAlwaysCallable make.new }
 {
     let Some(ports) = calls::ports_mut(home, port.domain) else {
@@ -136,7 +113,8 @@ fn write_each<T: Copy, U: Copy, F: FnMut(usize) -> T>(
     make: &mut F,
 )
     requires { F.IsAlwaysCallable make.old }
-    ensures writes { (values : List T) × MakesInTurn (λ p place value q. F.step p place value q) make.old 0 values make.new × (length values ≡ len) × (publisher.new ≡ each_written slot 0 values publisher.old) }
+    ensures writes { (values : List T) × MakesInTurn (λ p place value q. F.step p place value q) make.old 0 values make.new
+        × (length values ≡ len) × (publisher.new ≡ each_written slot 0 values publisher.old) }
     ensures still_callable { F.IsAlwaysCallable make.new }
 {
     for place in 0..len {

@@ -49,7 +49,8 @@ impl<T: Copy, U: Copy> Sample<T, U> {
         T: 'a,
         U: 'a,
         requires { holds_message self.now.port.number self.now.taken (homes.ports_of H.domain_of self.now.port.domain home.now) ≡ true }
-        ensures { Some result.now ≡ option_map (λ message. message.values) (message_found self.now.taken (homes.ports_of H.domain_of self.now.port.domain home.now)) }
+        ensures { Some result.now ≡ option_map (λ message. message.values)
+            (message_found self.now.taken (homes.ports_of H.domain_of self.now.port.domain home.now)) }
     {
         subscribing::values(self.port, self.taken, home)
     }
@@ -63,7 +64,8 @@ impl<T: Copy, U: Copy> Sample<T, U> {
         T: 'a,
         U: 'a,
         requires { holds_message self.now.port.number self.now.taken (homes.ports_of H.domain_of self.now.port.domain home.now) ≡ true }
-        ensures { Some result.now ≡ option_map (λ message. message.user_header) (message_found self.now.taken (homes.ports_of H.domain_of self.now.port.domain home.now)) }
+        ensures { Some result.now ≡ option_map (λ message. message.user_header)
+            (message_found self.now.taken (homes.ports_of H.domain_of self.now.port.domain home.now)) }
     {
         subscribing::user_header(self.port, self.taken, home)
     }
@@ -85,7 +87,8 @@ impl<T: Copy, U: Copy> Sample<T, U> {
     /// Example: `let publisher = sample.origin(home);`
     pub fn origin<H: Home<T, U>>(&self, home: &H) -> u64
         requires { holds_message self.now.port.number self.now.taken (homes.ports_of H.domain_of self.now.port.domain home.now) ≡ true }
-        ensures { Some result ≡ option_map (λ header. header.publisher_id) (header_found self.now.taken (homes.ports_of H.domain_of self.now.port.domain home.now)) }
+        ensures { Some result ≡ option_map (λ header. header.publisher_id)
+            (header_found self.now.taken (homes.ports_of H.domain_of self.now.port.domain home.now)) }
     {
         self.header(home).publisher_id
     }

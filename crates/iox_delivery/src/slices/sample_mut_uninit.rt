@@ -62,7 +62,8 @@ impl<T: Copy, U: Copy> SampleMutUninit<T, U> {
     /// Whether the loan is out in this home: the condition of its calls.
     /// Example: `let is_there = loan.holds(home);`
     pub fn holds<H: Home<T, U>>(&self, home: &H) -> bool
-        ensures { result ≡ is_some (loan_found self.now.port.number self.now.slot (homes.ports_of H.domain_of self.now.port.domain home.now)) }
+        ensures { result ≡ is_some (loan_found self.now.port.number self.now.slot
+            (homes.ports_of H.domain_of self.now.port.domain home.now)) }
     {
         lending::is_out(self.port, self.slot, home)
     }
@@ -70,7 +71,8 @@ impl<T: Copy, U: Copy> SampleMutUninit<T, U> {
     /// Whether each value is written: the condition of `assume_init`.
     /// Example: `let may_be_sent = loan.is_written(home);`
     pub fn is_written<H: Home<T, U>>(&self, home: &H) -> bool
-        ensures { result ≡ is_written_loan (loan_found self.now.port.number self.now.slot (homes.ports_of H.domain_of self.now.port.domain home.now)) }
+        ensures { result ≡ is_written_loan (loan_found self.now.port.number self.now.slot
+            (homes.ports_of H.domain_of self.now.port.domain home.now)) }
     {
         lending::is_written(self.port, self.slot, home)
     }
@@ -84,7 +86,8 @@ impl<T: Copy, U: Copy> SampleMutUninit<T, U> {
         T: 'a,
         U: 'a,
         requires { place < self.now.len }
-        ensures { option_copied result ≡ value_at place (loan_found self.now.port.number self.now.slot (homes.ports_of H.domain_of self.now.port.domain home.now)) }
+        ensures { option_copied result ≡ value_at place
+            (loan_found self.now.port.number self.now.slot (homes.ports_of H.domain_of self.now.port.domain home.now)) }
     {
         match calls::ports(home, self.port.domain) {
             Some(ports) => ports.value(self.port.number, self.slot, place),
@@ -98,7 +101,8 @@ impl<T: Copy, U: Copy> SampleMutUninit<T, U> {
     /// Example: `loan.payload_write_at(home, 0, 7);`
     pub fn payload_write_at<H: Home<T, U>>(&mut self, home: &mut H, place: usize, value: T)
         requires { place < self.old.len }
-        ensures writes { WritesAt (homes.ports_of H.domain_of) (homes.with_ports H.changed) self.old.port self.old.slot place value home.old home.new }
+        ensures writes { WritesAt (homes.ports_of H.domain_of) (homes.with_ports H.changed) self.old.port self.old.slot place value
+            home.old home.new }
         ensures same { self.new ≡ self.old }
     {
         if let Some(ports) = calls::ports_mut(home, self.port.domain) {
@@ -112,7 +116,8 @@ impl<T: Copy, U: Copy> SampleMutUninit<T, U> {
     /// Example: `let sample = loan.write_from_slice(home, &[7, 8]);`
     pub fn write_from_slice<H: Home<T, U>>(self, home: &mut H, values: &[T]) -> SampleMut<T, U>
         requires { length values.now ≡ self.len }
-        ensures writes { WritesAll (homes.ports_of H.domain_of) (homes.with_ports H.changed) self.port self.slot values.now home.old home.new }
+        ensures writes { WritesAll (homes.ports_of H.domain_of) (homes.with_ports H.changed) self.port self.slot values.now home.old
+            home.new }
         ensures same { result ≡ sample_mut_of self.port self.slot }
     {
         let SampleMutUninit {
@@ -137,7 +142,9 @@ impl<T: Copy, U: Copy> SampleMutUninit<T, U> {
     ) -> SampleMut<T, U>
         requires holds { is_some (loan_found self.port.number self.slot (homes.ports_of H.domain_of self.port.domain home.old)) ≡ true }
         requires callable { F.IsAlwaysCallable make.old }
-        ensures writes { (values : List T) × MakesInTurn (λ p place value q. F.step p place value q) make.old 0 values make.new × (length values ≡ self.len) × WritesEach (homes.ports_of H.domain_of) (homes.with_ports H.changed) self.port self.slot values home.old home.new }
+        ensures writes { (values : List T) × MakesInTurn (λ p place value q. F.step p place value q) make.old 0 values make.new
+            × (length values ≡ self.len) × WritesEach (homes.ports_of H.domain_of) (homes.with_ports H.changed) self.port self.slot
+            values home.old home.new }
         ensures still_callable { F.IsAlwaysCallable make.new }
         ensures same { result ≡ sample_mut_of self.port self.slot }
     {
@@ -174,8 +181,10 @@ impl<T: Copy, U: Copy> SampleMutUninit<T, U> {
     /// Ported from `iceoryx2::sample_mut_uninit::SampleMutUninit::header`.
     /// Example: `let header = loan.header(home);`
     pub fn header<H: Home<T, U>>(&self, home: &H) -> Header
-        requires { is_some (loan_found self.now.port.number self.now.slot (homes.ports_of H.domain_of self.now.port.domain home.now)) ≡ true }
-        ensures { Some result ≡ loan_header_found self.now.port.number self.now.slot (homes.ports_of H.domain_of self.now.port.domain home.now) }
+        requires { is_some (loan_found self.now.port.number self.now.slot (homes.ports_of H.domain_of self.now.port.domain home.now))
+            ≡ true }
+        ensures { Some result ≡ loan_header_found self.now.port.number self.now.slot
+            (homes.ports_of H.domain_of self.now.port.domain home.now) }
     {
         lending::header(self.port, self.slot, home)
     }
@@ -188,8 +197,10 @@ impl<T: Copy, U: Copy> SampleMutUninit<T, U> {
     where
         T: 'a,
         U: 'a,
-        requires { is_some (loan_found self.now.port.number self.now.slot (homes.ports_of H.domain_of self.now.port.domain home.now)) ≡ true }
-        ensures { Some result.now ≡ option_map (λ loan. loan.user_header) (loan_found self.now.port.number self.now.slot (homes.ports_of H.domain_of self.now.port.domain home.now)) }
+        requires { is_some (loan_found self.now.port.number self.now.slot (homes.ports_of H.domain_of self.now.port.domain home.now))
+            ≡ true }
+        ensures { Some result.now ≡ option_map (λ loan. loan.user_header)
+            (loan_found self.now.port.number self.now.slot (homes.ports_of H.domain_of self.now.port.domain home.now)) }
     {
         lending::user_header(self.port, self.slot, home)
     }
@@ -202,8 +213,12 @@ impl<T: Copy, U: Copy> SampleMutUninit<T, U> {
     where
         T: 'a,
         U: 'a,
-        ensures* writes_back { sem 𝓛 (LendsIf H.row U.row home.entry result (λ last. loan_changed (homes.ports_of H.domain_of) (homes.with_ports H.changed) sample.now.port sample.now.slot (write_user_header last) home.old) home.old) }
-        ensures value { option_copied_mut result ≡ option_map (λ loan. loan.user_header) (loan_found sample.now.port.number sample.now.slot (homes.ports_of H.domain_of sample.now.port.domain home.old)) }
+        ensures* writes_back { sem 𝓛 (LendsIf H.row U.row home.entry result
+            (λ last. loan_changed (homes.ports_of H.domain_of) (homes.with_ports H.changed) sample.now.port sample.now.slot
+            (write_user_header last) home.old) home.old) }
+        ensures value { option_copied_mut result
+            ≡ option_map (λ loan. loan.user_header)
+            (loan_found sample.now.port.number sample.now.slot (homes.ports_of H.domain_of sample.now.port.domain home.old)) }
     {
         lending::user_header_mut(home, sample.port, sample.slot)
     }
@@ -213,7 +228,8 @@ impl<T: Copy, U: Copy> SampleMutUninit<T, U> {
     /// Ported from writing through `iceoryx2::sample_mut_uninit::SampleMutUninit::user_header_mut`.
     /// Example: `loan.user_header_write(home, 150);`
     pub fn user_header_write<H: Home<T, U>>(&mut self, home: &mut H, user_header: U)
-        ensures writes { WritesUserHeader (homes.ports_of H.domain_of) (homes.with_ports H.changed) self.old.port self.old.slot user_header home.old home.new }
+        ensures writes { WritesUserHeader (homes.ports_of H.domain_of) (homes.with_ports H.changed) self.old.port self.old.slot
+            user_header home.old home.new }
         ensures same { self.new ≡ self.old }
     {
         lending::write_user_header(self.port, self.slot, home, user_header);

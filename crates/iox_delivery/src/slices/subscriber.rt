@@ -1,12 +1,13 @@
 //! A subscriber of slices.
 ghost use Rattle.iox_domain.specs.Homes as homes;
-ghost use Rattle.std.specs.Prelude.{◌≡◌, true};
-ghost use Rattle.iox_delivery.specs.Holding.{subscriber_stands};
-ghost use Rattle.iox_delivery.specs.Subscribing.{FollowsPublishers, TellsSamples, SubscriberGoes, EndsSubscriber};
+ghost use Rattle.std.specs.Prelude.{◌≡◌, true, is_ok};
+ghost use Rattle.iox_domain.specs.Steps.{FollowsBy};
+ghost use Rattle.iox_delivery.specs.Holding.{subscriber_stands, left_or_given_back};
+ghost use Rattle.iox_delivery.specs.Subscribing.{TellsSamples, SubscriberGoes, EndsSubscriber};
 ghost use Rattle.iox_delivery.specs.Slices.{ReceivesSlice};
 
 use crate::slices::sample::Sample;
-use crate::{PortId, subscribing};
+use crate::{PortId, UpdateConnections, subscribing};
 use iox_domain::settings::CustomPayloadMarker;
 use iox_domain::{DomainId, Home};
 use iox_domain_values::{ConnectionFailure, ReceiveError};
@@ -84,7 +85,8 @@ impl<T: Copy, U: Copy> Subscriber<T, U> {
         home: &mut H,
     ) -> Result<bool, ConnectionFailure>
         requires { subscriber_stands self.now.port.number (homes.ports_of H.domain_of self.now.port.domain home.old) ≡ true }
-        ensures { TellsSamples (homes.ports_of H.domain_of) (homes.with_ports H.changed) (homes.subscriber_degrades (λ kept. H.ForSubscribers.degrades kept) H.domain_of) self.now.port home.old result home.new }
+        ensures { TellsSamples (homes.ports_of H.domain_of) (homes.with_ports H.changed)
+            (homes.subscriber_degrades (λ kept. H.ForSubscribers.degrades kept) H.domain_of) self.now.port home.old result home.new }
     {
         subscribing::has_samples(self.port, alloc, home)
     }
@@ -100,28 +102,13 @@ impl<T: Copy, U: Copy> Subscriber<T, U> {
         home: &mut H,
     ) -> Result<Option<Sample<T, U>>, ReceiveError>
         requires { subscriber_stands self.now.port.number (homes.ports_of H.domain_of self.now.port.domain home.old) ≡ true }
-        ensures { ReceivesSlice (homes.ports_of H.domain_of) (homes.with_ports H.changed) (homes.subscriber_degrades (λ kept. H.ForSubscribers.degrades kept) H.domain_of) self.now.port home.old result home.new }
+        ensures { ReceivesSlice (homes.ports_of H.domain_of) (homes.with_ports H.changed)
+            (homes.subscriber_degrades (λ kept. H.ForSubscribers.degrades kept) H.domain_of) self.now.port home.old result home.new }
     {
         match subscribing::take(self.port, alloc, home)? {
             Some(taken) => Ok(Some(Sample::of_taken(self.port, taken))),
             None => Ok(None),
         }
-    }
-
-    /// Follows the publishers that came and left: `ServicePorts::update_subscriber` says what that does. It fails as a handler says where a
-    /// connection isn't made.
-    ///
-    /// Ported from `iceoryx2::port::update_connections::UpdateConnections`.
-    /// Example: `subscriber.update_connections(alloc, home)?;`
-    pub fn update_connections<H: Home<T, U>>(
-        &self,
-        alloc: Global,
-        home: &mut H,
-    ) -> Result<(), ConnectionFailure>
-        requires { subscriber_stands self.now.port.number (homes.ports_of H.domain_of self.now.port.domain home.old) ≡ true }
-        ensures { FollowsPublishers (homes.ports_of H.domain_of) (homes.with_ports H.changed) (homes.subscriber_degrades (λ kept. H.ForSubscribers.degrades kept) H.domain_of) self.now.port home.old result home.new }
-    {
-        subscribing::update(self.port, alloc, home)
     }
 
     /// Its port, of which `of_port` makes a value again. The subscriber stays.
@@ -139,15 +126,22 @@ impl<T: Copy, U: Copy> Subscriber<T, U> {
         port
     }
 
-    /// Lets it go: it leaves as by `leave`, if it exists; else nothing happens. Whether it left is the answer.
+    /// Lets it go: it leaves as by `leave`, if it exists. Else nothing happens, and it is given back: it can leave its own home.
     ///
     /// Ported from dropping an `iceoryx2::port::subscriber::Subscriber`.
-    /// Example: `let has_left = subscriber.drop_with(home);`
-    pub fn drop_with<H: Home<T, U>>(self, home: &mut H) -> bool
-        ensures ends { EndsSubscriber (homes.ports_of H.domain_of) (homes.with_ports H.changed) (homes.without_subscriber H.changed) self.port home.old result home.new }
-        ensures left { result ≡ subscriber_stands self.port.number (homes.ports_of H.domain_of self.port.domain home.old) }
+    /// Example: `let stays = subscriber.drop_with(home).err();`
+    pub fn drop_with<H: Home<T, U>>(self, home: &mut H) -> Result<(), Self>
+        ensures ends { EndsSubscriber (homes.ports_of H.domain_of) (homes.with_ports H.changed) (homes.without_subscriber H.changed)
+            self.port home.old (is_ok result) home.new }
+        ensures left { result ≡ left_or_given_back
+            (subscriber_stands self.port.number (homes.ports_of H.domain_of self.port.domain home.old)) self }
     {
-        subscribing::drop_port(self.into_port(), home)
+        if subscribing::drop_port(self.port, home) {
+            let _ = self.into_port();
+            Ok(())
+        } else {
+            Err(self)
+        }
     }
 
     /// Leaves: the samples that it holds stay to be read and released. Its handler is dropped.
@@ -156,7 +150,8 @@ impl<T: Copy, U: Copy> Subscriber<T, U> {
     /// Example: `subscriber.leave(home);`
     pub fn leave<H: Home<T, U>>(self, home: &mut H)
         requires { subscriber_stands self.port.number (homes.ports_of H.domain_of self.port.domain home.old) ≡ true }
-        ensures { SubscriberGoes (homes.ports_of H.domain_of) (homes.with_ports H.changed) (homes.without_subscriber H.changed) self.port home.old home.new }
+        ensures { SubscriberGoes (homes.ports_of H.domain_of) (homes.with_ports H.changed) (homes.without_subscriber H.changed)
+            self.port home.old home.new }
     {
         subscribing::leave(self.into_port(), home);
     }
@@ -173,8 +168,25 @@ impl<U: Copy> Subscriber<CustomPayloadMarker, U> {
         home: &mut H,
     ) -> Result<Option<Sample<CustomPayloadMarker, U>>, ReceiveError>
         requires { subscriber_stands self.now.port.number (homes.ports_of H.domain_of self.now.port.domain home.old) ≡ true }
-        ensures { ReceivesSlice (homes.ports_of H.domain_of) (homes.with_ports H.changed) (homes.subscriber_degrades (λ kept. H.ForSubscribers.degrades kept) H.domain_of) self.now.port home.old result home.new }
+        ensures { ReceivesSlice (homes.ports_of H.domain_of) (homes.with_ports H.changed)
+            (homes.subscriber_degrades (λ kept. H.ForSubscribers.degrades kept) H.domain_of) self.now.port home.old result home.new }
     {
         self.receive(alloc, home)
+    }
+}
+
+impl<T: Copy, U: Copy> UpdateConnections<T, U> for Subscriber<T, U> {
+    ghost port_of = { λ subscriber. subscriber.port };
+
+    ghost may_follow = { λ number ports. subscriber_stands number ports };
+
+    ghost follows = { λ publishers subscribers number. FollowsBy subscribers number };
+
+    fn update_connections<H: Home<T, U>>(
+        &self,
+        alloc: Global,
+        home: &mut H,
+    ) -> Result<(), ConnectionFailure> {
+        subscribing::update(self.port, alloc, home)
     }
 }

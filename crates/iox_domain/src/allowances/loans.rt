@@ -30,9 +30,10 @@ fn spare_loans<T: Copy, U: Copy>(port: &PublisherPort<T, U>) -> u64
     port.sender.most_loans().saturating_sub(port.sender.loans()) as u64
 }
 
-/// In a new service no loan may be made. After each call at most as many may still be made as before: one less for a loan that the call made,
-/// one more for a loan that it gave up or began to send, and as many more as a publisher that came by it may make. What a publisher that
-/// leaves could still make may no longer be made. So it is whatever override and handlers answer. It is on a function that does nothing.
+/// In a new service no loan may be made. After each call at most as many may still be made as before: one less for a loan that
+/// the call made, one more for a loan that it gave up or began to send, and as many more as a publisher that came by it may make.
+/// What a publisher that leaves could still make may no longer be made. So it is whatever override and handlers answer. It is on
+/// a function that does nothing.
 pub fn loans_left_by_calls<T, U, O: Overrides, B: Decides + Degrades>(
     _overriding: &O,
     _handlers: &B,

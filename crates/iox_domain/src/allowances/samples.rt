@@ -1,6 +1,6 @@
-//! How many samples the subscribers of a service may still receive beside those that they hold, and how each call of a port changes that. The
-//! law is the contract of a function that does nothing. A proof cites a law by a call of its function; what it states is then among the
-//! facts of the caller:
+//! How many samples the subscribers of a service may still receive beside those that they hold, and how each call of a port
+//! changes that. The law is the contract of a function that does nothing. A proof cites a law by a call of its function; what it
+//! states is then among the facts of the caller:
 //!
 //! ```
 //! samples_left_by_calls::<T, U, O, B>(overriding, handlers);
@@ -15,8 +15,8 @@ use iox_domain_subscriber::SubscriberPort;
 use iox_domain_subscriber::living::add;
 use iox_domain_values::{Decides, Degrades, Overrides, ServiceSizes};
 
-/// How many samples the subscribers of a service may hold at once: each that didn't leave as many as may be borrowed of a connection, for each
-/// connection that it has room for. No more may still come. Past 2^64 - 1 it is that.
+/// How many samples the subscribers of a service may hold at once: each that didn't leave as many as may be borrowed of a
+/// connection, for each connection that it has room for. No more may still come. Past 2^64 - 1 it is that.
 pub fn samples_at_most<T: Copy, U: Copy>(ports: &ServicePorts<T, U>) -> u64
     ensures value { result ≡ min (samples_at_most ports.now) (2 ^ 64 - 1) }
     ensures enough { samples_left ports.now ≤ samples_at_most ports.now }
@@ -47,9 +47,10 @@ pub fn held_by_one(sizes: &ServiceSizes) -> u64
     connections.saturating_mul(sizes.subscriber_max_borrowed_samples as u64)
 }
 
-/// What the subscribers of a service may still receive beside what they hold: nothing in a new service; and each call makes no more possible
-/// than it gives back, and than a subscriber may hold that comes by it, while each sample that comes is one less that may come, whatever
-/// override and handlers answer. So who reserves as many samples for each subscriber that comes never lacks one.
+/// What the subscribers of a service may still receive beside what they hold: nothing in a new service; and each call makes no
+/// more possible than it gives back, and than a subscriber may hold that comes by it, while each sample that comes is one less
+/// that may come, whatever override and handlers answer. So who reserves as many samples for each subscriber that comes never
+/// lacks one.
 pub fn samples_left_by_calls<T, U, O: Overrides, B: Decides + Degrades>(
     _overriding: &O,
     _handlers: &B,

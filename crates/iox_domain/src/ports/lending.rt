@@ -44,7 +44,8 @@ impl<T: Copy, U: Copy> ServicePorts<T, U> {
     /// Ported from writing through `iceoryx2::sample_mut_uninit::SampleMutUninit::payload_mut`.
     pub fn write(&mut self, number: u64, slot: usize, place: usize, value: T) -> bool
         ensures answer { result ≡ passes number (λ port. has_place slot place port.sender.uses) self.old }
-        ensures after { self.new ≡ written_in number (λ port. has_place slot place port.sender.uses) slot (write_value place value) self.old }
+        ensures after { self.new ≡ written_in number (λ port. has_place slot place port.sender.uses) slot (write_value place value)
+            self.old }
     {
         match self.publishers.get_mut(number) {
             Some(port) => port.write(slot, place, value),
@@ -57,7 +58,8 @@ impl<T: Copy, U: Copy> ServicePorts<T, U> {
     /// Ported from `iceoryx2::sample_mut_uninit::SampleMutUninit::write_from_slice`, which panics at another length.
     pub fn write_from_slice(&mut self, number: u64, slot: usize, values: &[T]) -> bool
         ensures answer { result ≡ passes number (λ port. has_length slot (length values.now) port.sender.uses) self.old }
-        ensures after { self.new ≡ written_in number (λ port. has_length slot (length values.now) port.sender.uses) slot (write_all values.now) self.old }
+        ensures after { self.new ≡ written_in number (λ port. has_length slot (length values.now) port.sender.uses) slot
+            (write_all values.now) self.old }
     {
         match self.publishers.get_mut(number) {
             Some(port) => port.write_from_slice(slot, values),
@@ -83,7 +85,8 @@ impl<T: Copy, U: Copy> ServicePorts<T, U> {
     /// Ported from writing through `iceoryx2::sample_mut_uninit::SampleMutUninit::user_header_mut`.
     pub fn write_user_header(&mut self, number: u64, slot: usize, user_header: U) -> bool
         ensures answer { result ≡ passes number (λ port. has_loan slot port.sender.uses) self.old }
-        ensures after { self.new ≡ written_in number (λ port. has_loan slot port.sender.uses) slot (write_user_header user_header) self.old }
+        ensures after { self.new ≡ written_in number (λ port. has_loan slot port.sender.uses) slot (write_user_header user_header)
+            self.old }
     {
         match self.publishers.get_mut(number) {
             Some(port) => port.write_user_header(slot, user_header),

@@ -22,7 +22,8 @@ impl<T: Copy, U: Copy> ServicePorts<T, U> {
         number: u64,
         handler: &D,
     ) -> Option<Result<(), ConnectionFailure>>
-        ensures { AtPublisher number (UpdatesOne (D.degrades handler.now cause.FailedToEstablishConnection) self.old.subscriber_list) (port_of number self.old.publishers) self.old result self.new }
+        ensures { AtPublisher number (UpdatesOne (D.degrades handler.now cause.FailedToEstablishConnection) self.old.subscriber_list)
+            (port_of number self.old.publishers) self.old result self.new }
     {
         let port = self.publishers.get_mut(number)?;
         let outcome = update_one(port, alloc, &self.subscriber_list, handler)?;
@@ -41,7 +42,8 @@ impl<T: Copy, U: Copy> ServicePorts<T, U> {
         slot: usize,
         handlers: &B,
     ) -> Option<Result<Sent, SendError>>
-        ensures { AtPublisher number (SendsOne (B.degrades handlers.now cause.FailedToEstablishConnection) (B.decides handlers.now) self.old.subscriber_list slot) (port_of number self.old.publishers) self.old result self.new }
+        ensures { AtPublisher number (SendsOne (B.degrades handlers.now cause.FailedToEstablishConnection) (B.decides handlers.now)
+            self.old.subscriber_list slot) (port_of number self.old.publishers) self.old result self.new }
     {
         let port = self.publishers.get_mut(number)?;
         let outcome = send_one(port, alloc, slot, &self.subscriber_list, handlers)?;
@@ -59,7 +61,8 @@ impl<T: Copy, U: Copy> ServicePorts<T, U> {
         elapsed: u64,
         handlers: &B,
     ) -> Option<Result<Sent, SendError>>
-        ensures { AtPublisher number (RetriesOne (B.decides handlers.now) elapsed) (port_of number self.old.publishers) self.old result self.new }
+        ensures { AtPublisher number (RetriesOne (B.decides handlers.now) elapsed) (port_of number self.old.publishers) self.old result
+            self.new }
     {
         let port = self.publishers.get_mut(number)?;
         let outcome = retry_one(port, elapsed, handlers)?;
@@ -117,14 +120,15 @@ fn update_one<T: Copy, U: Copy, D: Degrades>(
 }
 
 // A publisher sends the loan in a slot.
-fn send_one<T: Copy, U: Copy, B: Decides + Degrades>(
+pub(crate) fn send_one<T: Copy, U: Copy, B: Decides + Degrades>(
     port: &mut PublisherPort<T, U>,
     alloc: Global,
     slot: usize,
     list: &Roll<SubscriberEntry>,
     handlers: &B,
 ) -> Option<Result<Sent, SendError>>
-    ensures sends { SendsOne (B.degrades handlers.now cause.FailedToEstablishConnection) (B.decides handlers.now) list.now slot port.old result port.new }
+    ensures sends { SendsOne (B.degrades handlers.now cause.FailedToEstablishConnection) (B.decides handlers.now) list.now slot port.old
+        result port.new }
     ensures none { result ≡ None → port.new ≡ port.old }
 {
     port.send(alloc, slot, list.listed(), list.changes(), handlers)

@@ -22,7 +22,8 @@ impl<T: Copy, U: Copy> ServicePorts<T, U> {
         number: u64,
         handler: &D,
     ) -> Option<Result<(), ConnectionFailure>>
-        ensures { AtSubscriber number (UpdatesOne (D.degrades handler.now cause.FailedToEstablishConnection) self.old.publisher_list) (subscriber_of number self.old.subscribers) self.old result self.new }
+        ensures { AtSubscriber number (UpdatesOne (D.degrades handler.now cause.FailedToEstablishConnection) self.old.publisher_list)
+            (subscriber_of number self.old.subscribers) self.old result self.new }
     {
         let port = self.subscribers.get_mut(number)?;
         update_one(
@@ -44,7 +45,8 @@ impl<T: Copy, U: Copy> ServicePorts<T, U> {
         number: u64,
         handler: &D,
     ) -> Option<Result<bool, ConnectionFailure>>
-        ensures { AtSubscriber number (HasSamplesOne (D.degrades handler.now cause.FailedToEstablishConnection) self.old.publisher_list) (subscriber_of number self.old.subscribers) self.old result self.new }
+        ensures { AtSubscriber number (HasSamplesOne (D.degrades handler.now cause.FailedToEstablishConnection) self.old.publisher_list)
+            (subscriber_of number self.old.subscribers) self.old result self.new }
     {
         let port = self.subscribers.get_mut(number)?;
         has_samples_one(
@@ -66,7 +68,8 @@ impl<T: Copy, U: Copy> ServicePorts<T, U> {
         number: u64,
         handler: &D,
     ) -> Option<Result<Option<Taken>, ReceiveError>>
-        ensures { AtSubscriber number (ReceivesOne (D.degrades handler.now cause.FailedToEstablishConnection) self.old.publisher_list) (subscriber_of number self.old.subscribers) self.old result self.new }
+        ensures { AtSubscriber number (ReceivesOne (D.degrades handler.now cause.FailedToEstablishConnection) self.old.publisher_list)
+            (subscriber_of number self.old.subscribers) self.old result self.new }
     {
         let port = self.subscribers.get_mut(number)?;
         receive_one(
@@ -137,7 +140,8 @@ fn update_one<T: Copy, U: Copy, D: Degrades>(
     handler: &D,
     publishers: &mut Publishers<T, U>,
 ) -> Option<Result<(), ConnectionFailure>>
-    ensures updates { UpdatesOne (D.degrades handler.now cause.FailedToEstablishConnection) list.now port.old publishers.old result port.new publishers.new }
+    ensures updates { UpdatesOne (D.degrades handler.now cause.FailedToEstablishConnection) list.now port.old publishers.old result
+        port.new publishers.new }
     ensures port_stays { result ≡ None → port.new ≡ port.old }
     ensures publishers_stay { result ≡ None → publishers.new ≡ publishers.old }
 {
@@ -155,7 +159,8 @@ fn has_samples_one<T: Copy, U: Copy, D: Degrades>(
     handler: &D,
     publishers: &mut Publishers<T, U>,
 ) -> Option<Result<bool, ConnectionFailure>>
-    ensures has { HasSamplesOne (D.degrades handler.now cause.FailedToEstablishConnection) list.now port.old publishers.old result port.new publishers.new }
+    ensures has { HasSamplesOne (D.degrades handler.now cause.FailedToEstablishConnection) list.now port.old publishers.old result
+        port.new publishers.new }
     ensures port_stays { result ≡ None → port.new ≡ port.old }
     ensures publishers_stay { result ≡ None → publishers.new ≡ publishers.old }
 {
@@ -173,7 +178,8 @@ fn receive_one<T: Copy, U: Copy, D: Degrades>(
     handler: &D,
     publishers: &mut Publishers<T, U>,
 ) -> Option<Result<Option<Taken>, ReceiveError>>
-    ensures receives { ReceivesOne (D.degrades handler.now cause.FailedToEstablishConnection) list.now port.old publishers.old result port.new publishers.new }
+    ensures receives { ReceivesOne (D.degrades handler.now cause.FailedToEstablishConnection) list.now port.old publishers.old result
+        port.new publishers.new }
     ensures port_stays { result ≡ None → port.new ≡ port.old }
     ensures publishers_stay { result ≡ None → publishers.new ≡ publishers.old }
 {

@@ -12,7 +12,8 @@ use iox_describe_settings::{Description, Settings};
 /// publish-subscribe service within the limits of a description, and a builder over `T` or `Slice<T>` and `U` finds its types
 /// compatible. `CustomPayloadMarker` stands for any payload, `CustomHeaderMarker` for any user header.
 pub fn fits<T: ZeroCopySend, U: ZeroCopySend>(description: &Description) -> bool
-    ensures { IsTrue result ↔ Fits (detail FixedSize T.name T.size T.alignment) (detail FixedSize U.name U.size U.alignment) description.now.settings }
+    ensures { IsTrue result ↔ Fits (detail FixedSize T.name T.size T.alignment) (detail FixedSize U.name U.size U.alignment)
+        description.now.settings }
 {
     if !description.is_within_limits() {
         return false;

@@ -50,7 +50,8 @@ impl Model for Marks {
 impl Marks {
     /// No slots, to come in at most so many segments of this size. It fails only where an allocation fails.
     pub fn new(alloc: Global, size: usize, most_segments: usize) -> Result<Marks, AllocError>
-        ensures { IfOk result (λ made. made ≡ record { size = size; segments = 0; most_segments = most_segments; room = 0; payloads = [] }) }
+        ensures { IfOk result (λ made. made
+            ≡ record { size = size; segments = 0; most_segments = most_segments; room = 0; payloads = [] }) }
     {
         let Some(most) = most_segments.checked_mul(size) else {
             return Err(AllocError);
@@ -65,7 +66,8 @@ impl Marks {
     pub fn push(&mut self, segment: Rows<bool>)
         requires size { length segment.rows ≡ self.old.size }
         requires room { self.old.segments < self.old.most_segments }
-        ensures { self.new ≡ record self.old { segments = self.old.segments + 1; room = segment.room; payloads = self.old.payloads ++ segment.rows } }
+        ensures { self.new ≡ record self.old
+            { segments = self.old.segments + 1; room = segment.room; payloads = self.old.payloads ++ segment.rows } }
     {
         self.rows.push(segment);
     }

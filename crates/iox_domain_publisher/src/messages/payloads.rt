@@ -40,7 +40,8 @@ impl<T: Copy> Payloads<T> {
 
     /// No slots, to come in at most so many segments of this size. It fails only where an allocation fails.
     pub fn new(alloc: Global, size: usize, most_segments: usize) -> Result<Payloads<T>, AllocError>
-        ensures { IfOk result (λ made. made ≡ record { size = size; segments = 0; most_segments = most_segments; room = 0; payloads = [] }) }
+        ensures { IfOk result (λ made. made
+            ≡ record { size = size; segments = 0; most_segments = most_segments; room = 0; payloads = [] }) }
     {
         Ok(Payloads {
             segments: Vec::with_capacity(alloc, most_segments)?,
@@ -53,7 +54,8 @@ impl<T: Copy> Payloads<T> {
     pub fn push(&mut self, segment: Rows<T>)
         requires size { length segment.rows ≡ self.old.size }
         requires room { self.old.segments < self.old.most_segments }
-        ensures { self.new ≡ record self.old { segments = self.old.segments + 1; room = segment.room; payloads = self.old.payloads ++ segment.rows } }
+        ensures { self.new ≡ record self.old
+            { segments = self.old.segments + 1; room = segment.room; payloads = self.old.payloads ++ segment.rows } }
     {
         self.segments.push_reserved(segment);
     }

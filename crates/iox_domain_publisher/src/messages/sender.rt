@@ -184,7 +184,8 @@ impl<T: Copy, U: Copy> Sender<T, U> {
     /// The value at a place of the loan in this slot, if it is written.
     pub fn value(&self, slot: usize, place: usize) -> Option<&T>
         requires { has_place slot place self.now.uses ≡ true }
-        ensures { (at : ℕ) (loan : Loan T U) → slice_get self.now.uses.loans at ≡ Some loan → loan.slot ≡ slot → option_copied result ≡ get_or loan.values place None }
+        ensures { (at : ℕ) (loan : Loan T U) → slice_get self.now.uses.loans at ≡ Some loan → loan.slot ≡ slot
+            → option_copied result ≡ get_or loan.values place None }
     {
         if !self.written.is_marked(slot, place) {
             return None;
@@ -203,7 +204,8 @@ impl<T: Copy, U: Copy> Sender<T, U> {
     pub fn value_mut(&mut self, slot: usize, place: usize) -> &mut T
         requires { has_value slot place self.old.uses ≡ true }
         ensures* writes_back { sem 𝓛 (LendsValue T.row U.row self.entry slot place result) }
-        ensures value { (at : ℕ) (loan : Loan T U) → slice_get self.old.uses.loans at ≡ Some loan → loan.slot ≡ slot → get_or loan.values place None ≡ Some result.now }
+        ensures value { (at : ℕ) (loan : Loan T U) → slice_get self.old.uses.loans at ≡ Some loan → loan.slot ≡ slot
+            → get_or loan.values place None ≡ Some result.now }
     {
         self.values.value_mut(slot, place)
     }
@@ -219,7 +221,8 @@ impl<T: Copy, U: Copy> Sender<T, U> {
     /// The user header of the loan in this slot.
     pub fn loan_user_header(&self, slot: usize) -> &U
         requires { has_loan slot self.now.uses ≡ true }
-        ensures { (at : ℕ) (loan : Loan T U) → slice_get self.now.uses.loans at ≡ Some loan → loan.slot ≡ slot → result.now ≡ loan.user_header }
+        ensures { (at : ℕ) (loan : Loan T U) → slice_get self.now.uses.loans at ≡ Some loan → loan.slot ≡ slot
+            → result.now ≡ loan.user_header }
     {
         &self.headers[slot].user_header
     }
@@ -228,7 +231,8 @@ impl<T: Copy, U: Copy> Sender<T, U> {
     pub fn user_header_mut(&mut self, slot: usize) -> &mut U
         requires { has_loan slot self.old.uses ≡ true }
         ensures* writes_back { sem 𝓛 (LendsUserHeader T.row U.row self.entry slot result) }
-        ensures value { (at : ℕ) (loan : Loan T U) → slice_get self.old.uses.loans at ≡ Some loan → loan.slot ≡ slot → result.now ≡ loan.user_header }
+        ensures value { (at : ℕ) (loan : Loan T U) → slice_get self.old.uses.loans at ≡ Some loan → loan.slot ≡ slot
+            → result.now ≡ loan.user_header }
     {
         let header = &mut self.headers[slot];
         &mut header.user_header
@@ -250,7 +254,8 @@ impl<T: Copy, U: Copy> Sender<T, U> {
         requires alone { self.old.uses.sending ≡ None }
         requires written { is_written_at at self.old.uses ≡ true }
         ensures slot { (loan : Loan T U) → slice_get self.old.uses.loans at ≡ Some loan → result ≡ loan.slot }
-        ensures new { (loan : Loan T U) → slice_get self.old.uses.loans at ≡ Some loan → self.new ≡ with_uses (begun at (sent_as loan) self.old.uses) self.old }
+        ensures new { (loan : Loan T U) → slice_get self.old.uses.loans at ≡ Some loan
+            → self.new ≡ with_uses (begun at (sent_as loan) self.old.uses) self.old }
     {
         self.uses.begin_send(at)
     }
@@ -262,8 +267,10 @@ impl<T: Copy, U: Copy> Sender<T, U> {
         requires first { self.old.uses.first ≤ slot }
         requires within { slot < self.old.uses.first + self.old.uses.size }
         requires room { length values.now ≤ self.old.room }
-        requires only { StandsAlone (record { slot = slot; elements = elements; user_header = user_header; values = values.now }) self.old.uses }
-        ensures { self.new ≡ with_uses (record self.old.uses { sending = Some (record { slot = slot; elements = elements; user_header = user_header; values = values.now }) }) self.old }
+        requires only { StandsAlone (record { slot = slot; elements = elements; user_header = user_header; values = values.now })
+            self.old.uses }
+        ensures { self.new ≡ with_uses (record self.old.uses
+            { sending = Some (record { slot = slot; elements = elements; user_header = user_header; values = values.now }) }) self.old }
     {
         self.values.set_length(slot, values.len());
         self.values.copy(slot, values);
@@ -295,9 +302,12 @@ impl<T: Copy, U: Copy> Sender<T, U> {
     /// The values of the message in this slot.
     pub fn payload(&self, slot: usize) -> &[T]
         requires { slot < self.now.uses.first + self.now.uses.size }
-        ensures borrowed { (index at : ℕ) (message : Message T U) → slice_get (connection_at index self.now.uses).borrowed at ≡ Some message → message.slot ≡ slot → result.now ≡ message.values }
-        ensures waiting { (index at : ℕ) (message : Message T U) → slice_get (connection_at index self.now.uses).waiting at ≡ Some message → message.slot ≡ slot → result.now ≡ message.values }
-        ensures remembered { (at : ℕ) (message : Message T U) → slice_get self.now.uses.history at ≡ Some message → message.slot ≡ slot → result.now ≡ message.values }
+        ensures borrowed { (index at : ℕ) (message : Message T U)
+            → slice_get (connection_at index self.now.uses).borrowed at ≡ Some message → message.slot ≡ slot → result.now ≡ message.values }
+        ensures waiting { (index at : ℕ) (message : Message T U)
+            → slice_get (connection_at index self.now.uses).waiting at ≡ Some message → message.slot ≡ slot → result.now ≡ message.values }
+        ensures remembered { (at : ℕ) (message : Message T U) → slice_get self.now.uses.history at ≡ Some message → message.slot ≡ slot
+            → result.now ≡ message.values }
     {
         self.values.values(slot)
     }
@@ -305,9 +315,12 @@ impl<T: Copy, U: Copy> Sender<T, U> {
     /// How many elements the message in this slot has.
     pub fn elements(&self, slot: usize) -> u64
         requires { slot < self.now.uses.first + self.now.uses.size }
-        ensures borrowed { (index at : ℕ) (message : Message T U) → slice_get (connection_at index self.now.uses).borrowed at ≡ Some message → message.slot ≡ slot → result ≡ message.elements }
-        ensures waiting { (index at : ℕ) (message : Message T U) → slice_get (connection_at index self.now.uses).waiting at ≡ Some message → message.slot ≡ slot → result ≡ message.elements }
-        ensures remembered { (at : ℕ) (message : Message T U) → slice_get self.now.uses.history at ≡ Some message → message.slot ≡ slot → result ≡ message.elements }
+        ensures borrowed { (index at : ℕ) (message : Message T U)
+            → slice_get (connection_at index self.now.uses).borrowed at ≡ Some message → message.slot ≡ slot → result ≡ message.elements }
+        ensures waiting { (index at : ℕ) (message : Message T U)
+            → slice_get (connection_at index self.now.uses).waiting at ≡ Some message → message.slot ≡ slot → result ≡ message.elements }
+        ensures remembered { (at : ℕ) (message : Message T U) → slice_get self.now.uses.history at ≡ Some message → message.slot ≡ slot
+            → result ≡ message.elements }
     {
         self.headers[slot].elements
     }
@@ -315,9 +328,14 @@ impl<T: Copy, U: Copy> Sender<T, U> {
     /// The user header of the message in this slot.
     pub fn user_header(&self, slot: usize) -> &U
         requires { slot < self.now.uses.first + self.now.uses.size }
-        ensures borrowed { (index at : ℕ) (message : Message T U) → slice_get (connection_at index self.now.uses).borrowed at ≡ Some message → message.slot ≡ slot → result.now ≡ message.user_header }
-        ensures waiting { (index at : ℕ) (message : Message T U) → slice_get (connection_at index self.now.uses).waiting at ≡ Some message → message.slot ≡ slot → result.now ≡ message.user_header }
-        ensures remembered { (at : ℕ) (message : Message T U) → slice_get self.now.uses.history at ≡ Some message → message.slot ≡ slot → result.now ≡ message.user_header }
+        ensures borrowed { (index at : ℕ) (message : Message T U)
+            → slice_get (connection_at index self.now.uses).borrowed at ≡ Some message → message.slot ≡ slot
+            → result.now ≡ message.user_header }
+        ensures waiting { (index at : ℕ) (message : Message T U)
+            → slice_get (connection_at index self.now.uses).waiting at ≡ Some message → message.slot ≡ slot
+            → result.now ≡ message.user_header }
+        ensures remembered { (at : ℕ) (message : Message T U) → slice_get self.now.uses.history at ≡ Some message → message.slot ≡ slot
+            → result.now ≡ message.user_header }
     {
         &self.headers[slot].user_header
     }
@@ -416,7 +434,8 @@ impl<T: Copy, U: Copy> Sender<T, U> {
         requires { limit ≤ self.old.uses.most_waiting }
         ensures vacant { IfOk result (λ index. connection_at index self.old.uses ≡ nobody) }
         ensures within { IfOk result (λ index. index ≤ length self.old.uses.connections) }
-        ensures new { IfOk result (λ index. self.new ≡ with_uses (record self.old.uses { connections = placed index (connected limit) self.old.uses.connections }) self.old) }
+        ensures new { IfOk result (λ index. self.new
+            ≡ with_uses (record self.old.uses { connections = placed index (connected limit) self.old.uses.connections }) self.old) }
         ensures refused { OnErr result (self.new ≡ self.old) }
     {
         self.uses.connect(alloc, limit)
@@ -585,7 +604,8 @@ impl<T: Copy, U: Copy> Sender<T, U> {
     pub fn welcome(&mut self, index: usize)
         requires live { (connection_at index self.old.uses).stage ≡ stage.Live }
         requires empty { (connection_at index self.old.uses).waiting ≡ [] }
-        ensures { self.new ≡ with_uses (with_connection index (welcomed self.old.uses.history (connection_at index self.old.uses)) self.old.uses) self.old }
+        ensures { self.new ≡ with_uses (with_connection index (welcomed self.old.uses.history (connection_at index self.old.uses))
+            self.old.uses) self.old }
     {
         self.uses.welcome(index);
     }

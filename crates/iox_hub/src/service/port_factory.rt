@@ -1,4 +1,4 @@
-//! Builders of ports, over the domain of a service.
+//! Builders of ports: a hub gives one for a factory of its own, and the functions here for a domain.
 pub use iox_delivery_factories::{
     PortFactoryPublisher, PortFactorySubscriber, publisher_builder, subscriber_builder,
 };

@@ -1,6 +1,6 @@
 //! Loans and samples that come where there may be no room for one more.
 ghost use Rattle.iox_domain.specs.Homes as homes;
-ghost use Rattle.std.specs.Prelude.{◌≡◌, ◌<◌, ◌+◌, ◌^◌, length, OnOk, OnErr};
+ghost use Rattle.std.specs.Prelude.{◌≡◌, ◌<◌, ◌+◌, ◌^◌, length, OnOk, OnErr, None, Ok};
 ghost use Rattle.iox_maps.specs.NumberTable.{value_at};
 ghost use Rattle.iox_hub_commands.specs.Calls.{ready};
 ghost use Rattle.iox_hub_commands.specs.Growing.{GrowsFirst};
@@ -15,7 +15,11 @@ use std::alloc::{AllocError, Global};
 
 impl Made {
     /// As `loan_uninit`, and room is made first for one more loan, if there is none. Fails only where an allocation fails for
-    /// that; then nothing has changed.
+    /// that; then nothing has changed. It answers None, whatever memory there is, where no publisher goes by the number, and where its
+    /// messages are single values and not one element is asked for.
+    ///
+    /// Example: `let lent = made.loan_uninit_growing(alloc, &mut home, publisher, 4)?;`
+    #[tactic(auto, using(crate::proofs::Skipping::skips_loan_uninit))]
     pub fn loan_uninit_growing<T: Copy, U: Copy, H: Home<T, U>>(
         &mut self,
         alloc: Global,
@@ -24,14 +28,23 @@ impl Made {
         elements: u64,
     ) -> Result<Option<Result<u64, LoanError>>, AllocError>
         requires number { self.old.loans.next + 1 < 2 ^ 64 }
-        ensures { GrowsFirst (IsFull self.old.loans) (LendsNumbered (homes.ports_of H.domain_of) (homes.with_ports H.changed) elements (lender elements (value_at self.old.publishers publisher))) self.old home.old result self.new home.new }
+        ensures grows { GrowsFirst (IsFull self.old.loans)
+            (LendsNumbered (homes.ports_of H.domain_of) (homes.with_ports H.changed) elements
+            (lender elements (value_at self.old.publishers publisher))) self.old home.old result self.new home.new }
+        ensures skips { lender elements (value_at self.old.publishers publisher) ≡ None → result ≡ Ok None }
     {
+        if self.lender(publisher, elements).is_none() {
+            return Ok(None);
+        }
         room_for_one(&mut self.loans)?;
         Ok(self.loan_uninit(alloc, home, publisher, elements))
     }
 
     /// As `loan`, and room is made first for one more loan, if there is none. Fails only where an allocation fails for that; then
-    /// nothing has changed.
+    /// nothing has changed. It answers None where `loan` does, whatever memory there is.
+    ///
+    /// Example: `let lent = made.loan_growing(alloc, &mut home, publisher, 4, 0)?;`
+    #[tactic(auto, using(crate::proofs::Skipping::skips_loan))]
     pub fn loan_growing<T: Copy, U: Copy, H: Home<T, U>>(
         &mut self,
         alloc: Global,
@@ -41,14 +54,26 @@ impl Made {
         value: T,
     ) -> Result<Option<Result<u64, LoanError>>, AllocError>
         requires number { self.old.loans.next + 1 < 2 ^ 64 }
-        ensures { GrowsFirst (IsFull self.old.loans) (LendsWrittenNumbered (homes.ports_of H.domain_of) (homes.with_ports H.changed) elements value (ready (homes.ports_of H.domain_of) (lender elements (value_at self.old.publishers publisher)) home.old)) self.old home.old result self.new home.new }
+        ensures grows { GrowsFirst (IsFull self.old.loans)
+            (LendsWrittenNumbered (homes.ports_of H.domain_of) (homes.with_ports H.changed) elements value
+            (ready (homes.ports_of H.domain_of) (lender elements (value_at self.old.publishers publisher)) home.old)) self.old home.old
+            result self.new home.new }
+        ensures skips { ready (homes.ports_of H.domain_of) (lender elements (value_at self.old.publishers publisher)) home.old ≡ None
+            → result ≡ Ok None }
     {
+        if self.ready_lender(home, publisher, elements).is_none() {
+            return Ok(None);
+        }
         room_for_one(&mut self.loans)?;
         Ok(self.loan(alloc, home, publisher, elements, value))
     }
 
     /// As `receive`, and room is made first for one more sample, if there is none. Fails only where an allocation fails for that;
-    /// then nothing has changed, and what waits is there still.
+    /// then nothing has changed, and what waits is there still. It answers None, whatever memory there is, where no subscriber goes by
+    /// the number.
+    ///
+    /// Example: `let received = made.receive_growing(alloc, &mut home, subscriber)?;`
+    #[tactic(auto, using(crate::proofs::Skipping::skips_receive))]
     pub fn receive_growing<T: Copy, U: Copy, H: Home<T, U>>(
         &mut self,
         alloc: Global,
@@ -56,8 +81,15 @@ impl Made {
         subscriber: u64,
     ) -> Result<Option<Result<Option<u64>, ReceiveError>>, AllocError>
         requires number { self.old.samples.next + 1 < 2 ^ 64 }
-        ensures { GrowsFirst (IsFull self.old.samples) (ReceivesNumbered (homes.ports_of H.domain_of) (homes.with_ports H.changed) (homes.subscriber_degrades (λ kept. H.ForSubscribers.degrades kept) H.domain_of) (value_at self.old.subscribers subscriber)) self.old home.old result self.new home.new }
+        ensures grows { GrowsFirst (IsFull self.old.samples)
+            (ReceivesNumbered (homes.ports_of H.domain_of) (homes.with_ports H.changed)
+            (homes.subscriber_degrades (λ kept. H.ForSubscribers.degrades kept) H.domain_of) (value_at self.old.subscribers subscriber))
+            self.old home.old result self.new home.new }
+        ensures skips { value_at self.old.subscribers subscriber ≡ None → result ≡ Ok None }
     {
+        if self.subscriber(subscriber).is_none() {
+            return Ok(None);
+        }
         room_for_one(&mut self.samples)?;
         Ok(self.receive(alloc, home, subscriber))
     }

@@ -25,7 +25,8 @@ impl Made {
         value: T,
     ) -> bool
         ensures answer { result ≡ is_set place (loan_under (homes.ports_of H.domain_of) (value_at self.now.loans loan) home.old) }
-        ensures home { home.new ≡ (if result then changed_under (homes.ports_of H.domain_of) (homes.with_ports H.changed) (set_in place value) (value_at self.now.loans loan) home.old else home.old) }
+        ensures home { home.new ≡ (if result then changed_under (homes.ports_of H.domain_of) (homes.with_ports H.changed)
+            (set_in place value) (value_at self.now.loans loan) home.old else home.old) }
     {
         let Some(made) = self.loans.get(loan).copied() else {
             return false;
@@ -53,7 +54,8 @@ impl Made {
         values: &[T],
     ) -> bool
         ensures answer { result ≡ is_filled (homes.ports_of H.domain_of) values.now (value_at self.now.loans loan) home.old }
-        ensures home { home.new ≡ changed_under (homes.ports_of H.domain_of) (homes.with_ports H.changed) (filled_in values.now) (value_at self.now.loans loan) home.old }
+        ensures home { home.new ≡ changed_under (homes.ports_of H.domain_of) (homes.with_ports H.changed) (filled_in values.now)
+            (value_at self.now.loans loan) home.old }
     {
         let Some(made) = self.loans.get(loan).copied() else {
             return false;
@@ -68,7 +70,8 @@ impl Made {
     /// domain isn't here.
     pub fn drop_loan<T: Copy, U: Copy, H: Home<T, U>>(&mut self, home: &mut H, loan: u64) -> bool
         ensures answer { result ≡ is_some (loan_under (homes.ports_of H.domain_of) (value_at self.old.loans loan) home.old) }
-        ensures home { home.new ≡ (if result then changed_under (homes.ports_of H.domain_of) (homes.with_ports H.changed) gave_up_in (value_at self.old.loans loan) home.old else home.old) }
+        ensures home { home.new ≡ (if result then changed_under (homes.ports_of H.domain_of) (homes.with_ports H.changed) gave_up_in
+            (value_at self.old.loans loan) home.old else home.old) }
         ensures number { self.new ≡ removed_if result (without_loan loan) self.old }
     {
         let Some(made) = self.loans.get(loan).copied() else {
@@ -91,7 +94,10 @@ impl Made {
         home: &mut H,
         loan: u64,
     ) -> Option<Result<Sent, SendError>>
-        ensures home { SendsUnder (homes.ports_of H.domain_of) (homes.with_ports H.changed) (homes.publisher_degrades (λ kept. H.ForPublishers.degrades kept) H.domain_of) (homes.publisher_decides (λ kept. H.ForPublishers.decides kept) H.domain_of) (value_at self.old.loans loan) home.old result home.new }
+        ensures home { SendsUnder (homes.ports_of H.domain_of) (homes.with_ports H.changed)
+            (homes.publisher_degrades (λ kept. H.ForPublishers.degrades kept) H.domain_of)
+            (homes.publisher_decides (λ kept. H.ForPublishers.decides kept) H.domain_of) (value_at self.old.loans loan) home.old result
+            home.new }
         ensures number { self.new ≡ removed_if (is_some result) (without_loan loan) self.old }
     {
         let made = self.loans.get(loan).copied()?;

@@ -42,7 +42,12 @@ impl Made {
     ) -> Option<Result<u64, PublisherCreateError>>
         requires room { length self.old.publishers.entries < self.old.publishers.room }
         requires number { self.old.publishers.next + 1 < 2 ^ 64 }
-        ensures { MakesNumbered (MakesAt (λ after. homes.with_ports H.changed domain after home.old) (λ number. homes.with_publisher H.changed domain number parts.entry.handlers) (PublisherComes (O.overrides parts.entry.overriding.now) (H.ForPublishers.degrades parts.entry.handlers FailedToEstablishConnection) parts.entry.config parts.entry.user_header) (why_no_publisher parts.entry.config) (homes.ports_of H.domain_of domain home.old)) (with_publisher domain parts.entry.holds_slices) self.old.publishers.next self.old home.old result self.new home.new }
+        ensures { MakesNumbered (MakesAt (λ after. homes.with_ports H.changed domain after home.old)
+            (λ number. homes.with_publisher H.changed domain number parts.entry.handlers)
+            (PublisherComes (O.overrides parts.entry.overriding.now)
+            (H.ForPublishers.degrades parts.entry.handlers FailedToEstablishConnection) parts.entry.config parts.entry.user_header)
+            (why_no_publisher parts.entry.config) (homes.ports_of H.domain_of domain home.old))
+            (with_publisher domain parts.entry.holds_slices) self.old.publishers.next self.old home.old result self.new home.new }
     {
         let PublisherParts {
             config,
@@ -83,7 +88,11 @@ impl Made {
     ) -> Option<Result<u64, SubscriberCreateError>>
         requires room { length self.old.subscribers.entries < self.old.subscribers.room }
         requires number { self.old.subscribers.next + 1 < 2 ^ 64 }
-        ensures { MakesNumbered (MakesAt (λ after. homes.with_ports H.changed domain after home.old) (λ number. homes.with_subscriber H.changed domain number handler) (SubscriberComes (H.ForSubscribers.degrades handler FailedToEstablishConnection) config) (why_no_subscriber config) (homes.ports_of H.domain_of domain home.old)) (with_subscriber domain) self.old.subscribers.next self.old home.old result self.new home.new }
+        ensures { MakesNumbered (MakesAt (λ after. homes.with_ports H.changed domain after home.old)
+            (λ number. homes.with_subscriber H.changed domain number handler)
+            (SubscriberComes (H.ForSubscribers.degrades handler FailedToEstablishConnection) config) (why_no_subscriber config)
+            (homes.ports_of H.domain_of domain home.old)) (with_subscriber domain) self.old.subscribers.next self.old home.old result
+            self.new home.new }
     {
         match calls::create_subscriber(home, alloc, domain, config, handler)? {
             Ok(number) => Some(Ok(self.subscribers.insert_next(PortId { domain, number }))),
@@ -103,7 +112,12 @@ impl Made {
         parts: PublisherParts<'_, U, H::ForPublishers, O>,
     ) -> Option<Result<u64, PublisherCreateError>>
         requires number { self.old.publishers.next + 1 < 2 ^ 64 }
-        ensures { MakesRoomFirst (MakesAt (λ after. homes.with_ports H.changed domain after home.old) (λ number. homes.with_publisher H.changed domain number parts.entry.handlers) (PublisherComes (O.overrides parts.entry.overriding.now) (H.ForPublishers.degrades parts.entry.handlers FailedToEstablishConnection) parts.entry.config parts.entry.user_header) (why_no_publisher parts.entry.config) (homes.ports_of H.domain_of domain home.old)) (with_publisher domain parts.entry.holds_slices) self.old.publishers.next self.old home.old result self.new home.new }
+        ensures { MakesRoomFirst (MakesAt (λ after. homes.with_ports H.changed domain after home.old)
+            (λ number. homes.with_publisher H.changed domain number parts.entry.handlers)
+            (PublisherComes (O.overrides parts.entry.overriding.now)
+            (H.ForPublishers.degrades parts.entry.handlers FailedToEstablishConnection) parts.entry.config parts.entry.user_header)
+            (why_no_publisher parts.entry.config) (homes.ports_of H.domain_of domain home.old))
+            (with_publisher domain parts.entry.holds_slices) self.old.publishers.next self.old home.old result self.new home.new }
     {
         if room_for_one(&mut self.publishers).is_err() {
             let ports = calls::ports(home, domain)?;
@@ -127,7 +141,11 @@ impl Made {
         handler: H::ForSubscribers,
     ) -> Option<Result<u64, SubscriberCreateError>>
         requires number { self.old.subscribers.next + 1 < 2 ^ 64 }
-        ensures { MakesRoomFirst (MakesAt (λ after. homes.with_ports H.changed domain after home.old) (λ number. homes.with_subscriber H.changed domain number handler) (SubscriberComes (H.ForSubscribers.degrades handler FailedToEstablishConnection) config) (why_no_subscriber config) (homes.ports_of H.domain_of domain home.old)) (with_subscriber domain) self.old.subscribers.next self.old home.old result self.new home.new }
+        ensures { MakesRoomFirst (MakesAt (λ after. homes.with_ports H.changed domain after home.old)
+            (λ number. homes.with_subscriber H.changed domain number handler)
+            (SubscriberComes (H.ForSubscribers.degrades handler FailedToEstablishConnection) config) (why_no_subscriber config)
+            (homes.ports_of H.domain_of domain home.old)) (with_subscriber domain) self.old.subscribers.next self.old home.old result
+            self.new home.new }
     {
         if room_for_one(&mut self.subscribers).is_err() {
             let ports = calls::ports(home, domain)?;

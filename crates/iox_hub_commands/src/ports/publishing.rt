@@ -28,7 +28,8 @@ impl Made {
     ) -> Option<Result<u64, LoanError>>
         requires room { length self.old.loans.entries < self.old.loans.room }
         requires number { self.old.loans.next + 1 < 2 ^ 64 }
-        ensures { LendsNumbered (homes.ports_of H.domain_of) (homes.with_ports H.changed) elements (lender elements (value_at self.old.publishers publisher)) self.old home.old result self.new home.new }
+        ensures { LendsNumbered (homes.ports_of H.domain_of) (homes.with_ports H.changed) elements
+            (lender elements (value_at self.old.publishers publisher)) self.old home.old result self.new home.new }
     {
         let port = self.lender(publisher, elements)?;
         let lent = calls::loan(
@@ -60,7 +61,9 @@ impl Made {
     ) -> Option<Result<u64, LoanError>>
         requires room { length self.old.loans.entries < self.old.loans.room }
         requires number { self.old.loans.next + 1 < 2 ^ 64 }
-        ensures { LendsWrittenNumbered (homes.ports_of H.domain_of) (homes.with_ports H.changed) elements value (ready (homes.ports_of H.domain_of) (lender elements (value_at self.old.publishers publisher)) home.old) self.old home.old result self.new home.new }
+        ensures { LendsWrittenNumbered (homes.ports_of H.domain_of) (homes.with_ports H.changed) elements value
+            (ready (homes.ports_of H.domain_of) (lender elements (value_at self.old.publishers publisher)) home.old) self.old home.old
+            result self.new home.new }
     {
         let port = self.ready_lender(home, publisher, elements)?;
         match filling::loan_filled(port, alloc, home, elements as usize, value) {
@@ -81,10 +84,14 @@ impl Made {
         publisher: u64,
         values: &[T],
     ) -> Option<Result<Sent, SendError>>
-        ensures { AtPort (Puts (homes.ports_of H.domain_of) (homes.with_ports H.changed) (homes.publisher_degrades (λ kept. H.ForPublishers.degrades kept) H.domain_of) (homes.publisher_decides (λ kept. H.ForPublishers.decides kept) H.domain_of) values.now) (ready (homes.ports_of H.domain_of) (lender (length values.now) (value_at self.now.publishers publisher)) home.old) home.old result home.new }
+        ensures { AtPort (Puts (homes.ports_of H.domain_of) (homes.with_ports H.changed)
+            (homes.publisher_degrades (λ kept. H.ForPublishers.degrades kept) H.domain_of)
+            (homes.publisher_decides (λ kept. H.ForPublishers.decides kept) H.domain_of) values.now)
+            (ready (homes.ports_of H.domain_of) (lender (length values.now) (value_at self.now.publishers publisher)) home.old) home.old
+            result home.new }
     {
-        let port = self.ready_lender(home, publisher, values.len() as u64)?;
-        Some(filling::send_values(port, alloc, home, values))
+        let port = self.lender(publisher, values.len() as u64)?;
+        calls::put(home, alloc, port.domain, port.number, values)
     }
 
     /// A publisher follows the list of subscribers. None, and nothing happens, where no publisher goes by the number, where a send of it
@@ -95,7 +102,9 @@ impl Made {
         home: &mut H,
         publisher: u64,
     ) -> Option<Result<(), ConnectionFailure>>
-        ensures { AtPort (Follows (homes.ports_of H.domain_of) (homes.with_ports H.changed) (homes.publisher_degrades (λ kept. H.ForPublishers.degrades kept) H.domain_of)) (port_under (value_at self.now.publishers publisher)) home.old result home.new }
+        ensures { AtPort (Follows (homes.ports_of H.domain_of) (homes.with_ports H.changed)
+            (homes.publisher_degrades (λ kept. H.ForPublishers.degrades kept) H.domain_of))
+            (port_under (value_at self.now.publishers publisher)) home.old result home.new }
     {
         let port = self.publisher(publisher)?;
         calls::update_publisher(home, alloc, port.domain, port.number)
@@ -109,7 +118,9 @@ impl Made {
         publisher: u64,
         elapsed: u64,
     ) -> Option<Result<Sent, SendError>>
-        ensures { AtPort (Retries (homes.ports_of H.domain_of) (homes.with_ports H.changed) (homes.publisher_decides (λ kept. H.ForPublishers.decides kept) H.domain_of) elapsed) (port_under (value_at self.now.publishers publisher)) home.old result home.new }
+        ensures { AtPort (Retries (homes.ports_of H.domain_of) (homes.with_ports H.changed)
+            (homes.publisher_decides (λ kept. H.ForPublishers.decides kept) H.domain_of) elapsed)
+            (port_under (value_at self.now.publishers publisher)) home.old result home.new }
     {
         let port = self.publisher(publisher)?;
         calls::retry(home, port.domain, port.number, elapsed)
@@ -122,7 +133,8 @@ impl Made {
         home: &mut H,
         publisher: u64,
     ) -> Option<usize>
-        ensures { AtPort (GivesUp (homes.ports_of H.domain_of) (homes.with_ports H.changed)) (port_under (value_at self.now.publishers publisher)) home.old result home.new }
+        ensures { AtPort (GivesUp (homes.ports_of H.domain_of) (homes.with_ports H.changed))
+            (port_under (value_at self.now.publishers publisher)) home.old result home.new }
     {
         let port = self.publisher(publisher)?;
         calls::ports_mut(home, port.domain)?.give_up(port.number)
@@ -135,7 +147,8 @@ impl Made {
         home: &mut H,
         publisher: u64,
     ) -> bool
-        ensures home { AtPortIf (PublisherGoes (homes.ports_of H.domain_of) (homes.with_ports H.changed) (homes.without_publisher H.changed)) (port_under (value_at self.old.publishers publisher)) home.old result home.new }
+        ensures home { AtPortIf (PublisherGoes (homes.ports_of H.domain_of) (homes.with_ports H.changed)
+            (homes.without_publisher H.changed)) (port_under (value_at self.old.publishers publisher)) home.old result home.new }
         ensures number { self.new ≡ removed_if result (without_publisher publisher) self.old }
     {
         let Some(port) = self.publisher(publisher) else {

@@ -33,7 +33,8 @@ impl Made {
     /// its domain isn't here.
     pub fn release<T: Copy, U: Copy, H: Home<T, U>>(&mut self, home: &mut H, sample: u64) -> bool
         ensures answer { result ≡ is_held (homes.ports_of H.domain_of) (value_at self.old.samples sample) home.old }
-        ensures home { ReleasesUnder (homes.ports_of H.domain_of) (homes.with_ports H.changed) (value_at self.old.samples sample) home.old result home.new }
+        ensures home { ReleasesUnder (homes.ports_of H.domain_of) (homes.with_ports H.changed) (value_at self.old.samples sample)
+            home.old result home.new }
         ensures number { self.new ≡ removed_if result (without_sample sample) self.old }
     {
         let Some(held) = self.samples.get(sample).copied() else {

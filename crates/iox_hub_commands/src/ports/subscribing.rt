@@ -20,7 +20,9 @@ impl Made {
         home: &mut H,
         subscriber: u64,
     ) -> Option<Result<(), ConnectionFailure>>
-        ensures { AtPort (FollowsPublishers (homes.ports_of H.domain_of) (homes.with_ports H.changed) (homes.subscriber_degrades (λ kept. H.ForSubscribers.degrades kept) H.domain_of)) (value_at self.now.subscribers subscriber) home.old result home.new }
+        ensures { AtPort (FollowsPublishers (homes.ports_of H.domain_of) (homes.with_ports H.changed)
+            (homes.subscriber_degrades (λ kept. H.ForSubscribers.degrades kept) H.domain_of)) (value_at self.now.subscribers subscriber)
+            home.old result home.new }
     {
         let port = self.subscriber(subscriber)?;
         calls::update_subscriber(home, alloc, port.domain, port.number)
@@ -34,7 +36,9 @@ impl Made {
         home: &mut H,
         subscriber: u64,
     ) -> Option<Result<bool, ConnectionFailure>>
-        ensures { AtPort (Tells (homes.ports_of H.domain_of) (homes.with_ports H.changed) (homes.subscriber_degrades (λ kept. H.ForSubscribers.degrades kept) H.domain_of)) (value_at self.now.subscribers subscriber) home.old result home.new }
+        ensures { AtPort (Tells (homes.ports_of H.domain_of) (homes.with_ports H.changed)
+            (homes.subscriber_degrades (λ kept. H.ForSubscribers.degrades kept) H.domain_of)) (value_at self.now.subscribers subscriber)
+            home.old result home.new }
     {
         let port = self.subscriber(subscriber)?;
         calls::has_samples(home, alloc, port.domain, port.number)
@@ -53,7 +57,9 @@ impl Made {
     ) -> Option<Result<Option<u64>, ReceiveError>>
         requires room { length self.old.samples.entries < self.old.samples.room }
         requires number { self.old.samples.next + 1 < 2 ^ 64 }
-        ensures { ReceivesNumbered (homes.ports_of H.domain_of) (homes.with_ports H.changed) (homes.subscriber_degrades (λ kept. H.ForSubscribers.degrades kept) H.domain_of) (value_at self.old.subscribers subscriber) self.old home.old result self.new home.new }
+        ensures { ReceivesNumbered (homes.ports_of H.domain_of) (homes.with_ports H.changed)
+            (homes.subscriber_degrades (λ kept. H.ForSubscribers.degrades kept) H.domain_of) (value_at self.old.subscribers subscriber)
+            self.old home.old result self.new home.new }
     {
         let port = self.subscriber(subscriber)?;
         match calls::receive(home, alloc, port.domain, port.number)? {
@@ -70,7 +76,8 @@ impl Made {
         home: &mut H,
         subscriber: u64,
     ) -> bool
-        ensures home { AtPortIf (SubscriberGoes (homes.ports_of H.domain_of) (homes.with_ports H.changed) (homes.without_subscriber H.changed)) (value_at self.old.subscribers subscriber) home.old result home.new }
+        ensures home { AtPortIf (SubscriberGoes (homes.ports_of H.domain_of) (homes.with_ports H.changed)
+            (homes.without_subscriber H.changed)) (value_at self.old.subscribers subscriber) home.old result home.new }
         ensures number { self.new ≡ removed_if result (without_subscriber subscriber) self.old }
     {
         let Some(port) = self.subscriber(subscriber) else {

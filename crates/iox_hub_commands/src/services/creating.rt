@@ -1,15 +1,19 @@
 //! Services are created.
-ghost use Rattle.std.specs.Prelude.{◌≡◌, ◌<◌, ◌+◌, ◌^◌, length};
+ghost use Rattle.std.specs.Prelude.{◌≡◌, ◌<◌, ◌+◌, ◌^◌, length, true, Some, Err};
 ghost use Rattle.iox_hub_commands.specs.Command.declared.service.ServiceOptions.TheVariants as service;
 ghost use Rattle.iox_hub_base.specs.DescribeBase.Detail.{detail};
 ghost use Rattle.iox_hub_base.specs.DescribeBase.declared.type_detail.TypeVariant.TheVariants.{FixedSize};
 ghost use Rattle.iox_hub_base.specs.Hubs.{is_node};
 ghost use Rattle.iox_hub_commands.specs.Asked.{types_of};
 ghost use Rattle.iox_hub_commands.specs.Creating.{CreatesAs, CreatesNumbered, create_lacking};
+ghost use Rattle.iox_hub_commands.specs.Described.{settings_of};
+ghost use Rattle.iox_hub_commands.specs.NegotiateBase.declared.failure.CreateFailure.{CreateFailure};
+ghost use Rattle.iox_hub_commands.specs.Refusing.{IsUncreated, create_refused};
 
 use crate::services::asked::ServiceAsked;
 use crate::services::factories::Factories;
 use crate::services::made::MadeFactory;
+use crate::services::refusing::{create_refused, uncreated};
 use crate::services::requests::{event, message_types, publish_subscribe, request_response};
 use iox_command::{
     EventOptions, PublishSubscribeOptions, Refusal, RequestResponseOptions, ServiceOptions,
@@ -30,9 +34,12 @@ impl Factories {
     /// Creates a service with these attributes, and answers the number of its factory. The steps of foreign nodes are done before the
     /// accesses that they name.
     ///
-    /// None, and nothing happens, where the hub has no node of the number. Refused as `HubBuilder::create_with_attributes_in` refuses it;
+    /// None, and nothing happens, where the hub has no node of the number. Refused as `HubBuilder::create_with_attributes_in` refuses it,
+    /// for its settings before anything else is done, whatever memory there is;
     /// also with `OutOfMemory`, and nothing happens but that there may be more room, where an allocation fails for the lists of steps or
     /// for room: it takes none for that where no steps are named and there is room.
+    ///
+    /// Example: `let created = factories.create(alloc, &mut hub, &asked, &attributes, &[]);`
     pub fn create<T: Words + ZeroCopySend, U: Copy + ZeroCopySend, B: Drop, D: Drop>(
         &mut self,
         alloc: Global,
@@ -42,15 +49,60 @@ impl Factories {
         steps: &[StepBefore],
     ) -> Option<Result<u64, Refusal>>
         requires number { self.old.made.next + 1 < 2 ^ 64 }
-        ensures { CreatesNumbered (is_node asked.now.node hub.old.nodes) (detail FixedSize T.name T.size T.alignment) (detail FixedSize U.name U.size U.alignment) (types_of T.name T.size T.alignment U.name U.size U.alignment) asked.now attributes.now steps.now self.old.made hub.old result self.new.made hub.new }
+        ensures creates { CreatesNumbered (is_node asked.now.node hub.old.nodes) (detail FixedSize T.name T.size T.alignment)
+            (detail FixedSize U.name U.size U.alignment) (types_of T.name T.size T.alignment U.name U.size U.alignment) asked.now
+            attributes.now steps.now self.old.made hub.old result self.new.made hub.new }
+        ensures settings_first { is_node asked.now.node hub.old.nodes ≡ true → (failure : CreateFailure)
+            → IsUncreated (settings_of asked.now.options (types_of T.name T.size T.alignment U.name U.size U.alignment)) (Some failure)
+            → (result ≡ Some (Err (create_refused asked.now.options failure))) × (self.new.made ≡ self.old.made) × (hub.new ≡ hub.old) }
     {
         if !hub.has_node(asked.node) {
             return None;
         }
+        Some(self.create_there(alloc, hub, asked, attributes, steps))
+    }
+
+    // The same, where the node is there.
+    fn create_there<T: Words + ZeroCopySend, U: Copy + ZeroCopySend, B: Drop, D: Drop>(
+        &mut self,
+        alloc: Global,
+        hub: &mut Hub<T, U, B, D>,
+        asked: &ServiceAsked,
+        attributes: &AttributeSpecifier,
+        steps: &[StepBefore],
+    ) -> Result<u64, Refusal>
+        requires number { self.old.made.next + 1 < 2 ^ 64 }
+        ensures creates { CreatesNumbered true (detail FixedSize T.name T.size T.alignment)
+            (detail FixedSize U.name U.size U.alignment) (types_of T.name T.size T.alignment U.name U.size U.alignment) asked.now
+            attributes.now steps.now self.old.made hub.old (Some result) self.new.made hub.new }
+        ensures settings_first { (failure : CreateFailure)
+            → IsUncreated (settings_of asked.now.options (types_of T.name T.size T.alignment U.name U.size U.alignment)) (Some failure)
+            → (result ≡ Err (create_refused asked.now.options failure)) × (self.new.made ≡ self.old.made) × (hub.new ≡ hub.old) }
+    {
+        match uncreated::<T, U>(asked, attributes) {
+            Some(failure) => Err(create_refused(&asked.options, failure)),
+            None => self.create_accepted(alloc, hub, asked, attributes, steps),
+        }
+    }
+
+    // The same, where the node is there and the settings aren't refused.
+    fn create_accepted<T: Words + ZeroCopySend, U: Copy + ZeroCopySend, B: Drop, D: Drop>(
+        &mut self,
+        alloc: Global,
+        hub: &mut Hub<T, U, B, D>,
+        asked: &ServiceAsked,
+        attributes: &AttributeSpecifier,
+        steps: &[StepBefore],
+    ) -> Result<u64, Refusal>
+        requires number { self.old.made.next + 1 < 2 ^ 64 }
+        ensures { CreatesNumbered true (detail FixedSize T.name T.size T.alignment) (detail FixedSize U.name U.size U.alignment)
+            (types_of T.name T.size T.alignment U.name U.size U.alignment) asked.now attributes.now steps.now self.old.made hub.old
+            (Some result) self.new.made hub.new }
+    {
         let types = message_types::<T, U>();
         match self.prepare(alloc, &asked.name, &types, steps) {
-            Ok(lists) => Some(self.create_prepared(alloc, hub, asked, types, attributes, lists)),
-            Err(_) => Some(Err(create_lacking(&asked.options))),
+            Ok(lists) => self.create_prepared(alloc, hub, asked, types, attributes, lists),
+            Err(_) => Err(create_lacking(&asked.options)),
         }
     }
 
@@ -66,7 +118,8 @@ impl Factories {
     ) -> Result<u64, Refusal>
         requires room { length self.old.made.entries < self.old.made.room }
         requires number { self.old.made.next + 1 < 2 ^ 64 }
-        ensures { CreatesAs asked.now.options (detail FixedSize T.name T.size T.alignment) (detail FixedSize U.name U.size U.alignment) types asked.now.node asked.now.name attributes.now lists.items self.old.made hub.old result self.new.made hub.new }
+        ensures { CreatesAs asked.now.options (detail FixedSize T.name T.size T.alignment) (detail FixedSize U.name U.size U.alignment)
+            types asked.now.node asked.now.name attributes.now lists.items self.old.made hub.old result self.new.made hub.new }
     {
         let builder = Builder::of_hub(hub.id(), asked.node, asked.name);
         match &asked.options {
@@ -96,7 +149,9 @@ impl Factories {
         requires hub { builder.hub ≡ hub.old.table.id }
         requires room { length self.old.made.entries < self.old.made.room }
         requires number { self.old.made.next + 1 < 2 ^ 64 }
-        ensures { CreatesAs (service.PublishSubscribe options.now) (detail FixedSize T.name T.size T.alignment) (detail FixedSize U.name U.size U.alignment) types builder.node builder.name attributes.now lists.items self.old.made hub.old result self.new.made hub.new }
+        ensures { CreatesAs (service.PublishSubscribe options.now) (detail FixedSize T.name T.size T.alignment)
+            (detail FixedSize U.name U.size U.alignment) types builder.node builder.name attributes.now lists.items self.old.made
+            hub.old result self.new.made hub.new }
     {
         let builder = builder.with_requirement::<PublishSubscribe>(publish_subscribe(
             options, types,
@@ -120,7 +175,9 @@ impl Factories {
         requires hub { builder.hub ≡ hub.old.table.id }
         requires room { length self.old.made.entries < self.old.made.room }
         requires number { self.old.made.next + 1 < 2 ^ 64 }
-        ensures { CreatesAs (service.Event options.now) (detail FixedSize T.name T.size T.alignment) (detail FixedSize U.name U.size U.alignment) (types_of T.name T.size T.alignment U.name U.size U.alignment) builder.node builder.name attributes.now lists.items self.old.made hub.old result self.new.made hub.new }
+        ensures { CreatesAs (service.Event options.now) (detail FixedSize T.name T.size T.alignment)
+            (detail FixedSize U.name U.size U.alignment) (types_of T.name T.size T.alignment U.name U.size U.alignment) builder.node
+            builder.name attributes.now lists.items self.old.made hub.old result self.new.made hub.new }
     {
         let builder = builder.with_requirement::<Event>(event(options));
         match builder.create_with_attributes_in(alloc, attributes, hub, lists) {
@@ -143,7 +200,9 @@ impl Factories {
         requires hub { builder.hub ≡ hub.old.table.id }
         requires room { length self.old.made.entries < self.old.made.room }
         requires number { self.old.made.next + 1 < 2 ^ 64 }
-        ensures { CreatesAs (service.RequestResponse options.now) (detail FixedSize T.name T.size T.alignment) (detail FixedSize U.name U.size U.alignment) types builder.node builder.name attributes.now lists.items self.old.made hub.old result self.new.made hub.new }
+        ensures { CreatesAs (service.RequestResponse options.now) (detail FixedSize T.name T.size T.alignment)
+            (detail FixedSize U.name U.size U.alignment) types builder.node builder.name attributes.now lists.items self.old.made
+            hub.old result self.new.made hub.new }
     {
         let builder = builder.with_requirement::<RequestResponse>(request_response(options, types));
         match builder.create_with_attributes_in(alloc, attributes, hub, lists) {

@@ -44,7 +44,9 @@ impl Factories {
         steps: &[StepBefore],
     ) -> Option<Result<u64, Refusal>>
         requires number { self.old.made.next + 1 < 2 ^ 64 }
-        ensures { EitherNumbered (is_node asked.now.node hub.old.nodes) (detail FixedSize T.name T.size T.alignment) (detail FixedSize U.name U.size U.alignment) (types_of T.name T.size T.alignment U.name U.size U.alignment) asked.now attributes steps.now self.old.made hub.old result self.new.made hub.new }
+        ensures { EitherNumbered (is_node asked.now.node hub.old.nodes) (detail FixedSize T.name T.size T.alignment)
+            (detail FixedSize U.name U.size U.alignment) (types_of T.name T.size T.alignment U.name U.size U.alignment) asked.now
+            attributes steps.now self.old.made hub.old result self.new.made hub.new }
     {
         if !hub.has_node(asked.node) {
             return None;
@@ -68,7 +70,8 @@ impl Factories {
     ) -> Result<u64, Refusal>
         requires room { length self.old.made.entries < self.old.made.room }
         requires number { self.old.made.next + 1 < 2 ^ 64 }
-        ensures { EitherAs asked.now.options (detail FixedSize T.name T.size T.alignment) (detail FixedSize U.name U.size U.alignment) types asked.now.node asked.now.name attributes lists.items self.old.made hub.old result self.new.made hub.new }
+        ensures { EitherAs asked.now.options (detail FixedSize T.name T.size T.alignment) (detail FixedSize U.name U.size U.alignment)
+            types asked.now.node asked.now.name attributes lists.items self.old.made hub.old result self.new.made hub.new }
     {
         let builder = Builder::of_hub(hub.id(), asked.node, asked.name);
         match &asked.options {
@@ -103,7 +106,9 @@ impl Factories {
         requires hub { builder.hub ≡ hub.old.table.id }
         requires room { length self.old.made.entries < self.old.made.room }
         requires number { self.old.made.next + 1 < 2 ^ 64 }
-        ensures { EitherAs (service.PublishSubscribe options.now) (detail FixedSize T.name T.size T.alignment) (detail FixedSize U.name U.size U.alignment) types builder.node builder.name attributes lists.items self.old.made hub.old result self.new.made hub.new }
+        ensures { EitherAs (service.PublishSubscribe options.now) (detail FixedSize T.name T.size T.alignment)
+            (detail FixedSize U.name U.size U.alignment) types builder.node builder.name attributes lists.items self.old.made hub.old
+            result self.new.made hub.new }
     {
         let builder = builder.with_requirement::<PublishSubscribe>(publish_subscribe(
             options, types,
@@ -127,7 +132,9 @@ impl Factories {
         requires hub { builder.hub ≡ hub.old.table.id }
         requires room { length self.old.made.entries < self.old.made.room }
         requires number { self.old.made.next + 1 < 2 ^ 64 }
-        ensures { EitherAs (service.Event options.now) (detail FixedSize T.name T.size T.alignment) (detail FixedSize U.name U.size U.alignment) (types_of T.name T.size T.alignment U.name U.size U.alignment) builder.node builder.name attributes lists.items self.old.made hub.old result self.new.made hub.new }
+        ensures { EitherAs (service.Event options.now) (detail FixedSize T.name T.size T.alignment)
+            (detail FixedSize U.name U.size U.alignment) (types_of T.name T.size T.alignment U.name U.size U.alignment) builder.node
+            builder.name attributes lists.items self.old.made hub.old result self.new.made hub.new }
     {
         let builder = builder.with_requirement::<Event>(event(options));
         match builder.open_or_create_with_attributes_in(alloc, attributes, hub, lists) {
@@ -155,7 +162,9 @@ impl Factories {
         requires hub { builder.hub ≡ hub.old.table.id }
         requires room { length self.old.made.entries < self.old.made.room }
         requires number { self.old.made.next + 1 < 2 ^ 64 }
-        ensures { EitherAs (service.RequestResponse options.now) (detail FixedSize T.name T.size T.alignment) (detail FixedSize U.name U.size U.alignment) types builder.node builder.name attributes lists.items self.old.made hub.old result self.new.made hub.new }
+        ensures { EitherAs (service.RequestResponse options.now) (detail FixedSize T.name T.size T.alignment)
+            (detail FixedSize U.name U.size U.alignment) types builder.node builder.name attributes lists.items self.old.made hub.old
+            result self.new.made hub.new }
     {
         let builder = builder.with_requirement::<RequestResponse>(request_response(options, types));
         match builder.open_or_create_with_attributes_in(alloc, attributes, hub, lists) {

@@ -1,5 +1,5 @@
 //! The table: which factory goes by a number.
-ghost use Rattle.std.specs.Prelude.{◌≡◌, ◌+◌, ◌<◌, ◌^◌, length, option_map};
+ghost use Rattle.std.specs.Prelude.{◌≡◌, ◌+◌, ◌<◌, ◌^◌, length, option_map, OnOk};
 ghost use Rattle.std.specs.Result.{result_map_both};
 ghost use Rattle.iox_hub_commands.specs.Describe.Within.{HasForm};
 ghost use Rattle.iox_maps.specs.NumberTable.{value_at, inserted};
@@ -39,7 +39,8 @@ impl Factories {
 
     /// The factory of a publish-subscribe service that goes by a number, if one does.
     pub fn publish_subscribe(&self, number: u64) -> Option<&PortFactory<PublishSubscribe>>
-        ensures { option_map (λ factory. (factory.now.service.membership, factory.now.owner)) result ≡ publish_subscribe_in (value_at self.now.made number) }
+        ensures { option_map (λ factory. (factory.now.service.membership, factory.now.owner)) result
+            ≡ publish_subscribe_in (value_at self.now.made number) }
     {
         match self.made.get(number) {
             Some(MadeFactory::PublishSubscribe(factory)) => Some(factory),
@@ -56,7 +57,9 @@ impl Factories {
         types: &MessageTypeDetails,
         steps: &[StepBefore],
     ) -> Result<Vec<StepList>, AllocError>
-        ensures { Prepares name.now types.now steps.now self.old.made (result_map_both (λ lists. lists.items) (λ lacking. lacking) result) self.new.made }
+        ensures prepares { Prepares name.now types.now steps.now self.old.made
+            (result_map_both (λ lists. lists.items) (λ lacking. lacking) result) self.new.made }
+        ensures room { OnOk result (length self.new.made.entries < self.new.made.room) }
     {
         self.make_room()?;
         step_lists(alloc, name, types, steps)

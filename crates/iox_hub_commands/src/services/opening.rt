@@ -42,7 +42,9 @@ impl Factories {
         steps: &[StepBefore],
     ) -> Option<Result<u64, Refusal>>
         requires number { self.old.made.next + 1 < 2 ^ 64 }
-        ensures { OpensNumbered (is_node asked.now.node hub.old.nodes) (detail FixedSize T.name T.size T.alignment) (detail FixedSize U.name U.size U.alignment) (types_of T.name T.size T.alignment U.name U.size U.alignment) asked.now attributes steps.now self.old.made hub.old result self.new.made hub.new }
+        ensures { OpensNumbered (is_node asked.now.node hub.old.nodes) (detail FixedSize T.name T.size T.alignment)
+            (detail FixedSize U.name U.size U.alignment) (types_of T.name T.size T.alignment U.name U.size U.alignment) asked.now
+            attributes steps.now self.old.made hub.old result self.new.made hub.new }
     {
         if !hub.has_node(asked.node) {
             return None;
@@ -66,7 +68,8 @@ impl Factories {
     ) -> Result<u64, Refusal>
         requires room { length self.old.made.entries < self.old.made.room }
         requires number { self.old.made.next + 1 < 2 ^ 64 }
-        ensures { OpensAs asked.now.options (detail FixedSize T.name T.size T.alignment) (detail FixedSize U.name U.size U.alignment) types asked.now.node asked.now.name attributes lists.items self.old.made hub.old result self.new.made hub.new }
+        ensures { OpensAs asked.now.options (detail FixedSize T.name T.size T.alignment) (detail FixedSize U.name U.size U.alignment)
+            types asked.now.node asked.now.name attributes lists.items self.old.made hub.old result self.new.made hub.new }
     {
         let builder = Builder::of_hub(hub.id(), asked.node, asked.name);
         match &asked.options {
@@ -96,7 +99,9 @@ impl Factories {
         requires hub { builder.hub ≡ hub.old.table.id }
         requires room { length self.old.made.entries < self.old.made.room }
         requires number { self.old.made.next + 1 < 2 ^ 64 }
-        ensures { OpensAs (service.PublishSubscribe options.now) (detail FixedSize T.name T.size T.alignment) (detail FixedSize U.name U.size U.alignment) types builder.node builder.name attributes lists.items self.old.made hub.old result self.new.made hub.new }
+        ensures { OpensAs (service.PublishSubscribe options.now) (detail FixedSize T.name T.size T.alignment)
+            (detail FixedSize U.name U.size U.alignment) types builder.node builder.name attributes lists.items self.old.made hub.old
+            result self.new.made hub.new }
     {
         let builder = builder.with_requirement::<PublishSubscribe>(publish_subscribe(
             options, types,
@@ -120,7 +125,9 @@ impl Factories {
         requires hub { builder.hub ≡ hub.old.table.id }
         requires room { length self.old.made.entries < self.old.made.room }
         requires number { self.old.made.next + 1 < 2 ^ 64 }
-        ensures { OpensAs (service.Event options.now) (detail FixedSize T.name T.size T.alignment) (detail FixedSize U.name U.size U.alignment) (types_of T.name T.size T.alignment U.name U.size U.alignment) builder.node builder.name attributes lists.items self.old.made hub.old result self.new.made hub.new }
+        ensures { OpensAs (service.Event options.now) (detail FixedSize T.name T.size T.alignment)
+            (detail FixedSize U.name U.size U.alignment) (types_of T.name T.size T.alignment U.name U.size U.alignment) builder.node
+            builder.name attributes lists.items self.old.made hub.old result self.new.made hub.new }
     {
         let builder = builder.with_requirement::<Event>(event(options));
         match builder.open_with_attributes_in(alloc, attributes, hub, lists) {
@@ -143,7 +150,9 @@ impl Factories {
         requires hub { builder.hub ≡ hub.old.table.id }
         requires room { length self.old.made.entries < self.old.made.room }
         requires number { self.old.made.next + 1 < 2 ^ 64 }
-        ensures { OpensAs (service.RequestResponse options.now) (detail FixedSize T.name T.size T.alignment) (detail FixedSize U.name U.size U.alignment) types builder.node builder.name attributes lists.items self.old.made hub.old result self.new.made hub.new }
+        ensures { OpensAs (service.RequestResponse options.now) (detail FixedSize T.name T.size T.alignment)
+            (detail FixedSize U.name U.size U.alignment) types builder.node builder.name attributes lists.items self.old.made hub.old
+            result self.new.made hub.new }
     {
         let builder = builder.with_requirement::<RequestResponse>(request_response(options, types));
         match builder.open_with_attributes_in(alloc, attributes, hub, lists) {

@@ -17,8 +17,10 @@ pub fn end<T: Copy, U: Copy, B, D>(
     publishers: Vec<LanePublisher>,
     subscribers: Vec<LaneSubscriber>,
 ) -> Result<Domain<T, U, B, D>, (EndError, DomainThreads<T, U, B, D>)>
-    ensures ended { IfOk result (λ domain. AreAll board.board publishers.items subscribers.items × IsEnded board.publishers board.domain domain) }
-    ensures refused { IfErr result (λ refused. (AreAll board.board publishers.items subscribers.items → ⊥) × (refused.1 ≡ record { board = board; publishers = publishers; subscribers = subscribers })) }
+    ensures ended { IfOk result (λ domain. AreAll board.board publishers.items subscribers.items
+        × IsEnded board.publishers board.domain domain) }
+    ensures refused { IfErr result (λ refused. (AreAll board.board publishers.items subscribers.items → ⊥)
+        × (refused.1 ≡ record { board = board; publishers = publishers; subscribers = subscribers })) }
 {
     let DomainBoard {
         board,

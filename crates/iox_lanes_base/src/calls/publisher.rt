@@ -163,8 +163,8 @@ impl PublisherCall {
         }
     }
 
-    /// Goes on after the answer of that access, and tells what it changes of what the publisher keeps for itself. `routes` are the publisher's connections,
-    /// `words` those that a write or a send stores.
+    /// Goes on after the answer of that access, and tells what it changes of what the publisher keeps for itself. `routes` are
+    /// the publisher's connections, `words` those that a write or a send stores.
     #[inline(always)]
     pub fn take(&mut self, answer: u64, routes: &[Route], words: &[u64]) -> PublisherChange
         ensures call { self.new ≡ publisher_take routes.now words.now self.old answer }

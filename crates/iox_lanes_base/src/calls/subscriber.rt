@@ -134,8 +134,8 @@ impl SubscriberCall {
         }
     }
 
-    /// Goes on after the answer of that access, and tells what it changes of what the subscriber keeps for itself. `routes` are the subscriber's connections,
-    /// `borrowed` how many samples of each are borrowed, of at most `most`.
+    /// Goes on after the answer of that access, and tells what it changes of what the subscriber keeps for itself. `routes` are
+    /// the subscriber's connections, `borrowed` how many samples of each are borrowed, of at most `most`.
     #[inline(always)]
     pub fn take(
         &mut self,

@@ -32,7 +32,8 @@ impl Message {
         table: &WordTable,
     ) -> Result<Message, AllocError>
         requires { slot < table.now.sizes.slots }
-        ensures { IfOk result (λ made. made ≡ record { publisher = publisher; slot = slot; words = head.now ++ payload_held table.now slot }) }
+        ensures { IfOk result (λ made. made
+            ≡ record { publisher = publisher; slot = slot; words = head.now ++ payload_held table.now slot }) }
     {
         let mut words = Vec::from_slice(alloc, head)?;
         words.extend_from_slice(&payload(alloc, slot, table)?)?;
@@ -57,8 +58,8 @@ impl Message {
         self.slot
     }
 
-    /// The words of its header (three: the node, the publisher, the number of elements), of its user header and of its payload, one behind the other, as a read of it gives
-    /// them.
+    /// The words of its header (three: the node, the publisher, the number of elements), of its user header and of its payload,
+    /// one behind the other, as a read of it gives them.
     pub fn words(&self) -> &[u64]
         ensures { result.now ≡ self.now.words }
     {

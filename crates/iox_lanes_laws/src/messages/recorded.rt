@@ -8,7 +8,8 @@ use iox_queues_steps::Stepped;
 use std::alloc::{AllocError, Global};
 use std::marker::Model;
 
-/// Lanes with the messages that were sent on them since they were handed in: each has the next number, from 0 on, as its send begins. This port's own.
+/// Lanes with the messages that were sent on them since they were handed in: each has the next number, from 0 on, as its send
+/// begins. This port's own.
 #[derive(Drop)]
 pub struct RecordedLanes {
     alloc: Global,
@@ -42,8 +43,8 @@ impl RecordedLanes {
         }
     }
 
-    /// Makes a step of the lanes, as `Lanes::step`. Where it begins a send, the message is kept behind the others, as it is then: later stores change nothing of it. Answers
-    /// `NoMemory`, with nothing changed, also where no memory is found for that.
+    /// Makes a step of the lanes, as `Lanes::step`. Where it begins a send, the message is kept behind the others, as it is then:
+    /// later stores change nothing of it. Answers `NoMemory`, with nothing changed, also where no memory is found for that.
     pub fn step(&mut self, party: Party, step: &Move) -> Stepped
         ensures { RecordsTo self.old party step.now result self.new }
     {
@@ -85,8 +86,10 @@ impl RecordedLanes {
 
     // The message whose send a step begins, if it fits and begins one. An allocation fails only where it does.
     fn begun(&self, party: Party, step: &Move) -> Result<Option<Message>, AllocError>
-        ensures ok { IfOk result (λ begun. option_to_list begun ≡ (if fits self.now.lanes party step.now then begun_messages self.now.lanes party step.now else [])) }
-        ensures err { OnErr result ((fits self.now.lanes party step.now ≡ true) × (0 < length (begun_messages self.now.lanes party step.now))) }
+        ensures ok { IfOk result (λ begun. option_to_list begun
+            ≡ (if fits self.now.lanes party step.now then begun_messages self.now.lanes party step.now else [])) }
+        ensures err { OnErr result ((fits self.now.lanes party step.now ≡ true)
+            × (0 < length (begun_messages self.now.lanes party step.now))) }
     {
         let Party::Publisher(place) = party else {
             return Ok(None);

@@ -62,7 +62,8 @@ fn restore_connections<T: Words, U: Words>(
     requires empty { (index : ℕ) → (connection_at index sender.old.uses).waiting ≡ [] }
     ensures rest { sender.new ≡ with_uses (record sender.old.uses { connections = sender.new.uses.connections }) sender.old }
     ensures count { length sender.new.uses.connections ≡ length sender.old.uses.connections }
-    ensures each { (index : ℕ) → connection_at index sender.new.uses ≡ with_waiting (connection_at index sender.old.uses) (connection_at index sender.new.uses).waiting }
+    ensures each { (index : ℕ) → connection_at index sender.new.uses
+        ≡ with_waiting (connection_at index sender.old.uses) (connection_at index sender.new.uses).waiting }
     ensures waits { (index : ℕ) → MayWaitAt lanes.now from first index sender.old (place_of index indices.now)
         → (connection_at index sender.new.uses).waiting ≡ left_at T.of_parts U.of_parts lanes.now from first (place_of index indices.now) }
     ensures left { AreLeft T.of_parts U.of_parts lanes.now.table first sender.new.uses }

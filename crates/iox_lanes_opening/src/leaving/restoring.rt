@@ -29,7 +29,8 @@ fn begin<T: Words, U: Words>(
     requires there { first + slot < table.now.sizes.slots }
     requires stands { MayStand slot sender.old }
     requires left { AreLeft T.of_parts U.of_parts table.now first sender.old.uses }
-    ensures sent { sender.new ≡ with_uses (record sender.old.uses { sending = Some (message_in T.of_parts U.of_parts table.now first slot) }) sender.old }
+    ensures sent { sender.new ≡ with_uses
+        (record sender.old.uses { sending = Some (message_in T.of_parts U.of_parts table.now first slot) }) sender.old }
     ensures room { vec_capacity one.new ≡ vec_capacity one.old }
 {
     // Slots are so few that their numbers have 64 bits.
@@ -56,7 +57,9 @@ fn put<T: Words, U: Words>(
     requires stands { MayStand slot sender.old }
     requires left { AreLeft T.of_parts U.of_parts table.now first sender.old.uses }
     requires live { (connection_at index sender.old.uses).stage ≡ stage.Live }
-    ensures put { sender.new ≡ with_uses (with_connection index (offered sender.old.uses.overflows (message_in T.of_parts U.of_parts table.now first slot) (connection_at index sender.old.uses)) sender.old.uses) sender.old }
+    ensures put { sender.new ≡ with_uses
+        (with_connection index (offered sender.old.uses.overflows (message_in T.of_parts U.of_parts table.now first slot)
+        (connection_at index sender.old.uses)) sender.old.uses) sender.old }
     ensures left { AreLeft T.of_parts U.of_parts table.now first sender.new.uses }
     ensures room { vec_capacity one.new ≡ vec_capacity one.old }
 {
@@ -152,7 +155,9 @@ pub fn restore_waiting<T: Words, U: Words>(
     requires quiet { IsQuiet sender.old }
     requires left { AreLeft T.of_parts U.of_parts lanes.now.table first sender.old.uses }
     requires empty { (connection_at index sender.old.uses).waiting ≡ [] }
-    ensures waits { MayWaitAll lanes.now connection first index sender.old → (connection_at index sender.new.uses).waiting ≡ messages_in T.of_parts U.of_parts lanes.now.table first (mail_at lanes.now connection) }
+    ensures waits { MayWaitAll lanes.now connection first index sender.old
+        → (connection_at index sender.new.uses).waiting
+        ≡ messages_in T.of_parts U.of_parts lanes.now.table first (mail_at lanes.now connection) }
     ensures rest { OnlyWaits index sender.old sender.new }
     ensures left { AreLeft T.of_parts U.of_parts lanes.now.table first sender.new.uses }
     ensures room { vec_capacity one.new ≡ vec_capacity one.old }
@@ -200,7 +205,8 @@ pub fn restore_history<T: Words, U: Words>(
     requires quiet { IsQuiet sender.old }
     requires left { AreLeft T.of_parts U.of_parts table.now first sender.old.uses }
     requires empty { sender.old.uses.history ≡ [] }
-    ensures remembers { MayRememberAll table.now history.now first sender.old → sender.new.uses.history ≡ messages_in T.of_parts U.of_parts table.now first history.now }
+    ensures remembers { MayRememberAll table.now history.now first sender.old
+        → sender.new.uses.history ≡ messages_in T.of_parts U.of_parts table.now first history.now }
     ensures rest { OnlyRemembers sender.old sender.new }
     ensures left { AreLeft T.of_parts U.of_parts table.now first sender.new.uses }
     ensures room { vec_capacity one.new ≡ vec_capacity one.old }

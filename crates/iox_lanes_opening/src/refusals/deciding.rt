@@ -1,8 +1,8 @@
-//! Who decides by an object, and who waits at a full mailbox.
+//! Who decides by an object, and who waits or fails at a full mailbox.
 ghost use Rattle.std.specs.Prelude.{◌≡◌, option_copied};
 ghost use Rattle.std.specs.List.{list_any};
 ghost use Rattle.iox_domain.specs.Kept.{kept_under};
-ghost use Rattle.iox_lanes_opening.specs.Deciding.{asks_object, is_object, has_object, is_kept_object, has_handlers, is_retry, fixed_answer, would_wait, retries, is_retrying};
+ghost use Rattle.iox_lanes_opening.specs.Deciding.{asks_object, is_object, has_object, is_kept_object, has_handlers, is_failure, is_retry, fixed_answer, would_fail, would_wait, retries, is_retrying};
 
 use iox_domain::{Domain, Kept};
 use iox_domain_publisher::PublisherPort;
@@ -19,7 +19,8 @@ pub fn has_handlers<T: Copy, U: Copy>(domain: &Domain<T, U>) -> bool
 }
 
 fn has_publisher_handlers<T: Copy, U: Copy>(domain: &Domain<T, U>) -> bool
-    ensures { result ≡ list_any (λ entry. has_object (kept_under entry.0 domain.now.state.publisher_handlers)) domain.now.state.ports.publishers }
+    ensures { result ≡ list_any (λ entry. has_object (kept_under entry.0 domain.now.state.publisher_handlers))
+        domain.now.state.ports.publishers }
 {
     for (number, _port) in domain.state.ports.publishers.iter() {
         if has_object(domain.state.publisher_handlers.get(*number)) {
@@ -30,7 +31,8 @@ fn has_publisher_handlers<T: Copy, U: Copy>(domain: &Domain<T, U>) -> bool
 }
 
 fn has_subscriber_handlers<T: Copy, U: Copy>(domain: &Domain<T, U>) -> bool
-    ensures { result ≡ list_any (λ entry. is_kept_object (kept_under entry.0 domain.now.state.subscriber_handlers)) domain.now.state.ports.subscribers }
+    ensures { result ≡ list_any (λ entry. is_kept_object (kept_under entry.0 domain.now.state.subscriber_handlers))
+        domain.now.state.ports.subscribers }
 {
     for (number, _port) in domain.state.ports.subscribers.iter() {
         if is_kept_object(domain.state.subscriber_handlers.get(*number)) {
@@ -125,6 +127,28 @@ fn is_retry(decision: BackpressureDecision) -> bool
     match decision {
         BackpressureDecision::Retry => true,
         BackpressureDecision::DiscardData | BackpressureDecision::DiscardDataAndFail => false,
+    }
+}
+
+/// Whether a send fails at a full mailbox: where the fixed action is to pass over and fail.
+pub fn would_fail(handlers: Option<&Handlers>) -> bool
+    ensures { result ≡ would_fail (option_copied handlers.entry) }
+{
+    match handlers {
+        Some(handlers) => is_failure(decision(
+            handlers.strategy,
+            fixed_answer(&handlers.backpressure),
+        )),
+        None => false,
+    }
+}
+
+fn is_failure(decision: BackpressureDecision) -> bool
+    ensures { result ≡ is_failure decision }
+{
+    match decision {
+        BackpressureDecision::Retry | BackpressureDecision::DiscardData => false,
+        BackpressureDecision::DiscardDataAndFail => true,
     }
 }
 

@@ -10,7 +10,8 @@ use iox_lanes_base::words::SharedAccess;
 use std::alloc::{AllocError, Global};
 use std::marker::Model;
 
-/// A publisher: its connections in place order, what its slots are used for, the words that its write or send stores, and the call that it is in.
+/// A publisher: its connections in place order, what its slots are used for, the words that its write or send stores, and the
+/// call that it is in.
 ///
 /// All its memory is taken when it is made.
 #[derive(Drop)]
@@ -40,7 +41,8 @@ impl Model for LanePublisher {
 }
 
 impl LanePublisher {
-    /// A publisher with these connections and slots, whose payloads and headers have so many words. It fails only where an allocation fails.
+    /// A publisher with these connections and slots, whose payloads and headers have so many words. It fails only where an
+    /// allocation fails.
     pub fn new(
         alloc: Global,
         routes: &[Route],

@@ -28,7 +28,8 @@ pub enum LoanAnswer {
     OutOfMemory,
 }
 
-/// What the slots of a publisher are used for: its loans, its history, and what it put into the rings of its connections and didn't get back.
+/// What the slots of a publisher are used for: its loans, its history, and what it put into the rings of its connections and
+/// didn't get back.
 ///
 /// All its memory is taken when it is made. Slots go by their numbers in the service; those of the publisher begin at `first`.
 #[derive(Drop)]
@@ -170,7 +171,8 @@ impl SlotBook {
             )
     }
 
-    /// Whether a slot may be found to be the newest of the history: it is one of this publisher's, does not stand there yet, and fewer do than may.
+    /// Whether a slot may be found to be the newest of the history: it is one of this publisher's, does not stand there yet, and
+    /// fewer do than may.
     pub fn may_remember(&self, slot: u64) -> bool
         ensures { result ≡ may_remember slot self.now }
     {

@@ -1,4 +1,4 @@
-use Rattle.iox_machine.proofs.OrderLaws.{received-was-sent}
+use Rattle.iox_machine.proofs.Taken.{received-was-sent}
 use Rattle.iox_machine.proofs.received_was_sent.Goals as goal
 
 pub returns : goal.returns

@@ -129,7 +129,8 @@ impl<K: Eq, V, const CAPACITY: usize> FixedSizeFlatMap<K, V, CAPACITY> {
         ensures exists { (result ≡ Err FlatMapError.KeyAlreadyExists) ↔ IsSome (value_of K.eq key self.old) }
         ensures full { (result ≡ Err FlatMapError.IsFull) ↔ ((value_of K.eq key self.old ≡ None) × (self.old.free ≡ [])) }
         ensures accepted { IsOk result ↔ ((value_of K.eq key self.old ≡ None) × (self.old.free ≢ [])) }
-        ensures full_by_pairs { (result ≡ Err FlatMapError.IsFull) ↔ ((value_of K.eq key self.old ≡ None) × (length (pairs self.old.values) ≡ CAPACITY)) }
+        ensures full_by_pairs { (result ≡ Err FlatMapError.IsFull)
+            ↔ ((value_of K.eq key self.old ≡ None) × (length (pairs self.old.values) ≡ CAPACITY)) }
         ensures accepted_by_pairs { IsOk result ↔ ((value_of K.eq key self.old ≡ None) × (length (pairs self.old.values) < CAPACITY)) }
         ensures ok { OnOk result (IfSome (slice_get self.old.free 0) (λ place. self.new ≡ stored self.old place (key, value))) }
         ensures err { OnErr result (self.new ≡ self.old) }

@@ -200,9 +200,11 @@ impl<R: Rules<CAPACITY>, const CAPACITY: usize> Semantic<R, CAPACITY> {
     /// Removes `len` bytes from `idx` on and answers true, or answers false if the text hasn't them all. Refused with
     /// `InvalidContent` if the rules refuse the text without them.
     pub fn remove_range(&mut self, idx: usize, len: usize) -> Result<bool, SemanticStringError>
-        ensures within { idx + len ≤ length self.old → AnswersContent CAPACITY R.refuses_content R.refuses_characters (range_replaced self.old idx (idx + len) []) result }
+        ensures within { idx + len ≤ length self.old
+            → AnswersContent CAPACITY R.refuses_content R.refuses_characters (range_replaced self.old idx (idx + len) []) result }
         ensures past { length self.old < idx + len → result ≡ Ok false }
-        ensures ok { IfOk result (λ removed. (IsTrue removed ↔ (idx + len ≤ length self.old)) × OnTrue removed (self.new ≡ range_replaced self.old idx (idx + len) []) × OnFalse removed (self.new ≡ self.old)) }
+        ensures ok { IfOk result (λ removed. (IsTrue removed ↔ (idx + len ≤ length self.old))
+            × OnTrue removed (self.new ≡ range_replaced self.old idx (idx + len) []) × OnFalse removed (self.new ≡ self.old)) }
         ensures err { OnErr result (self.new ≡ self.old) }
     {
         let mut changed = self.content;
@@ -251,9 +253,11 @@ impl<R: Rules<CAPACITY>, const CAPACITY: usize> Semantic<R, CAPACITY> {
     /// Removes `bytes` from the start and answers true, or answers false if the text doesn't begin with them. Refused
     /// with `InvalidContent` if the rules refuse the rest.
     pub fn strip_prefix(&mut self, bytes: &[u8]) -> Result<bool, SemanticStringError>
-        ensures stripped { (rest : List ℕ) → self.old ≡ bytes.now ++ rest → AnswersContent CAPACITY R.refuses_content R.refuses_characters rest result }
+        ensures stripped { (rest : List ℕ) → self.old ≡ bytes.now ++ rest
+            → AnswersContent CAPACITY R.refuses_content R.refuses_characters rest result }
         ensures other { ((rest : List ℕ) → ¬ (self.old ≡ bytes.now ++ rest)) → result ≡ Ok false }
-        ensures ok { IfOk result (λ stripped. OnTrue stripped (self.old ≡ bytes.now ++ self.new) × OnFalse stripped ((self.new ≡ self.old) × ((rest : List ℕ) → ¬ (self.old ≡ bytes.now ++ rest)))) }
+        ensures ok { IfOk result (λ stripped. OnTrue stripped (self.old ≡ bytes.now ++ self.new)
+            × OnFalse stripped ((self.new ≡ self.old) × ((rest : List ℕ) → ¬ (self.old ≡ bytes.now ++ rest)))) }
         ensures err { OnErr result (self.new ≡ self.old) }
     {
         let mut changed = self.content;
@@ -267,9 +271,11 @@ impl<R: Rules<CAPACITY>, const CAPACITY: usize> Semantic<R, CAPACITY> {
     /// Removes `bytes` from the end and answers true, or answers false if the text doesn't end with them. Refused with
     /// `InvalidContent` if the rules refuse the rest.
     pub fn strip_suffix(&mut self, bytes: &[u8]) -> Result<bool, SemanticStringError>
-        ensures stripped { (rest : List ℕ) → self.old ≡ rest ++ bytes.now → AnswersContent CAPACITY R.refuses_content R.refuses_characters rest result }
+        ensures stripped { (rest : List ℕ) → self.old ≡ rest ++ bytes.now
+            → AnswersContent CAPACITY R.refuses_content R.refuses_characters rest result }
         ensures other { ((rest : List ℕ) → ¬ (self.old ≡ rest ++ bytes.now)) → result ≡ Ok false }
-        ensures ok { IfOk result (λ stripped. OnTrue stripped (self.old ≡ self.new ++ bytes.now) × OnFalse stripped ((self.new ≡ self.old) × ((rest : List ℕ) → ¬ (self.old ≡ rest ++ bytes.now)))) }
+        ensures ok { IfOk result (λ stripped. OnTrue stripped (self.old ≡ self.new ++ bytes.now)
+            × OnFalse stripped ((self.new ≡ self.old) × ((rest : List ℕ) → ¬ (self.old ≡ rest ++ bytes.now)))) }
         ensures err { OnErr result (self.new ≡ self.old) }
     {
         let mut changed = self.content;

@@ -24,7 +24,9 @@ use iox_queues_steps::{End, Memory, PushAnswer};
 /// four accesses.
 #[inline(always)]
 pub(crate) fn push_refusing<M: Memory>(memory: &mut M, limit: u64, value: u64) -> bool
-    ensures { (given : List ℕ) × (end : _) × Runs M.answers refusing.push_next refusing.push_take refusing.push_is_over given memory.old (refusing_push.Begun limit value) memory.new end
+    ensures { (given : List ℕ) × (end : _)
+        × Runs M.answers refusing.push_next refusing.push_take refusing.push_is_over given memory.old (refusing_push.Begun limit value)
+        memory.new end
         × (refusing.push_is_over end ≡ false → length given ≡ 4) × (result ≡ is_kept end) }
 {
     let push = run(RefusingPush::begin(limit, value), memory, 4);
@@ -40,7 +42,8 @@ pub(crate) fn push_refusing<M: Memory>(memory: &mut M, limit: u64, value: u64) -
 /// Takes the oldest number out; None if nothing waits. At most four accesses.
 #[inline(always)]
 pub(crate) fn pop_refusing<M: Memory>(memory: &mut M) -> Option<u64>
-    ensures { (given : List ℕ) × (end : _) × Runs M.answers refusing.pop_next refusing.pop_take refusing.pop_is_over given memory.old refusing_pop.Begun memory.new end
+    ensures { (given : List ℕ) × (end : _)
+        × Runs M.answers refusing.pop_next refusing.pop_take refusing.pop_is_over given memory.old refusing_pop.Begun memory.new end
         × (refusing.pop_is_over end ≡ false → length given ≡ 4) × (result ≡ popped end) }
 {
     match run(RefusingPop::begin(), memory, 4) {
@@ -53,7 +56,9 @@ pub(crate) fn pop_refusing<M: Memory>(memory: &mut M) -> Option<u64>
 /// wait. At most six accesses.
 #[inline(always)]
 pub(crate) fn push_overflowing<M: Memory>(memory: &mut M, limit: u64, value: u64) -> Option<u64>
-    ensures { (given : List ℕ) × (end : _) × Runs M.answers overflowing.push_next overflowing.push_take overflowing.push_is_over given memory.old (overflowing_push.Begun limit value) memory.new end
+    ensures { (given : List ℕ) × (end : _)
+        × Runs M.answers overflowing.push_next overflowing.push_take overflowing.push_is_over given memory.old
+        (overflowing_push.Begun limit value) memory.new end
         × (overflowing.push_is_over end ≡ false → length given ≡ 6) × (result ≡ left_by end) }
 {
     match run(OverflowingPush::begin(limit, value), memory, 6) {
@@ -69,7 +74,9 @@ pub(crate) fn push_overflowing<M: Memory>(memory: &mut M, limit: u64, value: u64
 /// positions, then a load of a cell and an exchange each turn.
 #[inline(always)]
 pub(crate) fn pop_overflowing<M: Memory>(memory: &mut M) -> Option<u64>
-    ensures { (given : List ℕ) × (end : _) × Runs M.answers overflowing.pop_next overflowing.pop_take overflowing.pop_is_over given memory.old overflowing_pop.Begun memory.new end
+    ensures { (given : List ℕ) × (end : _)
+        × Runs M.answers overflowing.pop_next overflowing.pop_take overflowing.pop_is_over given memory.old overflowing_pop.Begun
+        memory.new end
         × (overflowing.pop_is_over end ≡ false → length given ≡ 2 ^ 21 + 2) × (result ≡ taken end) }
 {
     match run(OverflowingPop::begin(), memory, 2 * LOST_TURNS + 2) {
@@ -81,7 +88,8 @@ pub(crate) fn pop_overflowing<M: Memory>(memory: &mut M) -> Option<u64>
 /// Stores the value that the memory holds: three accesses.
 #[inline(always)]
 pub(crate) fn store_single<M: Memory>(memory: &mut M)
-    ensures { (given : List ℕ) × Runs M.answers store_next store_take store_is_over given memory.old storing.Begun memory.new storing.Stored }
+    ensures { (given : List ℕ) × Runs M.answers store_next store_take store_is_over given memory.old storing.Begun memory.new
+        storing.Stored }
 {
     run(Storing::Begun, memory, 3);
 }

@@ -1,5 +1,5 @@
 use Rattle.std.proofs.Common.{◌≡◌, ◌∷◌, ◌∙◌, None, length, ap, sym, arith}
-use Rattle.iox_line_base.specs.Words.{words_of}
+use Rattle.iox_line.specs.Words.{words_of}
 use Rattle.iox_line.specs.Reading.{if_of_port, of_words}
 use Rattle.iox_line.specs.Verbs.{verb_of}
 use Rattle.iox_line.proofs.LineLemmas.{words_length}

@@ -1,7 +1,7 @@
 use Rattle.std.proofs.Common.{◌∙◌, refl, sym}
-use Rattle.iox_line_base.specs.Command.declared.command.Command.TheVariants as command
-use Rattle.iox_line_base.specs.Memory.{some}
-use Rattle.iox_line_base.specs.AttributesReading.{specifier_of}
+use Rattle.iox_command.specs.declared.command.Command.TheVariants as command
+use Rattle.iox_line.specs.Memory.{some}
+use Rattle.iox_line.specs.AttributesReading.{specifier_of}
 use Rattle.iox_line.proofs.MemoryLemmas.{service_lacks}
 use Rattle.iox_line.proofs.service.create_line.Goals as goal
 

@@ -1,6 +1,6 @@
 use Rattle.std.proofs.Common.{◌∙◌, refl, sym}
-use Rattle.iox_line_base.specs.Command.declared.command.Command.TheVariants as command
-use Rattle.iox_line_base.specs.AttributesReading.{verifier_of, requires_some}
+use Rattle.iox_command.specs.declared.command.Command.TheVariants as command
+use Rattle.iox_line.specs.AttributesReading.{verifier_of, requires_some}
 use Rattle.iox_line.proofs.MemoryLemmas.{service_lacks}
 use Rattle.iox_line.proofs.service.open_or_create_line.Goals as goal
 

@@ -1,5 +1,5 @@
 use Rattle.std.proofs.Common.{◌≡◌, drop}
-use Rattle.iox_line_base.specs.Words.{same}
+use Rattle.iox_line.specs.Words.{same}
 use Rattle.iox_line.proofs.verb.is.Given as goal
 
 abbrev pub invariant-loop-place : goal.invariant-loop-place

@@ -1,6 +1,7 @@
-use Rattle.std.proofs.Common.{rules}
+use Rattle.std.proofs.Common.{rules, subst}
 use Rattle.iox_negotiate_base.specs.DescribeBase.Hash.{service_hash_of}
 use Rattle.iox_negotiate_base.specs.DescribeSettings.Agreement.{agreement}
+use Rattle.iox_negotiate_base.specs.Describe.Within.{IsWithinLimits}
 use Rattle.iox_negotiate.proofs.Moving.{either-as}
 use Rattle.iox_negotiate.proofs.builder.ServiceBuilder.opened_or_created.Goals as goal
 
@@ -12,6 +13,8 @@ returns g c =
     record {
       refusal = a.refusal;
       refused = c.new-asked.ensures.refusal;
+      within = λ none. subst (λ pairs. IsWithinLimits (agreement s.name (service_hash_of p.pattern s.name) (p.settings (p.adjusted (p.asked s.requirement))) pairs))
+          (search rules) (c.new-asked.ensures.within none);
       negotiated =
           either-as _ _ p.verdict _ _ _ _ _ _ _ _ _ _ _
           (agreement a.name (service_hash_of p.pattern a.name) (p.settings a.config) a.attributes.now)

@@ -1,12 +1,10 @@
-use Rattle.std.proofs.Common.{◌∙◌, Ok, refl, sym}
+use Rattle.std.proofs.Common.{◌∙◌, sym, ap, Some}
 use Rattle.iox_hub_commands.proofs.services.factories.Factories.create.Goals as goal
 
-pub returns-in-Ok : goal.returns-in-Ok
-returns-in-Ok g c = rw (sym c.has_node.ensures ∙ c.if-not-has_node.false) (
-  Ok c.in-Ok.lists.items,
-  c.prepare.new.self.made,
-  c.create_prepared.result,
-  rw c.message_types-types.ensures at c.in-Ok.ensures,
-  rw c.message_types-types.ensures at c.create_prepared.ensures,
-  refl,
-)
+pub returns-clause-creates : goal.returns-clause-creates
+returns-clause-creates g c = rw (sym c.has_node.ensures ∙ c.if-not-has_node.false) c.create_there.ensures.creates
+
+pub returns-clause-settings_first : goal.returns-clause-settings_first
+returns-clause-settings_first g c is_there failure is =
+    let told = c.create_there.ensures.settings_first failure is in
+    (ap (λ reply. Some reply) told.0, told.1, told.2)

@@ -6,7 +6,7 @@ returns-in-Ok g c = rw (sym c.has_node.ensures ∙ c.if-not-has_node.false) (
   Ok c.in-Ok.lists.items,
   c.prepare.new.self.made,
   c.either_prepared.result,
-  rw c.message_types-types.ensures at c.in-Ok.ensures,
+  rw c.message_types-types.ensures at c.in-Ok.ensures.prepares,
   rw c.message_types-types.ensures at c.either_prepared.ensures,
   refl,
 )

@@ -1,0 +1,102 @@
+//! A publisher lends as many values as it is handed, writes them and sends them, at once.
+ghost use Rattle.std.specs.Prelude.{◌≡◌, true, false, None, Some, IsSome};
+ghost use Rattle.iox_domain_subscriber.specs.DomainValues.declared.degradation.DegradationCause.TheVariants as cause;
+ghost use Rattle.iox_domain_subscriber.specs.DomainPublisher.Loaning.{Loans};
+ghost use Rattle.iox_domain_subscriber.specs.Publishers.{port_of};
+ghost use Rattle.iox_domain.specs.Ports.{AtPublisher};
+ghost use Rattle.iox_domain.specs.PortsPublishing.{is_blocked};
+ghost use Rattle.iox_domain.specs.Putting.{PutsOne, PutsValues};
+
+use crate::ports::publishing::send_one;
+use crate::ports::roll::Roll;
+use crate::ports::service_ports::ServicePorts;
+use iox_domain_subscriber::{PublisherPort, Sent, SubscriberEntry};
+use iox_domain_values::{Decides, Degrades, LoanError, SendError};
+use std::alloc::Global;
+
+impl<T: Copy, U: Copy> ServicePorts<T, U> {
+    /// The publisher lends as many values, writes them and sends them: as `loan`, `write_from_slice` and `send` in turn, but its number
+    /// is looked up once. A loan that is refused is `SendError::LoanError`, and nothing is sent; `blank` fills a new segment.
+    ///
+    /// None, and nothing happens, where the number is none of a publisher that exists, and while a send of it waits.
+    ///
+    /// Ported from `iceoryx2::port::publisher::Publisher::send_copy`, for slices.
+    /// Example: `let sent = ports.put(alloc, number, &[7, 8], 0, handlers);`
+    pub fn put<B: Decides + Degrades>(
+        &mut self,
+        alloc: Global,
+        number: u64,
+        values: &[T],
+        blank: T,
+        handlers: &B,
+    ) -> Option<Result<Sent, SendError>>
+        ensures { AtPublisher number (PutsOne (B.degrades handlers.now cause.FailedToEstablishConnection) (B.decides handlers.now)
+            self.old.subscriber_list values.now) (port_of number self.old.publishers) self.old result self.new }
+    {
+        // One that exists stays, whatever it sends: no look at whether it is over.
+        let port = self.publishers.get_mut(number)?;
+        put_one(port, alloc, values, blank, &self.subscriber_list, handlers)
+    }
+}
+
+// A publisher puts values, if it exists and no send of it waits.
+#[tactic(auto, using(crate::proofs::Putting::puts_free, crate::proofs::Putting::puts_none))]
+fn put_one<T: Copy, U: Copy, B: Decides + Degrades>(
+    port: &mut PublisherPort<T, U>,
+    alloc: Global,
+    values: &[T],
+    blank: T,
+    list: &Roll<SubscriberEntry>,
+    handlers: &B,
+) -> Option<Result<Sent, SendError>>
+    ensures puts { PutsOne (B.degrades handlers.now cause.FailedToEstablishConnection) (B.decides handlers.now) list.now values.now
+        port.old result port.new }
+    ensures none { result ≡ None → port.new ≡ port.old }
+    ensures stands { IsSome result → port.new.stands ≡ true }
+{
+    if !port.stands || port.sender.is_sending() {
+        return None;
+    }
+    Some(put_free(port, alloc, values, blank, list, handlers))
+}
+
+// A publisher that exists, and of which no send waits, puts values.
+#[tactic(auto, using(crate::proofs::Putting::refused_stands))]
+fn put_free<T: Copy, U: Copy, B: Decides + Degrades>(
+    port: &mut PublisherPort<T, U>,
+    alloc: Global,
+    values: &[T],
+    blank: T,
+    list: &Roll<SubscriberEntry>,
+    handlers: &B,
+) -> Result<Sent, SendError>
+    requires stands { port.old.stands ≡ true }
+    requires free { is_blocked port.old ≡ false }
+    ensures puts { PutsValues (B.degrades handlers.now cause.FailedToEstablishConnection) (B.decides handlers.now) list.now values.now
+        port.old result port.new }
+    ensures stands { port.new.stands ≡ true }
+{
+    let slot = lend_free(port, alloc, values.len(), blank)?;
+    let _ = port.write_from_slice(slot, values);
+    match send_one(port, alloc, slot, list, handlers) {
+        Some(sent) => sent,
+        None => unreachable!(),
+    }
+}
+
+// A publisher of which no send waits lends a slot for so many values.
+fn lend_free<T: Copy, U: Copy>(
+    port: &mut PublisherPort<T, U>,
+    alloc: Global,
+    count: usize,
+    blank: T,
+) -> Result<usize, LoanError>
+    requires { is_blocked port.old ≡ false }
+    ensures { Loans port.old.allocation count count port.old (Some result) port.new }
+{
+    let allocation = port.allocation;
+    match port.loan(alloc, count, count as u64, allocation, blank) {
+        Some(lent) => lent,
+        None => unreachable!(),
+    }
+}

@@ -1,0 +1,43 @@
+-- How attributes are written in a line.
+use Rattle.std.specs.Prelude.{ℕ, ◌≤◌, ◌≡◌, Bool, true, not, List, ◌∷◌, ◌++◌, length, filter, map}
+use Rattle.iox_describe_base.specs.declared.attribute.Attribute.{Attribute}
+use Rattle.iox_describe_base.specs.Attributes.{Required}
+use Rattle.iox_line.specs.Words.{AllOf, lacks}
+use Rattle.iox_line.specs.Visible.{IsVisibleText}
+use Rattle.iox_line.specs.Letters.{at_sign, equals_sign}
+
+-- a pair: @KEY=VALUE
+abbrev pub pair_word : Attribute → List ℕ
+pair_word a = at_sign ∷ (a.key ++ equals_sign ∷ a.value)
+
+-- a key alone: @KEY
+abbrev pub key_word : List ℕ → List ℕ
+key_word key = at_sign ∷ key
+
+-- a key: 1 to 64 bytes of 0x21 to 0x7E, none of them =
+abbrev pub IsKey : List ℕ → Type 0
+IsKey key = IsVisibleText 1 64 key × (lacks equals_sign key ≡ true)
+
+-- a key, and a value of at most 256 bytes of 0x21 to 0x7E
+abbrev pub IsPair : Attribute → Type 0
+IsPair a = IsKey a.key × IsVisibleText 0 256 a.value
+
+-- at most eight pairs
+abbrev pub SpecifierFits : List Attribute → Type 0
+SpecifierFits pairs = (length pairs ≤ 8) × AllOf IsPair pairs
+
+-- at most eight pairs, and at most eight keys
+abbrev pub VerifierFits : Required → Type 0
+VerifierFits r = (length r.pairs ≤ 8) × AllOf IsPair r.pairs × (length r.keys ≤ 8) × AllOf IsKey r.keys
+
+-- whether there is a = in a word
+abbrev pub has_equals : List ℕ → Bool
+has_equals word = not (lacks equals_sign word)
+
+-- the words define these pairs, in their order
+abbrev pub Defines : List Attribute → List (List ℕ) → Type 0
+Defines pairs words = words ≡ map pair_word pairs
+
+-- the words require this: those with a = the pairs, in their order, and the others the keys, in theirs
+abbrev pub Requires : Required → List (List ℕ) → Type 0
+Requires r words = (filter has_equals words ≡ map pair_word r.pairs) × (filter (λ w. not (has_equals w)) words ≡ map key_word r.keys)

@@ -1,0 +1,108 @@
+-- How foreign steps are read, word for word.
+use Rattle.std.specs.Prelude.{ℕ, ◌==◌, Bool, true, false, nat_lt, List, [], ◌∷◌, Option, None, Some, codes, if◌then◌else◌}
+use Rattle.std.specs.Option.{option_map}
+use Rattle.iox_command.specs.DescribeBase.declared.pattern.MessagingPattern.{MessagingPattern}
+use Rattle.iox_command.specs.declared.service.ServiceOptions.{ServiceOptions}
+use Rattle.iox_command.specs.declared.step.ForeignStep.{ForeignStep}
+use Rattle.iox_command.specs.declared.step.ForeignStep.TheVariants as step
+use Rattle.iox_command.specs.declared.step.StepBefore.{StepBefore}
+use Rattle.iox_line.specs.Words.{before, beyond, pieces_left, choice}
+use Rattle.iox_line.specs.Numbers.{number_of, tagged}
+use Rattle.iox_line.specs.Options.{after}
+use Rattle.iox_line.specs.Memory.{prepend}
+use Rattle.iox_line.specs.Letters.{bar, colon, comma, foreign_letter}
+use Rattle.iox_line.specs.ServicesReading.{options_of}
+use Rattle.iox_line.specs.declared.steps.step.StepVerb.{StepVerb}
+use Rattle.iox_line.specs.declared.steps.step.StepVerb.TheVariants as verb
+
+-- how the verb of a step is written
+abbrev pub step_verb_word : StepVerb → List ℕ
+step_verb_word verb.Lock = codes "lock"
+step_verb_word verb.GiveUp = codes "giveup"
+step_verb_word verb.Publish = codes "publish"
+step_verb_word verb.Register = codes "register"
+step_verb_word verb.Leave = codes "leave"
+step_verb_word verb.Remove = codes "remove"
+
+-- each verb beside its text
+abbrev pub step_verbs : List (List ℕ × StepVerb)
+step_verbs = (codes "lock", verb.Lock) ∷ (codes "publish", verb.Publish) ∷ (codes "register", verb.Register) ∷ (codes "leave", verb.Leave)
+    ∷ (codes "remove", verb.Remove) ∷ (codes "giveup", verb.GiveUp) ∷ []
+
+-- the verb that a text is
+abbrev pub step_verb_of : List ℕ → Option StepVerb
+step_verb_of text = choice step_verbs text
+
+-- a node publishes, if it and the options are read
+abbrev pub published : Option ℕ → Option ServiceOptions → Option ForeignStep
+published None options = None
+published (Some node) None = None
+published (Some node) (Some options) = Some (step.Publish node options)
+
+-- the step of a verb and what stands after its colon
+abbrev pub step_at : MessagingPattern → StepVerb → List ℕ → Option ForeignStep
+step_at pattern verb.Lock text = option_map (λ n. step.Lock n) (tagged foreign_letter text)
+step_at pattern verb.GiveUp text = option_map (λ n. step.GiveUp n) (tagged foreign_letter text)
+step_at pattern verb.Publish text = published (tagged foreign_letter (before colon text))
+    (options_of pattern (pieces_left comma (beyond colon text)))
+step_at pattern verb.Register text = option_map (λ n. step.Register n) (tagged foreign_letter text)
+step_at pattern verb.Leave text = option_map (λ n. step.Leave n) (tagged foreign_letter text)
+step_at pattern verb.Remove text = option_map (λ n. step.Remove n) (tagged foreign_letter text)
+
+-- the same, if there is a verb and a colon
+abbrev pub step_with : MessagingPattern → Option StepVerb → Option (List ℕ) → Option ForeignStep
+step_with pattern None text = None
+step_with pattern (Some v) None = None
+step_with pattern (Some v) (Some text) = step_at pattern v text
+
+-- the step that a word is
+abbrev pub step_of : MessagingPattern → List ℕ → Option ForeignStep
+step_of pattern word = step_with pattern (step_verb_of (before colon word)) (beyond colon word)
+
+-- the steps that words are
+abbrev pub each_step : MessagingPattern → List (List ℕ) → Option (List ForeignStep)
+each_step pattern [] = Some []
+each_step pattern (w ∷ ws) = prepend (step_of pattern w) (each_step pattern ws)
+
+-- the same, if there is a word
+abbrev pub steps_of : MessagingPattern → List (List ℕ) → Option (List ForeignStep)
+steps_of pattern [] = None
+steps_of pattern (w ∷ ws) = each_step pattern (w ∷ ws)
+
+-- a step before an access
+abbrev pub step_before : ℕ → ForeignStep → StepBefore
+step_before access step = record { access = access; step = step }
+
+-- the number, if it is above that of the access
+abbrev pub above : ℕ → Option ℕ → Option ℕ
+above now None = None
+above now (Some i) = if nat_lt now i then Some i else None
+
+-- the access of a list that begins with this text, if the list before it has a step
+abbrev pub next_access : Bool → ℕ → List ℕ → Option ℕ
+next_access fresh now text = if fresh then None else above now (number_of text)
+
+-- the step that a word is, if a list has begun
+abbrev pub listed_step : MessagingPattern → ℕ → List ℕ → Option StepBefore
+listed_step pattern now word = if now == 0 then None else option_map (λ s. step_before now s) (step_of pattern word)
+
+-- what is made of a value, if there is one
+abbrev pub and_then : {A B : Type 0} → Option A → (A → Option B) → Option B
+and_then None make = None
+and_then (Some a) make = make a
+
+-- what begins a list, or what is one more step
+abbrev pub bar_or_step : {B : Type 0} → Option (List ℕ) → (List ℕ → Option B) → Option B → Option B
+bar_or_step None bar step = step
+bar_or_step (Some text) bar step = bar text
+
+-- the steps that words are, after the list of access `now` has begun; `fresh`, if it has no step yet
+abbrev pub lists_from : MessagingPattern → ℕ → Bool → List (List ℕ) → Option (List StepBefore)
+lists_from pattern now fresh [] = if fresh then None else Some []
+lists_from pattern now fresh (w ∷ ws)
+    = bar_or_step (after (bar ∷ []) w) (λ text. and_then (next_access fresh now text) (λ i. lists_from pattern i true ws))
+    (prepend (listed_step pattern now w) (lists_from pattern now false ws))
+
+-- the lists of steps that words are
+abbrev pub lists_of : MessagingPattern → List (List ℕ) → Option (List StepBefore)
+lists_of pattern words = lists_from pattern 0 false words

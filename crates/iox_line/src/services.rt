@@ -1,0 +1,21 @@
+//! How a line names a service: its node, its pattern and name, and the options of the pattern.
+//!
+//! How each is written is in `specs/Services.antt`.
+//!
+//! | Module | What it has |
+//! |---|---|
+//! | `value` | switches, numbers that may be off, patterns and names |
+//! | `options` | the options of each pattern |
+//! | `service` | the service that a line names |
+//!
+//! A first call. `read_command` makes it.
+//!
+//! ```
+//! let service = named_service(words)?;
+//! ```
+
+pub mod options;
+pub mod service;
+pub mod value;
+
+pub use service::{NamedService, named_service};

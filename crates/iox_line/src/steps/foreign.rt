@@ -1,0 +1,45 @@
+//! The steps of a line of their own.
+ghost use Rattle.std.specs.Prelude.{◌≡◌, [], ◌∷◌, ◌++◌, false};
+ghost use Rattle.iox_line.specs.Memory.{MayLack, some};
+ghost use Rattle.iox_line.specs.StepsReading.{steps_of};
+
+use crate::steps::step::step;
+use crate::text::Words;
+use iox_command::{ForeignStep, Steps};
+use iox_describe_base::MessagingPattern;
+use std::alloc::{AllocError, Global};
+
+/// The steps that these words are; `None` if a word is none, or there is no word.
+///
+/// Fails for memory, but only where the words are steps: where they aren't, this is found without memory.
+pub fn foreign_steps(
+    alloc: Global,
+    pattern: MessagingPattern,
+    words: Words,
+) -> Result<Option<Steps<ForeignStep>>, AllocError>
+    ensures { MayLack some (steps_of pattern words.entry) result }
+{
+    if words.is_empty() {
+        return Ok(None);
+    }
+    let mut words = words;
+    let mut steps = Steps::new();
+    let mut lacking = false;
+    while let Some(word) = words.next() {
+        let Some(step) = step(pattern, word) else {
+            return Ok(None);
+        };
+        lacking = append(alloc, step, &mut steps, lacking);
+    }
+    if lacking {
+        return Err(AllocError);
+    }
+    Ok(Some(steps))
+}
+
+/// Appends a step, unless an allocation failed; returns whether one failed so far. The reading goes on then, so that a fault is found.
+pub(crate) fn append<T: Copy>(alloc: Global, step: T, steps: &mut Steps<T>, lacking: bool) -> bool
+    ensures { result ≡ false → (lacking ≡ false) × (steps.new ≡ steps.old ++ step ∷ []) }
+{
+    lacking || steps.push(alloc, step).is_err()
+}

@@ -1,0 +1,37 @@
+//! Options of the form `key=value`, in any order.
+ghost use Rattle.std.specs.Prelude.{◌≡◌, ◌≤◌, MatchOption, None, Some};
+ghost use Rattle.std.specs.Option.{option_map};
+ghost use Rattle.iox_line.specs.Options.{after, find, one};
+
+use crate::text::words::Words;
+
+/// What follows the key in a word that begins with it.
+pub fn after<'a>(key: &[u8], word: &'a [u8]) -> Option<&'a [u8]>
+    ensures { option_map (λ text. text.now) result ≡ after key.now word.now }
+{
+    word.strip_prefix(key)
+}
+
+/// What follows the key in the first of the words that begins with it.
+pub fn find<'a>(key: &[u8], words: &Words<'a>) -> Option<&'a [u8]>
+    ensures { option_map (λ text. text.now) result ≡ find key.now words.now }
+{
+    let mut rest = words.again();
+    while let Some(word) = rest.next() {
+        if let Some(text) = after(key, word) {
+            return Some(text);
+        }
+    }
+    None
+}
+
+/// One where there is a value.
+pub fn one<T: Copy>(option: Option<T>) -> usize
+    ensures value { result ≡ one option }
+    ensures few { result ≤ 1 }
+{
+    match option {
+        Some(_) => 1,
+        None => 0,
+    }
+}

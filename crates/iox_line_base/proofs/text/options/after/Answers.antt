@@ -1,5 +1,0 @@
-use Rattle.iox_line_base.proofs.AfterLemmas.{stripped}
-use Rattle.iox_line_base.proofs.text.options.after.Goals as goal
-
-pub returns : goal.returns
-returns c = stripped c.args.key.now c.args.word.now c.strip_prefix.result c.strip_prefix.ensures.cases

@@ -1,6 +1,0 @@
-use Rattle.std.proofs.Common.{◌≡◌, drop}
-use Rattle.iox_line_base.specs.Words.{marked_from}
-use Rattle.iox_line_base.proofs.text.words.marked_place.Given as goal
-
-abbrev pub invariant-loop-place : goal.invariant-loop-place
-invariant-loop-place l = marked_from l.mark l.separator 0 l.text ≡ marked_from l.mark l.separator l.place (drop l.place l.text)
