@@ -1,10 +1,12 @@
-"""What the program does where memory ends: each request for memory that it makes for a row is refused in turn; and how much stack it needs.
+"""What programs do where memory ends: each request for memory that one makes is refused in turn; and how much stack the hub's program needs.
 
 A library that is laid before the program makes a further process at each request, which meets that one refused and goes on to its end. Its
 replies are as with memory to spare; or the line at which the request is made is refused, which did nothing but what others had done before;
 or it lacks a connection; or the run ended there with status 2. The lines behind are answered as the model answers them then.
+The tests that make each other thing that takes memory pass in spite of it, or fail by their memory error.
 """
 import os
+import re
 import resource
 import signal
 import subprocess
@@ -14,7 +16,7 @@ from bisect import bisect_left
 from collections import Counter
 from pathlib import Path
 
-from cases.kit import LONG, TOP, Differs, NotHere, case_of_program, expect
+from cases.kit import LONG, TOP, Differs, NotHere, case, case_of_program, expect
 from tool.sources import Wanted
 
 sys.path.insert(0, str(TOP / "model"))
@@ -23,6 +25,17 @@ from script_model import Machine, lines_of, replies
 
 # In bytes: so much stack is enough for the program, as docs/ERRORS.md says, and so much isn't.
 ENOUGH, TOO_LITTLE = 256 << 10, 128 << 10
+# Tests that make what takes memory, by the beginnings of their names, in the crates that they are of. None of them has a thread. After so
+# many requests they make again what they made.
+MOST = 400
+MAKING = {
+    "iox_container_rows": ["sizes::"],
+    "iox_queues_rows": ["sizes::"],
+    "iox_agreement_rows": ["sizes::"],
+    "iox_lanes_opening_rows": ["sizes::"],
+    "iox_lanes_rows": ["messages::"],
+    "iox_delivery_rows": ["services::"],
+}
 # More than the limits below, in requests of 45 kB, and then lines of services, which go deepest.
 FILLING = b"node\ncreate n1 ps A publishers=400 subscribers=1 buffer=1\n" + b"publisher f1 slice=1000\n" * 400 + b"""\
 open_or_create n1 rr B
@@ -68,7 +81,8 @@ static int is_refused(void) {
     is_busy = 1;
     if (notes < 0) notes = open("notes", O_CREAT | O_WRONLY | O_TRUNC | O_CLOEXEC, 0600);
     requests++;
-    pid_t beside = getenv("REFUSE_EACH") ? fork() : -1;
+    const char *most = getenv("REFUSE_EACH");
+    pid_t beside = most && requests <= atol(most) ? fork() : -1;
     if (beside == 0) go_beside();
     if (beside > 0) waitpid(beside, &ended, 0);
     if (!is_beside) dprintf(notes, "%ld %d %ld\n", requests, ended, (long)lseek(1, 0, SEEK_CUR));
@@ -199,12 +213,15 @@ def refuser_in(folder):
     return library
 
 
-def run(program, library, folder, script, each):
-    """Runs the program on a script. Returns for each request how the run beside it ended, and what had been written when it was made."""
+def run(program, library, folder, script, each, words=(), most=1 << 40):
+    """Runs the program on a script. Returns for each request how the run beside it ended, and what had been written when it was made.
+
+    Where each is to be refused it is one of the first so many.
+    """
     (folder / "script").write_bytes(script)
-    env = {"LD_PRELOAD": str(library), **({"REFUSE_EACH": "1"} if each else {})}
+    env = {"LD_PRELOAD": str(library), **({"REFUSE_EACH": str(most)} if each else {})}
     with open(folder / "script", "rb") as given, open(folder / "out", "wb") as out:
-        subprocess.run([program], stdin=given, stdout=out, stderr=out, env=env, cwd=folder, timeout=LONG)
+        subprocess.run([program, *words], stdin=given, stdout=out, stderr=out, env=env, cwd=folder, timeout=LONG)
     if not (folder / "notes").exists():
         raise NotHere("this program asks something else than the C library for memory, as an unproved one does")
     return [tuple(map(int, it.split())) for it in (folder / "notes").read_text().splitlines()]
@@ -242,6 +259,33 @@ def each_request_of_a_row_for_memory_that_is_refused_is_told_or_ends_the_run():
     met = [(it, "refused") for it in ("create", "open", "open_or_create", "foreign", "publisher", "subscriber")]
     met += [("publisher", "unconnected"), ("subscriber", "unconnected"), ("node", "ended"), ("receive", "ended")]
     expect([it for it in met if not seen[it]], [])
+
+
+def refusals_in(tests, library, name):
+    """Has each of the first requests of a test refused in turn. Returns how often it failed for it; where it fails otherwise, that differs."""
+    failed = 0
+    with tempfile.TemporaryDirectory(prefix="iox-check-") as folder:
+        for number, ended, _ in run(tests, library, Path(folder), b"", each=True, words=[name], most=MOST)[:MOST]:
+            status = os.waitstatus_to_exitcode(ended)
+            said = b"".join((Path(folder) / f"{number}.{it}").read_bytes() for it in (1, 2))
+            if status < 0 or status > 0 and not re.search(rb"(?i)alloc_?error|allocfailed|out ?of ?memory", said):
+                raise Differs(f"{tests.name} {name}, request {number} refused: status {status}, {said[-300:]!r}")
+            failed += status > 0
+    return failed
+
+
+@case
+def each_request_of_a_test_that_makes_something_is_refused_by_a_memory_error():
+    homes = {it: TOP / "crates" / it / "out" / f"{it}_tests" for it in MAKING}
+    if not all(it.exists() for it in homes.values()):
+        raise NotHere("the tests aren't built: rt ci builds them")
+    with tempfile.TemporaryDirectory(prefix="iox-check-") as folder:
+        library = refuser_in(folder)
+        for crate, tests in homes.items():
+            listed = subprocess.run([tests, "--list"], capture_output=True, text=True, timeout=LONG).stdout
+            names = re.findall(r"(?m)^(\S+): test$", listed)
+            chosen = [it for it in names if it.startswith(tuple(MAKING[crate]))]
+            expect((crate, sum(refusals_in(tests, library, it) for it in chosen) > 0), (crate, True))
 
 
 def limited(program, script, what, limit):

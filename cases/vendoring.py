@@ -86,17 +86,17 @@ class Small:
 @case
 def vendor_copies_crates_with_those_below_and_keeps_what_is_there():
     with tempfile.TemporaryDirectory(prefix="iox-check-") as folder:
-        (Path(folder) / "crates.txt").write_text("mine: iox_maps")
+        (Path(folder) / "crates.txt").write_text("mine: iox_index")
         (Path(folder) / "linked").symlink_to(TOP / "vendor")
-        ran = vendor(".", "iox_maps", at=Path(folder) / "linked", cwd=folder)
+        ran = vendor(".", "iox_index", at=Path(folder) / "linked", cwd=folder)
         expect((ran.returncode, ran.stderr, ran.stdout.count("added, its line added")), (0, "", 2))
         lines = (TOP / "crates.txt").read_text(encoding="utf-8").splitlines()
-        lines = [it for it in lines if it.startswith(("iox_container:", "iox_maps:"))]
-        expect((Path(folder) / "crates.txt").read_text(encoding="utf-8").splitlines(), ["mine: iox_maps", *lines])
-        expect(sorted(it.name for it in (Path(folder) / "crates").iterdir()), ["iox_container", "iox_maps"])
+        lines = [it for it in lines if it.startswith(("iox_container:", "iox_index:"))]
+        expect((Path(folder) / "crates.txt").read_text(encoding="utf-8").splitlines(), ["mine: iox_index", *lines])
+        expect(sorted(it.name for it in (Path(folder) / "crates").iterdir()), ["iox_container", "iox_index"])
         expect(sorted(it.name for it in (Path(folder) / "crates" / "iox_container").iterdir()), ["proofs", "specs", "src"])
-        kept = vendor(folder, "iox_maps").stdout.splitlines()
-        expect(kept[:-1], ["LICENSE and NOTICE: kept", "iox_container: kept", "iox_maps: kept"])
+        kept = vendor(folder, "iox_index").stdout.splitlines()
+        expect(kept[:-1], ["LICENSE and NOTICE: kept", "iox_container: kept", "iox_index: kept"])
         expect((Path(folder) / "crates.txt").read_text(encoding="utf-8").count("\n"), 3)
 
 
@@ -108,7 +108,7 @@ def vendor_refuses_in_one_line_and_then_writes_nothing():
         file.touch()
         for status, words in (
             (64, []), (64, [folder]), (64, ["--fast", folder, "iox_line"]), (64, [folder, "iox_nothing"]),
-            (64, [folder, "iox_agreement_rows"]), (64, [folder, "iox_queues_base", "iox_maps"]),
+            (64, [folder, "iox_agreement_rows"]), (64, [folder, "iox_queues_base", "iox_index"]),
             (66, [f"{folder}/missing", "iox_line"]), (66, [file, "iox_line"]),
         ):
             ran = vendor(*words)

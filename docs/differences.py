@@ -73,8 +73,9 @@ def read_table(table):
 
 
 def members_of(place):
-    """The names of all public members of an item."""
+    """The names of all public members of an item, and of the type that an alias stands for."""
     found = {it.name for _, impl in place.impls if not impl.trait for it in impl.members if it.is_public}
+    found |= members_of(place.stands_for) if place.stands_for else set()
     if place.item.kind == "trait":
         found |= {it.name for it in place.item.members if it.kind in ("fn", "const")}
     if place.item.kind in ("enum", "struct"):

@@ -5,6 +5,7 @@ use std::time::Instant;
 
 unsafe extern "C" {
     fn slots_cycle(slots: usize, connections: usize, rounds: u64) -> u64;
+    fn loans_cycle(loans: usize, rounds: u64) -> u64;
 }
 
 #[path = "../host.rs"]
@@ -130,6 +131,14 @@ fn main() {
         let plain = best(9, rounds, || plain_cycle(slots, connections, rounds));
         assert_eq!(ours.1, plain.1, "other slots came");
         println!("{slots:5} {connections:11} {:9.2} {:9.2} {:9.2}", ours.0, plain.0, ours.0 / plain.0);
+    }
+    let sends = 5_000_000;
+    let alone = best(3, sends, || unsafe { loans_cycle(0, sends) });
+    println!("loans out   a send ns   over none");
+    for loans in [1_000, 10_000, 100_000] {
+        let among = best(3, sends, || unsafe { loans_cycle(loans, sends) });
+        assert_eq!((alone.1, among.1), (sends, sends), "a send didn't go through");
+        println!("{loans:9} loans out {:9.2} {:9.2}", among.0, among.0 / alone.0);
     }
     let (few, many) = (10_000, 10_000_000);
     let short = best(9, few, || unsafe { slots_cycle(8, 1, few) }).0;

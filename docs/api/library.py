@@ -49,6 +49,8 @@ class Place:
     impls: list = field(default_factory=list)
     # Of a trait: the implementations of it.
     implementors: list = field(default_factory=list)
+    # Of an alias: where the type is that it stands for.
+    stands_for: "Place" = None
 
     @property
     def anchor(self):
@@ -121,6 +123,7 @@ class Library:
         for crate in self.crates.values():
             self._find_places(crate)
         for crate in self.crates.values():
+            self._find_aliases(crate)
             self._find_impls(crate)
 
     # ---- names
@@ -178,6 +181,12 @@ class Library:
         place = Place(crate.name, module, written, item, name)
         self._place_by_item[id(item)] = place
         crate.places.append(place)
+
+    def _find_aliases(self, crate):
+        for place in crate.places:
+            if place.item.kind == "type":
+                of_it = re.search(r"= ([\w:]+)", reading.without_arguments(place.item.head))
+                place.stands_for = self.place(place.written, of_it[1].split("::")) if of_it else None
 
     def _find_impls(self, crate):
         for module in crate.modules.values():

@@ -2,8 +2,9 @@
 ghost use Rattle.iox_hub.specs.Domain.Homes as homes;
 ghost use Rattle.std.specs.Prelude.{◌≡◌, ℕ, Option, true, Some, Ok, IfOk, option_map};
 ghost use Rattle.iox_hub.specs.Delivery.Holding.{holds_message, message_found};
-ghost use Rattle.iox_hub.specs.Delivery.declared.slices.sample.Sample.{Sample as SliceSample};
-ghost use Rattle.iox_hub.specs.Delivery.Slices.{ReceivesSlice};
+ghost use Rattle.iox_hub.specs.Delivery.Subscribing.{ReceivesSample};
+ghost use Rattle.iox_hub.specs.Delivery.declared.kind.Slice.{Slice as OfSlices};
+ghost use Rattle.iox_hub.specs.Delivery.declared.sample.Sample.{Sample as Received};
 ghost use Rattle.example_bus.specs.Heard.{as_heard, as_sent, as_received, LetsGo};
 
 use anyhow::{Context, Result, bail, ensure};
@@ -142,8 +143,8 @@ fn read<H: Home<u64, u64>>(
 
 /// Receives the next message, if one waits, and releases it: what is heard is the time stamp and the values of the message received.
 pub fn hear<H: Home<u64, u64>>(alloc: Global, home: &mut H, port: PortId) -> Result<Option<Heard>>
-    ensures { IfOk result (λ heard. (sample : Option (SliceSample ℕ ℕ)) × (received : H)
-        × ReceivesSlice (homes.ports_of H.domain_of) (homes.with_ports H.changed) (homes.subscriber_degrades (λ kept. H.ForSubscribers.degrades kept) H.domain_of) port home.old (Ok sample) received
+    ensures { IfOk result (λ heard. (sample : Option (Received ℕ ℕ OfSlices)) × (received : H)
+        × ReceivesSample (homes.ports_of H.domain_of) (homes.with_ports H.changed) (homes.subscriber_degrades (λ kept. H.ForSubscribers.degrades kept) H.domain_of) port home.old (Ok sample) received
         × (option_map as_heard heard ≡ as_received sample (homes.ports_of H.domain_of port.domain received))
         × LetsGo (homes.ports_of H.domain_of) (homes.with_ports H.changed) sample received home.new) }
 {

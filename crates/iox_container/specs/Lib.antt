@@ -1,4 +1,4 @@
--- The definitions that contracts about vectors, queues and options cite.
+-- The definitions that contracts about sets of indices and containers cite.
 pub mod BoundedList
 pub mod Callback
 pub mod ErrorTexts
@@ -14,3 +14,34 @@ pub mod Retained
 pub mod StringBytes
 pub mod Text
 pub mod TextRow
+pub mod BoundedKeys
+pub mod MapsErrorTexts
+pub mod FixedSizeFlatMapLends
+pub mod FixedSizeSlotMapLends
+pub mod FlatMapLends
+pub mod LinkedKeys
+pub mod Links
+pub mod PairTable
+pub mod Places
+pub mod PlacesLends
+pub mod SlotMapLends
+pub mod SlotTable
+pub mod Accepted
+pub mod Refusals
+pub mod ByteSteps
+pub mod Wide
+pub mod NumberLaws
+pub mod NumberTable
+pub mod NumberedLends
+pub mod ByNumberPlaces
+pub mod Container
+pub mod Head
+pub mod Owner
+pub mod Owners
+pub mod CountedPlaces
+pub mod Recovery
+pub mod SetRefusals
+pub mod Release
+pub mod Robust
+pub mod Shared
+pub mod Unique

@@ -1,4 +1,4 @@
-//! Containers and strings of fixed capacity.
+//! Data structures of fixed capacity: strings, vectors, queues, maps, and sets of indices with holders.
 //!
 //! | Module | What it has |
 //! |---|---|
@@ -7,11 +7,24 @@
 //! | `relocatable_option` | an option with a shape of its own |
 //! | `callback_progression` | what a callback answers to the loop that calls it |
 //! | `string` | strings over the bytes 1..=127: the trait `String`, `StaticString` and `PolymorphicString` |
+//! | `semantic_strings` | texts that always obey the rules of their kind: `Semantic` over `Rules` |
+//! | `slot_map` | slot maps, which give out the keys of their values: `SlotMap` and `FixedSizeSlotMap` |
+//! | `flat_map` | flat maps, whose keys the caller brings: `FlatMap` and `FixedSizeFlatMap` |
+//! | `by_number` | values under numbers that are given once: `Numbered` |
+//! | `byte_cells` | values that are copied byte by byte: `FixedSizeByteAtomic`, `MaybeTorn`, `ByteMachine` |
+//! | `unique` | sets that hand out the last released index first: `UniqueIndexSet` |
+//! | `robust` | sets that know their holders, so that all of one can be recovered |
+//! | `container` | members at indices, each with its owner: `Container` |
+//! | `shared` | sets of indices that threads share |
+//! | `head` | the word of a set that holds its next free index |
+//! | `release` | how an index is released, and what that leaves |
+//! | `owner` | who holds an index |
+//! | `error` | why an index, a place or a number is refused |
 //!
-//! Each takes all its memory when it is made. A call that would pass the capacity is refused whole, and a refused call
-//! changes nothing.
+//! Each takes all its memory when it is made, and touches it as it is used. A call that would pass the capacity is
+//! refused whole, and a refused call changes nothing.
 //!
-//! A first call:
+//! First calls, of a queue, a map and a container of members:
 //!
 //! ```
 //! /// `iox_container`: keeps a number as the newest of three; the oldest leaves where there are three already.
@@ -21,16 +34,72 @@
 //!     latest.push_with_overflow(number)
 //! }
 //! ```
+//!
+//! ```
+//! /// `iox_container`: takes a value into a slot map; the key under which it is found again, or None where the map is full.
+//! fn filed(map: &mut SlotMap<u64>, value: u64) -> Option<u64>
+//!     ensures found { IfSome result (λ found. found ≡ value) }
+//!     ensures full { IfNone result (map.new ≡ map.old) }
+//! {
+//!     let key = map.insert(value)?;
+//!     map.get(key).copied()
+//! }
+//! ```
+//!
+//! ```
+//! /// `iox_container`: adds a member, and returns its index; None where the container is full or locked.
+//! fn joined(container: &mut Container<u64>, value: u64, owner: OwnerId) -> Option<usize>
+//!     requires { HasRoom container.old }
+//!     ensures added { IfSome result (λ index. container.new ≡ with_member index (record { number = container.old.changes + 1; owner = owner; value = value }) container.old) }
+//!     ensures none { IfNone result (container.new ≡ container.old) }
+//! {
+//!     let handle = container.add(value, owner).ok()?;
+//!     Some(handle.index())
+//! }
+//! ```
 #![tactic(auto)]
 
+pub mod by_number;
+pub mod byte_cells;
 pub mod callback_progression;
+pub mod container;
+mod counted_places;
+pub mod error;
+pub mod flat_map;
+mod free_keys;
+pub mod head;
+mod linked_keys;
+pub mod owner;
+mod owners;
+mod places;
 pub mod queue;
+pub mod release;
 pub mod relocatable_option;
+pub mod robust;
+pub mod semantic_strings;
+pub mod shared;
+pub mod slot_map;
 pub mod string;
+pub mod unique;
 pub mod vector;
 
+pub use by_number::Numbered;
+pub use byte_cells::{ByteAnswer, ByteMachine, ByteStep, Coded, FixedSizeByteAtomic, MaybeTorn};
 pub use callback_progression::CallbackProgression;
+pub use container::{Container, ContainerHandle, ContainerState, Member};
+pub use error::{
+    ContainerAddFailure, ContainerRemoveError, OwnerIdNewError, UniqueIndexSetAcquireFailure,
+};
+pub use flat_map::{FixedSizeFlatMap, FlatMap, FlatMapError};
+pub use head::HeadDetails;
+pub use owner::OwnerId;
 pub use queue::FixedSizeQueue;
+pub use release::{ReleaseMode, ReleaseState};
 pub use relocatable_option::RelocatableOption;
+pub use robust::RobustUniqueIndexSet;
+pub use semantic_strings::{Rules, Semantic, SemanticStringError};
+pub use shared::{SharedIndexSet, UniqueIndex};
+pub use slot_map::{FixedSizeSlotMap, SlotMap, SlotMapKey};
 pub use string::{PolymorphicString, StaticString, StringModificationError};
+pub use unique::UniqueIndexSet;
 pub use vector::{PolymorphicVec, StaticVec, VectorModificationError};

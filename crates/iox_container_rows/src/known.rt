@@ -1,8 +1,7 @@
 //! Rows known beforehand.
 use crate::answers::hold;
-use iox_container::RelocatableOption;
 use iox_container::string::{StaticString, String, StringModificationError};
-use iox_maps::{FixedSizeFlatMap, FlatMapError};
+use iox_container::{FixedSizeFlatMap, FlatMapError, RelocatableOption};
 use std::alloc::{AllocError, Global};
 use std::test::Fail;
 

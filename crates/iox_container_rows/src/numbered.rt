@@ -1,5 +1,5 @@
 //! Many values of a table after one another, at random, and its growth.
-use iox_maps::by_number::Numbered;
+use iox_container::by_number::Numbered;
 use std::alloc::AllocError;
 use std::process::Abort;
 

@@ -5,8 +5,8 @@ ghost use Rattle.iox_container.specs.StringBytes.{IsStringByte};
 ghost use Rattle.iox_container_rows.specs.LetterCase.{lower_case, lower_case_once};
 
 use crate::answers::hold;
+use iox_container::semantic_strings::{Rules, Semantic, SemanticStringError};
 use iox_container::string::{StaticString, String};
-use iox_maps::semantic_strings::{Rules, Semantic, SemanticStringError};
 use std::alloc::{AllocError, Global};
 use std::test::Fail;
 

@@ -1,11 +1,12 @@
 //! Ample memory is always enough, at each size and again and again; and no more room is taken than there is.
+use iox_container::by_number::Numbered;
+use iox_container::byte_cells::{ByteMachine, ByteStep};
 use iox_container::queue::Queue;
 use iox_container::string::{PolymorphicString, String, as_escaped_string};
 use iox_container::vector::Vector;
-use iox_container::{FixedSizeQueue, PolymorphicVec, StaticVec};
-use iox_maps::by_number::Numbered;
-use iox_maps::byte_cells::{ByteMachine, ByteStep};
-use iox_maps::{FixedSizeFlatMap, FixedSizeSlotMap, FlatMap, SlotMap};
+use iox_container::{
+    FixedSizeFlatMap, FixedSizeQueue, FixedSizeSlotMap, FlatMap, PolymorphicVec, SlotMap, StaticVec,
+};
 use std::alloc::{AllocError, Global};
 use std::process::Abort;
 use std::test::Fail;

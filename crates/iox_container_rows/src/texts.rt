@@ -1,11 +1,13 @@
 //! What values are displayed and debugged as.
 use crate::answers::{hold, is_shown};
+use iox_container::byte_cells::{ByteAnswer, ByteStep};
+use iox_container::semantic_strings::SemanticStringError;
 use iox_container::string::{PolymorphicString, StaticString, String, StringModificationError};
 use iox_container::vector::Vector;
-use iox_container::{FixedSizeQueue, PolymorphicVec, StaticVec, VectorModificationError};
-use iox_maps::byte_cells::{ByteAnswer, ByteStep};
-use iox_maps::semantic_strings::SemanticStringError;
-use iox_maps::{FixedSizeFlatMap, FixedSizeSlotMap, FlatMapError, SlotMapKey};
+use iox_container::{
+    FixedSizeFlatMap, FixedSizeQueue, FixedSizeSlotMap, FlatMapError, PolymorphicVec, SlotMapKey,
+    StaticVec, VectorModificationError,
+};
 use std::alloc::{AllocError, Global};
 use std::fmt::{Debug, Display};
 use std::test::Fail;

@@ -3,11 +3,11 @@ use Rattle.std.proofs.Common.{arith, ◌≡◌, ◌+◌, ◌<◌, ◌∙◌, ◌
 use Rattle.std.proofs.Math.Logic.{⊎_elim}
 use Rattle.std.proofs.lemmas.Bool.Decides.{eqb_tells}
 use Rattle.std.proofs.lemmas.List.{append-nil, append_assoc, length-replicate, length-set, take_all, take_more_set, replicate_more}
-use Rattle.iox_delivery.specs.DomainPublisher.Messages.{Loan, write_value, write_all, new_loan}
-use Rattle.iox_delivery.specs.DomainPublisher.MessagesSending.{has_place, has_length}
-use Rattle.iox_delivery.specs.DomainPublisher.Writing.{loan_of, changed_if}
-use Rattle.iox_delivery.specs.DomainPublisher.declared.publisher_port.PublisherPort.{PublisherPort}
-use Rattle.iox_delivery.specs.DomainSubscriber.Publishers.{port_of, with_port, changed_at_port, changed}
+use Rattle.iox_delivery.specs.DomainPorts.Messages.{Loan, write_value, write_all, new_loan}
+use Rattle.iox_delivery.specs.DomainPorts.MessagesSending.{has_place, has_length}
+use Rattle.iox_delivery.specs.DomainPorts.Writing.{loan_of, changed_if}
+use Rattle.iox_delivery.specs.DomainPorts.declared.publisher_port.PublisherPort.{PublisherPort}
+use Rattle.iox_delivery.specs.DomainPorts.Publishers.{port_of, with_port, changed_at_port, changed}
 use Rattle.iox_delivery.specs.Domain.Lending.{loan_at_port, loan_in, passes, passes_port, written_in}
 use Rattle.iox_delivery.specs.Domain.PortsPublishing.{is_blocked}
 use Rattle.iox_delivery.specs.Domain.declared.ports.service_ports.ServicePorts.{ServicePorts}

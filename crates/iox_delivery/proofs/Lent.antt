@@ -4,12 +4,12 @@ use Rattle.std.specs.BTreeMap.{is_at}
 use Rattle.std.specs.List.{list_any, find}
 use Rattle.std.specs.Ordering.{nat_cmp}
 use Rattle.std.proofs.Math.Dec.{eqb}
-use Rattle.iox_domain.specs.DomainPublisher.Messages.{Loan, new_loan}
-use Rattle.iox_domain.specs.DomainPublisher.MessagesSending.{is_written_loan}
-use Rattle.iox_domain.proofs.DomainPublisher.Lent.{loan_tells}
-use Rattle.iox_domain.specs.DomainPublisher.Writing.{loan_of, changed_there, changed_if}
-use Rattle.iox_domain.specs.DomainPublisher.declared.publisher_port.PublisherPort.{PublisherPort}
-use Rattle.iox_domain.specs.DomainSubscriber.Publishers.{port_of, with_port, changed_at_port, changed}
+use Rattle.iox_domain.specs.DomainPorts.Messages.{Loan, new_loan}
+use Rattle.iox_domain.specs.DomainPorts.MessagesSending.{is_written_loan}
+use Rattle.iox_domain.proofs.DomainPorts.Lent.{loan_tells}
+use Rattle.iox_domain.specs.DomainPorts.Writing.{loan_of, changed_there, changed_if}
+use Rattle.iox_domain.specs.DomainPorts.declared.publisher_port.PublisherPort.{PublisherPort}
+use Rattle.iox_domain.specs.DomainPorts.Publishers.{port_of, with_port, changed_at_port, changed}
 use Rattle.iox_domain.proofs.Numbered.{same_set}
 use Rattle.iox_domain.proofs.Lent.{stays_if, free_slot, found_last, same_number, still_there, one_passes, found_changed, all_written, not_none}
 use Rattle.iox_domain.specs.Lending.{LoansIf, LoansOne, passes_port, passes, written_in, loan_at_port, loan_in, loan_header_at_port, header_of_loan}

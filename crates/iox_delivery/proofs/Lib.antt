@@ -1,7 +1,6 @@
 pub mod Ready
 pub mod Lent
 pub mod Ending
-pub mod Written
 pub mod Filled
 pub use Rattle.iox_domain.proofs.Container as Container
 pub use Rattle.iox_domain.proofs as Domain

@@ -4,15 +4,15 @@ use Rattle.iox_domain.specs.DomainValues.declared.backpressure.BackpressureDecis
 use Rattle.iox_domain.specs.DomainValues.declared.backpressure.BackpressureInfo.{BackpressureInfo}
 use Rattle.iox_domain.specs.DomainValues.declared.degradation.DegradationAction.{DegradationAction}
 use Rattle.iox_domain.specs.DomainValues.declared.degradation.DegradationInfo.{DegradationInfo}
-use Rattle.iox_domain.specs.DomainPublisher.Messages.{Loan, Message}
-use Rattle.iox_domain.specs.DomainPublisher.MessagesSending.{is_written_loan}
-use Rattle.iox_domain.proofs.DomainPublisher.Finding.{at_none}
-use Rattle.iox_domain.specs.DomainPublisher.Ports.{connection_of}
-use Rattle.iox_domain.specs.DomainPublisher.declared.publisher_port.PublisherPort.{PublisherPort}
-use Rattle.iox_domain.specs.DomainSubscriber.Publishers.{port_of, connection_in, connection_at_port}
-use Rattle.iox_domain.specs.DomainSubscriber.Reading.{place_of}
-use Rattle.iox_domain.specs.DomainSubscriber.declared.attached.Taken.{Taken}
-use Rattle.iox_domain.specs.DomainSubscriber.declared.subscriber_port.SubscriberPort.{SubscriberPort}
+use Rattle.iox_domain.specs.DomainPorts.Messages.{Loan, Message}
+use Rattle.iox_domain.specs.DomainPorts.MessagesSending.{is_written_loan}
+use Rattle.iox_domain.proofs.DomainPorts.Finding.{at_none}
+use Rattle.iox_domain.specs.DomainPorts.Ports.{connection_of}
+use Rattle.iox_domain.specs.DomainPorts.declared.publisher_port.PublisherPort.{PublisherPort}
+use Rattle.iox_domain.specs.DomainPorts.Publishers.{port_of, connection_in, connection_at_port}
+use Rattle.iox_domain.specs.DomainPorts.Reading.{place_of}
+use Rattle.iox_domain.specs.DomainPorts.declared.attached.Taken.{Taken}
+use Rattle.iox_domain.specs.DomainPorts.declared.subscriber_port.SubscriberPort.{SubscriberPort}
 use Rattle.iox_domain.proofs.Lent.{ready_there, none_ready}
 use Rattle.iox_domain.specs.Lending.{passes_port, loan_at_port}
 use Rattle.iox_domain.specs.Ports.{AtPublisher}
@@ -23,18 +23,11 @@ use Rattle.iox_domain.specs.PortsSubscribing.{Releases, ReleasesAt, ReleasesOf}
 use Rattle.iox_domain.specs.declared.ports.service_ports.ServicePorts.{ServicePorts}
 use Rattle.iox_domain.specs.AtHomes.{AtDomain}
 use Rattle.iox_domain.specs.Steps.{SendsBy}
-use Rattle.iox_delivery.specs.Holding.{publisher_blocked, loan_found, is_sample, value_found, message_found, subscriber_found, holds_sample, holds_message}
+use Rattle.iox_delivery.specs.Holding.{publisher_blocked, loan_found, value_found, holds_sample, holds_message}
+use Rattle.iox_delivery.specs.KindLaws.{left_of, right_of, sample_is_message}
 
 no : false ≡ true → ⊥
 no h = cc
-
-left_of : (a b : Bool) → (a && b) ≡ true → a ≡ true
-left_of true b h = refl
-left_of false b h = h
-
-right_of : (a b : Bool) → (a && b) ≡ true → b ≡ true
-right_of true b h = h
-right_of false b h = absurd (no h)
 
 port_sends : {T U : Type 0} (may_degrade : DegradationInfo → DegradationAction → Type 0) (may : BackpressureInfo → BackpressureDecision → Type 0) (number slot : ℕ) (port : Option (PublisherPort T U)) (old new : ServicePorts T U)
     → is_written_loan (loan_at_port slot port) ≡ true → passes_port is_blocked port ≡ false → AtPublisher number (SendsOne may_degrade may old.subscriber_list slot) port old None new → ⊥
@@ -72,26 +65,10 @@ sample_releases {T} {U} number taken ports new holds releases = found (taken.sub
     found true holds releases = releases_of (subscriber_of number ports.subscribers) number taken ports new (left_of _ _ holds) releases
     found false holds releases = no (right_of _ _ holds)
 
-value_of_message : {T U : Type 0} (found : Option (Message T U)) (there own : Bool) → ((there && is_some (value_found 0 found)) && own) ≡ true
-    → ((there && is_some found) && own) ≡ true
-value_of_message None true own holds = holds
-value_of_message None false own holds = holds
-value_of_message (Some message) true own holds = right_of _ _ holds
-value_of_message (Some message) false own holds = holds
-
 -- a sample with a value is a message that is held
-pub sample_is_message : {T U : Type 0} (number : ℕ) (taken : Taken) (ports : Option (ServicePorts T U)) → holds_sample number taken ports ≡ true → holds_message number taken ports ≡ true
-sample_is_message number taken ports holds =
-    value_of_message (message_found taken ports) (is_some (subscriber_found number ports)) (taken.subscriber == number) holds
-
--- what may be sent is written
-pub sample_is_written : {T U : Type 0} (loan : Option (Loan T U)) → is_sample loan ≡ true → is_written_loan loan ≡ true
-sample_is_written loan holds = left_of _ _ holds
-
--- what may be sent is a loan
-pub sample_is_loan : {T U : Type 0} (loan : Option (Loan T U)) → is_sample loan ≡ true → is_some loan ≡ true
-sample_is_loan None holds = holds
-sample_is_loan (Some loan) holds = refl
+pub held_sample : {T U : Type 0} (number : ℕ) (taken : Taken) (ports : Option (ServicePorts T U)) → holds_sample number taken ports ≡ true
+    → holds_message number taken ports ≡ true
+held_sample number taken ports holds = sample_is_message number taken ports holds
 
 -- the first value of a message
 pub first_value : {T U : Type 0} (found : Option (Message T U)) (values : List T) → Some values ≡ option_map (λ message. message.values) found → value_found 0 found ≡ slice_get values 0

@@ -1,14 +1,14 @@
 -- What the calls of ports do to their home whose values are the bytes of a payload: only the description tells how many an element has.
 use Rattle.std.specs.Prelude.{ℕ, ◌*◌, ◌-◌, ◌^◌, ◌≡◌, min, Option, None, Some, Result}
 use Rattle.iox_domain.specs.DomainValues.declared.port_error.LoanError.{LoanError}
-use Rattle.iox_delivery.specs.DomainPublisher.declared.publisher_port.PublisherPort.{PublisherPort}
+use Rattle.iox_delivery.specs.DomainPorts.declared.publisher_port.PublisherPort.{PublisherPort}
 use Rattle.iox_delivery.specs.Domain.declared.ports.service_ports.ServicePorts.{ServicePorts}
 use Rattle.iox_delivery.specs.Domain.declared.domain_id.DomainId.{DomainId}
 use Rattle.iox_delivery.specs.Holding.{publisher_found}
-use Rattle.iox_delivery.specs.Publishing.{LendsSlot}
+use Rattle.iox_delivery.specs.Publishing.{lent_of, LendsSlot}
+use Rattle.iox_delivery.specs.declared.loan.Loan.{Loan as Lent}
+use Rattle.iox_delivery.specs.declared.loan.Uninit.{Uninit}
 use Rattle.iox_delivery.specs.declared.port_id.PortId.{PortId}
-use Rattle.iox_delivery.specs.Slices.{lent_of}
-use Rattle.iox_delivery.specs.declared.slices.sample_mut_uninit.SampleMutUninit.{SampleMutUninit}
 
 -- how many values an element of a publisher has; none without one
 abbrev pub unit_of : {T U : Type 0} → Option (PublisherPort T U) → ℕ
@@ -20,8 +20,8 @@ abbrev pub values_of : {T U : Type 0} → ℕ → ℕ → Option (ServicePorts T
 values_of number elements ports = min (elements * unit_of (publisher_found number ports)) (2 ^ 64 - 1)
 
 -- A publisher lends so many elements to be written, as all of their values; the header tells so many elements.
-abbrev pub LendsElements : {T U H : Type 0} → (DomainId → H → Option (ServicePorts T U)) → (DomainId → ServicePorts T U → H → H)
-    → PortId → ℕ → H → Result (SampleMutUninit T U) LoanError → H → Type 0
+abbrev pub LendsElements : {T U K H : Type 0} → (DomainId → H → Option (ServicePorts T U)) → (DomainId → ServicePorts T U → H → H)
+    → PortId → ℕ → H → Result (Lent T U K Uninit) LoanError → H → Type 0
 LendsElements ports_of with_ports port elements old answer new =
     (lent : Result ℕ LoanError) × LendsSlot ports_of with_ports port (values_of port.number elements (ports_of port.domain old)) elements old lent new
     × (answer ≡ lent_of (values_of port.number elements (ports_of port.domain old)) port lent)

@@ -1,12 +1,12 @@
 -- What a home has of a port, a loan or a sample: the conditions of its calls. `ports` are the ports of its domain, if the home has them.
 use Rattle.std.specs.Prelude.{ℕ, ◌==◌, ◌&&◌, Bool, true, false, is_some, slice_get, Option, None, Some, Result, Ok, Err}
-use Rattle.iox_domain.specs.DomainPublisher.Messages.{Loan, Message}
-use Rattle.iox_domain.specs.DomainPublisher.MessagesSending.{is_written_loan}
-use Rattle.iox_domain.specs.DomainPublisher.Writing.{value_at}
-use Rattle.iox_domain.specs.DomainPublisher.declared.publisher_port.PublisherPort.{PublisherPort}
-use Rattle.iox_domain.specs.DomainSubscriber.Publishers.{port_of}
-use Rattle.iox_domain.specs.DomainSubscriber.declared.attached.Taken.{Taken}
-use Rattle.iox_domain.specs.DomainSubscriber.declared.subscriber_port.SubscriberPort.{SubscriberPort}
+use Rattle.iox_domain.specs.DomainPorts.Messages.{Loan, Message}
+use Rattle.iox_domain.specs.DomainPorts.MessagesSending.{is_written_loan}
+use Rattle.iox_domain.specs.DomainPorts.Writing.{value_at}
+use Rattle.iox_domain.specs.DomainPorts.declared.publisher_port.PublisherPort.{PublisherPort}
+use Rattle.iox_domain.specs.DomainPorts.Publishers.{port_of}
+use Rattle.iox_domain.specs.DomainPorts.declared.attached.Taken.{Taken}
+use Rattle.iox_domain.specs.DomainPorts.declared.subscriber_port.SubscriberPort.{SubscriberPort}
 use Rattle.iox_domain.specs.Lending.{passes_port, loan_at_port}
 use Rattle.iox_domain.specs.PortsPublishing.{is_blocked}
 use Rattle.iox_domain.specs.Reading.{sample_in}

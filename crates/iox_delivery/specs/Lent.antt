@@ -1,11 +1,11 @@
 -- What a loan comes to that was just made.
 use Rattle.std.specs.Prelude.{ℕ, ◌≡◌, true, false, List, map, Option, Some, Ok}
-use Rattle.iox_domain.specs.DomainPublisher.Messages.{new_loan}
-use Rattle.iox_domain.specs.DomainPublisher.declared.publisher_port.PublisherPort.{PublisherPort}
+use Rattle.iox_domain.specs.DomainPorts.Messages.{new_loan}
+use Rattle.iox_domain.specs.DomainPorts.declared.publisher_port.PublisherPort.{PublisherPort}
 use Rattle.iox_domain.specs.Lending.{loan_in, loan_header_in, passes}
 use Rattle.iox_domain.specs.PortsPublishing.{is_blocked}
 use Rattle.iox_domain.specs.declared.ports.service_ports.ServicePorts.{ServicePorts}
-use Rattle.iox_domain.specs.DomainSubscriber.Publishers.{port_of}
+use Rattle.iox_domain.specs.DomainPorts.Publishers.{port_of}
 use Rattle.iox_domain.specs.Steps.{LoansBy}
 use Rattle.iox_delivery.specs.Holding.{loan_found, publisher_blocked}
 

@@ -1,4 +1,5 @@
 pub mod Holding
+pub mod KindLaws
 pub mod Publishing
 pub mod Subscribing
 pub mod Lent
@@ -6,9 +7,7 @@ pub mod Slices
 pub mod Custom
 pub use Rattle.iox_domain.specs.Container as Container
 pub use Rattle.iox_domain.specs as Domain
-pub use Rattle.iox_domain.specs.DomainPublisher as DomainPublisher
-pub use Rattle.iox_domain.specs.DomainSubscriber as DomainSubscriber
-pub use Rattle.iox_domain.specs.IndexBase as IndexBase
+pub use Rattle.iox_domain.specs.DomainPorts as DomainPorts
 pub use Rattle.iox_domain.specs.DescribeBase as DescribeBase
 pub use Rattle.iox_domain.specs.DescribeSettings as DescribeSettings
 pub use Rattle.iox_domain.specs.DomainValues as DomainValues

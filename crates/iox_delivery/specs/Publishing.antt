@@ -10,33 +10,34 @@ use Rattle.iox_domain.specs.DomainValues.declared.degradation.DegradationInfo.{D
 use Rattle.iox_domain.specs.DomainValues.declared.port_error.LoanError.{LoanError}
 use Rattle.iox_domain.specs.DomainValues.declared.port_error.SendError.{SendError}
 use Rattle.iox_domain.specs.DomainValues.declared.port_error.SendError.TheVariants as refusal
-use Rattle.iox_domain.specs.DomainPublisher.Messages.{Loan, write_value, write_user_header}
-use Rattle.iox_domain.specs.DomainPublisher.MessagesSending.{has_loan, has_length}
-use Rattle.iox_domain.specs.DomainPublisher.declared.meeting.Sent.{Sent as Sending}
-use Rattle.iox_domain.specs.DomainPublisher.declared.meeting.Sent.TheVariants as sending
+use Rattle.iox_domain.specs.DomainPorts.Messages.{Loan, write_value, write_user_header}
+use Rattle.iox_domain.specs.DomainPorts.MessagesSending.{has_loan, has_length}
+use Rattle.iox_domain.specs.DomainPorts.declared.meeting.Sent.{Sent as Sending}
+use Rattle.iox_domain.specs.DomainPorts.declared.meeting.Sent.TheVariants as sending
 use Rattle.iox_domain.specs.Lending.{written_in, loan_changed_in, loan_header_in, gave_up_in}
 use Rattle.iox_domain.specs.declared.ports.service_ports.ServicePorts.{ServicePorts}
 use Rattle.iox_domain.specs.AtHomes.{AtDomain, LeavesDomain}
 use Rattle.iox_domain.specs.Steps.{LoansBy, UpdatesBy, SendsBy, RetriesBy, GivesUpBy, PublisherLeaves}
 use Rattle.iox_domain.specs.declared.domain_id.DomainId.{DomainId}
+use Rattle.iox_delivery.specs.declared.loan.Loan.{Loan as Lent}
+use Rattle.iox_delivery.specs.declared.loan.Uninit.{Uninit}
+use Rattle.iox_delivery.specs.declared.loan.Written.{Written}
 use Rattle.iox_delivery.specs.declared.port_id.PortId.{PortId}
-use Rattle.iox_delivery.specs.declared.sample_mut.SampleMut.{SampleMut}
-use Rattle.iox_delivery.specs.declared.sample_mut_uninit.SampleMutUninit.{SampleMutUninit}
 use Rattle.iox_delivery.specs.declared.sent.Sent.{Sent}
 use Rattle.iox_delivery.specs.declared.sent.Sent.TheVariants as sent
 
--- the loan of a publisher in a slot
-abbrev pub loan_of : {T U : Type 0} → PortId → ℕ → SampleMutUninit T U
-loan_of port slot = record { port = port; slot = slot; of = record {} }
+-- the loan of a publisher in a slot, of so many values
+abbrev pub loan_of : {T U K : Type 0} → ℕ → PortId → ℕ → Lent T U K Uninit
+loan_of len port slot = record { port = port; slot = slot; state = record { len = len }; of = record {} }
 
 -- the written loan of a publisher in a slot
-abbrev pub sample_mut_of : {T U : Type 0} → PortId → ℕ → SampleMut T U
-sample_mut_of port slot = record { port = port; slot = slot; of = record {} }
+abbrev pub sample_mut_of : {T U K : Type 0} → PortId → ℕ → Lent T U K Written
+sample_mut_of port slot = record { port = port; slot = slot; state = record {}; of = record {} }
 
--- what is lent of a publisher
-abbrev pub lent_of : {T U : Type 0} → PortId → Result ℕ LoanError → Result (SampleMutUninit T U) LoanError
-lent_of port (Ok slot) = Ok (loan_of port slot)
-lent_of port (Err error) = Err error
+-- what is lent of a publisher for so many values
+abbrev pub lent_of : {T U K : Type 0} → ℕ → PortId → Result ℕ LoanError → Result (Lent T U K Uninit) LoanError
+lent_of len port (Ok slot) = Ok (loan_of len port slot)
+lent_of len port (Err error) = Err error
 
 -- what a send of a publisher came to
 abbrev pub sent_of : {T U : Type 0} → PortId → Result Sending SendError → Result (Sent T U) SendError
@@ -61,10 +62,10 @@ LendsSlot ports_of with_ports port values elements old answer new =
     AtDomain (λ after. with_ports port.domain after old) (LoansBy port.number values elements) (ports_of port.domain old) old (Some answer) new
 
 -- A publisher lends a value to be written.
-abbrev pub LendsUninit : {T U H : Type 0} → (DomainId → H → Option (ServicePorts T U)) → (DomainId → ServicePorts T U → H → H) → PortId
-    → H → Result (SampleMutUninit T U) LoanError → H → Type 0
+abbrev pub LendsUninit : {T U K H : Type 0} → (DomainId → H → Option (ServicePorts T U)) → (DomainId → ServicePorts T U → H → H) → PortId
+    → H → Result (Lent T U K Uninit) LoanError → H → Type 0
 LendsUninit ports_of with_ports port old answer new =
-    (lent : Result ℕ LoanError) × LendsSlot ports_of with_ports port 1 1 old lent new × (answer ≡ lent_of port lent)
+    (lent : Result ℕ LoanError) × LendsSlot ports_of with_ports port 1 1 old lent new × (answer ≡ lent_of 1 port lent)
 
 -- What follows a loan: where it was refused nothing, and that is answered; else the next step, at its slot.
 abbrev pub AfterLoan : {H A : Type 0} → (LoanError → A) → (ℕ → H → A → H → Type 0) → Result ℕ LoanError → H → A → H → Type 0
@@ -72,7 +73,7 @@ AfterLoan refused next (Err error) old answer new = (answer ≡ refused error) �
 AfterLoan refused next (Ok slot) old answer new = next slot old answer new
 
 -- what is lent of a publisher, and written
-abbrev pub written_of : {T U : Type 0} → PortId → Result ℕ LoanError → Result (SampleMut T U) LoanError
+abbrev pub written_of : {T U K : Type 0} → PortId → Result ℕ LoanError → Result (Lent T U K Written) LoanError
 written_of port (Ok slot) = Ok (sample_mut_of port slot)
 written_of port (Err error) = Err error
 
@@ -114,9 +115,9 @@ LendsValue {T} {U} {H} ports_of with_ports port value old answer new =
     × LendsSlot ports_of with_ports port 1 1 old lent middle × AfterLoan Err (WritesLent ports_of with_ports port value) lent middle answer new
 
 -- A publisher lends a value that is written: a default.
-abbrev pub LendsDefault : {T U H : Type 0} → (DomainId → H → Option (ServicePorts T U)) → (DomainId → ServicePorts T U → H → H)
-    → (T → Type 0) → PortId → H → Result (SampleMut T U) LoanError → H → Type 0
-LendsDefault {T} {U} {H} ports_of with_ports is_default port old answer new =
+abbrev pub LendsDefault : {T U K H : Type 0} → (DomainId → H → Option (ServicePorts T U)) → (DomainId → ServicePorts T U → H → H)
+    → (T → Type 0) → PortId → H → Result (Lent T U K Written) LoanError → H → Type 0
+LendsDefault {T} {U} {K} {H} ports_of with_ports is_default port old answer new =
     (value : T) × is_default value × (lent : Result ℕ LoanError) × LendsValue ports_of with_ports port value old lent new × (answer ≡ written_of port lent)
 
 -- what the home ends as once the loan in a slot changed; nothing changes where the domain isn't here

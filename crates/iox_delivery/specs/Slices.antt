@@ -5,16 +5,14 @@ use Rattle.iox_domain.specs.DomainValues.declared.backpressure.BackpressureInfo.
 use Rattle.iox_domain.specs.DomainValues.declared.degradation.DegradationAction.{DegradationAction}
 use Rattle.iox_domain.specs.DomainValues.declared.degradation.DegradationInfo.{DegradationInfo}
 use Rattle.iox_domain.specs.DomainValues.declared.port_error.LoanError.{LoanError}
-use Rattle.iox_domain.specs.DomainValues.declared.port_error.ReceiveError.{ReceiveError}
 use Rattle.iox_domain.specs.DomainValues.declared.port_error.SendError.{SendError}
 use Rattle.iox_domain.specs.DomainValues.declared.port_error.SendError.TheVariants as refusal
-use Rattle.iox_delivery.specs.DomainPublisher.Messages.{Loan, write_value, write_all}
-use Rattle.iox_delivery.specs.DomainPublisher.MessagesSending.{has_place, has_length}
-use Rattle.iox_delivery.specs.DomainPublisher.Writing.{changed_if}
-use Rattle.iox_delivery.specs.DomainPublisher.declared.meeting.Sent.{Sent as Sending}
-use Rattle.iox_delivery.specs.DomainPublisher.declared.publisher_port.PublisherPort.{PublisherPort}
-use Rattle.iox_delivery.specs.DomainSubscriber.Publishers.{changed}
-use Rattle.iox_delivery.specs.DomainSubscriber.declared.attached.Taken.{Taken}
+use Rattle.iox_delivery.specs.DomainPorts.Messages.{Loan, write_value, write_all}
+use Rattle.iox_delivery.specs.DomainPorts.MessagesSending.{has_place, has_length}
+use Rattle.iox_delivery.specs.DomainPorts.Writing.{changed_if}
+use Rattle.iox_delivery.specs.DomainPorts.declared.meeting.Sent.{Sent as Sending}
+use Rattle.iox_delivery.specs.DomainPorts.declared.publisher_port.PublisherPort.{PublisherPort}
+use Rattle.iox_delivery.specs.DomainPorts.Publishers.{changed}
 use Rattle.iox_delivery.specs.Domain.Lending.{written_in}
 use Rattle.iox_delivery.specs.Domain.declared.ports.service_ports.ServicePorts.{ServicePorts}
 use Rattle.iox_delivery.specs.Domain.AtHomes.{AtDomain}
@@ -22,30 +20,16 @@ use Rattle.iox_delivery.specs.Domain.Steps.{SendsBy}
 use Rattle.iox_delivery.specs.Domain.declared.domain_id.DomainId.{DomainId}
 use Rattle.iox_delivery.specs.Holding.{loan_found}
 use Rattle.iox_delivery.specs.Lent.{IsReady}
-use Rattle.iox_delivery.specs.Publishing.{changed_at, LendsSlot, AfterLoan, SendsSample}
-use Rattle.iox_delivery.specs.Subscribing.{TakesMessage}
+use Rattle.iox_delivery.specs.Publishing.{changed_at, lent_of, written_of, LendsSlot, AfterLoan, SendsSample}
+use Rattle.iox_delivery.specs.declared.loan.Loan.{Loan as Lent}
+use Rattle.iox_delivery.specs.declared.loan.Uninit.{Uninit}
+use Rattle.iox_delivery.specs.declared.loan.Written.{Written}
 use Rattle.iox_delivery.specs.declared.port_id.PortId.{PortId}
 use Rattle.iox_delivery.specs.declared.sent.Sent.{Sent}
-use Rattle.iox_delivery.specs.declared.slices.sample.Sample.{Sample}
-use Rattle.iox_delivery.specs.declared.slices.sample_mut.SampleMut.{SampleMut}
-use Rattle.iox_delivery.specs.declared.slices.sample_mut_uninit.SampleMutUninit.{SampleMutUninit}
-
--- the loan of a publisher in a slot, of so many values
-abbrev pub loan_of : {T U : Type 0} → ℕ → PortId → ℕ → SampleMutUninit T U
-loan_of len port slot = record { port = port; slot = slot; len = len; of = record {} }
-
--- the written loan of a publisher in a slot
-abbrev pub sample_mut_of : {T U : Type 0} → PortId → ℕ → SampleMut T U
-sample_mut_of port slot = record { port = port; slot = slot; of = record {} }
-
--- what is lent of a publisher for so many values
-abbrev pub lent_of : {T U : Type 0} → ℕ → PortId → Result ℕ LoanError → Result (SampleMutUninit T U) LoanError
-lent_of len port (Ok slot) = Ok (loan_of len port slot)
-lent_of len port (Err error) = Err error
 
 -- A publisher lends so many values to be written; the header tells as many elements.
-abbrev pub LendsSlice : {T U H : Type 0} → (DomainId → H → Option (ServicePorts T U)) → (DomainId → ServicePorts T U → H → H) → PortId
-    → ℕ → H → Result (SampleMutUninit T U) LoanError → H → Type 0
+abbrev pub LendsSlice : {T U K H : Type 0} → (DomainId → H → Option (ServicePorts T U)) → (DomainId → ServicePorts T U → H → H) → PortId
+    → ℕ → H → Result (Lent T U K Uninit) LoanError → H → Type 0
 LendsSlice ports_of with_ports port len old answer new =
     (lent : Result ℕ LoanError) × LendsSlot ports_of with_ports port len len old lent new × (answer ≡ lent_of len port lent)
 
@@ -92,15 +76,10 @@ LendsFilled {T} {U} {H} ports_of with_ports port len value old answer new =
     (lent : Result ℕ LoanError) × (middle : H)
     × LendsSlot ports_of with_ports port len len old lent middle × AfterLoan Err (FillsLent ports_of with_ports port len value) lent middle answer new
 
--- what is lent of a publisher, and written
-abbrev pub written_of : {T U : Type 0} → PortId → Result ℕ LoanError → Result (SampleMut T U) LoanError
-written_of port (Ok slot) = Ok (sample_mut_of port slot)
-written_of port (Err error) = Err error
-
 -- A publisher lends so many values that are written: each is one default.
-abbrev pub LendsDefaults : {T U H : Type 0} → (DomainId → H → Option (ServicePorts T U)) → (DomainId → ServicePorts T U → H → H)
-    → (T → Type 0) → PortId → ℕ → H → Result (SampleMut T U) LoanError → H → Type 0
-LendsDefaults {T} {U} {H} ports_of with_ports is_default port len old answer new =
+abbrev pub LendsDefaults : {T U K H : Type 0} → (DomainId → H → Option (ServicePorts T U)) → (DomainId → ServicePorts T U → H → H)
+    → (T → Type 0) → PortId → ℕ → H → Result (Lent T U K Written) LoanError → H → Type 0
+LendsDefaults {T} {U} {K} {H} ports_of with_ports is_default port len old answer new =
     (value : T) × is_default value × (lent : Result ℕ LoanError) × LendsFilled ports_of with_ports port len value old lent new × (answer ≡ written_of port lent)
 
 -- the values are written in the loan in a slot, which is sent then
@@ -137,20 +116,3 @@ SendsValues {T} {U} {H} ports_of with_ports degrades decides port values old ans
     (lent : Result ℕ LoanError) × (middle : H)
     × LendsSlot ports_of with_ports port (length values) (length values) old lent middle
     × AfterLoan (λ error. Err (refusal.LoanError error)) (WritesAndSends ports_of with_ports degrades decides port values) lent middle answer new
-
--- the sample of a message that a subscriber took
-abbrev pub sample_of : {T U : Type 0} → PortId → Taken → Sample T U
-sample_of port taken = record { port = port; taken = taken; of = record {} }
-
--- what a subscriber received
-abbrev pub received_of : {T U : Type 0} → PortId → Result (Option Taken) ReceiveError → Result (Option (Sample T U)) ReceiveError
-received_of port (Ok (Some taken)) = Ok (Some (sample_of port taken))
-received_of port (Ok None) = Ok None
-received_of port (Err error) = Err error
-
--- A subscriber receives.
-abbrev pub ReceivesSlice : {T U H : Type 0} → (DomainId → H → Option (ServicePorts T U)) → (DomainId → ServicePorts T U → H → H)
-    → (DomainId → ℕ → H → DegradationInfo → DegradationAction → Type 0) → PortId → H → Result (Option (Sample T U)) ReceiveError → H
-    → Type 0
-ReceivesSlice ports_of with_ports degrades port old answer new =
-    (received : Result (Option Taken) ReceiveError) × TakesMessage ports_of with_ports degrades port old received new × (answer ≡ received_of port received)

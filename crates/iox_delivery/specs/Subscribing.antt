@@ -6,7 +6,7 @@ use Rattle.iox_domain.specs.DomainValues.declared.connection_failure.ConnectionF
 use Rattle.iox_domain.specs.DomainValues.declared.degradation.DegradationAction.{DegradationAction}
 use Rattle.iox_domain.specs.DomainValues.declared.degradation.DegradationInfo.{DegradationInfo}
 use Rattle.iox_domain.specs.DomainValues.declared.port_error.ReceiveError.{ReceiveError}
-use Rattle.iox_domain.specs.DomainSubscriber.declared.attached.Taken.{Taken}
+use Rattle.iox_domain.specs.DomainPorts.declared.attached.Taken.{Taken}
 use Rattle.iox_domain.specs.Reading.{header_in}
 use Rattle.iox_domain.specs.PortsSubscribing.{Releases}
 use Rattle.iox_domain.specs.declared.ports.service_ports.ServicePorts.{ServicePorts}
@@ -17,11 +17,11 @@ use Rattle.iox_delivery.specs.declared.port_id.PortId.{PortId}
 use Rattle.iox_delivery.specs.declared.sample.Sample.{Sample}
 
 -- the sample of a message that a subscriber took
-abbrev pub sample_of : {T U : Type 0} → PortId → Taken → Sample T U
+abbrev pub sample_of : {T U K : Type 0} → PortId → Taken → Sample T U K
 sample_of port taken = record { port = port; taken = taken; of = record {} }
 
 -- what a subscriber received
-abbrev pub received_of : {T U : Type 0} → PortId → Result (Option Taken) ReceiveError → Result (Option (Sample T U)) ReceiveError
+abbrev pub received_of : {T U K : Type 0} → PortId → Result (Option Taken) ReceiveError → Result (Option (Sample T U K)) ReceiveError
 received_of port (Ok (Some taken)) = Ok (Some (sample_of port taken))
 received_of port (Ok None) = Ok None
 received_of port (Err error) = Err error
@@ -50,8 +50,8 @@ TakesMessage ports_of with_ports degrades port old answer new =
     AtDomain (λ after. with_ports port.domain after old) (ReceivesBy (degrades port.domain port.number old) port.number) (ports_of port.domain old) old (Some answer) new
 
 -- A subscriber receives.
-abbrev pub ReceivesSample : {T U H : Type 0} → (DomainId → H → Option (ServicePorts T U)) → (DomainId → ServicePorts T U → H → H)
-    → (DomainId → ℕ → H → DegradationInfo → DegradationAction → Type 0) → PortId → H → Result (Option (Sample T U)) ReceiveError → H
+abbrev pub ReceivesSample : {T U K H : Type 0} → (DomainId → H → Option (ServicePorts T U)) → (DomainId → ServicePorts T U → H → H)
+    → (DomainId → ℕ → H → DegradationInfo → DegradationAction → Type 0) → PortId → H → Result (Option (Sample T U K)) ReceiveError → H
     → Type 0
 ReceivesSample ports_of with_ports degrades port old answer new =
     (received : Result (Option Taken) ReceiveError) × TakesMessage ports_of with_ports degrades port old received new × (answer ≡ received_of port received)

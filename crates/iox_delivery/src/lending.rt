@@ -3,9 +3,9 @@ ghost use Rattle.iox_domain.specs.Homes as homes;
 ghost use Rattle.std.specs.Prelude.{◌≡◌, true, false, Some, is_some, option_map};
 ghost use Rattle.std.specs.Borrow.{sem, LendsIf};
 ghost use Rattle.std.specs.Option.{option_copied_mut};
-ghost use Rattle.iox_domain.specs.DomainPublisher.Messages.{write_value, write_user_header};
-ghost use Rattle.iox_domain.specs.DomainPublisher.MessagesSending.{is_written_loan};
-ghost use Rattle.iox_domain.specs.DomainPublisher.Writing.{value_at};
+ghost use Rattle.iox_domain.specs.DomainPorts.Messages.{write_value, write_user_header};
+ghost use Rattle.iox_domain.specs.DomainPorts.MessagesSending.{is_written_loan};
+ghost use Rattle.iox_domain.specs.DomainPorts.Writing.{value_at};
 ghost use Rattle.iox_delivery.specs.Holding.{loan_found, publisher_blocked};
 ghost use Rattle.iox_delivery.specs.Publishing.{loan_changed, loan_header_found, SendsSample, WritesUserHeader, GivesUpLoan};
 

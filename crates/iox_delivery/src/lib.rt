@@ -2,11 +2,14 @@
 //! released. Each call is handed the home that has the domain of the port.
 //!
 //! - [`port_id`]: which port of which domain.
-//! - [`publisher`]: a publisher of single values.
+//! - [`kind`]: single values and slices, the kinds that each of the following is of.
+//! - [`port`]: what publishers and subscribers have in common.
+//! - [`publisher`]: a publisher.
+//! - [`loan`]: what loans have in common.
 //! - [`sample_mut_uninit`]: a loan that is to be written.
 //! - [`sample_mut`]: a loan that is written.
 //! - [`sent`]: what a send came to, and a send that waits.
-//! - [`subscriber`]: a subscriber of single values.
+//! - [`subscriber`]: a subscriber.
 //! - [`sample`]: a message that was received.
 //! - [`update_connections`]: what follows the ports of the other side.
 //! - [`publishing`], [`lending`], [`subscribing`]: what ports of slices have in common with these, by port, slot and message.
@@ -44,8 +47,11 @@
 //! ```
 #![tactic(auto)]
 
+pub mod kind;
 pub mod laws;
 pub mod lending;
+pub mod loan;
+pub mod port;
 pub mod port_id;
 pub mod publisher;
 pub mod publishing;

@@ -1,4 +1,4 @@
-//! A publisher of single values.
+//! A publisher of single values, and what it has in common with one of slices.
 ghost use Rattle.iox_domain.specs.Homes as homes;
 ghost use Rattle.std.specs.Prelude.{◌≡◌, ◌&&◌, ◌∷◌, [], true, false, not, IfOk, is_ok};
 ghost use Rattle.iox_domain.specs.Steps.{UpdatesBy};
@@ -6,58 +6,54 @@ ghost use Rattle.iox_delivery.specs.Lent.{IsReady};
 ghost use Rattle.iox_delivery.specs.Holding.{publisher_stands, publisher_blocked, left_or_given_back};
 ghost use Rattle.iox_delivery.specs.Publishing.{LendsUninit, LendsDefault, SendsCopy, PublisherGoes, EndsPublisher};
 
+use crate::kind::Single;
+use crate::port::Port;
 use crate::port_id::PortId;
 use crate::sample_mut::SampleMut;
 use crate::sample_mut_uninit::SampleMutUninit;
 use crate::sent::Sent;
 use crate::update_connections::UpdateConnections;
 use crate::{lending, publishing};
-use iox_domain::{DomainId, Home};
+use iox_domain::Home;
 use iox_domain_values::{BackpressureStrategy, ConnectionFailure, LoanError, SendError};
 use std::alloc::Global;
 use std::marker::PhantomData;
 
-/// A publisher of single values. It stands until it leaves.
+/// A publisher: of single values, where no other kind is named. It stands until it leaves.
 ///
 /// Ported from `iceoryx2::port::publisher::Publisher`.
-pub struct Publisher<T, U> {
-    port: PortId,
-    strategy: BackpressureStrategy,
-    of: PhantomData<(T, U)>,
+pub type Publisher<T, U, K = Single> = Port<T, U, K, PublisherSide>;
+
+/// What a publisher is made with.
+#[derive(Clone, Copy)]
+pub struct PublisherSide {
+    pub(crate) strategy: BackpressureStrategy,
+    pub(crate) initial_max_slice_len: usize,
 }
 
-impl<T: Copy, U: Copy> Publisher<T, U> {
-    /// The publisher that was made under a number, as a value. It is to be had once.
+impl<T: Copy, U: Copy, K> Publisher<T, U, K> {
+    /// The publisher that was made under a number, as a value, whose loans might have so many values at first: 1 of single values. It is
+    /// to be had once.
     ///
     /// This port's own: what makes ports by number hands them out so.
-    /// Example: `let publisher = Publisher::of_port(port, BackpressureStrategy::DiscardData);`
-    pub fn of_port(port: PortId, strategy: BackpressureStrategy) -> Self
+    /// Example: `let publisher = Publisher::of_port(port, BackpressureStrategy::DiscardData, 1);`
+    pub fn of_port(
+        port: PortId,
+        strategy: BackpressureStrategy,
+        initial_max_slice_len: usize,
+    ) -> Self
         ensures port { result.port ≡ port }
-        ensures strategy { result.strategy ≡ strategy }
+        ensures strategy { result.side.strategy ≡ strategy }
+        ensures initial_max_slice_len { result.side.initial_max_slice_len ≡ initial_max_slice_len }
     {
-        Publisher {
+        Port {
             port,
-            strategy,
+            side: PublisherSide {
+                strategy,
+                initial_max_slice_len,
+            },
             of: PhantomData,
         }
-    }
-
-    /// Its number in its domain.
-    ///
-    /// Ported from `iceoryx2::port::publisher::Publisher::id`, with a number of 64 bits.
-    /// Example: `let number = publisher.id();`
-    pub fn id(&self) -> u64
-        ensures { result ≡ self.now.port.number }
-    {
-        self.port.number
-    }
-
-    /// The id of its domain.
-    /// Example: `let domain = publisher.domain();`
-    pub fn domain(&self) -> DomainId
-        ensures { result ≡ self.now.port.domain }
-    {
-        self.port.domain
     }
 
     /// What it does at a full mailbox where no handler decides.
@@ -65,9 +61,9 @@ impl<T: Copy, U: Copy> Publisher<T, U> {
     /// Ported from `iceoryx2::port::publisher::Publisher::backpressure_strategy`.
     /// Example: `let strategy = publisher.backpressure_strategy();`
     pub fn backpressure_strategy(&self) -> BackpressureStrategy
-        ensures { result ≡ self.now.strategy }
+        ensures { result ≡ self.now.side.strategy }
     {
-        self.strategy
+        self.side.strategy
     }
 
     /// Whether it stands in this home: the condition of its calls.
@@ -86,6 +82,41 @@ impl<T: Copy, U: Copy> Publisher<T, U> {
         publishing::is_blocked(self.port, home)
     }
 
+    /// Lets it go: it leaves as by `leave`, if it exists and no send of it waits. Else nothing happens, and it is given back: it can leave
+    /// its own home once that send has ended.
+    ///
+    /// Ported from dropping an `iceoryx2::port::publisher::Publisher`.
+    /// Example: `let stays = publisher.drop_with(home).err();`
+    pub fn drop_with<H: Home<T, U>>(self, home: &mut H) -> Result<(), Self>
+        ensures ends { EndsPublisher (homes.ports_of H.domain_of) (homes.with_ports H.changed) (homes.without_publisher H.changed)
+            self.port home.old (is_ok result) home.new }
+        ensures left { result ≡ left_or_given_back
+            (publisher_stands self.port.number (homes.ports_of H.domain_of self.port.domain home.old)
+            && not (publisher_blocked self.port.number (homes.ports_of H.domain_of self.port.domain home.old))) self }
+    {
+        if publishing::drop_port(self.port, home) {
+            let _ = self.into_port();
+            Ok(())
+        } else {
+            Err(self)
+        }
+    }
+
+    /// Leaves: what was sent stays to be read, and what is lent can't be sent any longer. Its handlers are dropped.
+    ///
+    /// Ported from dropping an `iceoryx2::port::publisher::Publisher`.
+    /// Example: `publisher.leave(home);`
+    pub fn leave<H: Home<T, U>>(self, home: &mut H)
+        requires holds { publisher_stands self.port.number (homes.ports_of H.domain_of self.port.domain home.old) ≡ true }
+        requires free { publisher_blocked self.port.number (homes.ports_of H.domain_of self.port.domain home.old) ≡ false }
+        ensures { PublisherGoes (homes.ports_of H.domain_of) (homes.with_ports H.changed) (homes.without_publisher H.changed) self.port
+            home.old home.new }
+    {
+        publishing::leave(self.into_port(), home);
+    }
+}
+
+impl<T: Copy, U: Copy> Publisher<T, U> {
     /// Lends a value to be written. It is refused as `ServicePorts::loan` says: with `ExceedsMaxLoans` where as many loans are
     /// out as it may have, else with `OutOfMemory` where each of its slots is in use.
     ///
@@ -101,7 +132,7 @@ impl<T: Copy, U: Copy> Publisher<T, U> {
         ensures { LendsUninit (homes.ports_of H.domain_of) (homes.with_ports H.changed) self.now.port home.old result home.new }
     {
         let slot = publishing::loan(self.port, alloc, home, 1, 1)?;
-        Ok(SampleMutUninit::of_loan(self.port, slot))
+        Ok(SampleMutUninit::of_loan(self.port, slot, 1))
     }
 
     /// Lends a value that is written: a default. It is refused as `loan_uninit` is. It may be sent at once: it is a loan that is
@@ -147,57 +178,9 @@ impl<T: Copy, U: Copy> Publisher<T, U> {
         let slot = publishing::loan_value(self.port, alloc, home, value)?;
         lending::send(self.port, slot, alloc, home)
     }
-
-    /// Its port, of which `of_port` makes a value again. The publisher stays.
-    ///
-    /// This port's own.
-    /// Example: `let port = publisher.into_port();`
-    pub fn into_port(self) -> PortId
-        ensures { result ≡ self.port }
-    {
-        let Publisher {
-            port,
-            strategy: _,
-            of: _,
-        } = self;
-        port
-    }
-
-    /// Lets it go: it leaves as by `leave`, if it exists and no send of it waits. Else nothing happens, and it is given back: it can leave
-    /// its own home once that send has ended.
-    ///
-    /// Ported from dropping an `iceoryx2::port::publisher::Publisher`.
-    /// Example: `let stays = publisher.drop_with(home).err();`
-    pub fn drop_with<H: Home<T, U>>(self, home: &mut H) -> Result<(), Self>
-        ensures ends { EndsPublisher (homes.ports_of H.domain_of) (homes.with_ports H.changed) (homes.without_publisher H.changed)
-            self.port home.old (is_ok result) home.new }
-        ensures left { result ≡ left_or_given_back
-            (publisher_stands self.port.number (homes.ports_of H.domain_of self.port.domain home.old)
-            && not (publisher_blocked self.port.number (homes.ports_of H.domain_of self.port.domain home.old))) self }
-    {
-        if publishing::drop_port(self.port, home) {
-            let _ = self.into_port();
-            Ok(())
-        } else {
-            Err(self)
-        }
-    }
-
-    /// Leaves: what was sent stays to be read, and what is lent can't be sent any longer. Its handlers are dropped.
-    ///
-    /// Ported from dropping an `iceoryx2::port::publisher::Publisher`.
-    /// Example: `publisher.leave(home);`
-    pub fn leave<H: Home<T, U>>(self, home: &mut H)
-        requires holds { publisher_stands self.port.number (homes.ports_of H.domain_of self.port.domain home.old) ≡ true }
-        requires free { publisher_blocked self.port.number (homes.ports_of H.domain_of self.port.domain home.old) ≡ false }
-        ensures { PublisherGoes (homes.ports_of H.domain_of) (homes.with_ports H.changed) (homes.without_publisher H.changed) self.port
-            home.old home.new }
-    {
-        publishing::leave(self.into_port(), home);
-    }
 }
 
-impl<T: Copy, U: Copy> UpdateConnections<T, U> for Publisher<T, U> {
+impl<T: Copy, U: Copy, K> UpdateConnections<T, U> for Publisher<T, U, K> {
     ghost port_of = { λ publisher. publisher.port };
 
     ghost may_follow = { λ number ports. publisher_stands number ports && not (publisher_blocked number ports) };

@@ -2,82 +2,44 @@
 ghost use Rattle.iox_domain.specs.Homes as homes;
 ghost use Rattle.std.specs.Prelude.{◌≡◌, true, Some, option_map};
 ghost use Rattle.iox_delivery.specs.Holding.{message_found, value_found, holds_sample};
-ghost use Rattle.iox_delivery.specs.Subscribing.{sample_of, header_found, ReleasesSample, DropsSample};
+ghost use Rattle.iox_delivery.specs.Subscribing.{header_found, ReleasesSample, DropsSample};
 
+use crate::kind::{Kind, Single};
 use crate::port_id::PortId;
 use crate::subscribing;
 use iox_describe_base::Header;
-use iox_domain::{Home, calls};
-use iox_domain_subscriber::Taken;
+use iox_domain::Home;
+use iox_domain_ports::Taken;
 use std::marker::PhantomData;
 
-/// A message of a single value that was received. It stays as it was sent until it is released, whatever ports leave.
+/// A message that was received: of a single value, where no other kind is named. It stays as it was sent until it is released, whatever
+/// ports leave.
 ///
 /// Ported from `iceoryx2::sample::Sample`.
-pub struct Sample<T, U> {
-    port: PortId,
-    taken: Taken,
-    of: PhantomData<(T, U)>,
+pub struct Sample<T, U, K = Single> {
+    pub(crate) port: PortId,
+    pub(crate) taken: Taken,
+    pub(crate) of: PhantomData<(T, U, K)>,
 }
 
-impl<T: Copy, U: Copy> Sample<T, U> {
-    // The message that a subscriber took.
-    pub(crate) fn of_taken(port: PortId, taken: Taken) -> Self
-        ensures { result ≡ sample_of port taken }
-    {
-        Sample {
-            port,
-            taken,
-            of: PhantomData,
-        }
-    }
-
+impl<T: Copy, U: Copy, K: Kind<T, U>> Sample<T, U, K> {
     /// Whether the message is held in this home: the condition of its calls.
     /// Example: `let is_held = sample.holds(home);`
     pub fn holds<H: Home<T, U>>(&self, home: &H) -> bool
-        ensures { result ≡ holds_sample self.now.port.number self.now.taken (homes.ports_of H.domain_of self.now.port.domain home.now) }
+        ensures { result ≡ K.is_held self.now.port.number self.now.taken (homes.ports_of H.domain_of self.now.port.domain home.now) }
     {
-        let Some(ports) = calls::ports(home, self.port.domain) else {
-            return false;
-        };
-        if ports.subscribers.get(self.port.number).is_none() {
-            return false;
-        }
-        match ports.payload(self.taken) {
-            Some(values) => !values.is_empty() && self.taken.subscriber == self.port.number,
-            None => false,
-        }
-    }
-
-    /// The value, as it was sent.
-    ///
-    /// Ported from `iceoryx2::sample::Sample::payload`.
-    /// Example: `let value = *sample.payload(home);`
-    #[tactic(auto, using(crate::proofs::Ready::sample_is_message))]
-    pub fn payload<'a, H: Home<T, U>>(&self, home: &'a H) -> &'a T
-    where
-        T: 'a,
-        U: 'a,
-        requires { holds_sample self.now.port.number self.now.taken (homes.ports_of H.domain_of self.now.port.domain home.now) ≡ true }
-        ensures { Some result.now ≡ value_found 0
-            (message_found self.now.taken (homes.ports_of H.domain_of self.now.port.domain home.now)) }
-    {
-        match subscribing::values(self.port, self.taken, home).first() {
-            Some(value) => value,
-            None => unreachable!(),
-        }
+        K::is_held_in(self.port, self.taken, home)
     }
 
     /// The user header, as it was sent.
     ///
     /// Ported from `iceoryx2::sample::Sample::user_header`.
     /// Example: `let stamp = *sample.user_header(home);`
-    #[tactic(auto, using(crate::proofs::Ready::sample_is_message))]
     pub fn user_header<'a, H: Home<T, U>>(&self, home: &'a H) -> &'a U
     where
         T: 'a,
         U: 'a,
-        requires { holds_sample self.now.port.number self.now.taken (homes.ports_of H.domain_of self.now.port.domain home.now) ≡ true }
+        requires { K.is_held self.now.port.number self.now.taken (homes.ports_of H.domain_of self.now.port.domain home.now) ≡ true }
         ensures { Some result.now ≡ option_map (λ message. message.user_header)
             (message_found self.now.taken (homes.ports_of H.domain_of self.now.port.domain home.now)) }
     {
@@ -88,9 +50,8 @@ impl<T: Copy, U: Copy> Sample<T, U> {
     ///
     /// Ported from `iceoryx2::sample::Sample::header`.
     /// Example: `let header = sample.header(home);`
-    #[tactic(auto, using(crate::proofs::Ready::sample_is_message))]
     pub fn header<H: Home<T, U>>(&self, home: &H) -> Header
-        requires { holds_sample self.now.port.number self.now.taken (homes.ports_of H.domain_of self.now.port.domain home.now) ≡ true }
+        requires { K.is_held self.now.port.number self.now.taken (homes.ports_of H.domain_of self.now.port.domain home.now) ≡ true }
         ensures { Some result ≡ header_found self.now.taken (homes.ports_of H.domain_of self.now.port.domain home.now) }
     {
         subscribing::header(self.port, self.taken, home)
@@ -101,7 +62,7 @@ impl<T: Copy, U: Copy> Sample<T, U> {
     /// Ported from `iceoryx2::sample::Sample::origin`, with a number of 64 bits.
     /// Example: `let publisher = sample.origin(home);`
     pub fn origin<H: Home<T, U>>(&self, home: &H) -> u64
-        requires { holds_sample self.now.port.number self.now.taken (homes.ports_of H.domain_of self.now.port.domain home.now) ≡ true }
+        requires { K.is_held self.now.port.number self.now.taken (homes.ports_of H.domain_of self.now.port.domain home.now) ≡ true }
         ensures { Some result ≡ option_map (λ header. header.publisher_id)
             (header_found self.now.taken (homes.ports_of H.domain_of self.now.port.domain home.now)) }
     {
@@ -123,12 +84,32 @@ impl<T: Copy, U: Copy> Sample<T, U> {
     ///
     /// Ported from dropping an `iceoryx2::sample::Sample`.
     /// Example: `sample.release(home);`
-    #[tactic(auto, using(crate::proofs::Ready::sample_is_message))]
     pub fn release<H: Home<T, U>>(self, home: &mut H)
-        requires { holds_sample self.port.number self.taken (homes.ports_of H.domain_of self.port.domain home.old) ≡ true }
+        requires { K.is_held self.port.number self.taken (homes.ports_of H.domain_of self.port.domain home.old) ≡ true }
         ensures { ReleasesSample (homes.ports_of H.domain_of) (homes.with_ports H.changed) self.port self.taken home.old home.new }
     {
         let Sample { port, taken, of: _ } = self;
         subscribing::release(port, taken, home);
+    }
+}
+
+impl<T: Copy, U: Copy> Sample<T, U> {
+    /// The value, as it was sent.
+    ///
+    /// Ported from `iceoryx2::sample::Sample::payload`.
+    /// Example: `let value = *sample.payload(home);`
+    #[tactic(auto, using(crate::proofs::Ready::held_sample))]
+    pub fn payload<'a, H: Home<T, U>>(&self, home: &'a H) -> &'a T
+    where
+        T: 'a,
+        U: 'a,
+        requires { holds_sample self.now.port.number self.now.taken (homes.ports_of H.domain_of self.now.port.domain home.now) ≡ true }
+        ensures { Some result.now ≡ value_found 0
+            (message_found self.now.taken (homes.ports_of H.domain_of self.now.port.domain home.now)) }
+    {
+        match subscribing::values(self.port, self.taken, home).first() {
+            Some(value) => value,
+            None => unreachable!(),
+        }
     }
 }

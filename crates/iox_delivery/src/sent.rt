@@ -7,7 +7,7 @@ ghost use Rattle.iox_delivery.specs.Publishing.{sent_of, RetriesSend, GivesUpSen
 use crate::port_id::PortId;
 use crate::publishing;
 use iox_domain::{Home, calls};
-use iox_domain_publisher::Sent as Sending;
+use iox_domain_ports::Sent as Sending;
 use iox_domain_values::SendError;
 use std::marker::PhantomData;
 

@@ -1,60 +1,46 @@
-//! A subscriber of single values.
+//! A subscriber of single values or of slices.
 ghost use Rattle.iox_domain.specs.Homes as homes;
 ghost use Rattle.std.specs.Prelude.{◌≡◌, true, is_ok};
 ghost use Rattle.iox_domain.specs.Steps.{FollowsBy};
 ghost use Rattle.iox_delivery.specs.Holding.{subscriber_stands, left_or_given_back};
 ghost use Rattle.iox_delivery.specs.Subscribing.{TellsSamples, ReceivesSample, SubscriberGoes, EndsSubscriber};
 
+use crate::kind::Single;
+use crate::port::Port;
 use crate::port_id::PortId;
 use crate::sample::Sample;
 use crate::subscribing;
 use crate::update_connections::UpdateConnections;
-use iox_domain::{DomainId, Home};
+use iox_domain::Home;
 use iox_domain_values::{ConnectionFailure, ReceiveError};
 use std::alloc::Global;
 use std::marker::PhantomData;
 
-/// A subscriber of single values. It stands until it leaves.
+/// A subscriber: of single values, where no other kind is named. It stands until it leaves.
 ///
 /// Ported from `iceoryx2::port::subscriber::Subscriber`.
-pub struct Subscriber<T, U> {
-    port: PortId,
-    buffer_size: usize,
-    of: PhantomData<(T, U)>,
+pub type Subscriber<T, U, K = Single> = Port<T, U, K, SubscriberSide>;
+
+/// What a subscriber is made with.
+#[derive(Clone, Copy)]
+pub struct SubscriberSide {
+    pub(crate) buffer_size: usize,
 }
 
-impl<T: Copy, U: Copy> Subscriber<T, U> {
+impl<T: Copy, U: Copy, K> Subscriber<T, U, K> {
     /// The subscriber that was made under a number, as a value. It is to be had once.
     ///
     /// This port's own: what makes ports by number hands them out so.
     /// Example: `let subscriber = Subscriber::of_port(port, 4);`
     pub fn of_port(port: PortId, buffer_size: usize) -> Self
         ensures port { result.port ≡ port }
-        ensures buffer_size { result.buffer_size ≡ buffer_size }
+        ensures buffer_size { result.side.buffer_size ≡ buffer_size }
     {
-        Subscriber {
+        Port {
             port,
-            buffer_size,
+            side: SubscriberSide { buffer_size },
             of: PhantomData,
         }
-    }
-
-    /// Its number in its domain.
-    ///
-    /// Ported from `iceoryx2::port::subscriber::Subscriber::id`, with a number of 64 bits.
-    /// Example: `let number = subscriber.id();`
-    pub fn id(&self) -> u64
-        ensures { result ≡ self.now.port.number }
-    {
-        self.port.number
-    }
-
-    /// The id of its domain.
-    /// Example: `let domain = subscriber.domain();`
-    pub fn domain(&self) -> DomainId
-        ensures { result ≡ self.now.port.domain }
-    {
-        self.port.domain
     }
 
     /// How many messages of one publisher may wait for it.
@@ -62,9 +48,9 @@ impl<T: Copy, U: Copy> Subscriber<T, U> {
     /// Ported from `iceoryx2::port::subscriber::Subscriber::buffer_size`.
     /// Example: `let most = subscriber.buffer_size();`
     pub fn buffer_size(&self) -> usize
-        ensures { result ≡ self.now.buffer_size }
+        ensures { result ≡ self.now.side.buffer_size }
     {
-        self.buffer_size
+        self.side.buffer_size
     }
 
     /// Whether it stands in this home: the condition of its calls.
@@ -100,30 +86,19 @@ impl<T: Copy, U: Copy> Subscriber<T, U> {
         &self,
         alloc: Global,
         home: &mut H,
-    ) -> Result<Option<Sample<T, U>>, ReceiveError>
+    ) -> Result<Option<Sample<T, U, K>>, ReceiveError>
         requires { subscriber_stands self.now.port.number (homes.ports_of H.domain_of self.now.port.domain home.old) ≡ true }
         ensures { ReceivesSample (homes.ports_of H.domain_of) (homes.with_ports H.changed)
             (homes.subscriber_degrades (λ kept. H.ForSubscribers.degrades kept) H.domain_of) self.now.port home.old result home.new }
     {
         match subscribing::take(self.port, alloc, home)? {
-            Some(taken) => Ok(Some(Sample::of_taken(self.port, taken))),
+            Some(taken) => Ok(Some(Sample {
+                port: self.port,
+                taken,
+                of: PhantomData,
+            })),
             None => Ok(None),
         }
-    }
-
-    /// Its port, of which `of_port` makes a value again. The subscriber stays.
-    ///
-    /// This port's own.
-    /// Example: `let port = subscriber.into_port();`
-    pub fn into_port(self) -> PortId
-        ensures { result ≡ self.port }
-    {
-        let Subscriber {
-            port,
-            buffer_size: _,
-            of: _,
-        } = self;
-        port
     }
 
     /// Lets it go: it leaves as by `leave`, if it exists. Else nothing happens, and it is given back: it can leave its own home.
@@ -157,7 +132,7 @@ impl<T: Copy, U: Copy> Subscriber<T, U> {
     }
 }
 
-impl<T: Copy, U: Copy> UpdateConnections<T, U> for Subscriber<T, U> {
+impl<T: Copy, U: Copy, K> UpdateConnections<T, U> for Subscriber<T, U, K> {
     ghost port_of = { λ subscriber. subscriber.port };
 
     ghost may_follow = { λ number ports. subscriber_stands number ports };

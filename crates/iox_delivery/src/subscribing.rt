@@ -7,7 +7,7 @@ ghost use Rattle.iox_delivery.specs.Subscribing.{header_found, FollowsPublishers
 use crate::port_id::PortId;
 use iox_describe_base::Header;
 use iox_domain::{Home, calls};
-use iox_domain_subscriber::Taken;
+use iox_domain_ports::Taken;
 use iox_domain_values::{ConnectionFailure, ReceiveError};
 use std::alloc::Global;
 

@@ -3,7 +3,7 @@ use Rattle.std.specs.Prelude.{ℕ, ◌/◌, ◌-◌, ◌^◌, ◌≡◌, ◌≢�
 use Rattle.iox_domain.specs.DescribeBase.Detail.{Detail}
 use Rattle.iox_domain.specs.DescribeBase.declared.message_type.MessageTypeDetails.{MessageTypeDetails}
 use Rattle.iox_domain.specs.Fitting.{any_payload, FitTypes}
-use Rattle.iox_domain.specs.DomainPublisher.Lengths.{span}
+use Rattle.iox_domain.specs.DomainPorts.Lengths.{span}
 
 -- how many values of this size an element of a size has; values without a size are an element each
 abbrev pub values_each : ℕ → ℕ → ℕ

@@ -21,10 +21,11 @@ use Rattle.iox_domain.specs.declared.ports.making.PublisherConfig.{PublisherConf
 use Rattle.iox_domain.specs.declared.ports.making.SubscriberConfig.{SubscriberConfig}
 use Rattle.iox_domain.specs.declared.ports.service_ports.ServicePorts.{ServicePorts}
 use Rattle.iox_domain.specs.declared.domain_id.DomainId.{DomainId}
-use Rattle.iox_delivery.specs.declared.publisher.Publisher.{Publisher}
-use Rattle.iox_delivery.specs.declared.subscriber.Subscriber.{Subscriber}
-use Rattle.iox_delivery.specs.declared.slices.publisher.Publisher.{Publisher as SlicePublisher}
-use Rattle.iox_delivery.specs.declared.slices.subscriber.Subscriber.{Subscriber as SliceSubscriber}
+use Rattle.iox_delivery.specs.declared.kind.Single.{Single}
+use Rattle.iox_delivery.specs.declared.kind.Slice.{Slice}
+use Rattle.iox_delivery.specs.declared.port.Port.{Port}
+use Rattle.iox_delivery.specs.declared.publisher.PublisherSide.{PublisherSide}
+use Rattle.iox_delivery.specs.declared.subscriber.SubscriberSide.{SubscriberSide}
 use Rattle.iox_delivery_factories.specs.Elements.{room_of}
 use Rattle.iox_delivery_factories.specs.declared.publisher.PortFactoryPublisher.{PortFactoryPublisher}
 use Rattle.iox_delivery_factories.specs.declared.subscriber.PortFactorySubscriber.{PortFactorySubscriber}
@@ -98,27 +99,25 @@ buffer_at settings (Some ports) = allowed (buffer_of settings.buffer_size ports.
 
 -- the publisher that came, as a value
 abbrev pub publisher_of : {T U : Type 0} → DomainId → PublisherSettings → Result ℕ PublisherCreateError
-    → Result (Publisher T U) PublisherCreateError
-publisher_of domain settings (Ok number)
-    = Ok (record { port = record { domain = domain; number = number }; strategy = settings.strategy; of = record {} })
+    → Result (Port T U Single PublisherSide) PublisherCreateError
+publisher_of domain settings (Ok number) =
+    Ok (record { port = record { domain = domain; number = number }; side = record { strategy = settings.strategy; initial_max_slice_len = 1 }; of = record {} })
 publisher_of domain settings (Err error) = Err error
 
 -- the publisher of slices that came, as a value
 abbrev pub slice_publisher_of : {T U : Type 0} → DomainId → PublisherSettings → Result ℕ PublisherCreateError
-    → Result (SlicePublisher T U) PublisherCreateError
+    → Result (Port T U Slice PublisherSide) PublisherCreateError
 slice_publisher_of domain settings (Ok number) =
-    Ok (record { port = record { domain = domain; number = number }; strategy = settings.strategy; initial_max_slice_len = settings.initial_max_slice_len; of = record {} })
+    Ok (record {
+      port = record { domain = domain; number = number };
+      side = record { strategy = settings.strategy; initial_max_slice_len = settings.initial_max_slice_len };
+      of = record {};
+    })
 slice_publisher_of domain settings (Err error) = Err error
 
 -- the subscriber that came, as a value
-abbrev pub subscriber_of : {T U : Type 0} → DomainId → ℕ → Result ℕ SubscriberCreateError → Result (Subscriber T U) SubscriberCreateError
-subscriber_of domain buffer_size (Ok number)
-    = Ok (record { port = record { domain = domain; number = number }; buffer_size = buffer_size; of = record {} })
+abbrev pub subscriber_of : {T U K : Type 0} → DomainId → ℕ → Result ℕ SubscriberCreateError
+    → Result (Port T U K SubscriberSide) SubscriberCreateError
+subscriber_of domain buffer_size (Ok number) =
+    Ok (record { port = record { domain = domain; number = number }; side = record { buffer_size = buffer_size }; of = record {} })
 subscriber_of domain buffer_size (Err error) = Err error
-
--- the subscriber of slices that came, as a value
-abbrev pub slice_subscriber_of : {T U : Type 0} → DomainId → ℕ → Result ℕ SubscriberCreateError
-    → Result (SliceSubscriber T U) SubscriberCreateError
-slice_subscriber_of domain buffer_size (Ok number)
-    = Ok (record { port = record { domain = domain; number = number }; buffer_size = buffer_size; of = record {} })
-slice_subscriber_of domain buffer_size (Err error) = Err error

@@ -12,7 +12,7 @@ use iox_delivery::{PortId, Publisher, slices as slice};
 use iox_domain::ports::PublisherConfig;
 use iox_domain::settings::PublisherSettings;
 use iox_domain::{DomainId, Home, calls};
-use iox_domain_publisher::lengths::span;
+use iox_domain_ports::lengths::span;
 use iox_domain_values::{
     AllocationStrategy, BackpressureHandler, BackpressureStrategy, Decides, DegradationAction,
     DegradationHandler, Degrades, Handlers, Overrides, PortOwner, PreallocatedSamplesOverride,
@@ -218,7 +218,7 @@ impl<T: Copy, U: Copy + Default, B: Decides + Degrades, O: Overrides> PortFactor
             allocation: AllocationStrategy::Static,
         };
         let number = self.make(alloc, home, config)?;
-        Ok(Publisher::of_port(PortId { domain, number }, settings.strategy))
+        Ok(Publisher::of_port(PortId { domain, number }, settings.strategy, 1))
     }
 
     /// Makes the publisher, of slices, in the home of its domain, as `create` does. A slot holds as many elements as a loan may have at

@@ -5,7 +5,7 @@ ghost use Rattle.iox_domain.specs.DomainValues.declared.create_error.SubscriberC
 ghost use Rattle.iox_domain.specs.DomainValues.declared.degradation.DegradationCause.TheVariants.{FailedToEstablishConnection};
 ghost use Rattle.iox_domain.specs.AtHomes.{MakesAt};
 ghost use Rattle.iox_domain.specs.Steps.{SubscriberComes, why_no_subscriber};
-ghost use Rattle.iox_delivery_factories.specs.Factories.{subscriber_config, buffer_at, subscriber_of, slice_subscriber_of, subscriber_cloned};
+ghost use Rattle.iox_delivery_factories.specs.Factories.{subscriber_config, buffer_at, subscriber_of, subscriber_cloned};
 
 use iox_delivery::{PortId, Subscriber, slices as slice};
 use iox_domain::ports::SubscriberConfig;
@@ -147,7 +147,7 @@ impl<T: Copy, U: Copy, D: Degrades> PortFactorySubscriber<T, U, D> {
             × MakesAt (λ after. homes.with_ports H.changed self.domain after home.old) (λ number. homes.with_subscriber H.changed self.domain number self.handler)
             (SubscriberComes (D.degrades self.handler FailedToEstablishConnection) (subscriber_config self.owner self.settings)) (why_no_subscriber (subscriber_config self.owner self.settings))
             (homes.ports_of H.domain_of self.domain home.old) home.old (Some answer) home.new
-            × (result ≡ slice_subscriber_of self.domain (buffer_at self.settings (homes.ports_of H.domain_of self.domain home.old)) answer) }
+            × (result ≡ subscriber_of self.domain (buffer_at self.settings (homes.ports_of H.domain_of self.domain home.old)) answer) }
     {
         let domain = self.domain;
         let buffer_size = self.buffer_size_in(home);

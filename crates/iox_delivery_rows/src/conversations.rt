@@ -1,38 +1,12 @@
 //! Messages of single values go from node to node.
-use crate::services::{CONFIG, Messages, Service, create, open, wanted};
+use crate::services::{CONFIG, Messages, Service, create, is_delivered, open, wanted};
 use iox_delivery::{Publisher, Sent, Subscriber, UpdateConnections};
 use iox_delivery_factories::{PortFactoryPublisher, PortFactorySubscriber};
-use iox_domain_values::{PublisherCreateError, SendError, SubscriberCreateError};
+use iox_domain_values::SendError;
 use iox_hub_base::Hub;
 use std::alloc::Global;
 use std::process::Abort;
 use std::test::Fail;
-
-// A publisher that a builder makes.
-fn publish(
-    builder: PortFactoryPublisher<u64, u8>,
-    alloc: Global,
-    hub: &mut Messages,
-) -> Result<Publisher<u64, u8>, PublisherCreateError> {
-    if builder.holds(hub) {
-        builder.create(alloc, hub)
-    } else {
-        Err(PublisherCreateError::UnableToCreateDataSegment)
-    }
-}
-
-// A subscriber that a builder makes.
-fn subscribe(
-    builder: PortFactorySubscriber<u64, u8>,
-    alloc: Global,
-    hub: &mut Messages,
-) -> Result<Subscriber<u64, u8>, SubscriberCreateError> {
-    if builder.holds(hub) {
-        builder.create(alloc, hub)
-    } else {
-        Err(SubscriberCreateError::OutOfMemory)
-    }
-}
 
 // How a value is sent.
 #[derive(Clone, Copy)]
@@ -102,18 +76,6 @@ fn copies(
     assert!(rt; publisher.holds(hub));
     assert!(rt; !publisher.is_blocked(hub));
     publisher.send_copy(alloc, hub, value)
-}
-
-// Whether one mailbox took what was sent. A send that waits is let go.
-fn is_delivered(hub: &mut Messages, sent: Result<Sent<u64, u8>, SendError>) -> bool {
-    match sent {
-        Ok(Sent::Delivered(delivered)) => delivered == 1,
-        Ok(Sent::Blocked(blocked)) => {
-            blocked.drop_with(hub);
-            false
-        }
-        Err(_) => false,
-    }
 }
 
 // Whether a value is sent to one mailbox.
@@ -222,8 +184,10 @@ fn understand(
     writers: PortFactoryPublisher<u64, u8>,
     readers: PortFactorySubscriber<u64, u8>,
 ) -> Result<(), Fail> {
-    let subscriber = subscribe(readers, alloc, hub)?;
-    let publisher = publish(writers, alloc, hub);
+    assert!(rt; readers.holds(hub));
+    let subscriber = readers.create(alloc, hub)?;
+    assert!(rt; writers.holds(hub));
+    let publisher = writers.create(alloc, hub);
     let made = publisher.is_ok();
     if let Ok(publisher) = publisher {
         go_on(rt, alloc, hub, publisher, &subscriber);

@@ -1,6 +1,8 @@
-//! Services of a hub, and their domains.
+//! Services of a hub, their domains, and what a send at one comes to.
+use iox_delivery::Sent;
 use iox_describe::ServiceName;
 use iox_describe::pattern::PublishSubscribe;
+use iox_domain_values::SendError;
 use iox_hub_base::{Hub, HubBuilder, HubConfig, NodeHandle, PortFactory};
 use iox_negotiate::{Payload, ServiceBuilder};
 use std::alloc::Global;
@@ -64,6 +66,18 @@ pub(crate) fn open<P: Payload>(
     let builder = asked::<P>(rt, hub, node, name)?;
     assert!(rt; builder.holds(hub));
     Ok(builder.open_in(alloc, hub, Vec::new(alloc))?)
+}
+
+/// Whether one mailbox took what was sent. A send that waits is let go.
+pub(crate) fn is_delivered(hub: &mut Messages, sent: Result<Sent<u64, u8>, SendError>) -> bool {
+    match sent {
+        Ok(Sent::Delivered(delivered)) => delivered == 1,
+        Ok(Sent::Blocked(blocked)) => {
+            blocked.drop_with(hub);
+            false
+        }
+        Err(_) => false,
+    }
 }
 
 // A node opens or creates it.

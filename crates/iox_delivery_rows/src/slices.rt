@@ -1,14 +1,13 @@
 //! Messages of slices go from node to node.
 ghost use Rattle.std.specs.Prelude.{◌≤◌};
 
-use crate::services::{CONFIG, Messages, Service, create, wanted};
+use crate::services::{CONFIG, Messages, Service, create, is_delivered, wanted};
 use iox_delivery::Sent;
 use iox_delivery::slices::{Publisher, SampleMut, Subscriber};
-use iox_delivery_factories::{PortFactoryPublisher, PortFactorySubscriber};
+use iox_delivery_factories::PortFactoryPublisher;
 use iox_describe::Header;
 use iox_domain_values::{
     LoanError, PreallocatedSamplesFn, PreallocatedSamplesOverride, PublisherCreateError, SendError,
-    SubscriberCreateError,
 };
 use iox_hub_base::Hub;
 use iox_negotiate::Slice;
@@ -67,19 +66,6 @@ fn publish(
         builder.create_slice(alloc, hub)
     } else {
         Err(PublisherCreateError::ExceedsMaxSupportedPublishers)
-    }
-}
-
-// A subscriber of slices.
-fn subscribe(
-    builder: PortFactorySubscriber<u64, u8>,
-    alloc: Global,
-    hub: &mut Messages,
-) -> Result<Subscriber<u64, u8>, SubscriberCreateError> {
-    if builder.holds(hub) {
-        builder.create_slice(alloc, hub)
-    } else {
-        Err(SubscriberCreateError::OutOfMemory)
     }
 }
 
@@ -142,18 +128,6 @@ fn sends(
     assert!(rt; (node_id, number_of_elements) == (2, len as u64));
     assert!(rt; !sample.is_blocked(hub));
     sample.send(alloc, hub)
-}
-
-// Whether one mailbox took what was sent. A send that waits is let go.
-fn is_delivered(hub: &mut Messages, sent: Result<Sent<u64, u8>, SendError>) -> bool {
-    match sent {
-        Ok(Sent::Delivered(delivered)) => delivered == 1,
-        Ok(Sent::Blocked(blocked)) => {
-            blocked.drop_with(hub);
-            false
-        }
-        Err(_) => false,
-    }
 }
 
 // How many values come next, and the last one of them; they are released again.
@@ -247,7 +221,8 @@ fn all_are_heard(
     let Some(builder) = hub.subscriber_builder(service) else {
         return wanted(false, "there is a builder");
     };
-    let subscriber = subscribe(builder, alloc, hub)?;
+    assert!(rt; builder.holds(hub));
+    let subscriber = builder.create_slice(alloc, hub)?;
     for len in &LENGTHS {
         assert!(rt;
             is_heard(rt, alloc, hub, service, &subscriber, *len),

@@ -4,21 +4,21 @@ use Rattle.std.proofs.lemmas.Bool.{cases_eq, cases_lt, eq-eqb}
 use Rattle.std.proofs.lemmas.List.{get_or-set_other, get_or-set_same, get_or_past, length-set}
 use Rattle.std.specs.List.{All}
 use Rattle.std.specs.declared.alloc.AllocError.{AllocError}
-use Rattle.iox_domain.specs.IndexBase.declared.container.Member.{Member}
-use Rattle.iox_domain.specs.Maps.SlotTable.{value_at}
+use Rattle.iox_domain.specs.Container.declared.container.Member.{Member}
+use Rattle.iox_domain.specs.Container.SlotTable.{value_at}
 use Rattle.iox_domain.specs.Rolls.{RollState, IsListOf}
-use Rattle.iox_domain.specs.DomainPublisher.Places.{reached}
-use Rattle.iox_domain.specs.DomainPublisher.declared.publisher_port.PublisherPort.{PublisherPort}
-use Rattle.iox_domain.specs.DomainSubscriber.Following.{is_unborrowed, is_of, expired_port, replaced_port, PartsFor, PartsBorrowed, PartsOver, PartsIf, Parts, kept_at, ConnectsBy, Connects, unplaced, FollowsFreed, FollowsKey, FollowsAt, freed_if, FollowsNoneAt}
-use Rattle.iox_domain.specs.DomainSubscriber.Publishers.{port_of, AttachesTo}
-use Rattle.iox_domain.specs.DomainSubscriber.Receiving.{is_idle_at, dropped_port, dropped_ports, swept, given_ports, Serves}
-use Rattle.iox_domain.specs.DomainSubscriber.Subscribing.{attached_at, is_idle, without_key, ended_key, ended_ports, taken_ports}
-use Rattle.iox_domain.specs.DomainSubscriber.Updating.{FollowsOne, FollowsFrom, FollowsNoneIf, FollowsNones, UpdatesIf, Updates, ReceivesAfter, ReceivesNext}
-use Rattle.iox_domain.specs.DomainSubscriber.Updating as updating
-use Rattle.iox_domain.specs.DomainSubscriber.declared.attached.Attached.{Attached}
-use Rattle.iox_domain.specs.DomainSubscriber.declared.attached.Taken.{Taken}
-use Rattle.iox_domain.specs.DomainSubscriber.declared.publisher_entry.PublisherEntry.{PublisherEntry}
-use Rattle.iox_domain.specs.DomainSubscriber.declared.subscriber_port.SubscriberPort.{SubscriberPort}
+use Rattle.iox_domain.specs.DomainPorts.Places.{reached}
+use Rattle.iox_domain.specs.DomainPorts.declared.publisher_port.PublisherPort.{PublisherPort}
+use Rattle.iox_domain.specs.DomainPorts.Following.{is_unborrowed, is_of, expired_port, replaced_port, PartsFor, PartsBorrowed, PartsOver, PartsIf, Parts, kept_at, ConnectsBy, Connects, unplaced, FollowsFreed, FollowsKey, FollowsAt, freed_if, FollowsNoneAt}
+use Rattle.iox_domain.specs.DomainPorts.Publishers.{port_of, AttachesTo}
+use Rattle.iox_domain.specs.DomainPorts.Receiving.{is_idle_at, dropped_port, dropped_ports, swept, given_ports, Serves}
+use Rattle.iox_domain.specs.DomainPorts.Subscribing.{attached_at, is_idle, without_key, ended_key, ended_ports, taken_ports}
+use Rattle.iox_domain.specs.DomainPorts.SubscriberUpdating.{FollowsOne, FollowsFrom, FollowsNoneIf, FollowsNones, UpdatesIf, Updates, ReceivesAfter, ReceivesNext}
+use Rattle.iox_domain.specs.DomainPorts.SubscriberUpdating as updating
+use Rattle.iox_domain.specs.DomainPorts.declared.attached.Attached.{Attached}
+use Rattle.iox_domain.specs.DomainPorts.declared.attached.Taken.{Taken}
+use Rattle.iox_domain.specs.DomainPorts.declared.publisher_entry.PublisherEntry.{PublisherEntry}
+use Rattle.iox_domain.specs.DomainPorts.declared.subscriber_port.SubscriberPort.{SubscriberPort}
 use Rattle.iox_domain.specs.DomainValues.declared.connection_failure.ConnectionFailure.{ConnectionFailure}
 use Rattle.iox_domain.specs.DomainValues.declared.connection_failure.ZeroCopyCreationError.{ZeroCopyCreationError}
 use Rattle.iox_domain.specs.DomainValues.declared.degradation.DegradationAction.{DegradationAction}

@@ -7,7 +7,7 @@ use Rattle.std.proofs.lemmas.List.Folds.{position_or_len-set}
 use Rattle.std.proofs.lemmas.List.Quantifiers.{position-Some}
 use Rattle.std.specs.List.{position, position_or_len, range_with_len}
 use Rattle.std.specs.declared.alloc.AllocError.{AllocError}
-use Rattle.iox_domain.specs.IndexBase.declared.container.Member.{Member}
+use Rattle.iox_domain.specs.Container.declared.container.Member.{Member}
 use Rattle.iox_domain.specs.DomainValues.declared.connection_failure.ConnectionFailure.{ConnectionFailure}
 use Rattle.iox_domain.specs.DomainValues.declared.connection_failure.ConnectionFailure.TheVariants.{FailedToEstablishConnection}
 use Rattle.iox_domain.specs.DomainValues.declared.connection_failure.ZeroCopyCreationError.{ZeroCopyCreationError}
@@ -18,24 +18,24 @@ use Rattle.iox_domain.specs.DomainValues.declared.degradation.DegradationInfo.{D
 use Rattle.iox_domain.specs.DomainValues.declared.port_error.ReceiveError.{ReceiveError}
 use Rattle.iox_domain.specs.DomainValues.declared.port_error.ReceiveError.TheVariants as receiving
 use Rattle.iox_domain.specs.DomainValues.declared.port_owner.PortIdentity.{PortIdentity}
-use Rattle.iox_domain.specs.Maps.SlotTable.{value_at}
-use Rattle.iox_domain.specs.DomainPublisher.Places.{leads_to, left}
-use Rattle.iox_domain.specs.DomainPublisher.Ports.{connection_to, ended_at, detached_at, attached_at, Joins}
-use Rattle.iox_domain.specs.DomainPublisher.Updating.{first_failure, no_memory, update_answer}
-use Rattle.iox_domain.specs.DomainPublisher.declared.publisher_port.PublisherPort.{PublisherPort}
-use Rattle.iox_domain.specs.DomainPublisher.declared.reader.Reader.{Reader}
-use Rattle.iox_domain.specs.DomainSubscriber.Arriving.{new_subscriber}
-use Rattle.iox_domain.proofs.DomainSubscriber.Lacking.{attaches_at_once}
-use Rattle.iox_domain.specs.DomainSubscriber.Following.{is_of, lacks_connection, unplaced, FollowsFreed, FollowsKey, FollowsAt, FollowsListed}
-use Rattle.iox_domain.specs.DomainSubscriber.Publishers.{port_of, port_stands, stands_in, with_port, changed, changed_at_port, ended_if_left, is_over_in, is_over_port, removed, AttachesAtPort}
-use Rattle.iox_domain.specs.DomainSubscriber.Reading.{is_over}
-use Rattle.iox_domain.specs.DomainSubscriber.Receiving.{given_ports, IsReceiveAnswer, nothing_taken, Receives}
-use Rattle.iox_domain.specs.DomainSubscriber.Subscribing as subscribed
-use Rattle.iox_domain.specs.DomainSubscriber.Updating.{FollowsOne, AsksOf, FollowsFrom, FollowsNoneIf, FollowsNones, is_listed, UpdatesIf, Updates, HasSamplesAfter, ReceivesAfter}
-use Rattle.iox_domain.specs.DomainSubscriber.declared.attached.Attached.{Attached}
-use Rattle.iox_domain.specs.DomainSubscriber.declared.attached.Taken.{Taken}
-use Rattle.iox_domain.specs.DomainSubscriber.declared.publisher_entry.PublisherEntry.{PublisherEntry}
-use Rattle.iox_domain.specs.DomainSubscriber.declared.subscriber_port.SubscriberPort.{SubscriberPort}
+use Rattle.iox_domain.specs.Container.SlotTable.{value_at}
+use Rattle.iox_domain.specs.DomainPorts.Places.{leads_to, left}
+use Rattle.iox_domain.specs.DomainPorts.Ports.{connection_to, ended_at, detached_at, attached_at, Joins}
+use Rattle.iox_domain.specs.DomainPorts.PublisherUpdating.{first_failure, no_memory, update_answer}
+use Rattle.iox_domain.specs.DomainPorts.declared.publisher_port.PublisherPort.{PublisherPort}
+use Rattle.iox_domain.specs.DomainPorts.declared.reader.Reader.{Reader}
+use Rattle.iox_domain.specs.DomainPorts.Arriving.{new_subscriber}
+use Rattle.iox_domain.proofs.DomainPorts.Lacking.{attaches_at_once}
+use Rattle.iox_domain.specs.DomainPorts.Following.{is_of, lacks_connection, unplaced, FollowsFreed, FollowsKey, FollowsAt, FollowsListed}
+use Rattle.iox_domain.specs.DomainPorts.Publishers.{port_of, port_stands, stands_in, with_port, changed, changed_at_port, ended_if_left, is_over_in, is_over_port, removed, AttachesAtPort}
+use Rattle.iox_domain.specs.DomainPorts.Reading.{is_over}
+use Rattle.iox_domain.specs.DomainPorts.Receiving.{given_ports, IsReceiveAnswer, nothing_taken, Receives}
+use Rattle.iox_domain.specs.DomainPorts.Subscribing as subscribed
+use Rattle.iox_domain.specs.DomainPorts.SubscriberUpdating.{FollowsOne, AsksOf, FollowsFrom, FollowsNoneIf, FollowsNones, is_listed, UpdatesIf, Updates, HasSamplesAfter, ReceivesAfter}
+use Rattle.iox_domain.specs.DomainPorts.declared.attached.Attached.{Attached}
+use Rattle.iox_domain.specs.DomainPorts.declared.attached.Taken.{Taken}
+use Rattle.iox_domain.specs.DomainPorts.declared.publisher_entry.PublisherEntry.{PublisherEntry}
+use Rattle.iox_domain.specs.DomainPorts.declared.subscriber_port.SubscriberPort.{SubscriberPort}
 use Rattle.iox_domain.specs.Attaching.{KeysFit, ConnectsListed, AttachesWithoutMemory}
 use Rattle.iox_domain.specs.Tries.{how_often}
 use Rattle.iox_domain.proofs.Keys.{adds_same, adds_other}

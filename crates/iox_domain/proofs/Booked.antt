@@ -7,13 +7,13 @@ use Rattle.std.specs.List.{remove}
 use Rattle.iox_domain.specs.DomainSlots.Uses.{Connection, nobody, given_back, ended, settled}
 use Rattle.iox_domain.specs.DomainSlots.declared.stage.Stage.{Stage}
 use Rattle.iox_domain.specs.DomainSlots.declared.stage.Stage.TheVariants as stage
-use Rattle.iox_domain.specs.DomainPublisher.Messages.{Message}
-use Rattle.iox_domain.specs.DomainPublisher.Leaving.{parted_at, parted_from, departed}
-use Rattle.iox_domain.specs.DomainPublisher.Places.{leads_to, left, is_attached}
-use Rattle.iox_domain.specs.DomainPublisher.Ports.{connection_of, connection_to, goes_on, is_live, with_connection_of, detached_at, ended_at, Joins, attached_at}
-use Rattle.iox_domain.specs.DomainPublisher.declared.publisher_port.PublisherPort.{PublisherPort}
-use Rattle.iox_domain.specs.DomainPublisher.declared.reader.Reader.{Reader}
-use Rattle.iox_domain.specs.DomainSubscriber.Reading.{given_back_at}
+use Rattle.iox_domain.specs.DomainPorts.Messages.{Message}
+use Rattle.iox_domain.specs.DomainPorts.Leaving.{parted_at, parted_from, departed}
+use Rattle.iox_domain.specs.DomainPorts.Places.{leads_to, left, is_attached}
+use Rattle.iox_domain.specs.DomainPorts.Ports.{connection_of, connection_to, goes_on, is_live, with_connection_of, detached_at, ended_at, Joins, attached_at}
+use Rattle.iox_domain.specs.DomainPorts.declared.publisher_port.PublisherPort.{PublisherPort}
+use Rattle.iox_domain.specs.DomainPorts.declared.reader.Reader.{Reader}
+use Rattle.iox_domain.specs.DomainPorts.Reading.{given_back_at}
 use Rattle.iox_domain.specs.Order.{IsPartOf, leads_at}
 use Rattle.iox_domain.proofs.Books.{Books, Missing}
 use Rattle.iox_domain.proofs.PortLawsParts.{part_first, part_nothing}

@@ -2,12 +2,12 @@
 use Rattle.std.proofs.Common.{◌≡◌, ◌≢◌, ◌⊎◌, [], ℕ, Bool, true, false, List, Option, None, Some, Result, Ok, Err, refl, sym, ap, ◌∙◌, subst, if◌then◌else◌, inl, inr}
 use Rattle.std.proofs.lemmas.Bool.{cases_eq}
 use Rattle.std.specs.declared.alloc.AllocError.{AllocError}
-use Rattle.iox_domain.specs.DomainPublisher.Messages.{Message}
-use Rattle.iox_domain.specs.DomainPublisher.Ports.{connection_of, connection_to, detached_at}
-use Rattle.iox_domain.specs.DomainPublisher.declared.publisher_port.PublisherPort.{PublisherPort}
-use Rattle.iox_domain.specs.DomainSubscriber.Publishers as publishers
-use Rattle.iox_domain.specs.DomainSubscriber.Publishers.{port_of, port_stands, with_port, changed, changed_at_port, connection_in, connection_at_port, is_over_in, removed, ended_if_left, released, AttachesAtPort}
-use Rattle.iox_domain.specs.DomainSubscriber.Reading.{given_back_at}
+use Rattle.iox_domain.specs.DomainPorts.Messages.{Message}
+use Rattle.iox_domain.specs.DomainPorts.Ports.{connection_of, connection_to, detached_at}
+use Rattle.iox_domain.specs.DomainPorts.declared.publisher_port.PublisherPort.{PublisherPort}
+use Rattle.iox_domain.specs.DomainPorts.Publishers as publishers
+use Rattle.iox_domain.specs.DomainPorts.Publishers.{port_of, port_stands, with_port, changed, changed_at_port, connection_in, connection_at_port, is_over_in, removed, ended_if_left, released, AttachesAtPort}
+use Rattle.iox_domain.specs.DomainPorts.Reading.{given_back_at}
 use Rattle.iox_domain.specs.Order.{leads_at, leads_at_port}
 use Rattle.iox_domain.proofs.Booked.{PortBooks, steady_port, attaches_steady, detached_steady, if_left_steady, given_back_steady}
 use Rattle.iox_domain.proofs.Books.{Books, Missing}

@@ -1,7 +1,7 @@
 -- What each call of a publisher leaves of what it and one of its connections keep.
 use Rattle.std.proofs.Common.{◌≡◌, ◌&&◌, ◌||◌, ◌==◌, [], ◌++◌, append-nil, ℕ, Bool, true, false, not, List, get_or, nat_lt, nat_le, slice_get, is_some, Option, None, Some, Result, Ok, Err, refl, sym, ap, ◌∙◌, subst, if◌then◌else◌, inl, inr}
 use Rattle.std.specs.List.{position}
-use Rattle.iox_domain.specs.IndexBase.declared.container.Member.{Member}
+use Rattle.iox_domain.specs.Container.declared.container.Member.{Member}
 use Rattle.iox_domain.specs.DomainValues.declared.backpressure.BackpressureDecision.{BackpressureDecision}
 use Rattle.iox_domain.specs.DomainValues.declared.backpressure.BackpressureInfo.{BackpressureInfo}
 use Rattle.iox_domain.specs.DomainValues.declared.connection_failure.ConnectionFailure.{ConnectionFailure}
@@ -12,18 +12,18 @@ use Rattle.iox_domain.specs.DomainValues.declared.port_error.LoanError.{LoanErro
 use Rattle.iox_domain.specs.DomainValues.declared.port_error.SendError.{SendError}
 use Rattle.iox_domain.specs.DomainValues.declared.port_error.SendError.TheVariants as sending
 use Rattle.iox_domain.specs.DomainSlots.Uses.{nobody}
-use Rattle.iox_domain.specs.DomainPublisher.Messages.{Message, Loan}
-use Rattle.iox_domain.specs.DomainPublisher.MessagesSending.{opened_for, is_written_at}
-use Rattle.iox_domain.proofs.DomainPublisher.Finding.{at_place}
-use Rattle.iox_domain.specs.DomainPublisher.Lengths.{extent}
-use Rattle.iox_domain.specs.DomainPublisher.Loaning.{with_sender, LendsHere, LendsInNew, LendsBeyond, LendsWhere, LendsUnless, LoansIf, first_refusal}
-use Rattle.iox_domain.specs.DomainPublisher.Progress.{tried_again}
-use Rattle.iox_domain.specs.DomainPublisher.Sending.{Finishes, with_progress, ready_at, ready_loan, begun_by, begun_at, dropped_at, SendsAfter, SendsIf, Sends}
-use Rattle.iox_domain.specs.DomainPublisher.Writing.{changed_if, place_of, given_up_at, given_up, loan_of}
-use Rattle.iox_domain.specs.DomainPublisher.declared.meeting.Sent.{Sent}
-use Rattle.iox_domain.specs.DomainPublisher.declared.meeting.Sent.TheVariants as sent
-use Rattle.iox_domain.specs.DomainPublisher.declared.publisher_port.PublisherPort.{PublisherPort}
-use Rattle.iox_domain.specs.DomainPublisher.declared.subscriber_entry.SubscriberEntry.{SubscriberEntry}
+use Rattle.iox_domain.specs.DomainPorts.Messages.{Message, Loan}
+use Rattle.iox_domain.specs.DomainPorts.MessagesSending.{opened_for, is_written_at}
+use Rattle.iox_domain.proofs.DomainPorts.Finding.{at_place}
+use Rattle.iox_domain.specs.DomainPorts.Lengths.{extent}
+use Rattle.iox_domain.specs.DomainPorts.Loaning.{with_sender, LendsHere, LendsInNew, LendsBeyond, LendsWhere, LendsUnless, LoansIf, first_refusal}
+use Rattle.iox_domain.specs.DomainPorts.Progress.{tried_again}
+use Rattle.iox_domain.specs.DomainPorts.Sending.{Finishes, with_progress, ready_at, ready_loan, begun_by, begun_at, dropped_at, SendsAfter, SendsIf, Sends}
+use Rattle.iox_domain.specs.DomainPorts.Writing.{changed_if, place_of, given_up_at, given_up, loan_of}
+use Rattle.iox_domain.specs.DomainPorts.declared.meeting.Sent.{Sent}
+use Rattle.iox_domain.specs.DomainPorts.declared.meeting.Sent.TheVariants as sent
+use Rattle.iox_domain.specs.DomainPorts.declared.publisher_port.PublisherPort.{PublisherPort}
+use Rattle.iox_domain.specs.DomainPorts.declared.subscriber_entry.SubscriberEntry.{SubscriberEntry}
 use Rattle.iox_domain.specs.Lending.{LoansOne}
 use Rattle.iox_domain.specs.Lending as lending
 use Rattle.iox_domain.specs.PortsPublishing.{is_blocked, is_free, UpdatesOne, SendsOne, RetriesOne, GivesUpOne}

@@ -7,17 +7,17 @@ use Rattle.iox_domain.specs.DomainValues.declared.degradation.DegradationAction.
 use Rattle.iox_domain.specs.DomainValues.declared.degradation.DegradationInfo.{DegradationInfo}
 use Rattle.iox_domain.specs.DomainValues.declared.port_error.ReceiveError.{ReceiveError}
 use Rattle.iox_domain.specs.DomainSlots.Uses.{Connection, nobody, taken}
-use Rattle.iox_domain.specs.DomainPublisher.Messages.{Message}
-use Rattle.iox_domain.specs.DomainPublisher.Ports.{connection_of, goes_on}
-use Rattle.iox_domain.specs.DomainPublisher.declared.publisher_port.PublisherPort.{PublisherPort}
-use Rattle.iox_domain.specs.DomainSubscriber.Publishers.{port_of, port_stands, with_port, changed, changed_at_port, connection_in, connection_at_port}
-use Rattle.iox_domain.specs.DomainSubscriber.Reading.{taken_at}
-use Rattle.iox_domain.specs.DomainSubscriber.Receiving.{IsFirst, IsMet, IsGiver, given, given_ports, IsReceiveAnswer, nothing_taken}
-use Rattle.iox_domain.specs.DomainSubscriber.Subscribing.{attached_at, connection_by, has_data, is_below, gives, taken_of, taken_ports}
-use Rattle.iox_domain.specs.DomainSubscriber.Updating.{ReceivesAfter, ReceivesNext}
-use Rattle.iox_domain.specs.DomainSubscriber.declared.attached.Attached.{Attached}
-use Rattle.iox_domain.specs.DomainSubscriber.declared.attached.Taken.{Taken}
-use Rattle.iox_domain.specs.DomainSubscriber.declared.subscriber_port.SubscriberPort.{SubscriberPort}
+use Rattle.iox_domain.specs.DomainPorts.Messages.{Message}
+use Rattle.iox_domain.specs.DomainPorts.Ports.{connection_of, goes_on}
+use Rattle.iox_domain.specs.DomainPorts.declared.publisher_port.PublisherPort.{PublisherPort}
+use Rattle.iox_domain.specs.DomainPorts.Publishers.{port_of, port_stands, with_port, changed, changed_at_port, connection_in, connection_at_port}
+use Rattle.iox_domain.specs.DomainPorts.Reading.{taken_at}
+use Rattle.iox_domain.specs.DomainPorts.Receiving.{IsFirst, IsMet, IsGiver, given, given_ports, IsReceiveAnswer, nothing_taken}
+use Rattle.iox_domain.specs.DomainPorts.Subscribing.{attached_at, connection_by, has_data, is_below, gives, taken_of, taken_ports}
+use Rattle.iox_domain.specs.DomainPorts.SubscriberUpdating.{ReceivesAfter, ReceivesNext}
+use Rattle.iox_domain.specs.DomainPorts.declared.attached.Attached.{Attached}
+use Rattle.iox_domain.specs.DomainPorts.declared.attached.Taken.{Taken}
+use Rattle.iox_domain.specs.DomainPorts.declared.subscriber_port.SubscriberPort.{SubscriberPort}
 use Rattle.iox_domain.specs.Order.{IsPartOf, leads_at, leads_at_port, is_named}
 use Rattle.iox_domain.proofs.Booked.{by_parts, steady_alike, steady_port}
 use Rattle.iox_domain.proofs.BookedLists.{Booked, ListBooks, lists_stay, lists_changed, lists_other, book_walks}

@@ -4,12 +4,12 @@ use Rattle.iox_domain.specs.DomainValues.declared.backpressure.BackpressureDecis
 use Rattle.iox_domain.specs.DomainValues.declared.backpressure.BackpressureInfo.{BackpressureInfo}
 use Rattle.iox_domain.specs.DomainValues.declared.port_error.SendError.{SendError}
 use Rattle.iox_domain.specs.DomainSlots.Uses.{Connection, nobody, offered}
-use Rattle.iox_domain.specs.DomainPublisher.Messages.{Message, Loan, sent_as}
-use Rattle.iox_domain.specs.DomainPublisher.Places.{leads_to}
-use Rattle.iox_domain.specs.DomainPublisher.Ports.{connection_of, goes_on}
-use Rattle.iox_domain.specs.DomainPublisher.Sending.{concluded, Finishes, begun_by}
-use Rattle.iox_domain.specs.DomainPublisher.declared.meeting.Sent.{Sent}
-use Rattle.iox_domain.specs.DomainPublisher.declared.publisher_port.PublisherPort.{PublisherPort}
+use Rattle.iox_domain.specs.DomainPorts.Messages.{Message, Loan, sent_as}
+use Rattle.iox_domain.specs.DomainPorts.Places.{leads_to}
+use Rattle.iox_domain.specs.DomainPorts.Ports.{connection_of, goes_on}
+use Rattle.iox_domain.specs.DomainPorts.Sending.{concluded, Finishes, begun_by}
+use Rattle.iox_domain.specs.DomainPorts.declared.meeting.Sent.{Sent}
+use Rattle.iox_domain.specs.DomainPorts.declared.publisher_port.PublisherPort.{PublisherPort}
 use Rattle.iox_domain.specs.PortLawsLaws.{AreTiesApart, GotAtMostOnce}
 use Rattle.iox_domain.specs.Order.{IsPartOf, leads_at}
 use Rattle.iox_domain.proofs.Once.{Gone, delivers_got}

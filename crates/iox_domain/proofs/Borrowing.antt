@@ -2,25 +2,25 @@
 use Rattle.std.proofs.Common.{arith, ◌≡◌, ◌+◌, ◌-◌, ◌≤◌, ◌==◌, ◌∷◌, [], ◌++◌, ℕ, zero, suc, Bool, true, false, List, get_or, length, set, take, Option, None, Some, Result, Ok, Err, if◌then◌else◌, refl, ap}
 use Rattle.std.proofs.lemmas.List.{length-append}
 use Rattle.std.specs.declared.alloc.AllocError.{AllocError}
-use Rattle.iox_domain.specs.IndexBase.declared.container.Member.{Member}
+use Rattle.iox_domain.specs.Container.declared.container.Member.{Member}
 use Rattle.iox_domain.specs.PortsPublishing.{is_free, UpdatesOne, SendsOne, RetriesOne, GivesUpOne}
 use Rattle.iox_domain.specs.PortsPublishing as publishing
 use Rattle.iox_domain.specs.Rolls.{RollState}
-use Rattle.iox_domain.specs.DomainPublisher.Leaving.{parted_at, parted_from, departed}
-use Rattle.iox_domain.specs.DomainPublisher.Places.{is_attached}
-use Rattle.iox_domain.specs.DomainPublisher.Ports.{connection_of, connection_to, is_live, ended_at, greeted_at, welcomed_at, Joins, Attaches}
-use Rattle.iox_domain.specs.DomainPublisher.Sending.{ready_loan}
-use Rattle.iox_domain.specs.DomainPublisher.Ties.{tie_put}
-use Rattle.iox_domain.specs.DomainPublisher.Updating.{is_tie_to, let_go_of, untied, untied_from, within_reach, tied, Ties, FollowsTo, Follows, FollowsAll, UpdatesIf, Updates}
-use Rattle.iox_domain.specs.DomainPublisher.declared.meeting.Sent.{Sent}
-use Rattle.iox_domain.specs.DomainPublisher.declared.publisher_port.PublisherPort.{PublisherPort}
-use Rattle.iox_domain.specs.DomainPublisher.declared.subscriber_entry.SubscriberEntry.{SubscriberEntry}
-use Rattle.iox_domain.specs.DomainPublisher.Messages.{Message}
+use Rattle.iox_domain.specs.DomainPorts.Leaving.{parted_at, parted_from, departed}
+use Rattle.iox_domain.specs.DomainPorts.Places.{is_attached}
+use Rattle.iox_domain.specs.DomainPorts.Ports.{connection_of, connection_to, is_live, ended_at, greeted_at, welcomed_at, Joins, Attaches}
+use Rattle.iox_domain.specs.DomainPorts.Sending.{ready_loan}
+use Rattle.iox_domain.specs.DomainPorts.Ties.{tie_put}
+use Rattle.iox_domain.specs.DomainPorts.PublisherUpdating.{is_tie_to, let_go_of, untied, untied_from, within_reach, tied, Ties, FollowsTo, Follows, FollowsAll, UpdatesIf, Updates}
+use Rattle.iox_domain.specs.DomainPorts.declared.meeting.Sent.{Sent}
+use Rattle.iox_domain.specs.DomainPorts.declared.publisher_port.PublisherPort.{PublisherPort}
+use Rattle.iox_domain.specs.DomainPorts.declared.subscriber_entry.SubscriberEntry.{SubscriberEntry}
+use Rattle.iox_domain.specs.DomainPorts.Messages.{Message}
 use Rattle.iox_domain.specs.DomainSlots.Uses.{Connection, nobody, connected, ended, settled, taken, welcomed}
 use Rattle.iox_domain.specs.DomainSlots.declared.stage.Stage.{Stage}
 use Rattle.iox_domain.specs.DomainSlots.declared.stage.Stage.TheVariants as stage
-use Rattle.iox_domain.specs.DomainSubscriber.Publishers.{ended_if_left}
-use Rattle.iox_domain.specs.DomainSubscriber.Reading.{taken_at}
+use Rattle.iox_domain.specs.DomainPorts.Publishers.{ended_if_left}
+use Rattle.iox_domain.specs.DomainPorts.Reading.{taken_at}
 use Rattle.iox_domain.specs.DomainValues.declared.backpressure.BackpressureDecision.{BackpressureDecision}
 use Rattle.iox_domain.specs.DomainValues.declared.backpressure.BackpressureInfo.{BackpressureInfo}
 use Rattle.iox_domain.specs.DomainValues.declared.connection_failure.ConnectionFailure.{ConnectionFailure}

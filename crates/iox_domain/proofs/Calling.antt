@@ -8,7 +8,7 @@ use Rattle.std.proofs.lemmas.List.Edits.{length-remove}
 use Rattle.std.proofs.lemmas.List.Quantifiers.{position-Some}
 use Rattle.std.proofs.lemmas.Map.Entries.{sum_by-set_value}
 use Rattle.std.proofs.lemmas.Option.{none-some, slice_get_cases}
-use Rattle.iox_domain.specs.IndexBase.declared.container.Member.{Member}
+use Rattle.iox_domain.specs.Container.declared.container.Member.{Member}
 use Rattle.iox_domain.specs.DomainValues.declared.backpressure.BackpressureDecision.{BackpressureDecision}
 use Rattle.iox_domain.specs.DomainValues.declared.backpressure.BackpressureInfo.{BackpressureInfo}
 use Rattle.iox_domain.specs.DomainValues.declared.connection_failure.ConnectionFailure.{ConnectionFailure}
@@ -16,19 +16,19 @@ use Rattle.iox_domain.specs.DomainValues.declared.degradation.DegradationAction.
 use Rattle.iox_domain.specs.DomainValues.declared.degradation.DegradationInfo.{DegradationInfo}
 use Rattle.iox_domain.specs.DomainValues.declared.port_error.LoanError.{LoanError}
 use Rattle.iox_domain.specs.DomainValues.declared.port_error.SendError.{SendError}
-use Rattle.iox_domain.specs.DomainPublisher.Messages.{Loan}
-use Rattle.iox_domain.specs.DomainPublisher.MessagesSending.{is_written_at}
-use Rattle.iox_domain.specs.DomainPublisher.Leaving.{departed}
-use Rattle.iox_domain.specs.DomainPublisher.Loaning as lending
-use Rattle.iox_domain.specs.DomainPublisher.Progress.{tried_again}
-use Rattle.iox_domain.specs.DomainPublisher.Sending.{ready_at, ready_loan, begun_at, begun_by, dropped_at, with_progress, SendsAfter, SendsIf, Sends}
-use Rattle.iox_domain.specs.DomainPublisher.Writing.{place_of, changed_if, given_up, given_up_at}
-use Rattle.iox_domain.specs.DomainPublisher.declared.meeting.Sent.{Sent}
-use Rattle.iox_domain.specs.DomainPublisher.declared.meeting.Sent.TheVariants as sent
-use Rattle.iox_domain.specs.DomainPublisher.declared.publisher_port.PublisherPort.{PublisherPort}
-use Rattle.iox_domain.specs.DomainPublisher.declared.subscriber_entry.SubscriberEntry.{SubscriberEntry}
-use Rattle.iox_domain.specs.DomainSubscriber.Living.{living_of_publisher, counted}
-use Rattle.iox_domain.specs.DomainSubscriber.Publishers.{port_of, changed_at_port, settled}
+use Rattle.iox_domain.specs.DomainPorts.Messages.{Loan}
+use Rattle.iox_domain.specs.DomainPorts.MessagesSending.{is_written_at}
+use Rattle.iox_domain.specs.DomainPorts.Leaving.{departed}
+use Rattle.iox_domain.specs.DomainPorts.Loaning as lending
+use Rattle.iox_domain.specs.DomainPorts.Progress.{tried_again}
+use Rattle.iox_domain.specs.DomainPorts.Sending.{ready_at, ready_loan, begun_at, begun_by, dropped_at, with_progress, SendsAfter, SendsIf, Sends}
+use Rattle.iox_domain.specs.DomainPorts.Writing.{place_of, changed_if, given_up, given_up_at}
+use Rattle.iox_domain.specs.DomainPorts.declared.meeting.Sent.{Sent}
+use Rattle.iox_domain.specs.DomainPorts.declared.meeting.Sent.TheVariants as sent
+use Rattle.iox_domain.specs.DomainPorts.declared.publisher_port.PublisherPort.{PublisherPort}
+use Rattle.iox_domain.specs.DomainPorts.declared.subscriber_entry.SubscriberEntry.{SubscriberEntry}
+use Rattle.iox_domain.specs.DomainPorts.Living.{living_of_publisher, counted}
+use Rattle.iox_domain.specs.DomainPorts.Publishers.{port_of, changed_at_port, settled}
 use Rattle.iox_domain.specs.Lending.{LoansIf, LoansOne, written_in, gave_up_in}
 use Rattle.iox_domain.specs.Living.{living}
 use Rattle.iox_domain.specs.LivingSteps.{AsMuchLives, OneLessLives, LoanAdds, SendTakes, GivingUpTakes}

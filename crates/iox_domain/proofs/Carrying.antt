@@ -1,6 +1,6 @@
 -- What each step of a publisher that follows no list does to it, put together to what a call does.
 use Rattle.std.proofs.Common.{arith, ◌≡◌, ◌-◌, ◌<◌, ◌≤◌, ◌∷◌, ◌++◌, [], cond, drop, length-append, ℕ, zero, suc, Bool, true, false, List, get_or, length, nat_lt, nat_le, slice_get, is_some, Option, None, Some, Result, Ok, Err, refl, ap, ◌∙◌, if◌then◌else◌, inl, inr}
-use Rattle.iox_domain.specs.IndexBase.declared.container.Member.{Member}
+use Rattle.iox_domain.specs.Container.declared.container.Member.{Member}
 use Rattle.iox_domain.specs.DomainValues.declared.backpressure.BackpressureDecision.{BackpressureDecision}
 use Rattle.iox_domain.specs.DomainValues.declared.backpressure.BackpressureDecision.TheVariants as decided
 use Rattle.iox_domain.specs.DomainValues.declared.backpressure.BackpressureInfo.{BackpressureInfo}
@@ -11,20 +11,20 @@ use Rattle.iox_domain.specs.DomainValues.declared.degradation.DegradationInfo.{D
 use Rattle.iox_domain.specs.DomainValues.declared.port_error.LoanError.{LoanError}
 use Rattle.iox_domain.specs.DomainValues.declared.port_error.SendError.{SendError}
 use Rattle.iox_domain.specs.DomainSlots.Uses.{offered, Connection}
-use Rattle.iox_domain.specs.DomainPublisher.Messages.{Message, Loan}
-use Rattle.iox_domain.specs.DomainPublisher.Lengths.{extent}
-use Rattle.iox_domain.specs.DomainPublisher.Loaning.{with_sender, LendsHere, LendsInNew, LendsBeyond, LendsWhere, LendsUnless, LoansIf, first_refusal}
-use Rattle.iox_domain.specs.DomainPublisher.MessagesSending.{opened_for}
-use Rattle.iox_domain.specs.DomainPublisher.Ports.{connection_of, with_connection_of, is_live}
-use Rattle.iox_domain.specs.DomainPublisher.Progress.{tried_again}
-use Rattle.iox_domain.specs.DomainPublisher.Sending.{with_message, met_by, met, meeting_at, with_progress, decided_by, Steps, GoesOn, Delivers, concluded, Finishes, begun_by, begun_at, dropped_at, SendsAfter, SendsIf, Sends}
-use Rattle.iox_domain.specs.DomainPublisher.Updating.{Updates}
-use Rattle.iox_domain.specs.DomainPublisher.Writing.{changed_if, place_of, given_up_at, given_up}
-use Rattle.iox_domain.specs.DomainPublisher.declared.meeting.Meeting.{Meeting}
-use Rattle.iox_domain.specs.DomainPublisher.declared.meeting.Meeting.TheVariants as meeting
-use Rattle.iox_domain.specs.DomainPublisher.declared.meeting.Sent.{Sent}
-use Rattle.iox_domain.specs.DomainPublisher.declared.publisher_port.PublisherPort.{PublisherPort}
-use Rattle.iox_domain.specs.DomainPublisher.declared.subscriber_entry.SubscriberEntry.{SubscriberEntry}
+use Rattle.iox_domain.specs.DomainPorts.Messages.{Message, Loan}
+use Rattle.iox_domain.specs.DomainPorts.Lengths.{extent}
+use Rattle.iox_domain.specs.DomainPorts.Loaning.{with_sender, LendsHere, LendsInNew, LendsBeyond, LendsWhere, LendsUnless, LoansIf, first_refusal}
+use Rattle.iox_domain.specs.DomainPorts.MessagesSending.{opened_for}
+use Rattle.iox_domain.specs.DomainPorts.Ports.{connection_of, with_connection_of, is_live}
+use Rattle.iox_domain.specs.DomainPorts.Progress.{tried_again}
+use Rattle.iox_domain.specs.DomainPorts.Sending.{with_message, met_by, met, meeting_at, with_progress, decided_by, Steps, GoesOn, Delivers, concluded, Finishes, begun_by, begun_at, dropped_at, SendsAfter, SendsIf, Sends}
+use Rattle.iox_domain.specs.DomainPorts.PublisherUpdating.{Updates}
+use Rattle.iox_domain.specs.DomainPorts.Writing.{changed_if, place_of, given_up_at, given_up}
+use Rattle.iox_domain.specs.DomainPorts.declared.meeting.Meeting.{Meeting}
+use Rattle.iox_domain.specs.DomainPorts.declared.meeting.Meeting.TheVariants as meeting
+use Rattle.iox_domain.specs.DomainPorts.declared.meeting.Sent.{Sent}
+use Rattle.iox_domain.specs.DomainPorts.declared.publisher_port.PublisherPort.{PublisherPort}
+use Rattle.iox_domain.specs.DomainPorts.declared.subscriber_entry.SubscriberEntry.{SubscriberEntry}
 use Rattle.iox_domain.specs.Lending.{LoansOne}
 use Rattle.iox_domain.specs.Lending as lending
 use Rattle.iox_domain.specs.PortsPublishing.{is_blocked, is_free, UpdatesOne, SendsOne, RetriesOne, GivesUpOne}

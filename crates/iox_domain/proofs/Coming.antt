@@ -7,22 +7,22 @@ use Rattle.std.specs.Ordering.{nat_cmp, is_eq, match_ordering}
 use Rattle.std.specs.declared.alloc.AllocError.{AllocError}
 use Rattle.std.specs.declared.cmp.Ordering.{Ordering}
 use Rattle.std.specs.declared.cmp.Ordering.TheVariants.{Less, Equal, Greater}
-use Rattle.iox_domain_subscriber.specs.IndexBase.declared.container.Member.{Member}
-use Rattle.iox_domain_subscriber.specs.DomainValues.OverrideAnswers.{places}
-use Rattle.iox_domain_subscriber.specs.DomainValues.declared.connection_failure.ConnectionFailure.{ConnectionFailure}
-use Rattle.iox_domain_subscriber.specs.DomainValues.declared.degradation.DegradationAction.{DegradationAction}
-use Rattle.iox_domain_subscriber.specs.DomainValues.declared.degradation.DegradationInfo.{DegradationInfo}
-use Rattle.iox_domain_subscriber.specs.DomainValues.declared.port_owner.PortIdentity.{PortIdentity}
-use Rattle.iox_domain_subscriber.specs.DomainValues.declared.port_owner.PortOwner.{PortOwner}
-use Rattle.iox_domain_subscriber.specs.DomainPublisher.declared.messages.sender_config.SenderConfig.{SenderConfig}
-use Rattle.iox_domain_subscriber.specs.DomainPublisher.Leaving.{new_port}
-use Rattle.iox_domain_subscriber.specs.DomainPublisher.Updating as publisher
-use Rattle.iox_domain_subscriber.specs.DomainPublisher.declared.publisher_port.PublisherPort.{PublisherPort}
-use Rattle.iox_domain_subscriber.specs.DomainPublisher.declared.subscriber_entry.SubscriberEntry.{SubscriberEntry}
-use Rattle.iox_domain_subscriber.specs.Arriving.{new_subscriber}
-use Rattle.iox_domain_subscriber.specs.Publishers.{added}
-use Rattle.iox_domain_subscriber.specs.declared.publisher_entry.PublisherEntry.{PublisherEntry}
-use Rattle.iox_domain_subscriber.specs.declared.subscriber_port.SubscriberPort.{SubscriberPort}
+use Rattle.iox_domain_ports.specs.Container.declared.container.Member.{Member}
+use Rattle.iox_domain_ports.specs.DomainValues.OverrideAnswers.{places}
+use Rattle.iox_domain_ports.specs.DomainValues.declared.connection_failure.ConnectionFailure.{ConnectionFailure}
+use Rattle.iox_domain_ports.specs.DomainValues.declared.degradation.DegradationAction.{DegradationAction}
+use Rattle.iox_domain_ports.specs.DomainValues.declared.degradation.DegradationInfo.{DegradationInfo}
+use Rattle.iox_domain_ports.specs.DomainValues.declared.port_owner.PortIdentity.{PortIdentity}
+use Rattle.iox_domain_ports.specs.DomainValues.declared.port_owner.PortOwner.{PortOwner}
+use Rattle.iox_domain_ports.specs.declared.messages.sender_config.SenderConfig.{SenderConfig}
+use Rattle.iox_domain_ports.specs.Leaving.{new_port}
+use Rattle.iox_domain_ports.specs.PublisherUpdating as publisher
+use Rattle.iox_domain_ports.specs.declared.publisher_port.PublisherPort.{PublisherPort}
+use Rattle.iox_domain_ports.specs.declared.subscriber_entry.SubscriberEntry.{SubscriberEntry}
+use Rattle.iox_domain_ports.specs.Arriving.{new_subscriber}
+use Rattle.iox_domain_ports.specs.Publishers.{added}
+use Rattle.iox_domain_ports.specs.declared.publisher_entry.PublisherEntry.{PublisherEntry}
+use Rattle.iox_domain_ports.specs.declared.subscriber_port.SubscriberPort.{SubscriberPort}
 use Rattle.iox_domain.specs.Making.{slots_needed, publisher_place, subscriber_place, sender_config, identity_of, publisher_answer, AddsPublisher, CreatesPublisher, FollowsFirst, AddsSubscriber}
 use Rattle.iox_domain.specs.Rolls.{RollState, IsListOf, free_place, entered}
 use Rattle.iox_domain.specs.Subscribers.{subscriber_of, subscriber_added}

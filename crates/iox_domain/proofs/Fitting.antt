@@ -4,17 +4,17 @@ use Rattle.std.proofs.lemmas.List.{length-replicate}
 use Rattle.std.proofs.lemmas.Bool.{cases_eq}
 use Rattle.std.proofs.lemmas.List.{get_or-set_other, get_or-set_same, length-set}
 use Rattle.std.specs.declared.alloc.AllocError.{AllocError}
-use Rattle.iox_domain.specs.Maps.SlotTable.{SlotTable, value_at, released, stored, without}
+use Rattle.iox_domain.specs.Container.SlotTable.{SlotTable, value_at, released, stored, without}
 use Rattle.iox_domain.specs.DomainValues.declared.connection_failure.ZeroCopyCreationError.{ZeroCopyCreationError}
-use Rattle.iox_domain.specs.DomainPublisher.Places.{reached}
-use Rattle.iox_domain.specs.DomainPublisher.declared.publisher_port.PublisherPort.{PublisherPort}
-use Rattle.iox_domain.proofs.DomainPublisher.Enough.{still}
-use Rattle.iox_domain.specs.DomainSubscriber.Following.{is_unborrowed, expired_port, replaced_port, PartsFor, PartsBorrowed, PartsOver, PartsIf, Parts, kept_at, ConnectsBy, Connects, unplaced, freed_if, FollowsNoneAt}
-use Rattle.iox_domain.specs.DomainSubscriber.Keys.{KeysState, with_last}
-use Rattle.iox_domain.specs.DomainSubscriber.Receiving.{is_idle_at, dropped_port, dropped_ports, swept}
-use Rattle.iox_domain.specs.DomainSubscriber.Subscribing.{attached_at, is_idle, without_key, ended_key}
-use Rattle.iox_domain.specs.DomainSubscriber.declared.attached.Attached.{Attached}
-use Rattle.iox_domain.specs.DomainSubscriber.declared.subscriber_port.SubscriberPort.{SubscriberPort}
+use Rattle.iox_domain.specs.DomainPorts.Places.{reached}
+use Rattle.iox_domain.specs.DomainPorts.declared.publisher_port.PublisherPort.{PublisherPort}
+use Rattle.iox_domain.proofs.DomainPorts.Enough.{still}
+use Rattle.iox_domain.specs.DomainPorts.Following.{is_unborrowed, expired_port, replaced_port, PartsFor, PartsBorrowed, PartsOver, PartsIf, Parts, kept_at, ConnectsBy, Connects, unplaced, freed_if, FollowsNoneAt}
+use Rattle.iox_domain.specs.DomainPorts.Keys.{KeysState, with_last}
+use Rattle.iox_domain.specs.DomainPorts.Receiving.{is_idle_at, dropped_port, dropped_ports, swept}
+use Rattle.iox_domain.specs.DomainPorts.Subscribing.{attached_at, is_idle, without_key, ended_key}
+use Rattle.iox_domain.specs.DomainPorts.declared.attached.Attached.{Attached}
+use Rattle.iox_domain.specs.DomainPorts.declared.subscriber_port.SubscriberPort.{SubscriberPort}
 use Rattle.iox_domain.specs.Attaching.{keys_at, keys_of, KeysFit}
 use Rattle.iox_domain.specs.Tries.{how_often}
 use Rattle.iox_domain.proofs.Keys.{adds, adds_same, adds_other, often_append, often_end, often_remove, often_there, length_remove, often_without, none_without, keys_untied, keys_tied, keys_reached, keys_fewer, as_long}

@@ -3,18 +3,18 @@ use Rattle.std.proofs.Common.{arith, ◌≡◌, ◌≢◌, ◌+◌, ◌-◌, ◌
 use Rattle.std.proofs.lemmas.Bool.{cases_eq}
 use Rattle.std.proofs.lemmas.List.{get_or-set_other, get_or-set_same}
 use Rattle.std.specs.declared.alloc.AllocError.{AllocError}
-use Rattle.iox_domain.specs.IndexBase.declared.container.Member.{Member}
+use Rattle.iox_domain.specs.Container.declared.container.Member.{Member}
 use Rattle.iox_domain.specs.DomainValues.declared.connection_failure.ConnectionFailure.{ConnectionFailure}
 use Rattle.iox_domain.specs.DomainValues.declared.degradation.DegradationAction.{DegradationAction}
 use Rattle.iox_domain.specs.DomainValues.declared.degradation.DegradationInfo.{DegradationInfo}
 use Rattle.iox_domain.specs.DomainSlots.Uses.{nobody, newest, ended, welcomed}
-use Rattle.iox_domain.specs.DomainPublisher.Messages.{Message}
-use Rattle.iox_domain.specs.DomainPublisher.Places.{leads_to, reached}
-use Rattle.iox_domain.specs.DomainPublisher.Ports.{connection_of, connection_to, goes_on, is_live, with_connection_of, greeted_at, Joins}
-use Rattle.iox_domain.specs.DomainPublisher.Ties.{tie_put}
-use Rattle.iox_domain.specs.DomainPublisher.Updating.{is_tie_to, let_go_of, untied, untied_from, within_reach, tied, Ties, Follows, FollowsTo, FollowsAll, UpdatesIf, Updates}
-use Rattle.iox_domain.specs.DomainPublisher.declared.publisher_port.PublisherPort.{PublisherPort}
-use Rattle.iox_domain.specs.DomainPublisher.declared.subscriber_entry.SubscriberEntry.{SubscriberEntry}
+use Rattle.iox_domain.specs.DomainPorts.Messages.{Message}
+use Rattle.iox_domain.specs.DomainPorts.Places.{leads_to, reached}
+use Rattle.iox_domain.specs.DomainPorts.Ports.{connection_of, connection_to, goes_on, is_live, with_connection_of, greeted_at, Joins}
+use Rattle.iox_domain.specs.DomainPorts.Ties.{tie_put}
+use Rattle.iox_domain.specs.DomainPorts.PublisherUpdating.{is_tie_to, let_go_of, untied, untied_from, within_reach, tied, Ties, Follows, FollowsTo, FollowsAll, UpdatesIf, Updates}
+use Rattle.iox_domain.specs.DomainPorts.declared.publisher_port.PublisherPort.{PublisherPort}
+use Rattle.iox_domain.specs.DomainPorts.declared.subscriber_entry.SubscriberEntry.{SubscriberEntry}
 use Rattle.iox_domain.specs.PortLawsLaws.{IsListApart, IsTiedWell}
 use Rattle.iox_domain.specs.Order.{IsPartOf, leads_at}
 use Rattle.iox_domain.proofs.Books.{Books, Missing, got_leads}

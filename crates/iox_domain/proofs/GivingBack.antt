@@ -4,17 +4,17 @@ use Rattle.std.proofs.lemmas.Bool.{cases_eq, eq-eqb}
 use Rattle.std.proofs.lemmas.List.{get_or-set_other}
 use Rattle.std.specs.List.{All, list_any}
 use Rattle.std.specs.Prelude.{sum_by}
-use Rattle.iox_domain.specs.DomainPublisher.Ports.{connection_of}
-use Rattle.iox_domain.specs.DomainPublisher.declared.publisher_port.PublisherPort.{PublisherPort}
-use Rattle.iox_domain.specs.DomainPublisher.Messages.{Message}
+use Rattle.iox_domain.specs.DomainPorts.Ports.{connection_of}
+use Rattle.iox_domain.specs.DomainPorts.declared.publisher_port.PublisherPort.{PublisherPort}
+use Rattle.iox_domain.specs.DomainPorts.Messages.{Message}
 use Rattle.iox_domain.specs.DomainSlots.Uses.{Connection, nobody, is_there, settled, given_back}
 use Rattle.iox_domain.specs.DomainSlots.declared.stage.Stage.{Stage}
 use Rattle.iox_domain.specs.DomainSlots.declared.stage.Stage.TheVariants as stage
-use Rattle.iox_domain.specs.DomainSubscriber.Publishers as publishers
-use Rattle.iox_domain.specs.DomainSubscriber.Publishers.{port_of, with_port, changed_at_port, is_over_in, is_over_port, released, removed, connection_at_port, connection_in}
-use Rattle.iox_domain.specs.DomainSubscriber.Reading.{is_over, given_back_at}
-use Rattle.iox_domain.specs.DomainSubscriber.declared.attached.Attached.{Attached}
-use Rattle.iox_domain.specs.DomainSubscriber.declared.subscriber_port.SubscriberPort.{SubscriberPort}
+use Rattle.iox_domain.specs.DomainPorts.Publishers as publishers
+use Rattle.iox_domain.specs.DomainPorts.Publishers.{port_of, with_port, changed_at_port, is_over_in, is_over_port, released, removed, connection_at_port, connection_in}
+use Rattle.iox_domain.specs.DomainPorts.Reading.{is_over, given_back_at}
+use Rattle.iox_domain.specs.DomainPorts.declared.attached.Attached.{Attached}
+use Rattle.iox_domain.specs.DomainPorts.declared.subscriber_port.SubscriberPort.{SubscriberPort}
 use Rattle.iox_domain.specs.PortLawsLaws.{IsTidy, IsSoundEntry}
 use Rattle.iox_domain.proofs.ListKeeps.{tidy_found, none_there, last_of}
 use Rattle.iox_domain.proofs.Numbered.{at_number, other_fails, other_set, same_set, other_gone}

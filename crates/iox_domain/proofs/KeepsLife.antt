@@ -8,26 +8,26 @@ use Rattle.std.proofs.lemmas.Map.{keys-set_value}
 use Rattle.std.proofs.lemmas.Map.Views.{All-map-remove_entry}
 use Rattle.std.specs.Ordering.{nat_cmp}
 use Rattle.std.proofs.lemmas.Map.Entries.{sum_by-set_value}
-use Rattle.iox_domain.specs.IndexBase.declared.container.Member.{Member}
+use Rattle.iox_domain.specs.Container.declared.container.Member.{Member}
 use Rattle.iox_domain.specs.DomainValues.declared.connection_failure.ConnectionFailure.{ConnectionFailure}
 use Rattle.iox_domain.specs.DomainValues.declared.connection_failure.ZeroCopyCreationError.{ZeroCopyCreationError}
 use Rattle.iox_domain.specs.DomainValues.declared.degradation.DegradationAction.{DegradationAction}
 use Rattle.iox_domain.specs.DomainValues.declared.degradation.DegradationInfo.{DegradationInfo}
 use Rattle.iox_domain.specs.DomainValues.declared.port_error.ReceiveError.{ReceiveError}
-use Rattle.iox_domain.specs.DomainPublisher.Ports.{connection_to, ended_at, detached_at}
-use Rattle.iox_domain.specs.DomainPublisher.Ties.{tie_put}
-use Rattle.iox_domain.specs.DomainPublisher.declared.publisher_port.PublisherPort.{PublisherPort}
-use Rattle.iox_domain.specs.DomainSubscriber.Following.{PartsFor, PartsBorrowed, PartsOver, PartsIf, Parts, ConnectsBy, Connects, FollowsFreed, FollowsKey, FollowsAt, freed_if, FollowsNoneAt, is_of, is_unborrowed}
-use Rattle.iox_domain.specs.DomainSubscriber.Living.{living_publishers}
-use Rattle.iox_domain.specs.DomainSubscriber.Publishers.{removed, ended_if_left, is_over_in, settled, port_of, with_port, changed, changed_at_port, released, stands_in, AttachesAtPort}
-use Rattle.iox_domain.specs.DomainSubscriber.Reading.{taken_at, given_back_at}
-use Rattle.iox_domain.specs.DomainSubscriber.Receiving.{is_idle_at, dropped_port, dropped_ports, swept, given_ports, Receives, left_at, left_all}
-use Rattle.iox_domain.specs.DomainSubscriber.Subscribing.{attached_at, is_idle, without_key, ended_key, ended_ports, taken_ports}
-use Rattle.iox_domain.specs.DomainSubscriber.Updating.{FollowsOne, FollowsFrom, is_listed, FollowsNoneIf, FollowsNones, UpdatesIf, Updates, HasSamples, ReceivesAfter, ReceivesNext}
-use Rattle.iox_domain.specs.DomainSubscriber.declared.attached.Attached.{Attached}
-use Rattle.iox_domain.specs.DomainSubscriber.declared.attached.Taken.{Taken}
-use Rattle.iox_domain.specs.DomainSubscriber.declared.publisher_entry.PublisherEntry.{PublisherEntry}
-use Rattle.iox_domain.specs.DomainSubscriber.declared.subscriber_port.SubscriberPort.{SubscriberPort}
+use Rattle.iox_domain.specs.DomainPorts.Ports.{connection_to, ended_at, detached_at}
+use Rattle.iox_domain.specs.DomainPorts.Ties.{tie_put}
+use Rattle.iox_domain.specs.DomainPorts.declared.publisher_port.PublisherPort.{PublisherPort}
+use Rattle.iox_domain.specs.DomainPorts.Following.{PartsFor, PartsBorrowed, PartsOver, PartsIf, Parts, ConnectsBy, Connects, FollowsFreed, FollowsKey, FollowsAt, freed_if, FollowsNoneAt, is_of, is_unborrowed}
+use Rattle.iox_domain.specs.DomainPorts.Living.{living_publishers}
+use Rattle.iox_domain.specs.DomainPorts.Publishers.{removed, ended_if_left, is_over_in, settled, port_of, with_port, changed, changed_at_port, released, stands_in, AttachesAtPort}
+use Rattle.iox_domain.specs.DomainPorts.Reading.{taken_at, given_back_at}
+use Rattle.iox_domain.specs.DomainPorts.Receiving.{is_idle_at, dropped_port, dropped_ports, swept, given_ports, Receives, left_at, left_all}
+use Rattle.iox_domain.specs.DomainPorts.Subscribing.{attached_at, is_idle, without_key, ended_key, ended_ports, taken_ports}
+use Rattle.iox_domain.specs.DomainPorts.SubscriberUpdating.{FollowsOne, FollowsFrom, is_listed, FollowsNoneIf, FollowsNones, UpdatesIf, Updates, HasSamples, ReceivesAfter, ReceivesNext}
+use Rattle.iox_domain.specs.DomainPorts.declared.attached.Attached.{Attached}
+use Rattle.iox_domain.specs.DomainPorts.declared.attached.Taken.{Taken}
+use Rattle.iox_domain.specs.DomainPorts.declared.publisher_entry.PublisherEntry.{PublisherEntry}
+use Rattle.iox_domain.specs.DomainPorts.declared.subscriber_port.SubscriberPort.{SubscriberPort}
 use Rattle.iox_domain.proofs.Lives.{life_of, joins_life, ended_life}
 use Rattle.iox_domain.proofs.Outliving.{counts, count_of_life, settled_lives}
 

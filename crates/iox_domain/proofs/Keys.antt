@@ -4,7 +4,7 @@ use Rattle.std.proofs.lemmas.Bool.{eq-eqb, eqb-true}
 use Rattle.iox_domain.specs.DomainSlots.Counting.{times}
 use Rattle.iox_domain.proofs.DomainSlots.Counts.{times_cons}
 use Rattle.iox_domain.proofs.DomainSlots.Enough.{pigeons}
-use Rattle.iox_domain.specs.Maps.SlotTable.{without}
+use Rattle.iox_domain.specs.Container.SlotTable.{without}
 use Rattle.iox_domain.specs.Attaching.{keys_at}
 use Rattle.iox_domain.specs.Tries.{how_often}
 

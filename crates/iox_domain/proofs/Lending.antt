@@ -11,17 +11,17 @@ use Rattle.iox_domain.specs.DomainValues.declared.degradation.DegradationInfo.{D
 use Rattle.iox_domain.specs.DomainValues.declared.port_error.LoanError.{LoanError}
 use Rattle.iox_domain.specs.DomainValues.declared.port_error.LoanError.TheVariants as refusal
 use Rattle.iox_domain.specs.DomainValues.declared.port_error.SendError.{SendError}
-use Rattle.iox_domain.specs.IndexBase.declared.container.Member.{Member}
-use Rattle.iox_domain.specs.DomainPublisher.Messages.{Loan, new_loan}
-use Rattle.iox_domain.specs.DomainPublisher.MessagesSending.{opened_for}
-use Rattle.iox_domain.specs.DomainPublisher.Loaning.{with_sender, LendsHere, LacksMemory, LendsBeyond, LendsWhere, LendsUnless, is_too_long, first_refusal}
-use Rattle.iox_domain.specs.DomainPublisher.Loaning as loaning
-use Rattle.iox_domain.specs.DomainPublisher.Progress.{tried_again}
-use Rattle.iox_domain.specs.DomainPublisher.Sending.{begun_at, begun_by, dropped_at, ready_loan, with_progress, SendsAfter, SendsIf, Sends}
-use Rattle.iox_domain.specs.DomainPublisher.Writing.{place_of, changed_there, changed_if, given_up_at, given_up}
-use Rattle.iox_domain.specs.DomainPublisher.declared.meeting.Sent.{Sent}
-use Rattle.iox_domain.specs.DomainPublisher.declared.publisher_port.PublisherPort.{PublisherPort}
-use Rattle.iox_domain.specs.DomainPublisher.declared.subscriber_entry.SubscriberEntry.{SubscriberEntry}
+use Rattle.iox_domain.specs.Container.declared.container.Member.{Member}
+use Rattle.iox_domain.specs.DomainPorts.Messages.{Loan, new_loan}
+use Rattle.iox_domain.specs.DomainPorts.MessagesSending.{opened_for}
+use Rattle.iox_domain.specs.DomainPorts.Loaning.{with_sender, LendsHere, LacksMemory, LendsBeyond, LendsWhere, LendsUnless, is_too_long, first_refusal}
+use Rattle.iox_domain.specs.DomainPorts.Loaning as loaning
+use Rattle.iox_domain.specs.DomainPorts.Progress.{tried_again}
+use Rattle.iox_domain.specs.DomainPorts.Sending.{begun_at, begun_by, dropped_at, ready_loan, with_progress, SendsAfter, SendsIf, Sends}
+use Rattle.iox_domain.specs.DomainPorts.Writing.{place_of, changed_there, changed_if, given_up_at, given_up}
+use Rattle.iox_domain.specs.DomainPorts.declared.meeting.Sent.{Sent}
+use Rattle.iox_domain.specs.DomainPorts.declared.publisher_port.PublisherPort.{PublisherPort}
+use Rattle.iox_domain.specs.DomainPorts.declared.subscriber_entry.SubscriberEntry.{SubscriberEntry}
 use Rattle.iox_domain.specs.Lending.{LoansIf, LoansOne}
 use Rattle.iox_domain.specs.PortsPublishing.{is_blocked, is_free, UpdatesIf, UpdatesOne, SendsOne, RetriesIf, RetriesOne, GivesUpIf, GivesUpOne}
 use Rattle.iox_domain.specs.Rolls.{RollState}

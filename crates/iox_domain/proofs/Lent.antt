@@ -5,7 +5,7 @@ use Rattle.std.proofs.Math.Logic.{⊎_elim}
 use Rattle.std.proofs.Math.Dec.{eqb}
 use Rattle.std.proofs.lemmas.Bool.{cases_Bool}
 use Rattle.std.proofs.lemmas.Bool.Decides.{eqb_tells}
-use Rattle.iox_domain.specs.IndexBase.declared.container.Member.{Member}
+use Rattle.iox_domain.specs.Container.declared.container.Member.{Member}
 use Rattle.iox_domain.specs.DomainValues.declared.backpressure.BackpressureDecision.{BackpressureDecision}
 use Rattle.iox_domain.specs.DomainValues.declared.backpressure.BackpressureInfo.{BackpressureInfo}
 use Rattle.iox_domain.specs.DomainValues.declared.connection_failure.ConnectionFailure.{ConnectionFailure}
@@ -16,17 +16,17 @@ use Rattle.iox_domain.specs.DomainValues.declared.port_error.LoanError.{LoanErro
 use Rattle.iox_domain.specs.DomainSlots.Counting.{times}
 use Rattle.iox_domain.specs.DomainSlots.Uses.{in_use, held}
 use Rattle.iox_domain.proofs.DomainSlots.Counts.{times_append, times_cons}
-use Rattle.iox_domain.specs.DomainPublisher.Messages.{Loan}
-use Rattle.iox_domain.specs.DomainPublisher.MessagesSending.{SenderState, slots_of, is_written_loan}
-use Rattle.iox_domain.proofs.DomainPublisher.Finding.{no_loan, at_place, at_none}
-use Rattle.iox_domain.specs.DomainPublisher.Loaning as loaning
-use Rattle.iox_domain.specs.DomainPublisher.Lengths.{extent}
-use Rattle.iox_domain.specs.DomainPublisher.Loaning.{with_sender, first_refusal, LendsBeyond, LendsWhere, LendsUnless, Lends}
-use Rattle.iox_domain.specs.DomainPublisher.Sending.{ready_at, Sends, SendsIf, SendsAfter}
-use Rattle.iox_domain.specs.DomainPublisher.Writing.{loan_of}
-use Rattle.iox_domain.specs.DomainPublisher.declared.publisher_port.PublisherPort.{PublisherPort}
-use Rattle.iox_domain.specs.DomainPublisher.declared.subscriber_entry.SubscriberEntry.{SubscriberEntry}
-use Rattle.iox_domain.specs.DomainSubscriber.Publishers.{port_of, is_over_port, is_over_in, settled}
+use Rattle.iox_domain.specs.DomainPorts.Messages.{Loan}
+use Rattle.iox_domain.specs.DomainPorts.MessagesSending.{SenderState, slots_of, is_written_loan}
+use Rattle.iox_domain.proofs.DomainPorts.Finding.{no_loan, at_place, at_none}
+use Rattle.iox_domain.specs.DomainPorts.Loaning as loaning
+use Rattle.iox_domain.specs.DomainPorts.Lengths.{extent}
+use Rattle.iox_domain.specs.DomainPorts.Loaning.{with_sender, first_refusal, LendsBeyond, LendsWhere, LendsUnless, Lends}
+use Rattle.iox_domain.specs.DomainPorts.Sending.{ready_at, Sends, SendsIf, SendsAfter}
+use Rattle.iox_domain.specs.DomainPorts.Writing.{loan_of}
+use Rattle.iox_domain.specs.DomainPorts.declared.publisher_port.PublisherPort.{PublisherPort}
+use Rattle.iox_domain.specs.DomainPorts.declared.subscriber_entry.SubscriberEntry.{SubscriberEntry}
+use Rattle.iox_domain.specs.DomainPorts.Publishers.{port_of, is_over_port, is_over_in, settled}
 use Rattle.iox_domain.specs.PortsPublishing.{is_blocked}
 
 -- what stays of a publisher that lent: all but its messages, and whether one is being sent

@@ -7,7 +7,7 @@ use Rattle.std.specs.List.{All}
 use Rattle.std.specs.Map.{values_of}
 use Rattle.std.specs.Prelude.{sum_by}
 use Rattle.std.specs.declared.alloc.AllocError.{AllocError}
-use Rattle.iox_domain.specs.IndexBase.declared.container.Member.{Member}
+use Rattle.iox_domain.specs.Container.declared.container.Member.{Member}
 use Rattle.iox_domain.specs.Attaching.{KeysFit, IsKeyedEntry, AreKeyed}
 use Rattle.iox_domain.specs.Calls.{PortCall, PublisherComes, SubscriberComes, Lends, Writes, GivesLoanUp, PublisherUpdates, Sends, Retries, GivesSendUp, PublisherLeaves, SubscriberUpdates, AsksForSamples, Receives, Releases, SubscriberLeaves, Happens}
 use Rattle.iox_domain.specs.Lending.{LoansOne}
@@ -20,17 +20,17 @@ use Rattle.iox_domain.specs.Subscribers.{subscriber_of, with_subscriber, subscri
 use Rattle.iox_domain.specs.PortsSubscribing as subscribing
 use Rattle.iox_domain.specs.declared.ports.making.PublisherConfig.{PublisherConfig}
 use Rattle.iox_domain.specs.declared.ports.service_ports.ServicePorts.{ServicePorts}
-use Rattle.iox_domain.specs.DomainPublisher.Leaving.{departed}
-use Rattle.iox_domain.specs.DomainPublisher.Writing.{changed_if, given_up}
-use Rattle.iox_domain.specs.DomainPublisher.declared.publisher_port.PublisherPort.{PublisherPort}
-use Rattle.iox_domain.specs.DomainSubscriber.Arriving.{new_subscriber}
-use Rattle.iox_domain.specs.DomainSubscriber.Publishers as publishers
-use Rattle.iox_domain.specs.DomainSubscriber.Publishers.{port_of, with_port, changed, settled, connection_at_port, connection_in}
-use Rattle.iox_domain.specs.DomainSubscriber.Reading.{place_of}
-use Rattle.iox_domain.specs.DomainSubscriber.Receiving.{left_all}
-use Rattle.iox_domain.specs.DomainSubscriber.declared.attached.Taken.{Taken}
-use Rattle.iox_domain.specs.DomainSubscriber.declared.publisher_entry.PublisherEntry.{PublisherEntry}
-use Rattle.iox_domain.specs.DomainSubscriber.declared.subscriber_port.SubscriberPort.{SubscriberPort}
+use Rattle.iox_domain.specs.DomainPorts.Leaving.{departed}
+use Rattle.iox_domain.specs.DomainPorts.Writing.{changed_if, given_up}
+use Rattle.iox_domain.specs.DomainPorts.declared.publisher_port.PublisherPort.{PublisherPort}
+use Rattle.iox_domain.specs.DomainPorts.Arriving.{new_subscriber}
+use Rattle.iox_domain.specs.DomainPorts.Publishers as publishers
+use Rattle.iox_domain.specs.DomainPorts.Publishers.{port_of, with_port, changed, settled, connection_at_port, connection_in}
+use Rattle.iox_domain.specs.DomainPorts.Reading.{place_of}
+use Rattle.iox_domain.specs.DomainPorts.Receiving.{left_all}
+use Rattle.iox_domain.specs.DomainPorts.declared.attached.Taken.{Taken}
+use Rattle.iox_domain.specs.DomainPorts.declared.publisher_entry.PublisherEntry.{PublisherEntry}
+use Rattle.iox_domain.specs.DomainPorts.declared.subscriber_port.SubscriberPort.{SubscriberPort}
 use Rattle.iox_domain.specs.DomainValues.Sizes.{buffer_of}
 use Rattle.iox_domain.specs.DomainValues.declared.backpressure.BackpressureDecision.{BackpressureDecision}
 use Rattle.iox_domain.specs.DomainValues.declared.backpressure.BackpressureInfo.{BackpressureInfo}

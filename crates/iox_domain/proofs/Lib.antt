@@ -69,8 +69,7 @@ pub mod StayRoomy
 pub mod Bounds
 pub mod Lent
 pub mod Putting
-pub use Rattle.iox_domain_subscriber.proofs.Container as Container
+pub use Rattle.iox_domain_ports.proofs.Container as Container
 pub use Rattle.iox_describe_base.proofs as DescribeBase
-pub use Rattle.iox_domain_subscriber.proofs.DomainPublisher as DomainPublisher
-pub use Rattle.iox_domain_subscriber.proofs.DomainSlots as DomainSlots
-pub use Rattle.iox_domain_subscriber.proofs as DomainSubscriber
+pub use Rattle.iox_domain_ports.proofs as DomainPorts
+pub use Rattle.iox_domain_ports.proofs.DomainSlots as DomainSlots

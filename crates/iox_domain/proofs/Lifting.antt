@@ -3,15 +3,15 @@ use Rattle.std.proofs.Common.{ℕ, ◌≡◌, List, Bool, true, false, Option, N
 use Rattle.std.proofs.lemmas.Map.Steps.{set_value_same}
 use Rattle.std.specs.BTreeMap.{is_at}
 use Rattle.std.specs.Ordering.{nat_cmp}
-use Rattle.iox_domain_subscriber.specs.DomainValues.declared.backpressure.BackpressureDecision.{BackpressureDecision}
-use Rattle.iox_domain_subscriber.specs.DomainValues.declared.backpressure.BackpressureInfo.{BackpressureInfo}
-use Rattle.iox_domain_subscriber.specs.DomainValues.declared.port_error.SendError.{SendError}
-use Rattle.iox_domain_subscriber.specs.DomainPublisher.Progress.{tried_again}
-use Rattle.iox_domain_subscriber.specs.DomainPublisher.Sending.{with_progress, Finishes}
-use Rattle.iox_domain_subscriber.specs.DomainPublisher.declared.meeting.Sent.{Sent}
-use Rattle.iox_domain_subscriber.specs.DomainPublisher.declared.publisher_port.PublisherPort.{PublisherPort}
-use Rattle.iox_domain_subscriber.specs.Publishers.{port_of, with_port}
-use Rattle.iox_domain_subscriber.specs.declared.subscriber_port.SubscriberPort.{SubscriberPort}
+use Rattle.iox_domain_ports.specs.DomainValues.declared.backpressure.BackpressureDecision.{BackpressureDecision}
+use Rattle.iox_domain_ports.specs.DomainValues.declared.backpressure.BackpressureInfo.{BackpressureInfo}
+use Rattle.iox_domain_ports.specs.DomainValues.declared.port_error.SendError.{SendError}
+use Rattle.iox_domain_ports.specs.Progress.{tried_again}
+use Rattle.iox_domain_ports.specs.Sending.{with_progress, Finishes}
+use Rattle.iox_domain_ports.specs.declared.meeting.Sent.{Sent}
+use Rattle.iox_domain_ports.specs.declared.publisher_port.PublisherPort.{PublisherPort}
+use Rattle.iox_domain_ports.specs.Publishers.{port_of, with_port}
+use Rattle.iox_domain_ports.specs.declared.subscriber_port.SubscriberPort.{SubscriberPort}
 use Rattle.iox_domain.specs.Ports.{AtPublisher, AtSubscriber, with_publisher, with_both}
 use Rattle.iox_domain.specs.PortsPublishing.{is_blocked, is_free, RetriesOne}
 use Rattle.iox_domain.specs.PortsPublishing as publishing

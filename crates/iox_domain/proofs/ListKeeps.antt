@@ -6,12 +6,12 @@ use Rattle.std.specs.declared.alloc.AllocError.{AllocError}
 use Rattle.iox_domain.specs.DomainSlots.Uses.{Connection, nobody, is_open, is_there}
 use Rattle.iox_domain.specs.DomainSlots.declared.stage.Stage.{Stage}
 use Rattle.iox_domain.specs.DomainSlots.declared.stage.Stage.TheVariants as stage
-use Rattle.iox_domain.specs.DomainPublisher.Messages.{Message}
-use Rattle.iox_domain.specs.DomainPublisher.Ports.{connection_of, detached_at, ended_at}
-use Rattle.iox_domain.specs.DomainPublisher.declared.publisher_port.PublisherPort.{PublisherPort}
-use Rattle.iox_domain.specs.DomainSubscriber.Publishers.{port_of, with_port, changed, changed_at_port, is_over_port, is_over_in, removed, settled, ended_if_left, AttachesAtPort, connection_at_port, most_borrowed_at_port}
-use Rattle.iox_domain.specs.DomainSubscriber.Reading.{borrowed_in, is_over, taken_at}
-use Rattle.iox_domain.specs.DomainSubscriber.declared.attached.Taken.{Taken}
+use Rattle.iox_domain.specs.DomainPorts.Messages.{Message}
+use Rattle.iox_domain.specs.DomainPorts.Ports.{connection_of, detached_at, ended_at}
+use Rattle.iox_domain.specs.DomainPorts.declared.publisher_port.PublisherPort.{PublisherPort}
+use Rattle.iox_domain.specs.DomainPorts.Publishers.{port_of, with_port, changed, changed_at_port, is_over_port, is_over_in, removed, settled, ended_if_left, AttachesAtPort, connection_at_port, most_borrowed_at_port}
+use Rattle.iox_domain.specs.DomainPorts.Reading.{borrowed_in, is_over, taken_at}
+use Rattle.iox_domain.specs.DomainPorts.declared.attached.Taken.{Taken}
 use Rattle.iox_domain.specs.SizeLaws.{MadeFor, IsWithin, IsMadeFor, made_for}
 use Rattle.iox_domain.specs.PortLawsLaws.{IsTidy, IsSoundEntry}
 use Rattle.iox_domain.specs.Reading.{sample_at_port}

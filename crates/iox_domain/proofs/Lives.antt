@@ -1,7 +1,7 @@
 -- What a publisher's steps do to what lives of it: whether it stands, whose it is, its loans, and whether a send waits.
 use Rattle.std.proofs.Common.{◌≡◌, ◌+◌, ◌-◌, ◌==◌, ◌∙◌, ℕ, zero, suc, Bool, true, false, List, [], ◌∷◌, length, get_or, is_some, Option, None, Some, Result, Ok, Err, if◌then◌else◌, refl, sym, ap}
 use Rattle.std.specs.declared.alloc.AllocError.{AllocError}
-use Rattle.iox_domain.specs.IndexBase.declared.container.Member.{Member}
+use Rattle.iox_domain.specs.Container.declared.container.Member.{Member}
 use Rattle.iox_domain.specs.DomainValues.declared.backpressure.BackpressureDecision.{BackpressureDecision}
 use Rattle.iox_domain.specs.DomainValues.declared.backpressure.BackpressureDecision.TheVariants as decided
 use Rattle.iox_domain.specs.DomainValues.declared.backpressure.BackpressureInfo.{BackpressureInfo}
@@ -10,29 +10,36 @@ use Rattle.iox_domain.specs.DomainValues.declared.degradation.DegradationAction.
 use Rattle.iox_domain.specs.DomainValues.declared.degradation.DegradationInfo.{DegradationInfo}
 use Rattle.iox_domain.specs.DomainValues.declared.port_error.SendError.{SendError}
 use Rattle.iox_domain.specs.DomainValues.declared.port_error.SendError.TheVariants as sending
-use Rattle.iox_domain.specs.DomainPublisher.Messages.{Message}
-use Rattle.iox_domain.specs.DomainPublisher.Leaving.{parted_at, parted_from, departed}
-use Rattle.iox_domain.specs.DomainPublisher.Places.{is_attached}
-use Rattle.iox_domain.specs.DomainPublisher.Ports.{Joins, connection_to, connection_of, is_live, ended_at, welcomed_at, greeted_at}
-use Rattle.iox_domain.specs.DomainPublisher.Sending.{meeting_at, met, met_by, with_message, decided_by, concluded, sent_answer, Steps, Delivers, Finishes}
-use Rattle.iox_domain.specs.DomainPublisher.Ties.{tie_put}
-use Rattle.iox_domain.specs.DomainPublisher.Updating.{is_tie_to, let_go_of, untied, untied_from, within_reach, Ties, FollowsTo, Follows, FollowsAll, UpdatesIf, Updates}
-use Rattle.iox_domain.specs.DomainPublisher.declared.meeting.Meeting.{Meeting}
-use Rattle.iox_domain.specs.DomainPublisher.declared.meeting.Meeting.TheVariants as meeting
-use Rattle.iox_domain.specs.DomainPublisher.declared.meeting.Sent.{Sent}
-use Rattle.iox_domain.specs.DomainPublisher.declared.meeting.Sent.TheVariants as sent
-use Rattle.iox_domain.specs.DomainPublisher.declared.publisher_port.PublisherPort.{PublisherPort}
-use Rattle.iox_domain.specs.DomainPublisher.declared.subscriber_entry.SubscriberEntry.{SubscriberEntry}
+use Rattle.iox_domain.specs.DomainPorts.Messages.{Message}
+use Rattle.iox_domain.specs.DomainPorts.Leaving.{parted_at, parted_from, departed}
+use Rattle.iox_domain.specs.DomainPorts.Places.{is_attached}
+use Rattle.iox_domain.specs.DomainPorts.Ports.{Joins, connection_to, connection_of, is_live, ended_at, welcomed_at, greeted_at}
+use Rattle.iox_domain.specs.DomainPorts.Sending.{meeting_at, met, met_by, with_message, decided_by, concluded, sent_answer, Steps, Delivers, Finishes}
+use Rattle.iox_domain.specs.DomainPorts.Ties.{tie_put}
+use Rattle.iox_domain.specs.DomainPorts.PublisherUpdating.{is_tie_to, let_go_of, untied, untied_from, within_reach, Ties, FollowsTo, Follows, FollowsAll, UpdatesIf, Updates}
+use Rattle.iox_domain.specs.DomainPorts.declared.meeting.Meeting.{Meeting}
+use Rattle.iox_domain.specs.DomainPorts.declared.meeting.Meeting.TheVariants as meeting
+use Rattle.iox_domain.specs.DomainPorts.declared.meeting.Sent.{Sent}
+use Rattle.iox_domain.specs.DomainPorts.declared.meeting.Sent.TheVariants as sent
+use Rattle.iox_domain.specs.DomainPorts.declared.publisher_port.PublisherPort.{PublisherPort}
+use Rattle.iox_domain.specs.DomainPorts.declared.subscriber_entry.SubscriberEntry.{SubscriberEntry}
 
--- what lives of a publisher is told by this: whether it stands, whose it is, how many loans are out, and whether a send waits
+-- what lives of a publisher is told by this: whether it stands, whose it is, how many loans are out and may be, and whether a send waits
 pub record Life : Type 0 where
   pub stands : Bool
   pub number : ℕ
   pub loans : ℕ
+  pub most : ℕ
   pub sending : Bool
 
 abbrev pub life_of : {T U : Type 0} → PublisherPort T U → Life
-life_of port = record { stands = port.stands; number = port.owner.number; loans = length port.sender.uses.loans; sending = is_some port.sender.uses.sending }
+life_of port = record {
+  stands = port.stands;
+  number = port.owner.number;
+  loans = length port.sender.uses.loans;
+  most = port.sender.uses.most_loans;
+  sending = is_some port.sender.uses.sending;
+}
 
 -- one of two that live alike
 either : {T U : Type 0} (b : Bool) (x y : PublisherPort T U) (life : Life) → life_of x ≡ life → life_of y ≡ life → life_of (if b then x else y) ≡ life
@@ -120,7 +127,8 @@ steps_life may meeting.Passed port went new steps = ap life_of steps.1
 steps_life may meeting.Delivered port went new steps = ap life_of steps.1
 steps_life may (meeting.Full subscriber) port went new (decision, allowed, goes, is) = ap life_of is ∙ decided_life decision port
 
-delivers_life : {T U : Type 0} (may : BackpressureInfo → BackpressureDecision → Type 0) (places : ℕ) (old : PublisherPort T U) (arrived : Bool) (new : PublisherPort T U)
+-- a delivery neither
+pub delivers_life : {T U : Type 0} (may : BackpressureInfo → BackpressureDecision → Type 0) (places : ℕ) (old : PublisherPort T U) (arrived : Bool) (new : PublisherPort T U)
     → Delivers may places old arrived new → life_of new ≡ life_of old
 delivers_life may zero old arrived new delivers = ap life_of delivers.1
 delivers_life may (suc places) old arrived new (false, next, steps, goes) =

@@ -9,13 +9,13 @@ use Rattle.std.proofs.lemmas.Map.Entries.{sum_by-set_value, sum_by-remove_entry}
 use Rattle.iox_domain.specs.DomainValues.declared.data_segment.AllocationStrategy.{AllocationStrategy}
 use Rattle.iox_domain.specs.DomainValues.declared.port_error.LoanError.{LoanError}
 use Rattle.iox_domain.specs.DomainSlots.Uses.{is_there}
-use Rattle.iox_domain.specs.DomainPublisher.Messages.{new_loan}
-use Rattle.iox_domain.specs.DomainPublisher.MessagesSending.{opened_for}
-use Rattle.iox_domain.specs.DomainPublisher.Loaning.{with_sender, LendsHere, LendsBeyond, LendsWhere, LendsUnless, Lends, first_refusal, LacksMemory}
-use Rattle.iox_domain.specs.DomainPublisher.declared.publisher_port.PublisherPort.{PublisherPort}
-use Rattle.iox_domain.specs.DomainSubscriber.Living.{living_of_publisher, counted, living_publishers}
-use Rattle.iox_domain.specs.DomainSubscriber.Publishers.{port_of, with_port, removed, is_over_port, is_over_in, settled}
-use Rattle.iox_domain.specs.DomainSubscriber.Reading.{is_over}
+use Rattle.iox_domain.specs.DomainPorts.Messages.{new_loan}
+use Rattle.iox_domain.specs.DomainPorts.MessagesSending.{opened_for}
+use Rattle.iox_domain.specs.DomainPorts.Loaning.{with_sender, LendsHere, LendsBeyond, LendsWhere, LendsUnless, Lends, first_refusal, LacksMemory}
+use Rattle.iox_domain.specs.DomainPorts.declared.publisher_port.PublisherPort.{PublisherPort}
+use Rattle.iox_domain.specs.DomainPorts.Living.{living_of_publisher, counted, living_publishers}
+use Rattle.iox_domain.specs.DomainPorts.Publishers.{port_of, with_port, removed, is_over_port, is_over_in, settled}
+use Rattle.iox_domain.specs.DomainPorts.Reading.{is_over}
 use Rattle.iox_domain.specs.Living.{living}
 use Rattle.iox_domain.specs.LivingSteps.{AsMuchLives, OneMoreLives, OneLessLives}
 use Rattle.iox_domain.specs.Ports.{with_publisher}

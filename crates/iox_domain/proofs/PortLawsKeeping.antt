@@ -6,11 +6,11 @@ use Rattle.std.proofs.lemmas.List.Folds.{find-append}
 use Rattle.iox_domain.specs.DomainSlots.Uses.{Connection, nobody, connected, placed, ended, settled, taken}
 use Rattle.iox_domain.specs.DomainSlots.declared.stage.Stage.{Stage}
 use Rattle.iox_domain.specs.DomainSlots.declared.stage.Stage.TheVariants as stage
-use Rattle.iox_domain.specs.DomainPublisher.Messages.{Message}
-use Rattle.iox_domain.specs.DomainPublisher.Ports.{connection_of, goes_on, is_live, ended_at}
-use Rattle.iox_domain.specs.DomainPublisher.declared.publisher_port.PublisherPort.{PublisherPort}
+use Rattle.iox_domain.specs.DomainPorts.Messages.{Message}
+use Rattle.iox_domain.specs.DomainPorts.Ports.{connection_of, goes_on, is_live, ended_at}
+use Rattle.iox_domain.specs.DomainPorts.declared.publisher_port.PublisherPort.{PublisherPort}
 use Rattle.iox_domain.specs.SizeLaws.{MadeFor, made_for, IsWithin}
-use Rattle.iox_domain.specs.DomainSubscriber.Reading.{borrowed_in}
+use Rattle.iox_domain.specs.DomainPorts.Reading.{borrowed_in}
 
 -- what is held of a connection stays so, and one that there isn't holds nothing if that was so before
 pub record Keeps {T U : Type 0} (old new : Connection (Message T U)) : Type 0 where

@@ -1,7 +1,7 @@
 -- What each call of a publisher leaves held.
 use Rattle.std.proofs.Common.{arith, ◌≡◌, ◌+◌, ◌-◌, ◌<◌, ◌≤◌, ◌==◌, ◌∷◌, [], ℕ, length-append, take, zero, suc, Bool, true, false, List, get_or, length, Option, None, Some, Result, Ok, Err, refl, ap}
 use Rattle.std.specs.declared.alloc.AllocError.{AllocError}
-use Rattle.iox_domain.specs.IndexBase.declared.container.Member.{Member}
+use Rattle.iox_domain.specs.Container.declared.container.Member.{Member}
 use Rattle.iox_domain.specs.DomainValues.declared.backpressure.BackpressureDecision.{BackpressureDecision}
 use Rattle.iox_domain.specs.DomainValues.declared.backpressure.BackpressureInfo.{BackpressureInfo}
 use Rattle.iox_domain.specs.DomainValues.declared.connection_failure.ConnectionFailure.{ConnectionFailure}
@@ -10,18 +10,18 @@ use Rattle.iox_domain.specs.DomainValues.declared.degradation.DegradationInfo.{D
 use Rattle.iox_domain.specs.DomainValues.declared.port_error.LoanError.{LoanError}
 use Rattle.iox_domain.specs.DomainValues.declared.port_error.SendError.{SendError}
 use Rattle.iox_domain.specs.DomainSlots.Uses.{Connection, welcomed, newest, taken}
-use Rattle.iox_domain.specs.DomainPublisher.Messages.{Message, Loan}
-use Rattle.iox_domain.specs.DomainPublisher.Leaving.{parted_at, parted_from, departed}
-use Rattle.iox_domain.specs.DomainPublisher.Places.{is_attached}
-use Rattle.iox_domain.specs.DomainPublisher.Ports.{connection_of, connection_to, is_live, greeted_at, welcomed_at, Joins, Attaches, detached_at}
-use Rattle.iox_domain.specs.DomainPublisher.Sending.{ready_loan}
-use Rattle.iox_domain.specs.DomainPublisher.Ties.{tie_put}
-use Rattle.iox_domain.specs.DomainPublisher.Updating.{let_go_of, untied, untied_from, within_reach, tied, is_tie_to, Ties, Follows, FollowsTo, FollowsAll, UpdatesIf, Updates}
-use Rattle.iox_domain.specs.DomainPublisher.Writing.{changed_if, given_up}
-use Rattle.iox_domain.specs.DomainPublisher.declared.meeting.Sent.{Sent}
-use Rattle.iox_domain.specs.DomainPublisher.declared.publisher_port.PublisherPort.{PublisherPort}
-use Rattle.iox_domain.specs.DomainPublisher.declared.subscriber_entry.SubscriberEntry.{SubscriberEntry}
-use Rattle.iox_domain.specs.DomainSubscriber.Reading.{taken_at}
+use Rattle.iox_domain.specs.DomainPorts.Messages.{Message, Loan}
+use Rattle.iox_domain.specs.DomainPorts.Leaving.{parted_at, parted_from, departed}
+use Rattle.iox_domain.specs.DomainPorts.Places.{is_attached}
+use Rattle.iox_domain.specs.DomainPorts.Ports.{connection_of, connection_to, is_live, greeted_at, welcomed_at, Joins, Attaches, detached_at}
+use Rattle.iox_domain.specs.DomainPorts.Sending.{ready_loan}
+use Rattle.iox_domain.specs.DomainPorts.Ties.{tie_put}
+use Rattle.iox_domain.specs.DomainPorts.PublisherUpdating.{let_go_of, untied, untied_from, within_reach, tied, is_tie_to, Ties, Follows, FollowsTo, FollowsAll, UpdatesIf, Updates}
+use Rattle.iox_domain.specs.DomainPorts.Writing.{changed_if, given_up}
+use Rattle.iox_domain.specs.DomainPorts.declared.meeting.Sent.{Sent}
+use Rattle.iox_domain.specs.DomainPorts.declared.publisher_port.PublisherPort.{PublisherPort}
+use Rattle.iox_domain.specs.DomainPorts.declared.subscriber_entry.SubscriberEntry.{SubscriberEntry}
+use Rattle.iox_domain.specs.DomainPorts.Reading.{taken_at}
 use Rattle.iox_domain.specs.Lending.{LoansOne}
 use Rattle.iox_domain.specs.PortsPublishing.{is_blocked, is_free, UpdatesOne, SendsOne, RetriesOne, GivesUpOne}
 use Rattle.iox_domain.specs.PortsPublishing as publishing

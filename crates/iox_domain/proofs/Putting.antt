@@ -7,7 +7,7 @@ use Rattle.std.specs.Prelude.{slice_get}
 use Rattle.std.proofs.Math.Dec.{eqb}
 use Rattle.std.proofs.Math.Logic.{⊎_elim}
 use Rattle.std.proofs.lemmas.List.{length-replicate}
-use Rattle.iox_domain.specs.IndexBase.declared.container.Member.{Member}
+use Rattle.iox_domain.specs.Container.declared.container.Member.{Member}
 use Rattle.iox_domain.specs.DomainValues.declared.backpressure.BackpressureDecision.{BackpressureDecision}
 use Rattle.iox_domain.specs.DomainValues.declared.backpressure.BackpressureInfo.{BackpressureInfo}
 use Rattle.iox_domain.specs.DomainValues.declared.connection_failure.ConnectionFailure.{ConnectionFailure}
@@ -16,18 +16,18 @@ use Rattle.iox_domain.specs.DomainValues.declared.degradation.DegradationAction.
 use Rattle.iox_domain.specs.DomainValues.declared.degradation.DegradationInfo.{DegradationInfo}
 use Rattle.iox_domain.specs.DomainValues.declared.port_error.LoanError.{LoanError}
 use Rattle.iox_domain.specs.DomainValues.declared.port_error.SendError.{SendError}
-use Rattle.iox_domain.specs.DomainPublisher.Messages.{Loan, new_loan, write_all}
-use Rattle.iox_domain.specs.DomainPublisher.MessagesSending.{has_length, is_written_loan, opened_for}
-use Rattle.iox_domain.proofs.DomainPublisher.Lent.{loan_tells}
-use Rattle.iox_domain.specs.DomainPublisher.Lengths.{extent}
-use Rattle.iox_domain.specs.DomainPublisher.Loaning.{with_sender, first_refusal, LendsHere, LendsBeyond, LendsWhere, LendsUnless, Loans}
-use Rattle.iox_domain.specs.DomainPublisher.Loaning as loaning
-use Rattle.iox_domain.specs.DomainPublisher.Sending.{ready_loan, begun_at, begun_by, Sends, SendsIf, SendsAfter}
-use Rattle.iox_domain.specs.DomainPublisher.Writing.{loan_of, changed_if, changed_there}
-use Rattle.iox_domain.specs.DomainPublisher.declared.meeting.Sent.{Sent}
-use Rattle.iox_domain.specs.DomainPublisher.declared.publisher_port.PublisherPort.{PublisherPort}
-use Rattle.iox_domain.specs.DomainPublisher.declared.subscriber_entry.SubscriberEntry.{SubscriberEntry}
-use Rattle.iox_domain.specs.DomainSubscriber.Publishers.{port_of, with_port}
+use Rattle.iox_domain.specs.DomainPorts.Messages.{Loan, new_loan, write_all}
+use Rattle.iox_domain.specs.DomainPorts.MessagesSending.{has_length, is_written_loan, opened_for}
+use Rattle.iox_domain.proofs.DomainPorts.Lent.{loan_tells}
+use Rattle.iox_domain.specs.DomainPorts.Lengths.{extent}
+use Rattle.iox_domain.specs.DomainPorts.Loaning.{with_sender, first_refusal, LendsHere, LendsBeyond, LendsWhere, LendsUnless, Loans}
+use Rattle.iox_domain.specs.DomainPorts.Loaning as loaning
+use Rattle.iox_domain.specs.DomainPorts.Sending.{ready_loan, begun_at, begun_by, Sends, SendsIf, SendsAfter}
+use Rattle.iox_domain.specs.DomainPorts.Writing.{loan_of, changed_if, changed_there}
+use Rattle.iox_domain.specs.DomainPorts.declared.meeting.Sent.{Sent}
+use Rattle.iox_domain.specs.DomainPorts.declared.publisher_port.PublisherPort.{PublisherPort}
+use Rattle.iox_domain.specs.DomainPorts.declared.subscriber_entry.SubscriberEntry.{SubscriberEntry}
+use Rattle.iox_domain.specs.DomainPorts.Publishers.{port_of, with_port}
 use Rattle.iox_domain.proofs.Numbered.{same_set}
 use Rattle.iox_domain.proofs.Allowing.{updates_allows, finishes_allows}
 use Rattle.iox_domain.proofs.Lent.{stays_if, free_slot, found_last, same_number, one_passes, found_changed, all_written, still_there, ready_there, none_ready}

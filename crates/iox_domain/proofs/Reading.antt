@@ -4,17 +4,17 @@ use Rattle.std.proofs.lemmas.Bool.{cases_eq, eqb-true}
 use Rattle.std.proofs.lemmas.List.{get_or-set_other, get_or-set_same}
 use Rattle.std.specs.List.{All, list_any}
 use Rattle.std.specs.declared.alloc.AllocError.{AllocError}
-use Rattle.iox_domain.specs.DomainPublisher.Leaving.{parted_at, parted_from, departed}
-use Rattle.iox_domain.specs.DomainPublisher.Places.{leads_to, is_attached}
-use Rattle.iox_domain.specs.DomainPublisher.Ports.{connection_of, connection_to, goes_on, is_live, ended_at, detached_at, with_connection_of, attached_at, Joins, Attaches}
-use Rattle.iox_domain.specs.DomainPublisher.declared.publisher_port.PublisherPort.{PublisherPort}
-use Rattle.iox_domain.specs.DomainPublisher.declared.reader.Reader.{Reader}
+use Rattle.iox_domain.specs.DomainPorts.Leaving.{parted_at, parted_from, departed}
+use Rattle.iox_domain.specs.DomainPorts.Places.{leads_to, is_attached}
+use Rattle.iox_domain.specs.DomainPorts.Ports.{connection_of, connection_to, goes_on, is_live, ended_at, detached_at, with_connection_of, attached_at, Joins, Attaches}
+use Rattle.iox_domain.specs.DomainPorts.declared.publisher_port.PublisherPort.{PublisherPort}
+use Rattle.iox_domain.specs.DomainPorts.declared.reader.Reader.{Reader}
 use Rattle.iox_domain.specs.DomainSlots.Uses.{nobody, is_open, is_there, ended, taken, given_back}
 use Rattle.iox_domain.specs.DomainSlots.declared.stage.Stage.{Stage}
 use Rattle.iox_domain.specs.DomainSlots.declared.stage.Stage.TheVariants as stage
-use Rattle.iox_domain.specs.DomainSubscriber.Publishers.{port_of, with_port, changed, changed_at_port, is_over_port, is_over_in, removed, settled, ended_if_left, released, AttachesAtPort}
-use Rattle.iox_domain.specs.DomainSubscriber.Reading.{is_over, taken_at, given_back_at}
-use Rattle.iox_domain.specs.DomainSubscriber.declared.attached.Attached.{Attached}
+use Rattle.iox_domain.specs.DomainPorts.Publishers.{port_of, with_port, changed, changed_at_port, is_over_port, is_over_in, removed, settled, ended_if_left, released, AttachesAtPort}
+use Rattle.iox_domain.specs.DomainPorts.Reading.{is_over, taken_at, given_back_at}
+use Rattle.iox_domain.specs.DomainPorts.declared.attached.Attached.{Attached}
 use Rattle.iox_domain.proofs.Carrying.{Carries}
 use Rattle.iox_domain.proofs.ListKeeps.{none_there, last_of}
 use Rattle.iox_domain.proofs.Numbered.{at_number, other_fails, other_set, same_set, other_gone, found_of_all, all_set, all_gone}

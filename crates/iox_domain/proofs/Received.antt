@@ -15,15 +15,15 @@ use Rattle.iox_domain.specs.DomainValues.declared.degradation.DegradationAction.
 use Rattle.iox_domain.specs.DomainValues.declared.degradation.DegradationInfo.{DegradationInfo}
 use Rattle.iox_domain.specs.DomainValues.declared.port_error.ReceiveError.{ReceiveError}
 use Rattle.iox_domain.specs.DomainValues.declared.port_owner.PortOwner.{PortOwner}
-use Rattle.iox_domain.specs.DomainPublisher.Leaving.{new_port}
-use Rattle.iox_domain.specs.DomainPublisher.declared.publisher_port.PublisherPort.{PublisherPort}
-use Rattle.iox_domain.specs.DomainSubscriber.Arriving.{new_subscriber}
-use Rattle.iox_domain.specs.DomainSubscriber.Living.{living_of_subscriber, counted, living_publishers}
-use Rattle.iox_domain.specs.DomainSubscriber.Publishers.{port_of, connection_in}
-use Rattle.iox_domain.specs.DomainSubscriber.Reading.{place_of}
-use Rattle.iox_domain.specs.DomainSubscriber.declared.attached.Taken.{Taken}
-use Rattle.iox_domain.specs.DomainSubscriber.declared.publisher_entry.PublisherEntry.{PublisherEntry}
-use Rattle.iox_domain.specs.DomainSubscriber.declared.subscriber_port.SubscriberPort.{SubscriberPort}
+use Rattle.iox_domain.specs.DomainPorts.Leaving.{new_port}
+use Rattle.iox_domain.specs.DomainPorts.declared.publisher_port.PublisherPort.{PublisherPort}
+use Rattle.iox_domain.specs.DomainPorts.Arriving.{new_subscriber}
+use Rattle.iox_domain.specs.DomainPorts.Living.{living_of_subscriber, counted, living_publishers}
+use Rattle.iox_domain.specs.DomainPorts.Publishers.{port_of, connection_in}
+use Rattle.iox_domain.specs.DomainPorts.Reading.{place_of}
+use Rattle.iox_domain.specs.DomainPorts.declared.attached.Taken.{Taken}
+use Rattle.iox_domain.specs.DomainPorts.declared.publisher_entry.PublisherEntry.{PublisherEntry}
+use Rattle.iox_domain.specs.DomainPorts.declared.subscriber_port.SubscriberPort.{SubscriberPort}
 use Rattle.iox_domain.specs.Living.{living, living_subscribers}
 use Rattle.iox_domain.specs.LivingSteps.{AsMuchLives, OneMoreLives, OneLessLives, ReceivingAdds, SubscriberSteps, CreatingSteps}
 use Rattle.iox_domain.specs.Making.{identity_of, sender_config, CreatesPublisher, CreatesSubscriber}

@@ -7,13 +7,13 @@ use Rattle.std.specs.List.{All, find, remove}
 use Rattle.iox_domain.specs.DomainSlots.Uses.{Connection, nobody, given_back, settled}
 use Rattle.iox_domain.specs.DomainSlots.declared.stage.Stage.{Stage}
 use Rattle.iox_domain.specs.DomainSlots.declared.stage.Stage.TheVariants as stage
-use Rattle.iox_domain.specs.DomainPublisher.Messages.{Message}
-use Rattle.iox_domain.specs.DomainPublisher.Ports.{connection_of}
-use Rattle.iox_domain.specs.DomainPublisher.declared.publisher_port.PublisherPort.{PublisherPort}
-use Rattle.iox_domain.specs.DomainSubscriber.Publishers.{port_of, connection_in, connection_at_port, with_port, changed, changed_at_port, released}
-use Rattle.iox_domain.specs.DomainSubscriber.Publishers as publishers
-use Rattle.iox_domain.specs.DomainSubscriber.Reading.{borrowed_in, place_of, given_back_at}
-use Rattle.iox_domain.specs.DomainSubscriber.declared.attached.Taken.{Taken}
+use Rattle.iox_domain.specs.DomainPorts.Messages.{Message}
+use Rattle.iox_domain.specs.DomainPorts.Ports.{connection_of}
+use Rattle.iox_domain.specs.DomainPorts.declared.publisher_port.PublisherPort.{PublisherPort}
+use Rattle.iox_domain.specs.DomainPorts.Publishers.{port_of, connection_in, connection_at_port, with_port, changed, changed_at_port, released}
+use Rattle.iox_domain.specs.DomainPorts.Publishers as publishers
+use Rattle.iox_domain.specs.DomainPorts.Reading.{borrowed_in, place_of, given_back_at}
+use Rattle.iox_domain.specs.DomainPorts.declared.attached.Taken.{Taken}
 use Rattle.iox_domain.specs.SizeLaws.{MadeFor, made_for, IsWithin, IsMadeFor}
 use Rattle.iox_domain.proofs.PortLawsKeeping.{set_within, nobody_within}
 use Rattle.iox_domain.specs.PortLawsLaws.{IsTidy, IsSoundEntry}

@@ -2,14 +2,14 @@
 use Rattle.std.proofs.Common.{ℕ, ◌≡◌, ◌+◌, ◌<◌, ◌^◌, ◌&&◌, ◌↔◌, slice_get, slice_set, nat_eq, Bool, true, false, Option, None, Some, Result, Ok, Err, IfOk, IsErr, is_some, refl, sym, ap, ◌∙◌, if◌then◌else◌, subst}
 use Rattle.std.specs.Option.{unwrap_or}
 use Rattle.std.proofs.lemmas.Bool.{lt-ltb, eq-eqb}
-use Rattle.iox_domain_subscriber.proofs.IndexBase.Told.{member_of-read}
-use Rattle.iox_domain_subscriber.specs.IndexBase.Container.{Contents, handle_at, member_of, is_numbered, owns, settled, without_member}
-use Rattle.iox_domain_subscriber.specs.IndexBase.declared.container.Member.{Member}
-use Rattle.iox_domain_subscriber.specs.IndexBase.declared.container.ContainerHandle.{ContainerHandle}
-use Rattle.iox_domain_subscriber.specs.IndexBase.declared.error.ContainerRemoveError.{ContainerRemoveError}
-use Rattle.iox_domain_subscriber.specs.IndexBase.declared.release.ReleaseMode.{ReleaseMode}
-use Rattle.iox_domain_subscriber.specs.IndexBase.declared.release.ReleaseState.{ReleaseState}
-use Rattle.iox_domain_subscriber.specs.IndexBase.Release.{state_of}
+use Rattle.iox_domain_ports.proofs.Container.Told.{member_of-read}
+use Rattle.iox_domain_ports.specs.Container.Container.{Contents, handle_at, member_of, is_numbered, owns, settled, without_member}
+use Rattle.iox_domain_ports.specs.Container.declared.container.Member.{Member}
+use Rattle.iox_domain_ports.specs.Container.declared.container.ContainerHandle.{ContainerHandle}
+use Rattle.iox_domain_ports.specs.Container.declared.error.ContainerRemoveError.{ContainerRemoveError}
+use Rattle.iox_domain_ports.specs.Container.declared.release.ReleaseMode.{ReleaseMode}
+use Rattle.iox_domain_ports.specs.Container.declared.release.ReleaseState.{ReleaseState}
+use Rattle.iox_domain_ports.specs.Container.Release.{state_of}
 use Rattle.iox_domain.specs.Rolls.{RollState, may_change, is_listed, left, changed_to}
 
 -- what is seen of a container as a list of ports

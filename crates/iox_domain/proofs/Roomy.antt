@@ -2,7 +2,7 @@
 use Rattle.std.proofs.Common.{arith, ◌≡◌, ◌≢◌, ◌<◌, ◌&&◌, ℕ, Bool, true, false, not, List, get_or, length, Option, None, Some, Result, Ok, Err, refl, sym, ap, ◌∙◌, inl, inr}
 use Rattle.std.proofs.lemmas.Bool.{cases_lt}
 use Rattle.std.proofs.lemmas.List.{get_or_past}
-use Rattle.iox_domain.specs.IndexBase.declared.container.Member.{Member}
+use Rattle.iox_domain.specs.Container.declared.container.Member.{Member}
 use Rattle.iox_domain.specs.DomainValues.declared.backpressure.BackpressureDecision.{BackpressureDecision}
 use Rattle.iox_domain.specs.DomainValues.declared.backpressure.BackpressureInfo.{BackpressureInfo}
 use Rattle.iox_domain.specs.DomainValues.declared.connection_failure.ConnectionFailure.{ConnectionFailure}
@@ -10,14 +10,14 @@ use Rattle.iox_domain.specs.DomainValues.declared.degradation.DegradationAction.
 use Rattle.iox_domain.specs.DomainValues.declared.degradation.DegradationInfo.{DegradationInfo}
 use Rattle.iox_domain.specs.DomainValues.declared.port_error.SendError.{SendError}
 use Rattle.iox_domain.specs.DomainValues.declared.port_error.SendError.TheVariants as sending
-use Rattle.iox_domain.proofs.DomainPublisher.Asked.{finishes_else}
-use Rattle.iox_domain.proofs.DomainPublisher.Enough.{updates_made}
-use Rattle.iox_domain.specs.DomainPublisher.Memory.{HasRoom}
-use Rattle.iox_domain.specs.DomainPublisher.Sending.{Sends, SendsIf, SendsAfter, begun_at, ready_loan}
-use Rattle.iox_domain.specs.DomainPublisher.declared.meeting.Sent.{Sent}
-use Rattle.iox_domain.specs.DomainPublisher.declared.publisher_port.PublisherPort.{PublisherPort}
-use Rattle.iox_domain.specs.DomainPublisher.declared.subscriber_entry.SubscriberEntry.{SubscriberEntry}
-use Rattle.iox_domain.specs.DomainSubscriber.Publishers.{port_of}
+use Rattle.iox_domain.proofs.DomainPorts.Asked.{finishes_else}
+use Rattle.iox_domain.proofs.DomainPorts.Enough.{updates_made}
+use Rattle.iox_domain.specs.DomainPorts.Memory.{HasRoom}
+use Rattle.iox_domain.specs.DomainPorts.Sending.{Sends, SendsIf, SendsAfter, begun_at, ready_loan}
+use Rattle.iox_domain.specs.DomainPorts.declared.meeting.Sent.{Sent}
+use Rattle.iox_domain.specs.DomainPorts.declared.publisher_port.PublisherPort.{PublisherPort}
+use Rattle.iox_domain.specs.DomainPorts.declared.subscriber_entry.SubscriberEntry.{SubscriberEntry}
+use Rattle.iox_domain.specs.DomainPorts.Publishers.{port_of}
 use Rattle.iox_domain.specs.PortLawsLaws.{IsTiedWell, IsWellEntry, IsApart, ConnectsAll, NeedsNoMemory}
 use Rattle.iox_domain.specs.PortsPublishing.{is_free, is_blocked, UpdatesOne, SendsOne}
 use Rattle.iox_domain.specs.PortsPublishing as publishing

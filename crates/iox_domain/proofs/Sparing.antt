@@ -5,18 +5,18 @@ use Rattle.std.proofs.lemmas.List.{get_or-set_other, get_or-set_same, length-set
 use Rattle.std.proofs.lemmas.List.Sums.{sum_by-set, sum_by-le-sum_by}
 use Rattle.std.specs.List.{All}
 use Rattle.std.specs.declared.alloc.AllocError.{AllocError}
-use Rattle.iox_domain.specs.IndexBase.declared.container.Member.{Member}
-use Rattle.iox_domain.specs.Maps.SlotTable.{SlotTable, value_at, without}
-use Rattle.iox_domain.specs.Maps.SlotTable as table
-use Rattle.iox_domain.specs.DomainPublisher.declared.publisher_port.PublisherPort.{PublisherPort}
-use Rattle.iox_domain.specs.DomainSubscriber.Following.{is_unborrowed, is_of, PartsFor, PartsBorrowed, PartsOver, PartsIf, Parts, KeepsAt, ConnectsBy, Connects, unplaced, FollowsFreed, FollowsKey, FollowsAt, freed_if, FollowsNoneAt}
-use Rattle.iox_domain.specs.DomainSubscriber.Publishers.{connection_in}
-use Rattle.iox_domain.specs.DomainSubscriber.Receiving.{is_idle_at, dropped_port, dropped_ports, swept}
-use Rattle.iox_domain.specs.DomainSubscriber.Subscribing.{attached_at, connection_by, is_idle, without_key, ended_key, ended_ports}
-use Rattle.iox_domain.specs.DomainSubscriber.Updating.{FollowsOne, FollowsFrom, FollowsNoneIf, FollowsNones, UpdatesIf, Updates, is_listed}
-use Rattle.iox_domain.specs.DomainSubscriber.declared.attached.Attached.{Attached}
-use Rattle.iox_domain.specs.DomainSubscriber.declared.publisher_entry.PublisherEntry.{PublisherEntry}
-use Rattle.iox_domain.specs.DomainSubscriber.declared.subscriber_port.SubscriberPort.{SubscriberPort}
+use Rattle.iox_domain.specs.Container.declared.container.Member.{Member}
+use Rattle.iox_domain.specs.Container.SlotTable.{SlotTable, value_at, without}
+use Rattle.iox_domain.specs.Container.SlotTable as table
+use Rattle.iox_domain.specs.DomainPorts.declared.publisher_port.PublisherPort.{PublisherPort}
+use Rattle.iox_domain.specs.DomainPorts.Following.{is_unborrowed, is_of, PartsFor, PartsBorrowed, PartsOver, PartsIf, Parts, KeepsAt, ConnectsBy, Connects, unplaced, FollowsFreed, FollowsKey, FollowsAt, freed_if, FollowsNoneAt}
+use Rattle.iox_domain.specs.DomainPorts.Publishers.{connection_in}
+use Rattle.iox_domain.specs.DomainPorts.Receiving.{is_idle_at, dropped_port, dropped_ports, swept}
+use Rattle.iox_domain.specs.DomainPorts.Subscribing.{attached_at, connection_by, is_idle, without_key, ended_key, ended_ports}
+use Rattle.iox_domain.specs.DomainPorts.SubscriberUpdating.{FollowsOne, FollowsFrom, FollowsNoneIf, FollowsNones, UpdatesIf, Updates, is_listed}
+use Rattle.iox_domain.specs.DomainPorts.declared.attached.Attached.{Attached}
+use Rattle.iox_domain.specs.DomainPorts.declared.publisher_entry.PublisherEntry.{PublisherEntry}
+use Rattle.iox_domain.specs.DomainPorts.declared.subscriber_port.SubscriberPort.{SubscriberPort}
 use Rattle.iox_domain.specs.DomainValues.declared.connection_failure.ConnectionFailure.{ConnectionFailure}
 use Rattle.iox_domain.specs.DomainValues.declared.connection_failure.ZeroCopyCreationError.{ZeroCopyCreationError}
 use Rattle.iox_domain.specs.DomainValues.declared.degradation.DegradationAction.{DegradationAction}

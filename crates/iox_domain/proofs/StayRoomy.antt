@@ -9,10 +9,10 @@ use Rattle.std.specs.Map.{keys_of, remove_entry}
 use Rattle.std.specs.Ordering.{is_eq}
 use Rattle.std.specs.declared.alloc.AllocError.{AllocError}
 use Rattle.std.specs.declared.cmp.Ordering.TheVariants.{Equal}
-use Rattle.iox_domain.specs.IndexBase.declared.container.Member.{Member}
+use Rattle.iox_domain.specs.Container.declared.container.Member.{Member}
 use Rattle.iox_domain.specs.Calls.{PortCall, PublisherComes, SubscriberComes, Lends, Writes, GivesLoanUp, PublisherUpdates, Sends, Retries, GivesSendUp, PublisherLeaves, SubscriberUpdates, AsksForSamples, Receives, Releases, SubscriberLeaves, Happens}
 use Rattle.iox_domain.specs.Lending.{LoansOne}
-use Rattle.iox_domain.specs.Maps.SlotTable.{value_at}
+use Rattle.iox_domain.specs.Container.SlotTable.{value_at}
 use Rattle.iox_domain.specs.Making.{slots_needed, publisher_place, subscriber_place, identity_of, sender_config, AddsPublisher, CreatesPublisher, CreatesSubscriber}
 use Rattle.iox_domain.specs.Ports.{no_ports, AtPublisher, AtSubscriber, with_publisher, with_both}
 use Rattle.iox_domain.specs.PortsPublishing.{is_free}
@@ -23,21 +23,21 @@ use Rattle.iox_domain.specs.Subscribers.{subscriber_of, with_subscriber, subscri
 use Rattle.iox_domain.specs.PortsSubscribing as subscribing
 use Rattle.iox_domain.specs.declared.ports.making.PublisherConfig.{PublisherConfig}
 use Rattle.iox_domain.specs.declared.ports.service_ports.ServicePorts.{ServicePorts}
-use Rattle.iox_domain.specs.DomainPublisher.Leaving.{new_port, departed}
-use Rattle.iox_domain.specs.DomainPublisher.Ports.{detached_at}
-use Rattle.iox_domain.specs.DomainPublisher.Writing.{changed_if, given_up}
-use Rattle.iox_domain.specs.DomainPublisher.declared.publisher_port.PublisherPort.{PublisherPort}
-use Rattle.iox_domain.specs.DomainPublisher.declared.subscriber_entry.SubscriberEntry.{SubscriberEntry}
-use Rattle.iox_domain.specs.DomainSubscriber.Arriving.{new_subscriber}
-use Rattle.iox_domain.specs.DomainSubscriber.Publishers as publishers
-use Rattle.iox_domain.specs.DomainSubscriber.Publishers.{port_of, with_port, changed, settled, stands_in, connection_in}
-use Rattle.iox_domain.specs.DomainSubscriber.Reading.{place_of}
-use Rattle.iox_domain.specs.DomainSubscriber.Receiving.{left_at, left_all}
-use Rattle.iox_domain.specs.DomainSubscriber.Subscribing.{ended_ports}
-use Rattle.iox_domain.specs.DomainSubscriber.declared.attached.Attached.{Attached}
-use Rattle.iox_domain.specs.DomainSubscriber.declared.attached.Taken.{Taken}
-use Rattle.iox_domain.specs.DomainSubscriber.declared.publisher_entry.PublisherEntry.{PublisherEntry}
-use Rattle.iox_domain.specs.DomainSubscriber.declared.subscriber_port.SubscriberPort.{SubscriberPort}
+use Rattle.iox_domain.specs.DomainPorts.Leaving.{new_port, departed}
+use Rattle.iox_domain.specs.DomainPorts.Ports.{detached_at}
+use Rattle.iox_domain.specs.DomainPorts.Writing.{changed_if, given_up}
+use Rattle.iox_domain.specs.DomainPorts.declared.publisher_port.PublisherPort.{PublisherPort}
+use Rattle.iox_domain.specs.DomainPorts.declared.subscriber_entry.SubscriberEntry.{SubscriberEntry}
+use Rattle.iox_domain.specs.DomainPorts.Arriving.{new_subscriber}
+use Rattle.iox_domain.specs.DomainPorts.Publishers as publishers
+use Rattle.iox_domain.specs.DomainPorts.Publishers.{port_of, with_port, changed, settled, stands_in, connection_in}
+use Rattle.iox_domain.specs.DomainPorts.Reading.{place_of}
+use Rattle.iox_domain.specs.DomainPorts.Receiving.{left_at, left_all}
+use Rattle.iox_domain.specs.DomainPorts.Subscribing.{ended_ports}
+use Rattle.iox_domain.specs.DomainPorts.declared.attached.Attached.{Attached}
+use Rattle.iox_domain.specs.DomainPorts.declared.attached.Taken.{Taken}
+use Rattle.iox_domain.specs.DomainPorts.declared.publisher_entry.PublisherEntry.{PublisherEntry}
+use Rattle.iox_domain.specs.DomainPorts.declared.subscriber_port.SubscriberPort.{SubscriberPort}
 use Rattle.iox_domain.specs.DomainValues.Sizes.{buffer_of}
 use Rattle.iox_domain.specs.DomainValues.declared.backpressure.BackpressureDecision.{BackpressureDecision}
 use Rattle.iox_domain.specs.DomainValues.declared.backpressure.BackpressureInfo.{BackpressureInfo}

@@ -8,9 +8,9 @@ use Rattle.std.specs.declared.cmp.Ordering.{Ordering}
 use Rattle.std.specs.declared.cmp.Ordering.TheVariants.{Less, Equal, Greater}
 use Rattle.std.proofs.lemmas.List.Sums.{sum_by-cons}
 use Rattle.std.proofs.lemmas.Map.Entries.{sum_by-set_value, sum_by-remove_entry}
-use Rattle.iox_domain.specs.DomainPublisher.declared.publisher_port.PublisherPort.{PublisherPort}
-use Rattle.iox_domain.specs.DomainSubscriber.Publishers.{port_of, with_port, added, removed, changed, changed_at_port, is_over_port, is_over_in, settled}
-use Rattle.iox_domain.specs.DomainSubscriber.Reading.{is_over}
+use Rattle.iox_domain.specs.DomainPorts.declared.publisher_port.PublisherPort.{PublisherPort}
+use Rattle.iox_domain.specs.DomainPorts.Publishers.{port_of, with_port, added, removed, changed, changed_at_port, is_over_port, is_over_in, settled}
+use Rattle.iox_domain.specs.DomainPorts.Reading.{is_over}
 use Rattle.iox_domain.proofs.Outliving.{not_true}
 use Rattle.iox_domain.specs.Loans.{spare_loans}
 

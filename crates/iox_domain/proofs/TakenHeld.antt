@@ -9,24 +9,24 @@ use Rattle.iox_domain.specs.DomainValues.declared.degradation.DegradationAction.
 use Rattle.iox_domain.specs.DomainValues.declared.degradation.DegradationInfo.{DegradationInfo}
 use Rattle.iox_domain.specs.DomainSlots.Uses.{Connection, nobody, is_there, ended, settled as settled_connection, taken}
 use Rattle.iox_domain.specs.DomainSlots.declared.stage.Stage.TheVariants as stage
-use Rattle.iox_domain.specs.DomainPublisher.Messages.{Message}
-use Rattle.iox_domain.specs.DomainPublisher.Ports.{connection_of, is_live, ended_at}
-use Rattle.iox_domain.specs.DomainPublisher.declared.publisher_port.PublisherPort.{PublisherPort}
-use Rattle.iox_domain.specs.DomainSubscriber.Publishers.{port_of, with_port, changed, changed_at_port, connection_at_port, is_over_port, is_over_in, removed, settled, ended_if_left}
-use Rattle.iox_domain.specs.DomainSubscriber.Reading.{borrowed_in, is_over, taken_at}
-use Rattle.iox_domain.specs.DomainSubscriber.Receiving.{IsGiverThere, IsReceiveAnswer, dropped_port, dropped_ports, is_idle_at, swept, given, given_ports}
-use Rattle.iox_domain.specs.DomainSubscriber.Subscribing.{attached_at, connection_by, ended_ports, gives, has_data, taken_of, taken_ports}
-use Rattle.iox_domain.specs.DomainSubscriber.Updating.{ReceivesAfter}
-use Rattle.iox_domain.specs.DomainSubscriber.declared.attached.Attached.{Attached}
-use Rattle.iox_domain.specs.DomainSubscriber.declared.attached.Taken.{Taken}
-use Rattle.iox_domain.specs.DomainSubscriber.declared.subscriber_port.SubscriberPort.{SubscriberPort}
+use Rattle.iox_domain.specs.DomainPorts.Messages.{Message}
+use Rattle.iox_domain.specs.DomainPorts.Ports.{connection_of, is_live, ended_at}
+use Rattle.iox_domain.specs.DomainPorts.declared.publisher_port.PublisherPort.{PublisherPort}
+use Rattle.iox_domain.specs.DomainPorts.Publishers.{port_of, with_port, changed, changed_at_port, connection_at_port, is_over_port, is_over_in, removed, settled, ended_if_left}
+use Rattle.iox_domain.specs.DomainPorts.Reading.{borrowed_in, is_over, taken_at}
+use Rattle.iox_domain.specs.DomainPorts.Receiving.{IsGiverThere, IsReceiveAnswer, dropped_port, dropped_ports, is_idle_at, swept, given, given_ports}
+use Rattle.iox_domain.specs.DomainPorts.Subscribing.{attached_at, connection_by, ended_ports, gives, has_data, taken_of, taken_ports}
+use Rattle.iox_domain.specs.DomainPorts.SubscriberUpdating.{ReceivesAfter}
+use Rattle.iox_domain.specs.DomainPorts.declared.attached.Attached.{Attached}
+use Rattle.iox_domain.specs.DomainPorts.declared.attached.Taken.{Taken}
+use Rattle.iox_domain.specs.DomainPorts.declared.subscriber_port.SubscriberPort.{SubscriberPort}
 use Rattle.iox_domain.specs.Ports.{AtSubscriber}
 use Rattle.iox_domain.specs.Reading.{sample_in, sample_at_port}
 use Rattle.iox_domain.specs.Rolls.{RollState}
 use Rattle.iox_domain.specs.Subscribers.{subscriber_of}
 use Rattle.iox_domain.specs.PortsSubscribing.{ReceivesIf, ReceivesOne}
 use Rattle.iox_domain.specs.declared.ports.service_ports.ServicePorts.{ServicePorts}
-use Rattle.iox_domain.specs.DomainSubscriber.declared.publisher_entry.PublisherEntry.{PublisherEntry}
+use Rattle.iox_domain.specs.DomainPorts.declared.publisher_entry.PublisherEntry.{PublisherEntry}
 use Rattle.iox_domain.specs.PortLawsLaws.{ReceivedIsHeld}
 use Rattle.iox_domain.proofs.BookedTakes.{giver_gives, met_gives, no_message, taken_set}
 use Rattle.iox_domain.proofs.ListKeeps.{last_of, none_there}

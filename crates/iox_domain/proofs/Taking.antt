@@ -2,19 +2,19 @@
 use Rattle.std.proofs.Common.{arith, ◌≡◌, ◌∙◌, ◌+◌, ◌-◌, ◌≤◌, ◌<◌, ◌∷◌, [], ℕ, Bool, true, List, length, take, slice_get, nat_lt, Option, None, Some, Result, Ok, Err, refl, ap}
 use Rattle.std.proofs.lemmas.List.{length-append}
 use Rattle.std.specs.List.{All}
-use Rattle.iox_domain.specs.IndexBase.declared.container.Member.{Member}
-use Rattle.iox_domain.specs.DomainPublisher.Ports.{connection_of}
-use Rattle.iox_domain.specs.DomainPublisher.declared.publisher_port.PublisherPort.{PublisherPort}
+use Rattle.iox_domain.specs.Container.declared.container.Member.{Member}
+use Rattle.iox_domain.specs.DomainPorts.Ports.{connection_of}
+use Rattle.iox_domain.specs.DomainPorts.declared.publisher_port.PublisherPort.{PublisherPort}
 use Rattle.iox_domain.specs.DomainSlots.Uses.{taken}
-use Rattle.iox_domain.specs.DomainSubscriber.Publishers.{port_of, with_port, connection_at_port, connection_in, most_borrowed_at_port, changed_at_port}
-use Rattle.iox_domain.specs.DomainSubscriber.Reading.{taken_at}
-use Rattle.iox_domain.specs.DomainSubscriber.Receiving.{Serves, IsReceiveAnswer, nothing_taken, given, given_ports}
-use Rattle.iox_domain.specs.DomainSubscriber.Subscribing.{attached_at, connection_by, most_by, has_data, is_below, gives, taken_of, taken_ports}
-use Rattle.iox_domain.specs.DomainSubscriber.Updating.{ReceivesAfter, ReceivesNext}
-use Rattle.iox_domain.specs.DomainSubscriber.declared.attached.Attached.{Attached}
-use Rattle.iox_domain.specs.DomainSubscriber.declared.attached.Taken.{Taken}
-use Rattle.iox_domain.specs.DomainSubscriber.declared.publisher_entry.PublisherEntry.{PublisherEntry}
-use Rattle.iox_domain.specs.DomainSubscriber.declared.subscriber_port.SubscriberPort.{SubscriberPort}
+use Rattle.iox_domain.specs.DomainPorts.Publishers.{port_of, with_port, connection_at_port, connection_in, most_borrowed_at_port, changed_at_port}
+use Rattle.iox_domain.specs.DomainPorts.Reading.{taken_at}
+use Rattle.iox_domain.specs.DomainPorts.Receiving.{Serves, IsReceiveAnswer, nothing_taken, given, given_ports}
+use Rattle.iox_domain.specs.DomainPorts.Subscribing.{attached_at, connection_by, most_by, has_data, is_below, gives, taken_of, taken_ports}
+use Rattle.iox_domain.specs.DomainPorts.SubscriberUpdating.{ReceivesAfter, ReceivesNext}
+use Rattle.iox_domain.specs.DomainPorts.declared.attached.Attached.{Attached}
+use Rattle.iox_domain.specs.DomainPorts.declared.attached.Taken.{Taken}
+use Rattle.iox_domain.specs.DomainPorts.declared.publisher_entry.PublisherEntry.{PublisherEntry}
+use Rattle.iox_domain.specs.DomainPorts.declared.subscriber_port.SubscriberPort.{SubscriberPort}
 use Rattle.iox_domain.specs.DomainValues.declared.connection_failure.ConnectionFailure.{ConnectionFailure}
 use Rattle.iox_domain.specs.DomainValues.declared.degradation.DegradationAction.{DegradationAction}
 use Rattle.iox_domain.specs.DomainValues.declared.degradation.DegradationInfo.{DegradationInfo}

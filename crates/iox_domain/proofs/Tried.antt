@@ -8,17 +8,17 @@ use Rattle.iox_domain.specs.DomainValues.declared.backpressure.BackpressureInfo.
 use Rattle.iox_domain.specs.DomainValues.declared.port_error.SendError.{SendError}
 use Rattle.iox_domain.specs.DomainValues.declared.port_error.SendError.TheVariants as sending
 use Rattle.iox_domain.specs.DomainSlots.Uses.{accepts, nobody, offered}
-use Rattle.iox_domain.specs.DomainPublisher.Messages.{Message}
-use Rattle.iox_domain.specs.DomainPublisher.Places.{unheard}
-use Rattle.iox_domain.specs.DomainPublisher.Ports.{connection_of, goes_on, is_live}
-use Rattle.iox_domain.specs.DomainPublisher.Progress.{ProgressState}
-use Rattle.iox_domain.specs.DomainPublisher.Sending.{with_message, met_by, met, meeting_at, meeting_by, is_ready, decided_by, Steps, GoesOn, Delivers, concluded, sent_answer, Finishes}
-use Rattle.iox_domain.specs.DomainPublisher.declared.meeting.Meeting.{Meeting}
-use Rattle.iox_domain.specs.DomainPublisher.declared.meeting.Meeting.TheVariants as meeting
-use Rattle.iox_domain.specs.DomainPublisher.declared.meeting.Sent.{Sent}
-use Rattle.iox_domain.specs.DomainPublisher.declared.meeting.Sent.TheVariants as sent
-use Rattle.iox_domain.specs.DomainPublisher.declared.publisher_port.PublisherPort.{PublisherPort}
-use Rattle.iox_domain.specs.DomainPublisher.declared.reader.Reader.{Reader}
+use Rattle.iox_domain.specs.DomainPorts.Messages.{Message}
+use Rattle.iox_domain.specs.DomainPorts.Places.{unheard}
+use Rattle.iox_domain.specs.DomainPorts.Ports.{connection_of, goes_on, is_live}
+use Rattle.iox_domain.specs.DomainPorts.Progress.{ProgressState}
+use Rattle.iox_domain.specs.DomainPorts.Sending.{with_message, met_by, met, meeting_at, meeting_by, is_ready, decided_by, Steps, GoesOn, Delivers, concluded, sent_answer, Finishes}
+use Rattle.iox_domain.specs.DomainPorts.declared.meeting.Meeting.{Meeting}
+use Rattle.iox_domain.specs.DomainPorts.declared.meeting.Meeting.TheVariants as meeting
+use Rattle.iox_domain.specs.DomainPorts.declared.meeting.Sent.{Sent}
+use Rattle.iox_domain.specs.DomainPorts.declared.meeting.Sent.TheVariants as sent
+use Rattle.iox_domain.specs.DomainPorts.declared.publisher_port.PublisherPort.{PublisherPort}
+use Rattle.iox_domain.specs.DomainPorts.declared.reader.Reader.{Reader}
 use Rattle.iox_domain.specs.PortsPublishing.{is_blocked, GivesUpIf}
 use Rattle.iox_domain.specs.PortLawsLaws.{AreTiesApart}
 use Rattle.iox_domain.specs.Tries.{how_often, Took, TryComesTo, Try, AreTries, TriesComeTo, all_takers, SendReachesOnce}

@@ -15,23 +15,23 @@ use Rattle.iox_domain.specs.DomainValues.declared.port_error.LoanError.{LoanErro
 use Rattle.iox_domain.specs.DomainValues.declared.port_error.ReceiveError.{ReceiveError}
 use Rattle.iox_domain.specs.DomainValues.declared.port_error.SendError.{SendError}
 use Rattle.iox_domain.specs.DomainValues.declared.port_owner.PortOwner.{PortOwner}
-use Rattle.iox_domain.specs.DomainPublisher.Messages.{Loan}
+use Rattle.iox_domain.specs.DomainPorts.Messages.{Loan}
 use Rattle.iox_domain.specs.DomainSlots.Uses.{is_there}
-use Rattle.iox_domain.specs.DomainPublisher.MessagesSending.{is_written_at}
-use Rattle.iox_domain.specs.DomainPublisher.Leaving.{departed}
-use Rattle.iox_domain.specs.DomainPublisher.Loaning as loaning
-use Rattle.iox_domain.specs.DomainPublisher.Ports.{connection_to, is_live, ended_at, detached_at, attached_at, Joins}
-use Rattle.iox_domain.specs.DomainPublisher.Sending.{ready_at, ready_loan, Sends}
-use Rattle.iox_domain.specs.DomainPublisher.Writing.{changed_if, given_up, given_up_at}
-use Rattle.iox_domain.specs.DomainPublisher.Writing as writing
-use Rattle.iox_domain.specs.DomainPublisher.declared.meeting.Sent.{Sent}
-use Rattle.iox_domain.specs.DomainPublisher.declared.publisher_port.PublisherPort.{PublisherPort}
-use Rattle.iox_domain.specs.DomainSubscriber.Arriving.{new_subscriber}
-use Rattle.iox_domain.specs.DomainSubscriber.Publishers.{port_of, with_port, changed, changed_at_port, connection_in, ended_if_left, is_over_in, is_over_port, removed, settled, AttachesAtPort}
-use Rattle.iox_domain.specs.DomainSubscriber.Reading.{is_over, place_of, taken_at, given_back_at}
-use Rattle.iox_domain.specs.DomainSubscriber.declared.attached.Taken.{Taken}
-use Rattle.iox_domain.specs.DomainSubscriber.declared.publisher_entry.PublisherEntry.{PublisherEntry}
-use Rattle.iox_domain.specs.DomainSubscriber.declared.subscriber_port.SubscriberPort.{SubscriberPort}
+use Rattle.iox_domain.specs.DomainPorts.MessagesSending.{is_written_at}
+use Rattle.iox_domain.specs.DomainPorts.Leaving.{departed}
+use Rattle.iox_domain.specs.DomainPorts.Loaning as loaning
+use Rattle.iox_domain.specs.DomainPorts.Ports.{connection_to, is_live, ended_at, detached_at, attached_at, Joins}
+use Rattle.iox_domain.specs.DomainPorts.Sending.{ready_at, ready_loan, Sends}
+use Rattle.iox_domain.specs.DomainPorts.Writing.{changed_if, given_up, given_up_at}
+use Rattle.iox_domain.specs.DomainPorts.Writing as writing
+use Rattle.iox_domain.specs.DomainPorts.declared.meeting.Sent.{Sent}
+use Rattle.iox_domain.specs.DomainPorts.declared.publisher_port.PublisherPort.{PublisherPort}
+use Rattle.iox_domain.specs.DomainPorts.Arriving.{new_subscriber}
+use Rattle.iox_domain.specs.DomainPorts.Publishers.{port_of, with_port, changed, changed_at_port, connection_in, ended_if_left, is_over_in, is_over_port, removed, settled, AttachesAtPort}
+use Rattle.iox_domain.specs.DomainPorts.Reading.{is_over, place_of, taken_at, given_back_at}
+use Rattle.iox_domain.specs.DomainPorts.declared.attached.Taken.{Taken}
+use Rattle.iox_domain.specs.DomainPorts.declared.publisher_entry.PublisherEntry.{PublisherEntry}
+use Rattle.iox_domain.specs.DomainPorts.declared.subscriber_port.SubscriberPort.{SubscriberPort}
 use Rattle.iox_domain.specs.Calls as call
 use Rattle.iox_domain.specs.Calls.{PortCall, Happens}
 use Rattle.iox_domain.specs.PortLawsLaws.{IsSound}

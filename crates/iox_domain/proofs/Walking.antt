@@ -1,10 +1,10 @@
 -- What the steps of a subscriber leave of how many loans the publishers may still make.
 use Rattle.std.proofs.Common.{arith, ◌≡◌, ◌≤◌, ℕ, List, Option, None, Some, Result, Ok, Err, refl, ap}
 use Rattle.std.specs.declared.alloc.AllocError.{AllocError}
-use Rattle.iox_domain.specs.DomainPublisher.Ports.{detached_at, ended_at}
-use Rattle.iox_domain.specs.DomainPublisher.declared.publisher_port.PublisherPort.{PublisherPort}
-use Rattle.iox_domain.specs.DomainSubscriber.Publishers.{port_of, with_port, changed, settled, ended_if_left, released, AttachesAtPort}
-use Rattle.iox_domain.specs.DomainSubscriber.Reading.{taken_at, given_back_at}
+use Rattle.iox_domain.specs.DomainPorts.Ports.{detached_at, ended_at}
+use Rattle.iox_domain.specs.DomainPorts.declared.publisher_port.PublisherPort.{PublisherPort}
+use Rattle.iox_domain.specs.DomainPorts.Publishers.{port_of, with_port, changed, settled, ended_if_left, released, AttachesAtPort}
+use Rattle.iox_domain.specs.DomainPorts.Reading.{taken_at, given_back_at}
 use Rattle.iox_domain.proofs.Walks.{Walks, WalksTaking}
 use Rattle.iox_domain.proofs.Allowing.{allowance_of, as_spare, either_allows, ended_allows, attaches_allows}
 use Rattle.iox_domain.proofs.Sums.{left_among, with_left, settled_left, changed_left}

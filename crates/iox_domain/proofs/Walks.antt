@@ -1,23 +1,23 @@
 -- What each step of a subscriber does to the publishers, put together to what a call does to them.
 use Rattle.std.proofs.Common.{◌≡◌, ◌+◌, ◌&&◌, ◌==◌, ◌∷◌, [], ℕ, zero, suc, Bool, true, false, not, List, get_or, length, slice_get, nat_le, nat_lt, inl, inr, sym, Option, None, Some, Result, Ok, Err, refl, ap, ◌∙◌, if◌then◌else◌}
 use Rattle.std.specs.declared.alloc.AllocError.{AllocError}
-use Rattle.iox_domain.specs.IndexBase.declared.container.Member.{Member}
+use Rattle.iox_domain.specs.Container.declared.container.Member.{Member}
 use Rattle.iox_domain.specs.DomainValues.declared.connection_failure.ConnectionFailure.{ConnectionFailure}
 use Rattle.iox_domain.specs.DomainValues.declared.connection_failure.ZeroCopyCreationError.{ZeroCopyCreationError}
 use Rattle.iox_domain.specs.DomainValues.declared.degradation.DegradationAction.{DegradationAction}
 use Rattle.iox_domain.specs.DomainValues.declared.degradation.DegradationInfo.{DegradationInfo}
 use Rattle.iox_domain.specs.DomainValues.declared.port_error.ReceiveError.{ReceiveError}
-use Rattle.iox_domain.specs.DomainPublisher.Ports.{detached_at}
-use Rattle.iox_domain.specs.DomainPublisher.declared.publisher_port.PublisherPort.{PublisherPort}
-use Rattle.iox_domain.specs.DomainSubscriber.Following.{is_of, is_unborrowed, replaced_port, replaced_ports, PartsFor, PartsBorrowed, PartsOver, PartsIf, Parts, ConnectsBy, Connects, unplaced, FollowsFreed, FollowsKey, FollowsAt, freed_if, FollowsNoneAt}
-use Rattle.iox_domain.specs.DomainSubscriber.Publishers.{changed, stands_in, AttachesTo}
-use Rattle.iox_domain.specs.DomainSubscriber.Receiving.{dropped_port, dropped_ports, is_idle_at, swept, given_ports, left_at, left_all, IsMet, IsGiver, Serves}
-use Rattle.iox_domain.specs.DomainSubscriber.Subscribing.{attached_at, connection_by, most_by, has_data, is_below, gives, is_idle, without_key, ended_key, ended_ports, taken_ports}
-use Rattle.iox_domain.specs.DomainSubscriber.Updating.{FollowsOne, FollowsFrom, FollowsNoneIf, FollowsNones, UpdatesIf, Updates, is_listed, ReceivesAfter, ReceivesNext}
-use Rattle.iox_domain.specs.DomainSubscriber.declared.attached.Attached.{Attached}
-use Rattle.iox_domain.specs.DomainSubscriber.declared.attached.Taken.{Taken}
-use Rattle.iox_domain.specs.DomainSubscriber.declared.publisher_entry.PublisherEntry.{PublisherEntry}
-use Rattle.iox_domain.specs.DomainSubscriber.declared.subscriber_port.SubscriberPort.{SubscriberPort}
+use Rattle.iox_domain.specs.DomainPorts.Ports.{detached_at}
+use Rattle.iox_domain.specs.DomainPorts.declared.publisher_port.PublisherPort.{PublisherPort}
+use Rattle.iox_domain.specs.DomainPorts.Following.{is_of, is_unborrowed, replaced_port, replaced_ports, PartsFor, PartsBorrowed, PartsOver, PartsIf, Parts, ConnectsBy, Connects, unplaced, FollowsFreed, FollowsKey, FollowsAt, freed_if, FollowsNoneAt}
+use Rattle.iox_domain.specs.DomainPorts.Publishers.{changed, stands_in, AttachesTo}
+use Rattle.iox_domain.specs.DomainPorts.Receiving.{dropped_port, dropped_ports, is_idle_at, swept, given_ports, left_at, left_all, IsMet, IsGiver, Serves}
+use Rattle.iox_domain.specs.DomainPorts.Subscribing.{attached_at, connection_by, most_by, has_data, is_below, gives, is_idle, without_key, ended_key, ended_ports, taken_ports}
+use Rattle.iox_domain.specs.DomainPorts.SubscriberUpdating.{FollowsOne, FollowsFrom, FollowsNoneIf, FollowsNones, UpdatesIf, Updates, is_listed, ReceivesAfter, ReceivesNext}
+use Rattle.iox_domain.specs.DomainPorts.declared.attached.Attached.{Attached}
+use Rattle.iox_domain.specs.DomainPorts.declared.attached.Taken.{Taken}
+use Rattle.iox_domain.specs.DomainPorts.declared.publisher_entry.PublisherEntry.{PublisherEntry}
+use Rattle.iox_domain.specs.DomainPorts.declared.subscriber_port.SubscriberPort.{SubscriberPort}
 
 -- whether fewer messages of a connection are borrowed than may be
 abbrev pub may_borrow : {T U : Type 0} → Option Attached → List (ℕ × PublisherPort T U) → Bool

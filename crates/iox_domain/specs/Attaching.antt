@@ -1,23 +1,23 @@
 -- When an update of a subscriber takes no memory.
 use Rattle.std.specs.Prelude.{ℕ, ◌+◌, ◌<◌, ◌≤◌, ◌≡◌, ◌≢◌, ◌++◌, ◌∷◌, [], true, false, Bool, is_some, List, length, get_or, Option, None, Some, Result, Err, if◌then◌else◌}
-use Rattle.iox_domain.specs.IndexBase.declared.container.Member.{Member}
+use Rattle.iox_domain.specs.Container.declared.container.Member.{Member}
 use Rattle.iox_domain.specs.DomainValues.declared.connection_failure.ConnectionFailure.{ConnectionFailure}
 use Rattle.iox_domain.specs.DomainValues.declared.degradation.DegradationAction.{DegradationAction}
 use Rattle.iox_domain.specs.DomainValues.declared.degradation.DegradationInfo.{DegradationInfo}
 use Rattle.iox_domain.specs.DomainValues.declared.port_error.ReceiveError.{ReceiveError}
 use Rattle.iox_domain.specs.DomainValues.declared.port_error.ReceiveError.TheVariants as receiving
 use Rattle.iox_domain.specs.DomainValues.declared.port_owner.PortIdentity.{PortIdentity}
-use Rattle.iox_domain.specs.DomainPublisher.Updating.{no_memory}
-use Rattle.iox_domain.specs.DomainPublisher.declared.publisher_port.PublisherPort.{PublisherPort}
-use Rattle.iox_domain.specs.DomainSubscriber.Arriving.{new_subscriber}
-use Rattle.iox_domain.specs.DomainSubscriber.Following.{lacks_connection}
-use Rattle.iox_domain.specs.DomainSubscriber.Publishers.{port_of, stands_in}
-use Rattle.iox_domain.specs.DomainSubscriber.Receiving.{Receives}
-use Rattle.iox_domain.specs.DomainSubscriber.Subscribing.{attached_at}
-use Rattle.iox_domain.specs.DomainSubscriber.Updating.{Updates, HasSamples, ReceivesNext}
-use Rattle.iox_domain.specs.DomainSubscriber.declared.attached.Taken.{Taken}
-use Rattle.iox_domain.specs.DomainSubscriber.declared.publisher_entry.PublisherEntry.{PublisherEntry}
-use Rattle.iox_domain.specs.DomainSubscriber.declared.subscriber_port.SubscriberPort.{SubscriberPort}
+use Rattle.iox_domain.specs.DomainPorts.PublisherUpdating.{no_memory}
+use Rattle.iox_domain.specs.DomainPorts.declared.publisher_port.PublisherPort.{PublisherPort}
+use Rattle.iox_domain.specs.DomainPorts.Arriving.{new_subscriber}
+use Rattle.iox_domain.specs.DomainPorts.Following.{lacks_connection}
+use Rattle.iox_domain.specs.DomainPorts.Publishers.{port_of, stands_in}
+use Rattle.iox_domain.specs.DomainPorts.Receiving.{Receives}
+use Rattle.iox_domain.specs.DomainPorts.Subscribing.{attached_at}
+use Rattle.iox_domain.specs.DomainPorts.SubscriberUpdating.{Updates, HasSamples, ReceivesNext}
+use Rattle.iox_domain.specs.DomainPorts.declared.attached.Taken.{Taken}
+use Rattle.iox_domain.specs.DomainPorts.declared.publisher_entry.PublisherEntry.{PublisherEntry}
+use Rattle.iox_domain.specs.DomainPorts.declared.subscriber_port.SubscriberPort.{SubscriberPort}
 use Rattle.std.specs.List.{All}
 use Rattle.iox_domain.specs.DomainValues.declared.backpressure.BackpressureDecision.{BackpressureDecision}
 use Rattle.iox_domain.specs.DomainValues.declared.backpressure.BackpressureInfo.{BackpressureInfo}

@@ -1,12 +1,12 @@
 -- A publisher lends a slot, what is to be sent is written there, and a loan is given up.
 use Rattle.std.specs.Prelude.{ℕ, ◌≡◌, Bool, true, false, Option, None, Some, option_map, Result}
 use Rattle.iox_describe_base.specs.declared.header.Header.{Header}
-use Rattle.iox_domain_subscriber.specs.DomainValues.declared.port_error.LoanError.{LoanError}
-use Rattle.iox_domain_subscriber.specs.DomainPublisher.Messages.{Loan}
-use Rattle.iox_domain_subscriber.specs.DomainPublisher.Loaning.{Loans}
-use Rattle.iox_domain_subscriber.specs.DomainPublisher.Writing.{loan_of, changed_if, changed_there, given_up}
-use Rattle.iox_domain_subscriber.specs.DomainPublisher.declared.publisher_port.PublisherPort.{PublisherPort}
-use Rattle.iox_domain_subscriber.specs.Publishers.{port_of, changed, settled}
+use Rattle.iox_domain_ports.specs.DomainValues.declared.port_error.LoanError.{LoanError}
+use Rattle.iox_domain_ports.specs.Messages.{Loan}
+use Rattle.iox_domain_ports.specs.Loaning.{Loans}
+use Rattle.iox_domain_ports.specs.Writing.{loan_of, changed_if, changed_there, given_up}
+use Rattle.iox_domain_ports.specs.declared.publisher_port.PublisherPort.{PublisherPort}
+use Rattle.iox_domain_ports.specs.Publishers.{port_of, changed, settled}
 use Rattle.iox_domain.specs.declared.ports.service_ports.ServicePorts.{ServicePorts}
 
 -- a publisher that stands lends a slot; another doesn't

@@ -1,7 +1,7 @@
 -- What the ports of a service end as, once a `&mut` into a loan has ended.
 use Rattle.std.specs.Prelude.{ℕ, Option}
 use Rattle.std.specs.Borrow.{Fml, LendsIf, MutBor, RattleType}
-use Rattle.iox_domain_subscriber.specs.DomainPublisher.Messages.{write_value, write_user_header}
+use Rattle.iox_domain_ports.specs.Messages.{write_value, write_user_header}
 use Rattle.iox_domain.specs.Lending.{loan_changed_in}
 use Rattle.iox_domain.specs.declared.ports.service_ports.ServicePorts.{ServicePorts}
 use Rattle.iox_domain.specs.contracts.ports.service_ports.ServicePorts.{the_row}

@@ -43,12 +43,9 @@ pub mod Loans
 pub mod Roomy
 pub mod SampleLaws
 pub mod Samples
-pub use Rattle.iox_domain_subscriber.specs.Container as Container
+pub use Rattle.iox_domain_ports.specs.Container as Container
 pub use Rattle.iox_describe_base.specs as DescribeBase
-pub use Rattle.iox_domain_subscriber.specs.DomainPublisher as DomainPublisher
-pub use Rattle.iox_domain_subscriber.specs.DomainSlots as DomainSlots
-pub use Rattle.iox_domain_subscriber.specs as DomainSubscriber
-pub use Rattle.iox_domain_subscriber.specs.DomainValues as DomainValues
-pub use Rattle.iox_domain_subscriber.specs.IndexBase as IndexBase
-pub use Rattle.iox_domain_subscriber.specs.Maps as Maps
+pub use Rattle.iox_domain_ports.specs as DomainPorts
+pub use Rattle.iox_domain_ports.specs.DomainSlots as DomainSlots
+pub use Rattle.iox_domain_ports.specs.DomainValues as DomainValues
 pub use Rattle.iox_describe_settings.specs as DescribeSettings

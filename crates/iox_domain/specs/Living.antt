@@ -1,8 +1,8 @@
 -- How many ports, loans and samples live.
 use Rattle.std.specs.Prelude.{ℕ, ◌+◌, List, sum_by, Option}
 use Rattle.std.specs.Map.{values_of}
-use Rattle.iox_domain_subscriber.specs.Living.{living_of_subscriber, counted, living_publishers}
-use Rattle.iox_domain_subscriber.specs.declared.subscriber_port.SubscriberPort.{SubscriberPort}
+use Rattle.iox_domain_ports.specs.Living.{living_of_subscriber, counted, living_publishers}
+use Rattle.iox_domain_ports.specs.declared.subscriber_port.SubscriberPort.{SubscriberPort}
 use Rattle.iox_domain.specs.declared.ports.service_ports.ServicePorts.{ServicePorts}
 
 -- how much lives of the subscribers of an owner, or of all where none is named

@@ -10,15 +10,15 @@ use Rattle.iox_domain.specs.DomainValues.declared.port_error.LoanError.{LoanErro
 use Rattle.iox_domain.specs.DomainValues.declared.port_error.ReceiveError.{ReceiveError}
 use Rattle.iox_domain.specs.DomainValues.declared.port_error.SendError.{SendError}
 use Rattle.iox_domain.specs.DomainValues.declared.port_owner.PortOwner.{PortOwner}
-use Rattle.iox_domain.specs.DomainPublisher.Messages.{Loan}
-use Rattle.iox_domain.specs.DomainPublisher.Writing.{place_of}
-use Rattle.iox_domain.specs.DomainPublisher.declared.meeting.Sent.{Sent}
-use Rattle.iox_domain.specs.DomainPublisher.declared.meeting.Sent.TheVariants as sent
-use Rattle.iox_domain.specs.DomainPublisher.declared.publisher_port.PublisherPort.{PublisherPort}
-use Rattle.iox_domain.specs.DomainSubscriber.Living.{counted}
-use Rattle.iox_domain.specs.DomainSubscriber.Publishers.{port_of}
-use Rattle.iox_domain.specs.DomainSubscriber.declared.attached.Taken.{Taken}
-use Rattle.iox_domain.specs.DomainSubscriber.declared.subscriber_port.SubscriberPort.{SubscriberPort}
+use Rattle.iox_domain.specs.DomainPorts.Messages.{Loan}
+use Rattle.iox_domain.specs.DomainPorts.Writing.{place_of}
+use Rattle.iox_domain.specs.DomainPorts.declared.meeting.Sent.{Sent}
+use Rattle.iox_domain.specs.DomainPorts.declared.meeting.Sent.TheVariants as sent
+use Rattle.iox_domain.specs.DomainPorts.declared.publisher_port.PublisherPort.{PublisherPort}
+use Rattle.iox_domain.specs.DomainPorts.Living.{counted}
+use Rattle.iox_domain.specs.DomainPorts.Publishers.{port_of}
+use Rattle.iox_domain.specs.DomainPorts.declared.attached.Taken.{Taken}
+use Rattle.iox_domain.specs.DomainPorts.declared.subscriber_port.SubscriberPort.{SubscriberPort}
 use Rattle.iox_domain.specs.Lending.{LoansOne, written_in, gave_up_in}
 use Rattle.iox_domain.specs.Living.{living}
 use Rattle.iox_domain.specs.Making.{CreatesPublisher, CreatesSubscriber}

@@ -1,30 +1,30 @@
 -- A publisher and a subscriber come.
 use Rattle.std.specs.Prelude.{ℕ, ◌≡◌, ◌+◌, ◌^◌, max, nat_lt, List, Option, None, Some, Result, Ok, Err, if◌then◌else◌}
 use Rattle.std.specs.declared.alloc.AllocError.{AllocError}
-use Rattle.iox_domain_subscriber.specs.IndexBase.declared.container.Member.{Member}
-use Rattle.iox_domain_subscriber.specs.DomainValues.OverrideAnswers.{places}
-use Rattle.iox_domain_subscriber.specs.DomainValues.Sizes.{worst_case, within}
-use Rattle.iox_domain_subscriber.specs.DomainValues.declared.connection_failure.ConnectionFailure.{ConnectionFailure}
-use Rattle.iox_domain_subscriber.specs.DomainValues.declared.create_error.PublisherCreateError.{PublisherCreateError}
-use Rattle.iox_domain_subscriber.specs.DomainValues.declared.create_error.PublisherCreateError.TheVariants as publishing
-use Rattle.iox_domain_subscriber.specs.DomainValues.declared.create_error.SubscriberCreateError.{SubscriberCreateError}
-use Rattle.iox_domain_subscriber.specs.DomainValues.declared.create_error.SubscriberCreateError.TheVariants as subscribing
-use Rattle.iox_domain_subscriber.specs.DomainValues.declared.data_segment.AllocationStrategy.{AllocationStrategy}
-use Rattle.iox_domain_subscriber.specs.DomainValues.declared.data_segment.AllocationStrategy.TheVariants as allocation
-use Rattle.iox_domain_subscriber.specs.DomainValues.declared.degradation.DegradationAction.{DegradationAction}
-use Rattle.iox_domain_subscriber.specs.DomainValues.declared.degradation.DegradationInfo.{DegradationInfo}
-use Rattle.iox_domain_subscriber.specs.DomainValues.declared.port_owner.PortIdentity.{PortIdentity}
-use Rattle.iox_domain_subscriber.specs.DomainValues.declared.port_owner.PortOwner.{PortOwner}
-use Rattle.iox_domain_subscriber.specs.DomainPublisher.declared.messages.sender_config.SenderConfig.{SenderConfig}
-use Rattle.iox_domain_subscriber.specs.DomainPublisher.Leaving.{new_port}
-use Rattle.iox_domain_subscriber.specs.DomainPublisher.Updating as publisher
-use Rattle.iox_domain_subscriber.specs.DomainPublisher.declared.publisher_port.PublisherPort.{PublisherPort}
-use Rattle.iox_domain_subscriber.specs.DomainPublisher.declared.subscriber_entry.SubscriberEntry.{SubscriberEntry}
-use Rattle.iox_domain_subscriber.specs.Publishers.{added}
-use Rattle.iox_domain_subscriber.specs.Arriving.{new_subscriber}
-use Rattle.iox_domain_subscriber.specs.Updating as subscriber
-use Rattle.iox_domain_subscriber.specs.declared.publisher_entry.PublisherEntry.{PublisherEntry}
-use Rattle.iox_domain_subscriber.specs.declared.subscriber_port.SubscriberPort.{SubscriberPort}
+use Rattle.iox_domain_ports.specs.Container.declared.container.Member.{Member}
+use Rattle.iox_domain_ports.specs.DomainValues.OverrideAnswers.{places}
+use Rattle.iox_domain_ports.specs.DomainValues.Sizes.{worst_case, within}
+use Rattle.iox_domain_ports.specs.DomainValues.declared.connection_failure.ConnectionFailure.{ConnectionFailure}
+use Rattle.iox_domain_ports.specs.DomainValues.declared.create_error.PublisherCreateError.{PublisherCreateError}
+use Rattle.iox_domain_ports.specs.DomainValues.declared.create_error.PublisherCreateError.TheVariants as publishing
+use Rattle.iox_domain_ports.specs.DomainValues.declared.create_error.SubscriberCreateError.{SubscriberCreateError}
+use Rattle.iox_domain_ports.specs.DomainValues.declared.create_error.SubscriberCreateError.TheVariants as subscribing
+use Rattle.iox_domain_ports.specs.DomainValues.declared.data_segment.AllocationStrategy.{AllocationStrategy}
+use Rattle.iox_domain_ports.specs.DomainValues.declared.data_segment.AllocationStrategy.TheVariants as allocation
+use Rattle.iox_domain_ports.specs.DomainValues.declared.degradation.DegradationAction.{DegradationAction}
+use Rattle.iox_domain_ports.specs.DomainValues.declared.degradation.DegradationInfo.{DegradationInfo}
+use Rattle.iox_domain_ports.specs.DomainValues.declared.port_owner.PortIdentity.{PortIdentity}
+use Rattle.iox_domain_ports.specs.DomainValues.declared.port_owner.PortOwner.{PortOwner}
+use Rattle.iox_domain_ports.specs.declared.messages.sender_config.SenderConfig.{SenderConfig}
+use Rattle.iox_domain_ports.specs.Leaving.{new_port}
+use Rattle.iox_domain_ports.specs.PublisherUpdating as publisher
+use Rattle.iox_domain_ports.specs.declared.publisher_port.PublisherPort.{PublisherPort}
+use Rattle.iox_domain_ports.specs.declared.subscriber_entry.SubscriberEntry.{SubscriberEntry}
+use Rattle.iox_domain_ports.specs.Publishers.{added}
+use Rattle.iox_domain_ports.specs.Arriving.{new_subscriber}
+use Rattle.iox_domain_ports.specs.SubscriberUpdating as subscriber
+use Rattle.iox_domain_ports.specs.declared.publisher_entry.PublisherEntry.{PublisherEntry}
+use Rattle.iox_domain_ports.specs.declared.subscriber_port.SubscriberPort.{SubscriberPort}
 use Rattle.iox_domain.specs.Ports.{with_both}
 use Rattle.iox_domain.specs.Rolls.{IsListOf, free_place, entered}
 use Rattle.iox_domain.specs.Subscribers.{subscriber_added}

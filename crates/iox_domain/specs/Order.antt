@@ -8,13 +8,13 @@ use Rattle.iox_domain.specs.DomainValues.declared.port_error.ReceiveError.{Recei
 use Rattle.iox_domain.specs.DomainValues.declared.port_error.SendError.{SendError}
 use Rattle.iox_domain.specs.DomainValues.declared.port_error.SendError.TheVariants as sending
 use Rattle.iox_domain.specs.DomainValues.declared.service_sizes.ServiceSizes.{ServiceSizes}
-use Rattle.iox_domain.specs.DomainPublisher.Messages.{Message, Loan, sent_as}
-use Rattle.iox_domain.specs.DomainPublisher.Places.{leads_to}
-use Rattle.iox_domain.specs.DomainPublisher.Ports.{is_live}
-use Rattle.iox_domain.specs.DomainPublisher.declared.meeting.Sent.{Sent}
-use Rattle.iox_domain.specs.DomainPublisher.declared.publisher_port.PublisherPort.{PublisherPort}
-use Rattle.iox_domain.specs.DomainSubscriber.Publishers.{port_of, connection_in}
-use Rattle.iox_domain.specs.DomainSubscriber.declared.attached.Taken.{Taken}
+use Rattle.iox_domain.specs.DomainPorts.Messages.{Message, Loan, sent_as}
+use Rattle.iox_domain.specs.DomainPorts.Places.{leads_to}
+use Rattle.iox_domain.specs.DomainPorts.Ports.{is_live}
+use Rattle.iox_domain.specs.DomainPorts.declared.meeting.Sent.{Sent}
+use Rattle.iox_domain.specs.DomainPorts.declared.publisher_port.PublisherPort.{PublisherPort}
+use Rattle.iox_domain.specs.DomainPorts.Publishers.{port_of, connection_in}
+use Rattle.iox_domain.specs.DomainPorts.declared.attached.Taken.{Taken}
 use Rattle.iox_domain.specs.Calls.{PortCall, Sends, Receives, Happens}
 use Rattle.iox_domain.specs.Lending.{loan_in}
 use Rattle.iox_domain.specs.Ports.{no_ports}

@@ -1,10 +1,10 @@
 -- The ports of a service.
 use Rattle.std.specs.Prelude.{ℕ, ◌≡◌, List, [], Option, None, Some}
-use Rattle.iox_domain_subscriber.specs.DomainValues.declared.service_sizes.ServiceSizes.{ServiceSizes}
-use Rattle.iox_domain_subscriber.specs.DomainPublisher.declared.publisher_port.PublisherPort.{PublisherPort}
-use Rattle.iox_domain_subscriber.specs.Publishers.{with_port}
-use Rattle.iox_domain_subscriber.specs.Publishers as publishers
-use Rattle.iox_domain_subscriber.specs.declared.subscriber_port.SubscriberPort.{SubscriberPort}
+use Rattle.iox_domain_ports.specs.DomainValues.declared.service_sizes.ServiceSizes.{ServiceSizes}
+use Rattle.iox_domain_ports.specs.declared.publisher_port.PublisherPort.{PublisherPort}
+use Rattle.iox_domain_ports.specs.Publishers.{with_port}
+use Rattle.iox_domain_ports.specs.Publishers as publishers
+use Rattle.iox_domain_ports.specs.declared.subscriber_port.SubscriberPort.{SubscriberPort}
 use Rattle.iox_domain.specs.Rolls.{new_roll}
 use Rattle.iox_domain.specs.Subscribers.{with_subscriber}
 use Rattle.iox_domain.specs.declared.ports.service_ports.ServicePorts.{ServicePorts}

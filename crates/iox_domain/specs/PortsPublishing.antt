@@ -1,19 +1,19 @@
 -- A publisher follows the subscribers, sends and leaves.
 use Rattle.std.specs.Prelude.{ℕ, ◌≡◌, ◌&&◌, Bool, true, false, not, List, is_some, Option, None, Some, Result}
-use Rattle.iox_domain_subscriber.specs.IndexBase.declared.container.Member.{Member}
-use Rattle.iox_domain_subscriber.specs.DomainValues.declared.backpressure.BackpressureDecision.{BackpressureDecision}
-use Rattle.iox_domain_subscriber.specs.DomainValues.declared.backpressure.BackpressureInfo.{BackpressureInfo}
-use Rattle.iox_domain_subscriber.specs.DomainValues.declared.connection_failure.ConnectionFailure.{ConnectionFailure}
-use Rattle.iox_domain_subscriber.specs.DomainValues.declared.degradation.DegradationAction.{DegradationAction}
-use Rattle.iox_domain_subscriber.specs.DomainValues.declared.degradation.DegradationInfo.{DegradationInfo}
-use Rattle.iox_domain_subscriber.specs.DomainValues.declared.port_error.SendError.{SendError}
-use Rattle.iox_domain_subscriber.specs.DomainPublisher.Leaving.{departed}
-use Rattle.iox_domain_subscriber.specs.DomainPublisher.Progress.{tried_again}
-use Rattle.iox_domain_subscriber.specs.DomainPublisher.Sending.{ready_loan, with_progress, concluded, Sends, Finishes}
-use Rattle.iox_domain_subscriber.specs.DomainPublisher.Updating.{Updates}
-use Rattle.iox_domain_subscriber.specs.DomainPublisher.declared.meeting.Sent.{Sent}
-use Rattle.iox_domain_subscriber.specs.DomainPublisher.declared.publisher_port.PublisherPort.{PublisherPort}
-use Rattle.iox_domain_subscriber.specs.DomainPublisher.declared.subscriber_entry.SubscriberEntry.{SubscriberEntry}
+use Rattle.iox_domain_ports.specs.Container.declared.container.Member.{Member}
+use Rattle.iox_domain_ports.specs.DomainValues.declared.backpressure.BackpressureDecision.{BackpressureDecision}
+use Rattle.iox_domain_ports.specs.DomainValues.declared.backpressure.BackpressureInfo.{BackpressureInfo}
+use Rattle.iox_domain_ports.specs.DomainValues.declared.connection_failure.ConnectionFailure.{ConnectionFailure}
+use Rattle.iox_domain_ports.specs.DomainValues.declared.degradation.DegradationAction.{DegradationAction}
+use Rattle.iox_domain_ports.specs.DomainValues.declared.degradation.DegradationInfo.{DegradationInfo}
+use Rattle.iox_domain_ports.specs.DomainValues.declared.port_error.SendError.{SendError}
+use Rattle.iox_domain_ports.specs.Leaving.{departed}
+use Rattle.iox_domain_ports.specs.Progress.{tried_again}
+use Rattle.iox_domain_ports.specs.Sending.{ready_loan, with_progress, concluded, Sends, Finishes}
+use Rattle.iox_domain_ports.specs.PublisherUpdating.{Updates}
+use Rattle.iox_domain_ports.specs.declared.meeting.Sent.{Sent}
+use Rattle.iox_domain_ports.specs.declared.publisher_port.PublisherPort.{PublisherPort}
+use Rattle.iox_domain_ports.specs.declared.subscriber_entry.SubscriberEntry.{SubscriberEntry}
 use Rattle.iox_domain.specs.Ports.{with_publisher}
 use Rattle.iox_domain.specs.Rolls.{RollState, IsListOf, left}
 use Rattle.iox_domain.specs.declared.ports.service_ports.ServicePorts.{ServicePorts}

@@ -1,18 +1,18 @@
 -- A subscriber follows the publishers, receives, releases and leaves.
 use Rattle.std.specs.Prelude.{ℕ, ◌≡◌, ◌==◌, ◌+◌, ◌-◌, ◌^◌, min, Bool, true, false, List, Option, None, Some, Result, Ok, Err, if◌then◌else◌}
-use Rattle.iox_domain_subscriber.specs.IndexBase.declared.container.Member.{Member}
-use Rattle.iox_domain_subscriber.specs.DomainValues.declared.connection_failure.ConnectionFailure.{ConnectionFailure}
-use Rattle.iox_domain_subscriber.specs.DomainValues.declared.degradation.DegradationAction.{DegradationAction}
-use Rattle.iox_domain_subscriber.specs.DomainValues.declared.degradation.DegradationInfo.{DegradationInfo}
-use Rattle.iox_domain_subscriber.specs.DomainValues.declared.port_error.ReceiveError.{ReceiveError}
-use Rattle.iox_domain_subscriber.specs.DomainPublisher.declared.publisher_port.PublisherPort.{PublisherPort}
-use Rattle.iox_domain_subscriber.specs.Publishers.{connection_in, released}
-use Rattle.iox_domain_subscriber.specs.Reading.{place_of}
-use Rattle.iox_domain_subscriber.specs.Receiving.{left_all}
-use Rattle.iox_domain_subscriber.specs.Updating.{Updates, HasSamples, ReceivesNext}
-use Rattle.iox_domain_subscriber.specs.declared.attached.Taken.{Taken}
-use Rattle.iox_domain_subscriber.specs.declared.publisher_entry.PublisherEntry.{PublisherEntry}
-use Rattle.iox_domain_subscriber.specs.declared.subscriber_port.SubscriberPort.{SubscriberPort}
+use Rattle.iox_domain_ports.specs.Container.declared.container.Member.{Member}
+use Rattle.iox_domain_ports.specs.DomainValues.declared.connection_failure.ConnectionFailure.{ConnectionFailure}
+use Rattle.iox_domain_ports.specs.DomainValues.declared.degradation.DegradationAction.{DegradationAction}
+use Rattle.iox_domain_ports.specs.DomainValues.declared.degradation.DegradationInfo.{DegradationInfo}
+use Rattle.iox_domain_ports.specs.DomainValues.declared.port_error.ReceiveError.{ReceiveError}
+use Rattle.iox_domain_ports.specs.declared.publisher_port.PublisherPort.{PublisherPort}
+use Rattle.iox_domain_ports.specs.Publishers.{connection_in, released}
+use Rattle.iox_domain_ports.specs.Reading.{place_of}
+use Rattle.iox_domain_ports.specs.Receiving.{left_all}
+use Rattle.iox_domain_ports.specs.SubscriberUpdating.{Updates, HasSamples, ReceivesNext}
+use Rattle.iox_domain_ports.specs.declared.attached.Taken.{Taken}
+use Rattle.iox_domain_ports.specs.declared.publisher_entry.PublisherEntry.{PublisherEntry}
+use Rattle.iox_domain_ports.specs.declared.subscriber_port.SubscriberPort.{SubscriberPort}
 use Rattle.iox_domain.specs.Rolls.{RollState, IsListOf, left}
 use Rattle.iox_domain.specs.Subscribers.{subscriber_of, with_subscriber, settled}
 use Rattle.iox_domain.specs.declared.ports.service_ports.ServicePorts.{ServicePorts}

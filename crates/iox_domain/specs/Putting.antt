@@ -1,18 +1,18 @@
 -- A publisher lends as many values as it is handed, writes them and sends them, at once.
 use Rattle.std.specs.Prelude.{ℕ, ◌≡◌, Bool, true, false, List, length, Option, None, Some, Result, Ok, Err}
-use Rattle.iox_domain_subscriber.specs.DomainValues.declared.backpressure.BackpressureDecision.{BackpressureDecision}
-use Rattle.iox_domain_subscriber.specs.DomainValues.declared.backpressure.BackpressureInfo.{BackpressureInfo}
-use Rattle.iox_domain_subscriber.specs.DomainValues.declared.degradation.DegradationAction.{DegradationAction}
-use Rattle.iox_domain_subscriber.specs.DomainValues.declared.degradation.DegradationInfo.{DegradationInfo}
-use Rattle.iox_domain_subscriber.specs.DomainValues.declared.port_error.LoanError.{LoanError}
-use Rattle.iox_domain_subscriber.specs.DomainValues.declared.port_error.SendError.{SendError}
-use Rattle.iox_domain_subscriber.specs.DomainValues.declared.port_error.SendError.TheVariants as refusal
-use Rattle.iox_domain_subscriber.specs.DomainPublisher.Messages.{write_all}
-use Rattle.iox_domain_subscriber.specs.DomainPublisher.MessagesSending.{has_length}
-use Rattle.iox_domain_subscriber.specs.DomainPublisher.Writing.{changed_if}
-use Rattle.iox_domain_subscriber.specs.DomainPublisher.declared.meeting.Sent.{Sent}
-use Rattle.iox_domain_subscriber.specs.DomainPublisher.declared.publisher_port.PublisherPort.{PublisherPort}
-use Rattle.iox_domain_subscriber.specs.DomainPublisher.declared.subscriber_entry.SubscriberEntry.{SubscriberEntry}
+use Rattle.iox_domain_ports.specs.DomainValues.declared.backpressure.BackpressureDecision.{BackpressureDecision}
+use Rattle.iox_domain_ports.specs.DomainValues.declared.backpressure.BackpressureInfo.{BackpressureInfo}
+use Rattle.iox_domain_ports.specs.DomainValues.declared.degradation.DegradationAction.{DegradationAction}
+use Rattle.iox_domain_ports.specs.DomainValues.declared.degradation.DegradationInfo.{DegradationInfo}
+use Rattle.iox_domain_ports.specs.DomainValues.declared.port_error.LoanError.{LoanError}
+use Rattle.iox_domain_ports.specs.DomainValues.declared.port_error.SendError.{SendError}
+use Rattle.iox_domain_ports.specs.DomainValues.declared.port_error.SendError.TheVariants as refusal
+use Rattle.iox_domain_ports.specs.Messages.{write_all}
+use Rattle.iox_domain_ports.specs.MessagesSending.{has_length}
+use Rattle.iox_domain_ports.specs.Writing.{changed_if}
+use Rattle.iox_domain_ports.specs.declared.meeting.Sent.{Sent}
+use Rattle.iox_domain_ports.specs.declared.publisher_port.PublisherPort.{PublisherPort}
+use Rattle.iox_domain_ports.specs.declared.subscriber_entry.SubscriberEntry.{SubscriberEntry}
 use Rattle.iox_domain.specs.Lending.{LoansOne}
 use Rattle.iox_domain.specs.PortsPublishing.{is_free, SendsOne}
 use Rattle.iox_domain.specs.Rolls.{RollState}

@@ -1,12 +1,12 @@
 -- What is read of a sample.
 use Rattle.std.specs.Prelude.{Option, None, Some, option_map}
 use Rattle.iox_describe_base.specs.declared.header.Header.{Header}
-use Rattle.iox_domain_subscriber.specs.DomainPublisher.Messages.{Message}
-use Rattle.iox_domain_subscriber.specs.DomainPublisher.Ports.{connection_of}
-use Rattle.iox_domain_subscriber.specs.DomainPublisher.declared.publisher_port.PublisherPort.{PublisherPort}
-use Rattle.iox_domain_subscriber.specs.Publishers.{port_of}
-use Rattle.iox_domain_subscriber.specs.Reading.{borrowed_in}
-use Rattle.iox_domain_subscriber.specs.declared.attached.Taken.{Taken}
+use Rattle.iox_domain_ports.specs.Messages.{Message}
+use Rattle.iox_domain_ports.specs.Ports.{connection_of}
+use Rattle.iox_domain_ports.specs.declared.publisher_port.PublisherPort.{PublisherPort}
+use Rattle.iox_domain_ports.specs.Publishers.{port_of}
+use Rattle.iox_domain_ports.specs.Reading.{borrowed_in}
+use Rattle.iox_domain_ports.specs.declared.attached.Taken.{Taken}
 use Rattle.iox_domain.specs.declared.ports.service_ports.ServicePorts.{ServicePorts}
 
 -- the message of a sample that is held of a publisher; none without one

@@ -1,8 +1,8 @@
 -- The list of the ports of one kind.
 use Rattle.std.specs.Prelude.{ℕ, ◌≡◌, ◌+◌, ◌^◌, Bool, not, List, length, replicate, get_or, slice_set, is_some, nat_lt, Option, None, Some, if◌then◌else◌}
 use Rattle.std.specs.List.{position}
-use Rattle.iox_domain_subscriber.specs.IndexBase.Places.{padded}
-use Rattle.iox_domain_subscriber.specs.IndexBase.declared.container.Member.{Member}
+use Rattle.iox_domain_ports.specs.Container.CountedPlaces.{padded}
+use Rattle.iox_domain_ports.specs.Container.declared.container.Member.{Member}
 
 -- The list of the ports of one kind: who is listed at each place, and how often that changed so far.
 pub record RollState (V : Type 0) : Type 0 where

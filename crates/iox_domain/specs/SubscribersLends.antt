@@ -1,8 +1,8 @@
 -- What the subscribers end as, once a `&mut` to one of them has ended.
 use Rattle.std.specs.Prelude.{ℕ, List, Option}
 use Rattle.std.specs.Borrow.{Fml, LendsIf, MutBor}
-use Rattle.iox_domain_subscriber.specs.declared.subscriber_port.SubscriberPort.{SubscriberPort}
-use Rattle.iox_domain_subscriber.specs.contracts.subscriber_port.SubscriberPort as port
+use Rattle.iox_domain_ports.specs.declared.subscriber_port.SubscriberPort.{SubscriberPort}
+use Rattle.iox_domain_ports.specs.contracts.subscriber_port.SubscriberPort as port
 use Rattle.iox_domain.specs.Subscribers.{with_subscriber}
 use Rattle.iox_domain.specs.contracts.ports.subscribers.Subscribers.{the_row}
 

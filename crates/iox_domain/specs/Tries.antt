@@ -6,14 +6,14 @@ use Rattle.iox_domain.specs.DomainValues.declared.degradation.DegradationAction.
 use Rattle.iox_domain.specs.DomainValues.declared.degradation.DegradationInfo.{DegradationInfo}
 use Rattle.iox_domain.specs.DomainValues.declared.port_error.SendError.{SendError}
 use Rattle.iox_domain.specs.DomainSlots.Uses.{accepts, offered}
-use Rattle.iox_domain.specs.DomainPublisher.Messages.{Message, Loan}
-use Rattle.iox_domain.specs.DomainPublisher.Ports.{connection_of, is_live}
-use Rattle.iox_domain.specs.DomainPublisher.Sending.{begun_by, Finishes}
-use Rattle.iox_domain.specs.DomainPublisher.declared.meeting.Sent.{Sent}
-use Rattle.iox_domain.specs.DomainPublisher.declared.meeting.Sent.TheVariants as sent
-use Rattle.iox_domain.specs.DomainPublisher.declared.publisher_port.PublisherPort.{PublisherPort}
+use Rattle.iox_domain.specs.DomainPorts.Messages.{Message, Loan}
+use Rattle.iox_domain.specs.DomainPorts.Ports.{connection_of, is_live}
+use Rattle.iox_domain.specs.DomainPorts.Sending.{begun_by, Finishes}
+use Rattle.iox_domain.specs.DomainPorts.declared.meeting.Sent.{Sent}
+use Rattle.iox_domain.specs.DomainPorts.declared.meeting.Sent.TheVariants as sent
+use Rattle.iox_domain.specs.DomainPorts.declared.publisher_port.PublisherPort.{PublisherPort}
 use Rattle.iox_domain.specs.PortsPublishing.{GivesUpOne}
-use Rattle.iox_domain.specs.DomainSubscriber.Publishers.{port_of}
+use Rattle.iox_domain.specs.DomainPorts.Publishers.{port_of}
 use Rattle.iox_domain.specs.Calls.{PortCall, Retries, GivesSendUp, Happens}
 use Rattle.iox_domain.specs.PortLawsLaws.{IsSound, AreTiesApart}
 use Rattle.iox_domain.specs.declared.ports.service_ports.ServicePorts.{ServicePorts}

@@ -11,8 +11,7 @@ ghost use Rattle.iox_domain.specs.Homes.{ports_of, with_ports, with_publisher, w
 use crate::domain_id::DomainId;
 use crate::home::Home;
 use crate::ports::{PublisherConfig, ServicePorts, SubscriberConfig};
-use iox_domain_publisher::Sent;
-use iox_domain_subscriber::Taken;
+use iox_domain_ports::{Sent, Taken};
 use iox_domain_values::{
     ConnectionFailure, LoanError, Overrides, PublisherCreateError, ReceiveError, SendError,
     SubscriberCreateError,

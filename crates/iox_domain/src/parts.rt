@@ -8,8 +8,7 @@ use crate::kept::Kept;
 use crate::ports::{Roll, ServicePorts, Subscribers};
 use crate::state::DomainState;
 use iox_describe_settings::publish_subscribe::StaticConfig;
-use iox_domain_publisher::SubscriberEntry;
-use iox_domain_subscriber::{PublisherEntry, Publishers};
+use iox_domain_ports::{PublisherEntry, Publishers, SubscriberEntry};
 use iox_domain_values::{DegradationHandler, Handlers, ServiceSizes};
 
 /// What a domain is made of: its settings, the places of its ports, the publishers with their slots, connections and histories, the

@@ -33,7 +33,7 @@ pub mod service_ports;
 pub mod subscribers;
 pub mod subscribing;
 
-pub use iox_domain_subscriber::{Sent, Taken};
+pub use iox_domain_ports::{Sent, Taken};
 pub use making::{PublisherConfig, SubscriberConfig};
 pub use roll::Roll;
 pub use service_ports::ServicePorts;

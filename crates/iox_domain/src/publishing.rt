@@ -1,7 +1,7 @@
 //! A publisher comes, follows the subscribers, sends and leaves.
 ghost use Rattle.std.specs.Prelude.{◌≡◌};
 ghost use Rattle.iox_domain.specs.DomainValues.declared.degradation.DegradationCause.TheVariants as cause;
-ghost use Rattle.iox_domain.specs.DomainSubscriber.Publishers.{port_of};
+ghost use Rattle.iox_domain.specs.DomainPorts.Publishers.{port_of};
 ghost use Rattle.iox_domain.specs.Lending.{LoansOne};
 ghost use Rattle.iox_domain.specs.Ports.{AtPublisher};
 ghost use Rattle.iox_domain.specs.PortsPublishing.{UpdatesOne, SendsOne, RetriesOne, LeavesAt};
@@ -14,7 +14,7 @@ ghost use Rattle.iox_domain.specs.Publishing.{MakesPublisher, kept_unless};
 use crate::nobody::Nobody;
 use crate::ports::PublisherConfig;
 use crate::state::DomainState;
-use iox_domain_publisher::Sent;
+use iox_domain_ports::Sent;
 use iox_domain_values::{
     ConnectionFailure, Decides, Degrades, LoanError, Overrides, PublisherCreateError, SendError,
 };

@@ -13,7 +13,7 @@ ghost use Rattle.iox_domain.specs.Subscribing.{MakesSubscriber};
 use crate::nobody::Nobody;
 use crate::ports::SubscriberConfig;
 use crate::state::DomainState;
-use iox_domain_subscriber::Taken;
+use iox_domain_ports::Taken;
 use iox_domain_values::{
     ConnectionFailure, Decides, Degrades, ReceiveError, SubscriberCreateError,
 };

@@ -2,8 +2,8 @@
 use Rattle.std.proofs.Common.{arith, ◌≡◌, ◌+◌, ◌-◌, ◌<◌, ◌≤◌, ℕ, true, false, List, nat_lt, get_or, refl, sym, subst, ◌∙◌}
 use Rattle.std.proofs.Math.Logic.{⊎_elim}
 use Rattle.std.proofs.lemmas.Bool.Decides.{eqb_tells}
-use Rattle.iox_index_base.specs.Unique.{UniqueSetState, is_held, freed, settled, Takes}
-use Rattle.iox_index_base.specs.declared.release.ReleaseMode.TheVariants.{Default}
+use Rattle.iox_container.specs.Unique.{UniqueSetState, is_held, freed, settled, Takes}
+use Rattle.iox_container.specs.declared.release.ReleaseMode.TheVariants.{Default}
 
 -- so many of the highest places are held just where their slots have a use, and all others are held
 pub record Freeing (start : UniqueSetState) (references : List ℕ) (first : ℕ) (now : UniqueSetState) (count : ℕ) : Type 0 where

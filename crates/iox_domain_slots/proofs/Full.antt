@@ -3,9 +3,9 @@ use Rattle.std.proofs.Common.{rules, arith, ◌≡◌, ◌+◌, ◌-◌, ◌<◌
 use Rattle.std.specs.List.{range_with_len}
 use Rattle.std.proofs.Math.ListN.{get_or-replicate}
 use Rattle.std.proofs.lemmas.List.{get_or_past, length-replicate, take_all}
-use Rattle.iox_index_base.specs.declared.error.UniqueIndexSetAcquireFailure.{UniqueIndexSetAcquireFailure}
-use Rattle.iox_index_base.specs.Unique.{answer_of, is_among, is_held, new_unique_set}
-use Rattle.iox_index_base.proofs.FreeLists.{AreFree-start}
+use Rattle.iox_container.specs.declared.error.UniqueIndexSetAcquireFailure.{UniqueIndexSetAcquireFailure}
+use Rattle.iox_container.specs.Unique.{answer_of, is_among, is_held, new_unique_set}
+use Rattle.iox_container.proofs.FreeLists.{AreFree-start}
 use Rattle.iox_domain_slots.specs.Counting.{SlotsState}
 
 -- a set of indices that refuses an acquire although it isn't locked has each index held

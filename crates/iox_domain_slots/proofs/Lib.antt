@@ -1,6 +1,7 @@
 pub mod Full
 pub mod Freeing
 pub mod Counts
+pub mod Loaned
 pub mod Moving
 pub mod Linking
 pub mod Offering
@@ -8,4 +9,4 @@ pub mod AllSlots
 pub mod Publishing
 pub mod Enough
 pub mod Welcoming
-pub use Rattle.iox_index_base.proofs as IndexBase
+pub use Rattle.iox_container.proofs as Container

@@ -1,5 +1,6 @@
 pub mod Waiting
 pub mod Uses
 pub mod Counting
+pub mod Loans
 pub mod Links
-pub use Rattle.iox_index_base.specs as IndexBase
+pub use Rattle.iox_container.specs as Container

@@ -5,12 +5,13 @@
 //! - [`slots`]: which slots are free, and how many uses the others have.
 //! - `places`: which of them are held.
 //! - [`lists`]: short lists in their order.
+//! - `loans`: which slots are lent, in their order.
 //! - [`mailbox`]: what waits between a publisher and a subscriber.
 //! - [`link`]: a connection: its mailbox, what is borrowed of it, what came back.
 //! - [`links`]: the connections of a publisher.
 //! - [`uses`]: all of one publisher together.
 //!
-//! First calls. `Sender` of `iox_domain_publisher` makes them.
+//! First calls. `Sender` of `iox_domain_ports` makes them.
 //!
 //! ```
 //! if uses.may_loan() {
@@ -22,13 +23,14 @@
 pub mod link;
 pub mod links;
 mod lists;
+mod loans;
 pub mod mailbox;
 mod places;
 pub mod slots;
 pub mod stage;
 pub mod uses;
 
-pub use iox_index_base::Member;
+pub use iox_container::Member;
 pub use slots::Slots;
 pub use stage::Stage;
 pub use uses::SlotUses;

@@ -1,8 +1,8 @@
 //! The places of a segment's slots: each is free or held.
 ghost use Rattle.std.specs.Prelude.{◌≡◌, ℕ, ◌+◌, ◌<◌, ◌||◌, [], length, get_or, nat_lt, true, false};
-ghost use Rattle.iox_index_base.specs.Unique.{is_held};
+ghost use Rattle.iox_container.specs.Unique.{is_held};
 
-use iox_index_base::{ReleaseMode, UniqueIndexSet};
+use iox_container::{ReleaseMode, UniqueIndexSet};
 
 // Holds each place that is free.
 pub(crate) fn hold_all(places: &mut UniqueIndexSet)

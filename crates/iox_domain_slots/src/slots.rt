@@ -1,12 +1,14 @@
 //! The slots of one publisher: which are free, and how many uses the others have.
-ghost use Rattle.std.specs.Prelude.{◌≡◌, ◌+◌, ◌-◌, ◌^◌, ◌<◌, ◌≤◌, ◌++◌, ◌∷◌, [], length, drop, get_or, remove, nat_lt, replicate, IfOk, OnErr, None, position, ◌==◌};
+ghost use Rattle.std.specs.Prelude.{◌≡◌, ◌+◌, ◌-◌, ◌^◌, ◌<◌, ◌≤◌, ◌++◌, ◌∷◌, [], length, drop, get_or, remove, nat_lt, replicate, true, IfOk, OnErr, None};
+ghost use Rattle.iox_container.specs.Unique.{is_among};
 ghost use Rattle.iox_domain_slots.specs.Uses.{newest};
 ghost use Rattle.iox_domain_slots.specs.Counting.{SlotsState, times, uses_of, referred, let_go, IsCurrent, LoanSlot, Moves, Covers};
+ghost use Rattle.iox_domain_slots.specs.Loans.{place_in};
 
-use crate::lists::take_out;
+use crate::loans::Loans;
 use crate::places::{hold_all, settle};
 use iox_container::queue::Queue;
-use iox_index_base::{ReleaseMode, UniqueIndexSet};
+use iox_container::{ReleaseMode, UniqueIndexSet};
 use std::alloc::{AllocError, Global};
 use std::marker::Model;
 
@@ -20,15 +22,15 @@ pub struct Slots {
     // Whether all others are held too: from the first claim to the next loan, so that no claim looks for its place among the free ones.
     all_held: bool,
     references: Vec<u64>,
-    loans: Vec<usize>,
+    loans: Loans,
     history: Queue<usize>,
     first: usize,
     most_loans: usize,
 }
 
 impl Model for Slots {
-    ghost use Rattle.std.specs.Prelude.{◌≡◌, ◌+◌, ◌<◌, ◌≤◌, ◌||◌, ℕ, length, false, nat_lt, get_or, vec_capacity};
-    ghost use Rattle.iox_index_base.specs.Unique.{is_held};
+    ghost use Rattle.std.specs.Prelude.{◌≡◌, ◌+◌, ◌<◌, ◌≤◌, ◌||◌, ◌^◌, ℕ, length, false, nat_lt, get_or};
+    ghost use Rattle.iox_container.specs.Unique.{is_held};
     ghost use Rattle.iox_domain_slots.specs.Counting.{SlotsState, times};
 
     ghost Value = { SlotsState };
@@ -47,8 +49,8 @@ impl Model for Slots {
         × (s.places.locked ≡ false)
         × ((index : ℕ) → index < s.places.capacity → is_held index s.places ≡ (s.all_held || nat_lt 0 (get_or s.references.items (s.first + index) 0)))
         × ((slot : ℕ) → times slot s.loans.items + times slot s.history.items ≤ get_or s.references.items slot 0)
-        × (length s.loans.items ≤ s.most_loans) × (s.most_loans ≤ vec_capacity s.loans)
-        × (length s.history.items ≤ s.history.capacity) };
+        × (length s.loans.items ≤ s.most_loans) × (s.most_loans + 2 < 2 ^ 64)
+        × (length s.history.items ≤ s.history.capacity) × (length s.references.items ≤ s.loans.made) };
 }
 
 impl Slots {
@@ -107,26 +109,29 @@ impl Slots {
         };
         let slot = self.first + index;
         self.references[slot] = 1;
-        self.loans.push_reserved(slot);
+        self.loans.push(slot);
         Some(slot)
     }
 
-    /// Gives up the loan at this place of the list of loans.
-    pub fn drop_loan(&mut self, at: usize)
-        requires { at < length self.old.loans }
-        ensures { self.new ≡ record (let_go (get_or self.old.loans at 0) self.old) { loans = remove self.old.loans at } }
+    /// Gives up the loan in this slot.
+    pub fn drop_loan(&mut self, slot: usize)
+        requires { is_among slot self.old.loans ≡ true }
+        ensures after { self.new ≡ record (let_go slot self.old) { loans = remove self.old.loans (place_in slot self.old.loans) } }
+        ensures there { get_or self.old.loans (place_in slot self.old.loans) 0 ≡ slot }
+        ensures within { place_in slot self.old.loans < length self.old.loans }
     {
-        let slot = take_out(&mut self.loans, at);
+        self.loans.remove(slot);
         self.let_go(slot);
     }
 
-    /// Ends the loan at this place of the list of loans, and answers its slot. The use stays: it is now the send's.
-    pub fn begin(&mut self, at: usize) -> usize
-        requires { at < length self.old.loans }
-        ensures slot { result ≡ get_or self.old.loans at 0 }
-        ensures new { self.new ≡ record self.old { loans = remove self.old.loans at } }
+    /// Ends the loan in this slot. The use stays: it is now the send's.
+    pub fn begin(&mut self, slot: usize)
+        requires { is_among slot self.old.loans ≡ true }
+        ensures after { self.new ≡ record self.old { loans = remove self.old.loans (place_in slot self.old.loans) } }
+        ensures there { get_or self.old.loans (place_in slot self.old.loans) 0 ≡ slot }
+        ensures within { place_in slot self.old.loans < length self.old.loans }
     {
-        take_out(&mut self.loans, at)
+        self.loans.remove(slot);
     }
 
     /// Makes a slot that has a further use the newest of the history; of more than `kept` the oldest leaves.
@@ -182,14 +187,15 @@ impl Slots {
         most_loans: usize,
         kept: usize,
     ) -> Result<Slots, AllocError>
-        requires { kept + 1 < 2 ^ 64 }
+        requires loans { most_loans + 2 < 2 ^ 64 }
+        requires history { kept + 1 < 2 ^ 64 }
         ensures { IfOk result (λ slots. slots ≡ record { first = 0; size = size; most_loans = most_loans; kept = kept; references = replicate size 0; loans = []; history = [] }) }
     {
         Ok(Slots {
             places: UniqueIndexSet::new(alloc, size)?,
             all_held: false,
             references: vec![in alloc; 0; size]?,
-            loans: Vec::with_capacity(alloc, most_loans)?,
+            loans: Loans::new(alloc, size)?,
             history: Queue::new(alloc, kept)?,
             first: 0,
             most_loans,
@@ -207,6 +213,7 @@ impl Slots {
     {
         let size = self.places.capacity();
         let places = UniqueIndexSet::new(alloc, size)?;
+        self.loans.grow(size)?;
         let before = self.references.len();
         self.references.reserve(size)?;
         self.references.resize(before + size, 0)?;
@@ -223,19 +230,11 @@ impl Slots {
         self.loans.len()
     }
 
-    /// Where in the list of loans a slot is first; None if it is no loan.
-    pub fn place_of_loan(&self, slot: usize) -> Option<usize>
-        ensures { result ≡ position (λ other. other == slot) self.now.loans }
+    /// Whether a loan is in this slot.
+    pub fn has_loan(&self, slot: usize) -> bool
+        ensures { result ≡ is_among slot self.now.loans }
     {
-        self.loans.iter().position(|other| *other == slot)
-    }
-
-    /// The slot of the loan at this place of the list.
-    pub fn lent(&self, at: usize) -> usize
-        requires { at < length self.now.loans }
-        ensures { result ≡ get_or self.now.loans at 0 }
-    {
-        self.loans[at]
+        self.loans.has(slot)
     }
 
     /// How long the history is.

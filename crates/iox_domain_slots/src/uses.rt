@@ -3,6 +3,8 @@ ghost use Rattle.std.specs.Prelude.{◌≡◌, ℕ, ◌+◌, ◌^◌, ◌<◌, �
 ghost use Rattle.iox_domain_slots.specs.declared.stage.Stage.TheVariants as stage;
 ghost use Rattle.iox_domain_slots.specs.Uses.{Uses, nobody, placed, accepts, offered, taken, given_back, settled, ended, emptied, held, in_use, newest, loaned, dropped, begun, finished, connection_at, with_connection, connected, worst_case, welcomed, is_there, segment_opened};
 ghost use Rattle.iox_domain_slots.specs.Counting.{times, LoanUse};
+ghost use Rattle.iox_domain_slots.specs.Loans.{place_in};
+ghost use Rattle.iox_container.specs.Unique.{is_among};
 
 use crate::links::Links;
 use crate::slots::Slots;
@@ -54,28 +56,26 @@ impl SlotUses {
         self.links.take_back(slots);
     }
 
-    /// Gives up the loan at this place of the list of loans.
-    pub fn drop_loan(&mut self, at: usize)
-        requires { at < length self.old.loans }
-        ensures { self.new ≡ dropped at self.old }
+    /// Gives up the loan in this slot.
+    pub fn drop_loan(&mut self, slot: usize)
+        requires { is_among slot self.old.loans ≡ true }
+        ensures { self.new ≡ dropped (place_in slot self.old.loans) self.old }
     {
-        self.slots.drop_loan(at);
+        self.slots.drop_loan(slot);
     }
 
-    /// Begins the send of the loan at this place of the list, and answers its slot: it is no loan any longer, but in use until
-    /// the send is finished, and the newest of the history.
-    pub fn begin_send(&mut self, at: usize) -> usize
-        requires loan { at < length self.old.loans }
+    /// Begins the send of the loan in this slot: it is no loan any longer, but in use until the send is finished, and the newest of
+    /// the history.
+    pub fn begin_send(&mut self, slot: usize)
+        requires loan { is_among slot self.old.loans ≡ true }
         requires alone { self.old.sending ≡ None }
-        ensures slot { result ≡ get_or self.old.loans at 0 }
-        ensures new { self.new ≡ begun at (get_or self.old.loans at 0) self.old }
+        ensures { self.new ≡ begun (place_in slot self.old.loans) slot self.old }
     {
-        let slot = self.slots.begin(at);
+        self.slots.begin(slot);
         self.sending = Some(slot);
         // So few that all uses can be counted.
         let _indices = self.links.len();
         self.slots.remember(slot);
-        slot
     }
 
     /// Finishes the send: its message is in use only where the history or a connection has it.
@@ -334,19 +334,11 @@ impl SlotUses {
         self.slots.loans()
     }
 
-    /// Where in the list of loans a slot is first; None if it is no loan.
-    pub fn place_of_loan(&self, slot: usize) -> Option<usize>
-        ensures { result ≡ position (λ other. other == slot) self.now.loans }
+    /// Whether a loan is in this slot.
+    pub fn has_loan(&self, slot: usize) -> bool
+        ensures { result ≡ is_among slot self.now.loans }
     {
-        self.slots.place_of_loan(slot)
-    }
-
-    /// The slot of the loan at this place of the list.
-    pub fn lent(&self, at: usize) -> usize
-        requires { at < length self.now.loans }
-        ensures { result ≡ get_or self.now.loans at 0 }
-    {
-        self.slots.lent(at)
+        self.slots.has_loan(slot)
     }
 
     /// The slot that is being sent, if one is.

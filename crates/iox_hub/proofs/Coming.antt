@@ -2,18 +2,18 @@
 use Rattle.std.proofs.Common.{◌≡◌, ◌⊎◌, ℕ, true, false, List, Option, None, Some, refl, sym, subst, inl, inr}
 use Rattle.std.specs.Option.{option_map}
 use Rattle.std.specs.Prelude.{is_some}
-use Rattle.iox_hub_run.specs.Command.declared.port.PublisherOptions.{PublisherOptions}
-use Rattle.iox_hub_run.specs.Command.declared.port.SubscriberOptions.{SubscriberOptions}
-use Rattle.iox_hub_run.specs.Command.declared.reply.Reply.{Reply}
-use Rattle.iox_hub_run.specs.Command.declared.reply.Reply.TheVariants as reply
-use Rattle.iox_hub_run.specs.HubCommands.Domain.declared.ports.service_ports.ServicePorts.{ServicePorts}
-use Rattle.iox_hub_run.specs.HubCommands.DomainValues.declared.backpressure.BackpressureAction.{BackpressureAction}
-use Rattle.iox_hub_run.specs.HubCommands.DomainValues.declared.backpressure_strategy.BackpressureStrategy.{BackpressureStrategy}
-use Rattle.iox_hub_run.specs.HubCommands.DomainValues.declared.degradation.DegradationAction.{DegradationAction}
-use Rattle.iox_hub_run.specs.HubCommands.DomainValues.declared.degradation.DegradationCause.{DegradationCause}
-use Rattle.iox_hub_run.specs.HubCommands.DomainValues.declared.degradation.DegradationInfo.{DegradationInfo}
-use Rattle.iox_hub_run.specs.Services.{MakesPublisher, MakesSubscriber}
-use Rattle.iox_hub_run.specs.declared.numbered_hub.NumberedHub.{NumberedHub}
+use Rattle.iox_hub_commands.specs.Command.declared.port.PublisherOptions.{PublisherOptions}
+use Rattle.iox_hub_commands.specs.Command.declared.port.SubscriberOptions.{SubscriberOptions}
+use Rattle.iox_hub_commands.specs.Command.declared.reply.Reply.{Reply}
+use Rattle.iox_hub_commands.specs.Command.declared.reply.Reply.TheVariants as reply
+use Rattle.iox_hub_commands.specs.Domain.declared.ports.service_ports.ServicePorts.{ServicePorts}
+use Rattle.iox_hub_commands.specs.DomainValues.declared.backpressure.BackpressureAction.{BackpressureAction}
+use Rattle.iox_hub_commands.specs.DomainValues.declared.backpressure_strategy.BackpressureStrategy.{BackpressureStrategy}
+use Rattle.iox_hub_commands.specs.DomainValues.declared.degradation.DegradationAction.{DegradationAction}
+use Rattle.iox_hub_commands.specs.DomainValues.declared.degradation.DegradationCause.{DegradationCause}
+use Rattle.iox_hub_commands.specs.DomainValues.declared.degradation.DegradationInfo.{DegradationInfo}
+use Rattle.iox_hub_commands.specs.Services.{MakesPublisher, MakesSubscriber}
+use Rattle.iox_hub_commands.specs.declared.numbered_hub.NumberedHub.{NumberedHub}
 use Rattle.iox_hub.specs.Steps.{PublisherTakes, SubscriberTakes}
 use Rattle.iox_hub.specs.declared.given.GivenHandler.{GivenHandler}
 

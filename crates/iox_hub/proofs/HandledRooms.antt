@@ -4,25 +4,25 @@ use Rattle.std.proofs.lemmas.List.Sums.{sum_by-cons, sum_by_more}
 use Rattle.std.specs.List.{sum_by}
 use Rattle.std.specs.Prelude.{get_or, take}
 use Rattle.std.specs.declared.alloc.AllocError.{AllocError}
-use Rattle.iox_hub_run.proofs.Rooms.{step_leaves_room, lacks_values, roomier_and_roomier}
-use Rattle.iox_hub_run.specs.Command.declared.command.Command.TheVariants as command
-use Rattle.iox_hub_run.specs.Command.declared.port.PublisherOptions.{PublisherOptions}
-use Rattle.iox_hub_run.specs.Command.declared.port.SubscriberOptions.{SubscriberOptions}
-use Rattle.iox_hub_run.specs.Command.declared.reply.Reply.{Reply}
-use Rattle.iox_hub_run.specs.HubCommands.DescribeBase.Detail.{Detail}
-use Rattle.iox_hub_run.specs.HubCommands.DescribeBase.declared.message_type.MessageTypeDetails.{MessageTypeDetails}
-use Rattle.iox_hub_run.specs.HubCommands.Domain.declared.ports.service_ports.ServicePorts.{ServicePorts}
-use Rattle.iox_hub_run.specs.HubCommands.DomainValues.declared.backpressure.BackpressureAction.{BackpressureAction}
-use Rattle.iox_hub_run.specs.HubCommands.DomainValues.declared.backpressure.BackpressureDecision.{BackpressureDecision}
-use Rattle.iox_hub_run.specs.HubCommands.DomainValues.declared.backpressure.BackpressureInfo.{BackpressureInfo}
-use Rattle.iox_hub_run.specs.HubCommands.DomainValues.declared.backpressure_strategy.BackpressureStrategy.{BackpressureStrategy}
-use Rattle.iox_hub_run.specs.HubCommands.DomainValues.declared.degradation.DegradationAction.{DegradationAction}
-use Rattle.iox_hub_run.specs.HubCommands.DomainValues.declared.degradation.DegradationCause.{DegradationCause}
-use Rattle.iox_hub_run.specs.HubCommands.DomainValues.declared.degradation.DegradationInfo.{DegradationInfo}
-use Rattle.iox_hub_run.specs.HubCommands.declared.ports.made.Made.{Made}
-use Rattle.iox_hub_run.specs.Room.{FitsAll}
-use Rattle.iox_hub_run.specs.Steps.{IsReplied}
-use Rattle.iox_hub_run.specs.declared.numbered_hub.NumberedHub.{NumberedHub}
+use Rattle.iox_hub_commands.proofs.Rooms.{step_leaves_room, lacks_values, roomier_and_roomier}
+use Rattle.iox_hub_commands.specs.Command.declared.command.Command.TheVariants as command
+use Rattle.iox_hub_commands.specs.Command.declared.port.PublisherOptions.{PublisherOptions}
+use Rattle.iox_hub_commands.specs.Command.declared.port.SubscriberOptions.{SubscriberOptions}
+use Rattle.iox_hub_commands.specs.Command.declared.reply.Reply.{Reply}
+use Rattle.iox_hub_commands.specs.DescribeBase.Detail.{Detail}
+use Rattle.iox_hub_commands.specs.DescribeBase.declared.message_type.MessageTypeDetails.{MessageTypeDetails}
+use Rattle.iox_hub_commands.specs.Domain.declared.ports.service_ports.ServicePorts.{ServicePorts}
+use Rattle.iox_hub_commands.specs.DomainValues.declared.backpressure.BackpressureAction.{BackpressureAction}
+use Rattle.iox_hub_commands.specs.DomainValues.declared.backpressure.BackpressureDecision.{BackpressureDecision}
+use Rattle.iox_hub_commands.specs.DomainValues.declared.backpressure.BackpressureInfo.{BackpressureInfo}
+use Rattle.iox_hub_commands.specs.DomainValues.declared.backpressure_strategy.BackpressureStrategy.{BackpressureStrategy}
+use Rattle.iox_hub_commands.specs.DomainValues.declared.degradation.DegradationAction.{DegradationAction}
+use Rattle.iox_hub_commands.specs.DomainValues.declared.degradation.DegradationCause.{DegradationCause}
+use Rattle.iox_hub_commands.specs.DomainValues.declared.degradation.DegradationInfo.{DegradationInfo}
+use Rattle.iox_hub_commands.specs.declared.ports.made.Made.{Made}
+use Rattle.iox_hub_commands.specs.Room.{FitsAll}
+use Rattle.iox_hub_commands.specs.CommandSteps.{IsReplied}
+use Rattle.iox_hub_commands.specs.declared.numbered_hub.NumberedHub.{NumberedHub}
 use Rattle.iox_hub.specs.Room.{loans_of, samples_of, loans_in, samples_in, RepliesValues, OnlyRoomierHub, StopsInTime}
 use Rattle.iox_hub.specs.Steps.{HandledStep, PublisherTakes, SubscriberTakes}
 use Rattle.iox_hub.specs.declared.given.GivenHandler.{GivenHandler}

@@ -1,25 +1,25 @@
 -- What holds of a hub over each command with handlers, and over a run of them.
 use Rattle.std.proofs.Common.{List, Option, Result, Bool, refl, inl}
 use Rattle.std.specs.declared.alloc.AllocError.{AllocError}
-use Rattle.iox_hub_run.specs.Agreements.{AreOfOneAgreement}
-use Rattle.iox_hub_run.specs.Command.declared.reply.Reply.{Reply}
-use Rattle.iox_hub_run.specs.Grown.{GrowsOn, OneDomainMoves}
-use Rattle.iox_hub_run.specs.HubCommands.DescribeBase.Detail.{Detail}
-use Rattle.iox_hub_run.specs.HubCommands.DescribeBase.declared.message_type.MessageTypeDetails.{MessageTypeDetails}
-use Rattle.iox_hub_run.specs.HubCommands.DomainValues.declared.backpressure.BackpressureAction.{BackpressureAction}
-use Rattle.iox_hub_run.specs.HubCommands.DomainValues.declared.backpressure.BackpressureDecision.{BackpressureDecision}
-use Rattle.iox_hub_run.specs.HubCommands.DomainValues.declared.backpressure.BackpressureInfo.{BackpressureInfo}
-use Rattle.iox_hub_run.specs.HubCommands.DomainValues.declared.backpressure_strategy.BackpressureStrategy.{BackpressureStrategy}
-use Rattle.iox_hub_run.specs.HubCommands.DomainValues.declared.degradation.DegradationAction.{DegradationAction}
-use Rattle.iox_hub_run.specs.HubCommands.DomainValues.declared.degradation.DegradationCause.{DegradationCause}
-use Rattle.iox_hub_run.specs.HubCommands.DomainValues.declared.degradation.DegradationInfo.{DegradationInfo}
-use Rattle.iox_hub_run.specs.Lives.{ChangesOneThing, NumbersGoOn}
-use Rattle.iox_hub_run.specs.Runs.{IsRun}
-use Rattle.iox_hub_run.specs.declared.numbered_hub.NumberedHub.{NumberedHub}
-use Rattle.iox_hub_run.proofs.Grown.{none_serves}
-use Rattle.iox_hub_run.proofs.RunLemmas.{run_goes}
-use Rattle.iox_hub_run.proofs.StepChanges.{step_changes, numbers_still, numbers_go_on, numbers_on_and_on}
-use Rattle.iox_hub_run.proofs.StepMoves.{step_goes}
+use Rattle.iox_hub_commands.specs.Agreements.{AreOfOneAgreement}
+use Rattle.iox_hub_commands.specs.Command.declared.reply.Reply.{Reply}
+use Rattle.iox_hub_commands.specs.Grown.{GrowsOn, OneDomainMoves}
+use Rattle.iox_hub_commands.specs.DescribeBase.Detail.{Detail}
+use Rattle.iox_hub_commands.specs.DescribeBase.declared.message_type.MessageTypeDetails.{MessageTypeDetails}
+use Rattle.iox_hub_commands.specs.DomainValues.declared.backpressure.BackpressureAction.{BackpressureAction}
+use Rattle.iox_hub_commands.specs.DomainValues.declared.backpressure.BackpressureDecision.{BackpressureDecision}
+use Rattle.iox_hub_commands.specs.DomainValues.declared.backpressure.BackpressureInfo.{BackpressureInfo}
+use Rattle.iox_hub_commands.specs.DomainValues.declared.backpressure_strategy.BackpressureStrategy.{BackpressureStrategy}
+use Rattle.iox_hub_commands.specs.DomainValues.declared.degradation.DegradationAction.{DegradationAction}
+use Rattle.iox_hub_commands.specs.DomainValues.declared.degradation.DegradationCause.{DegradationCause}
+use Rattle.iox_hub_commands.specs.DomainValues.declared.degradation.DegradationInfo.{DegradationInfo}
+use Rattle.iox_hub_commands.specs.Lives.{ChangesOneThing, NumbersGoOn}
+use Rattle.iox_hub_commands.specs.Runs.{IsRun}
+use Rattle.iox_hub_commands.specs.declared.numbered_hub.NumberedHub.{NumberedHub}
+use Rattle.iox_hub_commands.proofs.Grown.{none_serves}
+use Rattle.iox_hub_commands.proofs.RunLemmas.{run_goes}
+use Rattle.iox_hub_commands.proofs.StepChanges.{step_changes, numbers_still, numbers_go_on, numbers_on_and_on}
+use Rattle.iox_hub_commands.proofs.StepMoves.{step_goes}
 use Rattle.iox_hub.specs.Steps.{HandledStep}
 use Rattle.iox_hub.specs.declared.given.GivenHandler.{GivenHandler}
 use Rattle.iox_hub.specs.declared.handled_command.HandledCommand.{HandledCommand}

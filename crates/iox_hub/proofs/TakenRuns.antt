@@ -3,34 +3,34 @@ use Rattle.std.proofs.Common.{◌≡◌, ◌∙◌, ◌++◌, ℕ, Bool, true, f
 use Rattle.std.proofs.lemmas.List.{append-nil}
 use Rattle.std.specs.declared.alloc.AllocError.{AllocError}
 use Rattle.std.specs.Prelude.{is_some, if◌then◌else◌}
-use Rattle.iox_hub_run.specs.Command.declared.port.PublisherOptions.{PublisherOptions}
-use Rattle.iox_hub_run.specs.Command.declared.port.SubscriberOptions.{SubscriberOptions}
-use Rattle.iox_hub_run.specs.Command.declared.reply.Reply.{Reply}
-use Rattle.iox_hub_run.specs.HubBase.AsHome.{with_hub_ports, with_hub_publisher, with_hub_subscriber}
-use Rattle.iox_hub_run.specs.HubBase.Opening.{Made as Opened}
-use Rattle.iox_hub_run.specs.HubCommands.DescribeBase.Detail.{Detail}
-use Rattle.iox_hub_run.specs.HubCommands.DescribeBase.declared.message_type.MessageTypeDetails.{MessageTypeDetails}
-use Rattle.iox_hub_run.specs.HubCommands.Domain.AtHomes.{MakesAt}
-use Rattle.iox_hub_run.specs.HubCommands.Domain.Steps.{why_no_publisher, why_no_subscriber}
-use Rattle.iox_hub_run.specs.HubCommands.Domain.declared.ports.service_ports.ServicePorts.{ServicePorts}
-use Rattle.iox_hub_run.specs.HubCommands.DomainValues.declared.backpressure.BackpressureAction.{BackpressureAction}
-use Rattle.iox_hub_run.specs.HubCommands.DomainValues.declared.backpressure.BackpressureDecision.{BackpressureDecision}
-use Rattle.iox_hub_run.specs.HubCommands.DomainValues.declared.backpressure.BackpressureInfo.{BackpressureInfo}
-use Rattle.iox_hub_run.specs.HubCommands.DomainValues.declared.backpressure_strategy.BackpressureStrategy.{BackpressureStrategy}
-use Rattle.iox_hub_run.specs.HubCommands.DomainValues.declared.create_error.PublisherCreateError.{PublisherCreateError}
-use Rattle.iox_hub_run.specs.HubCommands.DomainValues.declared.create_error.SubscriberCreateError.{SubscriberCreateError}
-use Rattle.iox_hub_run.specs.HubCommands.DomainValues.declared.degradation.DegradationAction.{DegradationAction}
-use Rattle.iox_hub_run.specs.HubCommands.DomainValues.declared.degradation.DegradationCause.{DegradationCause}
-use Rattle.iox_hub_run.specs.HubCommands.DomainValues.declared.degradation.DegradationInfo.{DegradationInfo}
-use Rattle.iox_hub_run.specs.HubCommands.Making.{NumbersPort}
-use Rattle.iox_hub_run.specs.HubCommands.declared.ports.made.Made.{Made}
-use Rattle.iox_hub_run.specs.HubCommands.Naming.{publisher_config, publisher_handlers, subscriber_config, subscriber_handler}
-use Rattle.iox_hub_run.specs.HubCommands.Replies.{publisher_reply, subscriber_reply}
-use Rattle.iox_hub_commands.specs.Maps.NumberTable.{value_at}
+use Rattle.iox_hub_commands.specs.Command.declared.port.PublisherOptions.{PublisherOptions}
+use Rattle.iox_hub_commands.specs.Command.declared.port.SubscriberOptions.{SubscriberOptions}
+use Rattle.iox_hub_commands.specs.Command.declared.reply.Reply.{Reply}
+use Rattle.iox_hub_commands.specs.HubBase.AsHome.{with_hub_ports, with_hub_publisher, with_hub_subscriber}
+use Rattle.iox_hub_commands.specs.HubBase.Opening.{Made as Opened}
+use Rattle.iox_hub_commands.specs.DescribeBase.Detail.{Detail}
+use Rattle.iox_hub_commands.specs.DescribeBase.declared.message_type.MessageTypeDetails.{MessageTypeDetails}
+use Rattle.iox_hub_commands.specs.Domain.AtHomes.{MakesAt}
+use Rattle.iox_hub_commands.specs.Domain.Steps.{why_no_publisher, why_no_subscriber}
+use Rattle.iox_hub_commands.specs.Domain.declared.ports.service_ports.ServicePorts.{ServicePorts}
+use Rattle.iox_hub_commands.specs.DomainValues.declared.backpressure.BackpressureAction.{BackpressureAction}
+use Rattle.iox_hub_commands.specs.DomainValues.declared.backpressure.BackpressureDecision.{BackpressureDecision}
+use Rattle.iox_hub_commands.specs.DomainValues.declared.backpressure.BackpressureInfo.{BackpressureInfo}
+use Rattle.iox_hub_commands.specs.DomainValues.declared.backpressure_strategy.BackpressureStrategy.{BackpressureStrategy}
+use Rattle.iox_hub_commands.specs.DomainValues.declared.create_error.PublisherCreateError.{PublisherCreateError}
+use Rattle.iox_hub_commands.specs.DomainValues.declared.create_error.SubscriberCreateError.{SubscriberCreateError}
+use Rattle.iox_hub_commands.specs.DomainValues.declared.degradation.DegradationAction.{DegradationAction}
+use Rattle.iox_hub_commands.specs.DomainValues.declared.degradation.DegradationCause.{DegradationCause}
+use Rattle.iox_hub_commands.specs.DomainValues.declared.degradation.DegradationInfo.{DegradationInfo}
+use Rattle.iox_hub_commands.specs.Making.{NumbersPort}
+use Rattle.iox_hub_commands.specs.declared.ports.made.Made.{Made}
+use Rattle.iox_hub_commands.specs.Naming.{publisher_config, publisher_handlers, subscriber_config, subscriber_handler}
+use Rattle.iox_hub_commands.specs.Replies.{publisher_reply, subscriber_reply}
+use Rattle.iox_hub_commands.specs.Container.NumberTable.{value_at}
 use Rattle.iox_hub_commands.specs.ServicesTables.{publish_subscribe_in}
-use Rattle.iox_hub_run.specs.Runs.{Runs, IsRun}
-use Rattle.iox_hub_run.specs.Services.{PublisherComes, SubscriberComes, domain_of_factory, owner_of_factory}
-use Rattle.iox_hub_run.specs.declared.numbered_hub.NumberedHub.{NumberedHub}
+use Rattle.iox_hub_commands.specs.Runs.{Runs, IsRun}
+use Rattle.iox_hub_commands.specs.Services.{PublisherComes, SubscriberComes, domain_of_factory, owner_of_factory}
+use Rattle.iox_hub_commands.specs.declared.numbered_hub.NumberedHub.{NumberedHub}
 use Rattle.iox_hub.specs.Places.{named, lies_at, backpressure_of, degradation_of, emptied, emptied_if}
 use Rattle.iox_hub.specs.Steps.{HandledStep, PublisherTakes, SubscriberTakes, ports_of_factory}
 use Rattle.iox_hub.specs.Taking.{is_skipped, listed, places_of, taken, TakesOnce}

@@ -5,14 +5,14 @@ pub mod Taking
 pub mod Room
 pub mod RunLaws
 -- The definitions that contracts of the names here cite, by the crates that have them.
-pub use Rattle.iox_hub_run.specs.HubCommands.Delivery as Delivery
+pub use Rattle.iox_hub_commands.specs.Delivery as Delivery
 pub use Rattle.iox_delivery_factories.specs as DeliveryFactories
-pub use Rattle.iox_hub_run.specs.HubCommands.DescribeBase as DescribeBase
-pub use Rattle.iox_hub_run.specs.HubCommands.DescribeSettings as DescribeSettings
-pub use Rattle.iox_hub_run.specs.HubCommands.Domain as Domain
-pub use Rattle.iox_hub_run.specs.HubCommands.DomainPublisher as DomainPublisher
-pub use Rattle.iox_hub_run.specs.HubCommands.DomainValues as DomainValues
-pub use Rattle.iox_hub_run.specs.HubBase as HubBase
+pub use Rattle.iox_hub_commands.specs.DescribeBase as DescribeBase
+pub use Rattle.iox_hub_commands.specs.DescribeSettings as DescribeSettings
+pub use Rattle.iox_hub_commands.specs.Domain as Domain
+pub use Rattle.iox_hub_commands.specs.DomainPorts as DomainPorts
+pub use Rattle.iox_hub_commands.specs.DomainValues as DomainValues
+pub use Rattle.iox_hub_commands.specs.HubBase as HubBase
 pub use Rattle.iox_negotiate.specs as Negotiate
-pub use Rattle.iox_hub_run.specs.HubCommands.NegotiateBase as NegotiateBase
+pub use Rattle.iox_hub_commands.specs.NegotiateBase as NegotiateBase
 pub use Rattle.iox_queues_base.specs as QueuesBase

@@ -2,12 +2,12 @@
 use Rattle.std.specs.Prelude.{ℕ, ◌≡◌, ◌⊎◌, Bool, List, slice_get, Some, Result}
 use Rattle.std.specs.List.{sum_by}
 use Rattle.std.specs.declared.alloc.AllocError.{AllocError}
-use Rattle.iox_hub_run.specs.Command.declared.reply.Reply.{Reply}
-use Rattle.iox_hub_run.specs.PortRoom.{LacksInRoom}
-use Rattle.iox_hub_run.specs.Room as plain
-use Rattle.iox_hub_run.specs.Room.{FitsAll, OnlyRoomier}
-use Rattle.iox_hub_run.specs.Runs.{IsRun, NeverBegins}
-use Rattle.iox_hub_run.specs.declared.numbered_hub.NumberedHub.{NumberedHub}
+use Rattle.iox_hub_commands.specs.Command.declared.reply.Reply.{Reply}
+use Rattle.iox_hub_commands.specs.PortRoom.{LacksInRoom}
+use Rattle.iox_hub_commands.specs.Room as plain
+use Rattle.iox_hub_commands.specs.Room.{FitsAll, OnlyRoomier}
+use Rattle.iox_hub_commands.specs.Runs.{IsRun, NeverBegins}
+use Rattle.iox_hub_commands.specs.declared.numbered_hub.NumberedHub.{NumberedHub}
 use Rattle.iox_hub.specs.declared.handled_command.HandledCommand.{HandledCommand}
 use Rattle.iox_hub.specs.declared.handled_command.HandledCommand.TheVariants as asked
 

@@ -1,11 +1,11 @@
 //! Who decides for a publisher, made of handlers that are handed in.
 ghost use Rattle.std.specs.Prelude.{◌≡◌, Option, None, Some, refl};
 ghost use Rattle.std.specs.Option.{option_map, option_or, unwrap_or};
-ghost use Rattle.iox_hub_run.specs.HubCommands.DomainValues.declared.backpressure.BackpressureAction.{BackpressureAction};
-ghost use Rattle.iox_hub_run.specs.HubCommands.DomainValues.declared.backpressure_handler.BackpressureHandler.TheVariants as full;
-ghost use Rattle.iox_hub_run.specs.HubCommands.DomainValues.declared.backpressure_strategy.BackpressureStrategy.{BackpressureStrategy};
-ghost use Rattle.iox_hub_run.specs.HubCommands.DomainValues.declared.degradation.DegradationAction.{DegradationAction};
-ghost use Rattle.iox_hub_run.specs.HubCommands.DomainValues.declared.degradation_handler.DegradationHandler.TheVariants as failed;
+ghost use Rattle.iox_hub_commands.specs.DomainValues.declared.backpressure.BackpressureAction.{BackpressureAction};
+ghost use Rattle.iox_hub_commands.specs.DomainValues.declared.backpressure_handler.BackpressureHandler.TheVariants as full;
+ghost use Rattle.iox_hub_commands.specs.DomainValues.declared.backpressure_strategy.BackpressureStrategy.{BackpressureStrategy};
+ghost use Rattle.iox_hub_commands.specs.DomainValues.declared.degradation.DegradationAction.{DegradationAction};
+ghost use Rattle.iox_hub_commands.specs.DomainValues.declared.degradation_handler.DegradationHandler.TheVariants as failed;
 
 use iox_domain_values::{
     BackpressureAction, BackpressureHandler, BackpressureStrategy, DegradationAction,

@@ -1,8 +1,8 @@
 //! What runs come to, in other words than theirs. Each law is the contract of a function that does nothing.
-ghost use Rattle.iox_hub_run.specs.HubCommands.DescribeBase.Detail.{detail};
-ghost use Rattle.iox_hub_run.specs.HubCommands.DescribeBase.declared.type_detail.TypeVariant.TheVariants.{FixedSize};
-ghost use Rattle.iox_hub_run.specs.HubCommands.Asked.{types_of};
-ghost use Rattle.iox_hub_run.specs.Steps.{Step};
+ghost use Rattle.iox_hub_commands.specs.DescribeBase.Detail.{detail};
+ghost use Rattle.iox_hub_commands.specs.DescribeBase.declared.type_detail.TypeVariant.TheVariants.{FixedSize};
+ghost use Rattle.iox_hub_commands.specs.Asked.{types_of};
+ghost use Rattle.iox_hub_commands.specs.CommandSteps.{Step};
 ghost use Rattle.iox_hub.specs.RunLaws.{PlainRunsArePlain};
 ghost use Rattle.iox_hub.specs.Steps.{HandledStep};
 

@@ -38,7 +38,7 @@
 //! let publisher = builder.create(alloc, &mut hub)?;
 //! ```
 //!
-//! Of commands, on a hub of `iox_hub_run` whose ports boxed handlers may decide for:
+//! Of commands, on a hub of `iox_hub_commands` whose ports boxed handlers may decide for:
 //!
 //! ```
 //! let mut given = GivenHandlers::new(alloc);

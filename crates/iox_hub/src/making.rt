@@ -1,10 +1,10 @@
 //! Ports come, with the handlers that are named.
 ghost use Rattle.std.specs.Prelude.{◌≡◌, ◌+◌, ◌<◌, ◌^◌, Some, is_some, IfSome};
 ghost use Rattle.std.specs.Option.{option_map};
-ghost use Rattle.iox_hub_run.specs.HubCommands.Naming.{publisher_handlers};
-ghost use Rattle.iox_hub_run.specs.PortRoom.{KeepsRoom};
-ghost use Rattle.iox_hub_run.specs.Services.{domain_of_factory, owner_of_factory};
-ghost use Rattle.iox_hub_commands.specs.Maps.NumberTable.{value_at};
+ghost use Rattle.iox_hub_commands.specs.Naming.{publisher_handlers};
+ghost use Rattle.iox_hub_commands.specs.PortRoom.{KeepsRoom};
+ghost use Rattle.iox_hub_commands.specs.Services.{domain_of_factory, owner_of_factory};
+ghost use Rattle.iox_hub_commands.specs.Container.NumberTable.{value_at};
 ghost use Rattle.iox_hub_commands.specs.ServicesTables.{publish_subscribe_in};
 ghost use Rattle.iox_hub.specs.Places.{lies_at, named as handler_named, backpressure_of, degradation_of, emptied, emptied_if};
 ghost use Rattle.iox_hub.specs.Steps.{PublisherTakes, SubscriberTakes, ports_of_factory};
@@ -15,8 +15,8 @@ use iox_command::{PublisherOptions, Reply, SubscriberOptions};
 use iox_domain::settings::PublisherSettings;
 use iox_domain::{DomainId, calls};
 use iox_domain_values::{Decides, DegradationAction, Degrades, PortOwner};
+use iox_hub_commands::NumberedHub;
 use iox_hub_commands::services::Factories;
-use iox_hub_run::NumberedHub;
 use std::alloc::Global;
 
 // The domain of the factory that goes by a number, and whose its ports are; None where none of publish-subscribe does.

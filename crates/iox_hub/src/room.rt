@@ -3,7 +3,7 @@ ghost use Rattle.std.specs.Prelude.{◌≡◌, ◌≤◌, length};
 ghost use Rattle.iox_hub.specs.Room.{loans_in, samples_in};
 
 use crate::handled_command::HandledCommand;
-use iox_hub_run::room::{loans_of, samples_of};
+use iox_hub_commands::room::{loans_of, samples_of};
 
 // How many loans, and how many samples, get a number by some commands, at most.
 pub(crate) fn numbers_in<T>(commands: &[HandledCommand<T>]) -> (usize, usize)

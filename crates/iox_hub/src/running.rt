@@ -1,15 +1,15 @@
 //! A list of commands.
 ghost use Rattle.std.specs.Prelude.{◌≡◌, ◌+◌, ◌<◌, ◌≤◌, ◌^◌, true, length};
-ghost use Rattle.iox_hub_run.specs.Agreements.{AreOfOneAgreement};
-ghost use Rattle.iox_hub_run.specs.Grown.{GrowsOn, HaveGrown, AreAsAgreed};
-ghost use Rattle.iox_hub_run.specs.HubCommands.DescribeBase.Detail.{detail};
-ghost use Rattle.iox_hub_run.specs.HubCommands.DescribeBase.declared.type_detail.TypeVariant.TheVariants.{FixedSize};
-ghost use Rattle.iox_hub_run.specs.HubCommands.Asked.{types_of};
-ghost use Rattle.iox_hub_run.specs.Lives.{NumbersGoOn};
-ghost use Rattle.iox_hub_run.specs.Numbers.{numbers_used};
-ghost use Rattle.iox_hub_run.specs.PortRoom.{KeepsRoom};
-ghost use Rattle.iox_hub_run.specs.Room.{FitsAll};
-ghost use Rattle.iox_hub_run.specs.Runs.{IsRun};
+ghost use Rattle.iox_hub_commands.specs.Agreements.{AreOfOneAgreement};
+ghost use Rattle.iox_hub_commands.specs.Grown.{GrowsOn, HaveGrown, AreAsAgreed};
+ghost use Rattle.iox_hub_commands.specs.DescribeBase.Detail.{detail};
+ghost use Rattle.iox_hub_commands.specs.DescribeBase.declared.type_detail.TypeVariant.TheVariants.{FixedSize};
+ghost use Rattle.iox_hub_commands.specs.Asked.{types_of};
+ghost use Rattle.iox_hub_commands.specs.Lives.{NumbersGoOn};
+ghost use Rattle.iox_hub_commands.specs.Numbers.{numbers_used};
+ghost use Rattle.iox_hub_commands.specs.PortRoom.{KeepsRoom};
+ghost use Rattle.iox_hub_commands.specs.Room.{FitsAll};
+ghost use Rattle.iox_hub_commands.specs.Runs.{IsRun};
 ghost use Rattle.iox_hub.specs.Room.{loans_in, samples_in, RunsInRoom, StopsInTime};
 ghost use Rattle.iox_hub.specs.Steps.{HandledStep};
 ghost use Rattle.iox_hub.specs.Taking.{TakesOnce, taken};
@@ -20,8 +20,7 @@ use crate::handlers::TakesHandlers;
 use crate::room::numbers_in;
 use crate::stepping::step;
 use iox_describe_base::ZeroCopySend;
-use iox_hub_commands::SubscriberHandler;
-use iox_hub_run::{NumberedHub, RunReport};
+use iox_hub_commands::{NumberedHub, RunReport, SubscriberHandler};
 use iox_queues_base::Words;
 use std::alloc::Global;
 

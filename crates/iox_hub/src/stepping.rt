@@ -1,13 +1,13 @@
 //! One command, and its reply.
 ghost use Rattle.std.specs.Prelude.{◌+◌, ◌<◌, ◌≤◌, ◌^◌, OnErr};
-ghost use Rattle.iox_hub_run.specs.Agreements.{AreOfOneAgreement};
-ghost use Rattle.iox_hub_run.specs.Grown.{GrowsOn, HaveGrown, AreAsAgreed, OneDomainMoves};
-ghost use Rattle.iox_hub_run.specs.HubCommands.DescribeBase.Detail.{detail};
-ghost use Rattle.iox_hub_run.specs.HubCommands.DescribeBase.declared.type_detail.TypeVariant.TheVariants.{FixedSize};
-ghost use Rattle.iox_hub_run.specs.HubCommands.Asked.{types_of};
-ghost use Rattle.iox_hub_run.specs.Lives.{ChangesOneThing};
-ghost use Rattle.iox_hub_run.specs.Numbers.{numbers_used};
-ghost use Rattle.iox_hub_run.specs.PortRoom.{HasRoom, KeepsRoom};
+ghost use Rattle.iox_hub_commands.specs.Agreements.{AreOfOneAgreement};
+ghost use Rattle.iox_hub_commands.specs.Grown.{GrowsOn, HaveGrown, AreAsAgreed, OneDomainMoves};
+ghost use Rattle.iox_hub_commands.specs.DescribeBase.Detail.{detail};
+ghost use Rattle.iox_hub_commands.specs.DescribeBase.declared.type_detail.TypeVariant.TheVariants.{FixedSize};
+ghost use Rattle.iox_hub_commands.specs.Asked.{types_of};
+ghost use Rattle.iox_hub_commands.specs.Lives.{ChangesOneThing};
+ghost use Rattle.iox_hub_commands.specs.Numbers.{numbers_used};
+ghost use Rattle.iox_hub_commands.specs.PortRoom.{HasRoom, KeepsRoom};
 ghost use Rattle.iox_hub.specs.Room.{HandledLacks};
 ghost use Rattle.iox_hub.specs.Steps.{HandledStep};
 
@@ -17,8 +17,7 @@ use crate::handlers::TakesHandlers;
 use crate::making::{publisher, subscriber};
 use iox_command::Reply;
 use iox_describe_base::ZeroCopySend;
-use iox_hub_commands::SubscriberHandler;
-use iox_hub_run::NumberedHub;
+use iox_hub_commands::{NumberedHub, SubscriberHandler};
 use iox_queues_base::Words;
 use std::alloc::{AllocError, Global};
 

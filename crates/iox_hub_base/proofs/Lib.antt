@@ -1,3 +1,10 @@
+pub mod Own
+pub mod Takings
+pub mod Same
+pub mod Lawful
+mod Rising
+mod Placed
+mod Searched
 pub mod Negotiated
 pub mod OpenedWell
 pub mod SameTable

@@ -3,8 +3,8 @@ use Rattle.std.proofs.Common.{ℕ, ◌≡◌, false, Result, Ok, Err, is_err}
 use Rattle.iox_delivery_factories.specs.DescribeBase.Detail.{Detail}
 use Rattle.iox_delivery_factories.specs.DescribeSettings.declared.static_config.Settings.{Settings}
 use Rattle.iox_command.specs.DomainValues.declared.create_error.DomainError.{DomainError}
-use Rattle.iox_hub_services.specs.Open.{OpenServices}
-use Rattle.iox_hub_services.specs.Opening.{Opens}
+use Rattle.iox_hub_base.specs.Open.{OpenServices}
+use Rattle.iox_hub_base.specs.ServicesOpening.{Opens}
 
 -- a service that opens without an error opens well
 pub opens_well : {T U B D : Type 0} (payload user_header : Detail) (buffer number : ℕ) (settings : Settings) (old : OpenServices T U B D) (result : Result (Unit {0}) DomainError) (new : OpenServices T U B D)

@@ -4,8 +4,8 @@ use Rattle.iox_delivery_factories.specs.Domain.Homes as homes
 use Rattle.iox_delivery_factories.specs.Domain.declared.state.DomainState.{DomainState}
 use Rattle.iox_delivery_factories.specs.Domain.declared.domain_id.DomainId.{DomainId}
 use Rattle.iox_delivery_factories.specs.Domain.declared.ports.service_ports.ServicePorts.{ServicePorts}
-use Rattle.iox_hub_services.specs.AsHome.{state_at, changed_at}
-use Rattle.iox_hub_services.specs.Open.{OpenServices}
+use Rattle.iox_hub_base.specs.ServicesAsHome.{state_at, changed_at}
+use Rattle.iox_hub_base.specs.Open.{OpenServices}
 use Rattle.iox_hub_base.specs.declared.hub.Hub.{Hub}
 
 -- a hub with other services, and all else as it is

@@ -2,10 +2,10 @@
 use Rattle.std.specs.Prelude.{ℕ, ◌≡◌, ◌-◌, Bool, true, false, List, Option, None, Some, Result, Ok, Err, nat_lt, nat_le, if◌then◌else◌}
 use Rattle.iox_delivery_factories.specs.Domain.Kept.{kept, forgotten}
 use Rattle.iox_delivery_factories.specs.Domain.Living.{living}
-use Rattle.iox_hub_services.specs.Open.{presence_of}
-use Rattle.iox_hub_services.specs.Opening.{without_service}
-use Rattle.iox_hub_services.specs.declared.presence.Presence.{Presence}
-use Rattle.iox_hub_services.specs.declared.presence.Presence.TheVariants.{Here, Out}
+use Rattle.iox_hub_base.specs.Open.{presence_of}
+use Rattle.iox_hub_base.specs.ServicesOpening.{without_service}
+use Rattle.iox_hub_base.specs.declared.presence.Presence.{Presence}
+use Rattle.iox_hub_base.specs.declared.presence.Presence.TheVariants.{Here, Out}
 use Rattle.iox_negotiate.specs.Factory.{Closes as ClosesIn}
 use Rattle.iox_negotiate.specs.declared.factory.Membership.{Membership}
 use Rattle.iox_command.specs.NegotiateBase.declared.errors.close.CloseError.{CloseError}

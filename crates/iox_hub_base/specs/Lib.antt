@@ -1,4 +1,17 @@
 -- The definitions that contracts about a hub's calls cite.
+pub mod Numbered
+pub mod Unboxed
+pub mod ByNumberLends
+pub mod Texts
+pub mod Agreeing
+pub mod Open
+pub mod Lends
+pub mod ServicesOpening
+pub mod Taking
+pub mod ServicesAsHome
+pub mod HomeLaws
+pub mod Room
+pub mod Laws
 pub mod Hubs
 pub mod Opening
 pub mod Closing
@@ -9,4 +22,3 @@ pub use Rattle.iox_delivery_factories.specs.DescribeBase as DescribeBase
 pub use Rattle.iox_delivery_factories.specs.DescribeSettings as DescribeSettings
 pub use Rattle.iox_negotiate.specs as Negotiate
 pub use Rattle.iox_delivery_factories.specs.Domain as Domain
-pub use Rattle.iox_hub_services.specs as HubServices

@@ -2,7 +2,7 @@
 use Rattle.std.specs.Prelude.{ℕ, ◌≡◌, Bool, true, false, List, Result, Ok, Err}
 use Rattle.std.specs.Result.{result_map_both}
 use Rattle.iox_delivery_factories.specs.DescribeBase.Detail.{Detail}
-use Rattle.iox_hub_services.specs.Opening.{Opens}
+use Rattle.iox_hub_base.specs.ServicesOpening.{Opens}
 use Rattle.iox_negotiate.specs.Factory.{Closes}
 use Rattle.iox_negotiate.specs.declared.factory.Membership.{Membership}
 use Rattle.iox_command.specs.NegotiateBase.declared.errors.close.CloseError.{CloseError}

@@ -1,7 +1,7 @@
 //! A hub as the home of the domains of its services.
 ghost use Rattle.std.proofs.Common.{ap};
 ghost use Rattle.iox_hub_base.specs.AsHome.{with_services, hub_state, hub_changed};
-ghost use Rattle.iox_hub_services.specs.HomeLaws as homely;
+ghost use Rattle.iox_hub_base.specs.HomeLaws as homely;
 
 use crate::hub::Hub;
 use iox_domain::{DomainId, DomainState, Home};

@@ -1,15 +1,15 @@
 //! A hub.
 ghost use Rattle.std.specs.Prelude.{◌≡◌, ◌-◌, ◌^◌, Ok, min, nat_eq};
 ghost use Rattle.iox_hub_base.specs.Hubs.{IsNewHub, one_more, is_node};
-ghost use Rattle.iox_hub_services.specs.Room.{loans_left_in, samples_at_most_in};
+ghost use Rattle.iox_hub_base.specs.Room.{loans_left_in, samples_at_most_in};
 
 use crate::factory::PortFactory;
 use crate::node::NodeHandle;
+use crate::{Kept, Services};
 use iox_command::HubError;
 use iox_describe::ServiceName;
 use iox_describe::pattern::Pattern;
 use iox_domain_values::{DegradationHandler, Handlers};
-use iox_hub_services::{Kept, Services};
 use iox_negotiate::Builder;
 use iox_negotiate_base::Storage;
 use iox_negotiate_table::Table;

@@ -2,6 +2,13 @@
 //!
 //! | Module | What it has |
 //! |---|---|
+//! | `presence` | a domain that is here, or what is agreed while it is out |
+//! | `services` | the services of a hub: they open and close |
+//! | `taking` | a domain is taken out, to be driven elsewhere, and put back |
+//! | `services_home` | the services of a hub as a home of domains |
+//! | `laws` | what holds of these calls, in other words |
+//! | `presences` | what is open, by numbers |
+//! | `by_number` | values by their numbers, of which one is found at once |
 //! | `node` | a node |
 //! | `factory` | a service that is open in a hub |
 //! | `hub` | the hub: nodes, and builders of services |
@@ -20,19 +27,41 @@
 //! let builder = hub.service_builder(&node, name).publish_subscribe::<u64>();
 //! Ok((node.number(), builder.holds(&hub)))
 //! ```
+//!
+//! First calls, of a domain that is taken out and put back. `Hub` of `iox_hub_base` makes them.
+//!
+//! ```
+//! let mut services = Services::<u64, (), Nobody, Nobody>::new(alloc, 4);
+//! services.open(alloc, description, 2, 128)?;
+//! // where a service is open under the number
+//! let domain = services.take(number).ok()?;
+//! let id = domain.id;
+//! services.put(domain).ok()?;
+//! ```
 #![tactic(auto)]
 
 pub mod builder;
+mod by_number;
 pub mod closing;
 mod entering;
 pub mod factory;
 pub mod foreign;
 pub mod home;
 pub mod hub;
+pub mod laws;
 pub mod node;
 pub mod ports;
+pub mod presence;
+pub mod presences;
+pub mod services;
+pub mod services_home;
+pub mod taking;
 
 pub use builder::HubBuilder;
 pub use factory::{NotClosed, PortFactory};
 pub use hub::{Hub, HubConfig};
+pub use iox_domain::{Domain, Kept};
 pub use node::NodeHandle;
+pub use presence::Presence;
+pub use services::Services;
+pub use taking::{DomainIsForeign, TakeError};

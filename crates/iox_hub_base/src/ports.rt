@@ -2,11 +2,12 @@
 ghost use Rattle.std.specs.Prelude.{◌≡◌, option_copied};
 ghost use Rattle.iox_delivery_factories.specs.Elements.{values_each};
 ghost use Rattle.iox_hub_base.specs.Builders.{publishers_of, subscribers_of};
-ghost use Rattle.iox_hub_services.specs.Open.{domain_of};
-ghost use Rattle.iox_hub_services.specs.Taking.{Takes, Puts};
+ghost use Rattle.iox_hub_base.specs.Open.{domain_of};
+ghost use Rattle.iox_hub_base.specs.Taking.{Takes, Puts};
 
 use crate::factory::PortFactory;
 use crate::hub::Hub;
+use crate::{Domain, DomainIsForeign, TakeError};
 use iox_delivery_factories::{PortFactoryPublisher, PortFactorySubscriber};
 use iox_describe::pattern::PublishSubscribe;
 use iox_describe::{TypeVariant, ZeroCopySend};
@@ -15,7 +16,6 @@ use iox_domain_values::{
     BackpressureStrategy, DegradationAction, DegradationHandler, Handlers, PortOwner,
     PreallocatedSamplesOverride,
 };
-use iox_hub_services::{Domain, DomainIsForeign, TakeError};
 use std::marker::PhantomData;
 
 impl<T: Copy, U: Copy, B: Drop, D: Drop> Hub<T, U, B, D> {

@@ -2,9 +2,9 @@
 use Rattle.std.proofs.Common.{◌≡◌, ◌∙◌, ◌&&◌, ℕ, Bool, true, false, not, is_some, if◌then◌else◌, Option, None, Some, Result, refl, ap}
 use Rattle.iox_delivery.specs.DomainValues.declared.data_segment.AllocationStrategy.{AllocationStrategy}
 use Rattle.iox_delivery.specs.DomainValues.declared.port_error.LoanError.{LoanError}
-use Rattle.iox_delivery.specs.DomainPublisher.Loaning as loaning
-use Rattle.iox_delivery.specs.DomainPublisher.declared.publisher_port.PublisherPort.{PublisherPort}
-use Rattle.iox_delivery.specs.DomainSubscriber.Publishers.{port_of}
+use Rattle.iox_delivery.specs.DomainPorts.Loaning as loaning
+use Rattle.iox_delivery.specs.DomainPorts.declared.publisher_port.PublisherPort.{PublisherPort}
+use Rattle.iox_delivery.specs.DomainPorts.Publishers.{port_of}
 use Rattle.iox_delivery.specs.Domain.Lending.{LoansIf, LoansOne, passes_port}
 use Rattle.iox_delivery.specs.Domain.Ports.{AtPublisher}
 use Rattle.iox_delivery.specs.Domain.PortsPublishing.{is_blocked}

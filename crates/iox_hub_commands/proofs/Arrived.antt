@@ -2,16 +2,16 @@
 use Rattle.std.proofs.Common.{◌≡◌, ◌∙◌, ℕ, List, Option, None, Some, IsSome, Result, Ok, Err, option_map, refl, sym, ap}
 use Rattle.std.specs.declared.alloc.AllocError.{AllocError}
 use Rattle.iox_command.specs.declared.reply.Reply.{Reply}
-use Rattle.iox_hub_commands.specs.Delivery.Holding.{message_found}
-use Rattle.iox_hub_commands.specs.Delivery.declared.port_id.PortId.{PortId}
-use Rattle.iox_hub_commands.specs.Domain.AtHomes.{AtDomain}
-use Rattle.iox_hub_commands.specs.Domain.Steps.{ReceivesBy}
-use Rattle.iox_hub_commands.specs.Domain.declared.domain_id.DomainId.{DomainId}
-use Rattle.iox_hub_commands.proofs.Domain.TakenHeld.{received_is_held}
-use Rattle.iox_hub_commands.specs.Domain.Reading.{sample_in}
-use Rattle.iox_hub_commands.specs.Domain.declared.ports.service_ports.ServicePorts.{ServicePorts}
-use Rattle.iox_hub_commands.specs.DomainPublisher.Messages.{Message}
-use Rattle.iox_hub_commands.specs.DomainSubscriber.declared.attached.Taken.{Taken}
+use Rattle.iox_delivery.specs.Holding.{message_found}
+use Rattle.iox_delivery.specs.declared.port_id.PortId.{PortId}
+use Rattle.iox_delivery.specs.Domain.AtHomes.{AtDomain}
+use Rattle.iox_delivery.specs.Domain.Steps.{ReceivesBy}
+use Rattle.iox_delivery.specs.Domain.declared.domain_id.DomainId.{DomainId}
+use Rattle.iox_delivery.proofs.Domain.TakenHeld.{received_is_held}
+use Rattle.iox_delivery.specs.Domain.Reading.{sample_in}
+use Rattle.iox_delivery.specs.Domain.declared.ports.service_ports.ServicePorts.{ServicePorts}
+use Rattle.iox_delivery.specs.DomainPorts.Messages.{Message}
+use Rattle.iox_delivery.specs.DomainPorts.declared.attached.Taken.{Taken}
 use Rattle.iox_command.specs.DomainValues.declared.degradation.DegradationAction.{DegradationAction}
 use Rattle.iox_command.specs.DomainValues.declared.degradation.DegradationInfo.{DegradationInfo}
 use Rattle.iox_command.specs.DomainValues.declared.port_error.ReceiveError.{ReceiveError}
@@ -23,8 +23,8 @@ use Rattle.iox_hub_commands.specs.Tables.{IsFull}
 use Rattle.iox_hub_commands.specs.declared.ports.made.Made.{Made}
 use Rattle.iox_hub_commands.specs.declared.ports.made.MadeSample.{MadeSample}
 use Rattle.iox_hub_commands.specs.Receiving.{IsShown, IsTold}
-use Rattle.iox_hub_commands.proofs.Maps.Telling.{found_and_gone}
-use Rattle.iox_hub_commands.specs.Maps.NumberTable.{Rises, value_at}
+use Rattle.iox_container.proofs.Telling.{found_and_gone}
+use Rattle.iox_delivery.specs.Container.NumberTable.{Rises, value_at}
 
 some_of : {A : Type 0} (found : Option A) (x : A) → found ≡ Some x → IsSome found
 some_of found x is = rw is refl

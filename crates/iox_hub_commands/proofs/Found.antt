@@ -3,12 +3,12 @@ use Rattle.std.proofs.Common.{◌≡◌, ◌≢◌, ◌∙◌, ℕ, Bool, true, 
 use Rattle.std.specs.Prelude.{nat_eq}
 use Rattle.std.specs.Map.{lookup}
 use Rattle.std.specs.declared.alloc.AllocError.{AllocError}
-use Rattle.iox_hub_commands.specs.Command.Patterns.{pattern_of}
-use Rattle.iox_hub_commands.specs.Command.declared.refusal.Refusal.{Refusal}
-use Rattle.iox_hub_commands.specs.Command.declared.refusal.Refusal.TheVariants as refusal
-use Rattle.iox_hub_commands.specs.Command.declared.service.ServiceOptions.{ServiceOptions}
-use Rattle.iox_hub_commands.specs.Command.declared.service.ServiceOptions.TheVariants as options
-use Rattle.iox_hub_commands.specs.Command.declared.step.StepBefore.{StepBefore}
+use Rattle.iox_command.specs.Patterns.{pattern_of}
+use Rattle.iox_command.specs.declared.refusal.Refusal.{Refusal}
+use Rattle.iox_command.specs.declared.refusal.Refusal.TheVariants as refusal
+use Rattle.iox_command.specs.declared.service.ServiceOptions.{ServiceOptions}
+use Rattle.iox_command.specs.declared.service.ServiceOptions.TheVariants as options
+use Rattle.iox_command.specs.declared.step.StepBefore.{StepBefore}
 use Rattle.iox_hub_base.specs.DescribeBase.Attributes.{Required}
 use Rattle.iox_hub_base.specs.DescribeBase.Detail.{Detail}
 use Rattle.iox_hub_base.specs.DescribeBase.declared.attribute.Attribute.{Attribute}
@@ -18,11 +18,11 @@ use Rattle.iox_hub_base.specs.DescribeBase.declared.pattern.MessagingPattern.The
 use Rattle.iox_hub_base.specs.Opening.{Made}
 use Rattle.iox_hub_base.specs.declared.hub.Hub.{Hub}
 use Rattle.iox_hub_base.specs.Negotiate.declared.factory.Membership.{Membership}
-use Rattle.iox_hub_commands.specs.NegotiateBase.declared.errors.close.CloseError.{CloseError}
-use Rattle.iox_hub_commands.specs.NegotiateBase.declared.errors.close.CloseError.TheVariants as closing
-use Rattle.iox_hub_commands.specs.NegotiateTable.declared.step.ForeignStep.{ForeignStep}
-use Rattle.iox_maps.proofs.Telling.{found_and_gone}
-use Rattle.iox_maps.specs.NumberTable.{Rises, value_at, inserted}
+use Rattle.iox_command.specs.NegotiateBase.declared.errors.close.CloseError.{CloseError}
+use Rattle.iox_command.specs.NegotiateBase.declared.errors.close.CloseError.TheVariants as closing
+use Rattle.iox_negotiate_table.specs.declared.step.ForeignStep.{ForeignStep}
+use Rattle.iox_container.proofs.Telling.{found_and_gone}
+use Rattle.iox_container.specs.NumberTable.{Rises, value_at, inserted}
 use Rattle.iox_hub_commands.specs.Closing.{Leaves, ClosesUnless, ClosesIfOf, ClosesNumbered}
 use Rattle.iox_hub_commands.specs.Creating.{CreatesAs, CreatesPrepared, CreatesNumbered}
 use Rattle.iox_hub_commands.specs.Either.{EitherAs, EitherPrepared, EitherNumbered}

@@ -10,5 +10,27 @@ mod Uncreated
 pub mod Unused
 pub mod Found
 pub mod Accesses
-pub use Rattle.iox_delivery.proofs.Domain as Domain
-pub use Rattle.iox_maps.proofs as Maps
+pub mod Coming
+pub mod GoingOn
+pub mod FactoryChanges
+pub mod MadeChanges
+pub mod StepChanges
+pub mod Loosening
+pub mod Agreeing
+pub mod Grown
+pub mod PortsMove
+pub mod ServicesGo
+pub mod ServicesMove
+pub mod ServicesAgree
+pub mod StepMoves
+pub mod RunLemmas
+pub mod Rooms
+pub mod AsAgreed
+pub mod OneAgreement
+pub mod Measures
+pub mod PortsCount
+pub mod LoanMeasure
+pub mod SampleMeasure
+pub mod StepKeeps
+pub mod PortRooms
+pub use Rattle.iox_container.proofs as Container

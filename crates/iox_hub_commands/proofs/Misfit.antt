@@ -3,11 +3,11 @@ use Rattle.std.proofs.Common.{◌≡◌, ◌∙◌, ℕ, false, List, length, Op
 use Rattle.std.specs.BTreeMap.{is_at}
 use Rattle.std.specs.Ordering.{nat_cmp}
 use Rattle.std.proofs.lemmas.Map.Steps.{set_value_same}
-use Rattle.iox_delivery.specs.DomainPublisher.Messages.{write_all}
-use Rattle.iox_delivery.specs.DomainPublisher.MessagesSending.{has_length}
-use Rattle.iox_delivery.specs.DomainPublisher.Writing.{changed_if}
-use Rattle.iox_delivery.specs.DomainPublisher.declared.publisher_port.PublisherPort.{PublisherPort}
-use Rattle.iox_delivery.specs.DomainSubscriber.Publishers.{port_of, changed_at_port}
+use Rattle.iox_delivery.specs.DomainPorts.Messages.{write_all}
+use Rattle.iox_delivery.specs.DomainPorts.MessagesSending.{has_length}
+use Rattle.iox_delivery.specs.DomainPorts.Writing.{changed_if}
+use Rattle.iox_delivery.specs.DomainPorts.declared.publisher_port.PublisherPort.{PublisherPort}
+use Rattle.iox_delivery.specs.DomainPorts.Publishers.{port_of, changed_at_port}
 use Rattle.iox_delivery.specs.Domain.Lending.{passes_port}
 use Rattle.iox_delivery.specs.Domain.declared.ports.service_ports.ServicePorts.{ServicePorts}
 use Rattle.iox_delivery.specs.Domain.declared.domain_id.DomainId.{DomainId}

@@ -11,12 +11,12 @@ use Rattle.iox_domain.specs.DomainValues.declared.degradation.DegradationCause.{
 use Rattle.iox_domain.specs.DomainValues.declared.degradation.DegradationInfo.{DegradationInfo}
 use Rattle.iox_domain.specs.DomainValues.declared.port_error.LoanError.{LoanError}
 use Rattle.iox_domain.specs.DomainValues.declared.port_error.SendError.{SendError}
-use Rattle.iox_domain.specs.DomainPublisher.Messages.{write_all}
-use Rattle.iox_domain.specs.DomainPublisher.MessagesSending.{has_length}
-use Rattle.iox_domain.specs.DomainPublisher.Loaning.{Loans}
-use Rattle.iox_domain.specs.DomainPublisher.declared.meeting.Sent.{Sent}
-use Rattle.iox_domain.specs.DomainPublisher.declared.publisher_port.PublisherPort.{PublisherPort}
-use Rattle.iox_domain.specs.DomainSubscriber.Publishers.{port_of, with_port, changed_at_port, settled}
+use Rattle.iox_domain.specs.DomainPorts.Messages.{write_all}
+use Rattle.iox_domain.specs.DomainPorts.MessagesSending.{has_length}
+use Rattle.iox_domain.specs.DomainPorts.Loaning.{Loans}
+use Rattle.iox_domain.specs.DomainPorts.declared.meeting.Sent.{Sent}
+use Rattle.iox_domain.specs.DomainPorts.declared.publisher_port.PublisherPort.{PublisherPort}
+use Rattle.iox_domain.specs.DomainPorts.Publishers.{port_of, with_port, changed_at_port, settled}
 use Rattle.iox_domain.specs.AtHomes.{AtDomain}
 use Rattle.iox_domain.specs.Handling.{kept_degrades, kept_decides}
 use Rattle.iox_domain.specs.Lending.{LoansIf, LoansOne, passes_port, written_in}

@@ -1,6 +1,6 @@
 -- A port that doesn't come for want of memory is refused, if its domain is here, and nothing changes.
 use Rattle.std.proofs.Common.{◌≡◌, ℕ, Option, None, Some, Result, Err, option_map, refl}
-use Rattle.iox_hub_commands.specs.Domain.AtHomes.{MakesAt}
+use Rattle.iox_delivery.specs.Domain.AtHomes.{MakesAt}
 use Rattle.iox_hub_commands.specs.Making.{MakesNumbered}
 use Rattle.iox_hub_commands.specs.declared.ports.made.Made.{Made}
 

@@ -5,7 +5,7 @@ use Rattle.iox_delivery.specs.DomainValues.declared.degradation.DegradationInfo.
 use Rattle.iox_delivery.specs.Domain.declared.ports.service_ports.ServicePorts.{ServicePorts}
 use Rattle.iox_delivery.specs.Domain.declared.domain_id.DomainId.{DomainId}
 use Rattle.iox_delivery.specs.declared.port_id.PortId.{PortId}
-use Rattle.iox_maps.specs.NumberTable.{NumberTable}
+use Rattle.iox_container.specs.NumberTable.{NumberTable}
 use Rattle.iox_hub_commands.specs.Growing.{GrowsFirst}
 use Rattle.iox_hub_commands.specs.Numbering.{LendsNumbered, LendsWrittenNumbered, ReceivesNumbered}
 use Rattle.iox_hub_commands.specs.Tables.{SameNumbers, IsRoomier}

@@ -8,16 +8,16 @@ use Rattle.iox_hub_base.specs.DescribeBase.declared.message_type.MessageTypeDeta
 use Rattle.iox_hub_base.specs.DescribeSettings.Agreement.{Agreement, AreWithinLimits}
 use Rattle.iox_hub_base.specs.DescribeSettings.declared.static_config.Settings.{Settings}
 use Rattle.iox_hub_base.specs.declared.hub.Hub.{Hub}
-use Rattle.iox_hub_commands.specs.Command.declared.refusal.Refusal.{Refusal}
-use Rattle.iox_hub_commands.specs.Command.declared.service.ServiceOptions.{ServiceOptions}
-use Rattle.iox_hub_commands.specs.Command.declared.service.ServiceOptions.TheVariants as options
-use Rattle.iox_hub_commands.specs.Command.declared.step.StepBefore.{StepBefore}
-use Rattle.iox_hub_commands.specs.NegotiateBase.EventErrors as event
-use Rattle.iox_hub_commands.specs.NegotiateBase.PublishSubscribeErrors as publish_subscribe
-use Rattle.iox_hub_commands.specs.NegotiateBase.RequestResponseErrors as request_response
-use Rattle.iox_hub_commands.specs.NegotiateBase.declared.failure.CreateFailure.{CreateFailure}
-use Rattle.iox_hub_commands.specs.NegotiateBase.declared.failure.CreateFailure.TheVariants as failure
-use Rattle.iox_hub_commands.specs.NegotiateTable.declared.step.ForeignStep.{ForeignStep}
+use Rattle.iox_command.specs.declared.refusal.Refusal.{Refusal}
+use Rattle.iox_command.specs.declared.service.ServiceOptions.{ServiceOptions}
+use Rattle.iox_command.specs.declared.service.ServiceOptions.TheVariants as options
+use Rattle.iox_command.specs.declared.step.StepBefore.{StepBefore}
+use Rattle.iox_command.specs.NegotiateBase.EventErrors as event
+use Rattle.iox_command.specs.NegotiateBase.PublishSubscribeErrors as publish_subscribe
+use Rattle.iox_command.specs.NegotiateBase.RequestResponseErrors as request_response
+use Rattle.iox_command.specs.NegotiateBase.declared.failure.CreateFailure.{CreateFailure}
+use Rattle.iox_command.specs.NegotiateBase.declared.failure.CreateFailure.TheVariants as failure
+use Rattle.iox_negotiate_table.specs.declared.step.ForeignStep.{ForeignStep}
 use Rattle.iox_hub_commands.specs.Asking.{IsHistoryTooLong, hash_of, agreed_of}
 use Rattle.iox_hub_commands.specs.Creating.{CreatesAgreed, CreatesAs, CreatesNumbered}
 use Rattle.iox_hub_commands.specs.Described.{settings_of}

@@ -4,13 +4,13 @@ use Rattle.iox_hub_base.specs.DescribeBase.declared.hash.ServiceHash.{ServiceHas
 use Rattle.iox_hub_base.specs.declared.hub.Hub.{Hub}
 use Rattle.iox_hub_base.specs.Negotiate.Factory.{segment_removed, RemovesSegment, RemovalGoes, Removes, LeaveGoes, Closes}
 use Rattle.iox_hub_base.specs.Negotiate.declared.factory.Membership.{Membership}
-use Rattle.iox_hub_commands.specs.NegotiateBase.declared.errors.close.CloseError.{CloseError}
-use Rattle.iox_hub_commands.specs.NegotiateBase.declared.errors.close.CloseError.TheVariants.{StillInUse}
-use Rattle.iox_hub_commands.specs.NegotiateBase.Access.{Access, Look, Lock, MakeSegment, Publish, Unlock, OpenSegment, Leave, RemoveDescription, RemoveSegment}
-use Rattle.iox_hub_commands.specs.NegotiateBase.declared.answer.LeaveAnswer.{LeaveAnswer}
-use Rattle.iox_hub_commands.specs.NegotiateBase.declared.answer.LeaveAnswer.TheVariants as leaving
-use Rattle.iox_hub_commands.specs.NegotiateBase.declared.answer.RemoveAnswer.{RemoveAnswer}
-use Rattle.iox_hub_commands.specs.NegotiateBase.declared.answer.RemoveAnswer.TheVariants as removing
+use Rattle.iox_command.specs.NegotiateBase.declared.errors.close.CloseError.{CloseError}
+use Rattle.iox_command.specs.NegotiateBase.declared.errors.close.CloseError.TheVariants.{StillInUse}
+use Rattle.iox_command.specs.NegotiateBase.Access.{Access, Look, Lock, MakeSegment, Publish, Unlock, OpenSegment, Leave, RemoveDescription, RemoveSegment}
+use Rattle.iox_command.specs.NegotiateBase.declared.answer.LeaveAnswer.{LeaveAnswer}
+use Rattle.iox_command.specs.NegotiateBase.declared.answer.LeaveAnswer.TheVariants as leaving
+use Rattle.iox_command.specs.NegotiateBase.declared.answer.RemoveAnswer.{RemoveAnswer}
+use Rattle.iox_command.specs.NegotiateBase.declared.answer.RemoveAnswer.TheVariants as removing
 use Rattle.iox_hub_commands.specs.Closing.{Leaves}
 
 -- the answer that a factory is in use

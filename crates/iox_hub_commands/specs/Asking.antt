@@ -1,11 +1,11 @@
 -- What the options of a service ask, whatever its pattern.
 use Rattle.std.specs.Prelude.{ℕ, List}
-use Rattle.iox_hub_commands.specs.Command.Patterns.{pattern_of}
-use Rattle.iox_hub_commands.specs.Command.declared.service.EventOptions.{EventOptions}
-use Rattle.iox_hub_commands.specs.Command.declared.service.PublishSubscribeOptions.{PublishSubscribeOptions}
-use Rattle.iox_hub_commands.specs.Command.declared.service.RequestResponseOptions.{RequestResponseOptions}
-use Rattle.iox_hub_commands.specs.Command.declared.service.ServiceOptions.{ServiceOptions}
-use Rattle.iox_hub_commands.specs.Command.declared.service.ServiceOptions.TheVariants as options
+use Rattle.iox_command.specs.Patterns.{pattern_of}
+use Rattle.iox_command.specs.declared.service.EventOptions.{EventOptions}
+use Rattle.iox_command.specs.declared.service.PublishSubscribeOptions.{PublishSubscribeOptions}
+use Rattle.iox_command.specs.declared.service.RequestResponseOptions.{RequestResponseOptions}
+use Rattle.iox_command.specs.declared.service.ServiceOptions.{ServiceOptions}
+use Rattle.iox_command.specs.declared.service.ServiceOptions.TheVariants as options
 use Rattle.iox_hub_base.specs.DescribeBase.Attributes.{Required}
 use Rattle.iox_hub_base.specs.DescribeBase.Hash.{service_hash_of}
 use Rattle.iox_hub_base.specs.DescribeBase.declared.attribute.Attribute.{Attribute}
@@ -17,12 +17,12 @@ use Rattle.iox_hub_base.specs.DescribeSettings.PublishSubscribeSettings as publi
 use Rattle.iox_hub_base.specs.DescribeSettings.RequestResponseSettings as request_response_settings
 use Rattle.iox_hub_base.specs.DescribeSettings.declared.static_config.Settings.{Settings}
 use Rattle.iox_hub_base.specs.DescribeSettings.declared.static_config.Settings.TheVariants as settings
-use Rattle.iox_hub_commands.specs.DescribeVerdict.EventClauses as event_clauses
-use Rattle.iox_hub_commands.specs.DescribeVerdict.PublishSubscribeClauses as publish_subscribe_clauses
-use Rattle.iox_hub_commands.specs.DescribeVerdict.RequestResponseClauses as request_response_clauses
-use Rattle.iox_hub_commands.specs.DescribeVerdict.declared.requirement.event.Requirement.{Requirement as EventRequirement}
-use Rattle.iox_hub_commands.specs.DescribeVerdict.declared.requirement.publish_subscribe.Requirement.{Requirement as PublishSubscribeRequirement}
-use Rattle.iox_hub_commands.specs.DescribeVerdict.declared.requirement.request_response.Requirement.{Requirement as RequestResponseRequirement}
+use Rattle.iox_negotiate_table.specs.DescribeVerdict.EventClauses as event_clauses
+use Rattle.iox_negotiate_table.specs.DescribeVerdict.PublishSubscribeClauses as publish_subscribe_clauses
+use Rattle.iox_negotiate_table.specs.DescribeVerdict.RequestResponseClauses as request_response_clauses
+use Rattle.iox_negotiate_table.specs.DescribeVerdict.declared.requirement.event.Requirement.{Requirement as EventRequirement}
+use Rattle.iox_negotiate_table.specs.DescribeVerdict.declared.requirement.publish_subscribe.Requirement.{Requirement as PublishSubscribeRequirement}
+use Rattle.iox_negotiate_table.specs.DescribeVerdict.declared.requirement.request_response.Requirement.{Requirement as RequestResponseRequirement}
 use Rattle.iox_hub_commands.specs.Asked.{asked_event, asked_publish_subscribe, asked_request_response}
 use Rattle.iox_hub_commands.specs.Described.{settings_of}
 

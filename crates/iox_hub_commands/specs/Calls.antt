@@ -9,8 +9,8 @@ use Rattle.iox_delivery.specs.DomainValues.declared.degradation.DegradationInfo.
 use Rattle.iox_delivery.specs.DomainValues.declared.port_error.LoanError.{LoanError}
 use Rattle.iox_delivery.specs.DomainValues.declared.port_error.ReceiveError.{ReceiveError}
 use Rattle.iox_delivery.specs.DomainValues.declared.port_error.SendError.{SendError}
-use Rattle.iox_delivery.specs.DomainPublisher.declared.meeting.Sent.{Sent}
-use Rattle.iox_delivery.specs.DomainSubscriber.declared.attached.Taken.{Taken}
+use Rattle.iox_delivery.specs.DomainPorts.declared.meeting.Sent.{Sent}
+use Rattle.iox_delivery.specs.DomainPorts.declared.attached.Taken.{Taken}
 use Rattle.iox_delivery.specs.Domain.declared.ports.service_ports.ServicePorts.{ServicePorts}
 use Rattle.iox_delivery.specs.Domain.AtHomes.{AtDomain, LeavesDomain}
 use Rattle.iox_delivery.specs.Domain.Steps as steps

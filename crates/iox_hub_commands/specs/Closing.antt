@@ -4,11 +4,11 @@ use Rattle.iox_hub_base.specs.Closing.{in_use, less_one}
 use Rattle.iox_hub_base.specs.declared.hub.Hub.{Hub}
 use Rattle.iox_hub_base.specs.Negotiate.Factory.{Closes}
 use Rattle.iox_hub_base.specs.Negotiate.declared.factory.Membership.{Membership}
-use Rattle.iox_hub_commands.specs.NegotiateBase.declared.errors.close.CloseError.{CloseError}
-use Rattle.iox_hub_commands.specs.NegotiateBase.declared.errors.close.CloseError.TheVariants.{StillInUse}
-use Rattle.iox_hub_commands.specs.NegotiateBase.Runs.{Does}
-use Rattle.iox_hub_commands.specs.NegotiateTable.Sights.{Sight}
-use Rattle.iox_maps.specs.NumberTable.{removed}
+use Rattle.iox_command.specs.NegotiateBase.declared.errors.close.CloseError.{CloseError}
+use Rattle.iox_command.specs.NegotiateBase.declared.errors.close.CloseError.TheVariants.{StillInUse}
+use Rattle.iox_command.specs.NegotiateBase.Runs.{Does}
+use Rattle.iox_negotiate_table.specs.Sights.{Sight}
+use Rattle.iox_container.specs.NumberTable.{removed}
 use Rattle.iox_hub_commands.specs.ServicesNumbering.{IsSkipped}
 use Rattle.iox_hub_commands.specs.ServicesTables.{FactoryTable, parts_of}
 use Rattle.iox_hub_commands.specs.declared.services.made.MadeFactory.{MadeFactory}

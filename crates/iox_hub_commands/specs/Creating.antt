@@ -1,11 +1,11 @@
 -- A service is created as options ask, and its factory gets a number.
 use Rattle.std.specs.Prelude.{ℕ, ◌≡◌, Bool, true, false, List, Option, Some, Result, Ok, Err}
 use Rattle.std.specs.declared.alloc.AllocError.{AllocError}
-use Rattle.iox_hub_commands.specs.Command.declared.refusal.Refusal.{Refusal}
-use Rattle.iox_hub_commands.specs.Command.declared.refusal.Refusal.TheVariants as refusal
-use Rattle.iox_hub_commands.specs.Command.declared.service.ServiceOptions.{ServiceOptions}
-use Rattle.iox_hub_commands.specs.Command.declared.service.ServiceOptions.TheVariants as options
-use Rattle.iox_hub_commands.specs.Command.declared.step.StepBefore.{StepBefore}
+use Rattle.iox_command.specs.declared.refusal.Refusal.{Refusal}
+use Rattle.iox_command.specs.declared.refusal.Refusal.TheVariants as refusal
+use Rattle.iox_command.specs.declared.service.ServiceOptions.{ServiceOptions}
+use Rattle.iox_command.specs.declared.service.ServiceOptions.TheVariants as options
+use Rattle.iox_command.specs.declared.step.StepBefore.{StepBefore}
 use Rattle.iox_hub_base.specs.DescribeBase.Detail.{Detail}
 use Rattle.iox_hub_base.specs.DescribeBase.declared.attribute.Attribute.{Attribute}
 use Rattle.iox_hub_base.specs.DescribeBase.declared.hash.ServiceHash.{ServiceHash}
@@ -15,18 +15,18 @@ use Rattle.iox_hub_base.specs.DescribeSettings.Agreement.{Agreement, AreWithinLi
 use Rattle.iox_hub_base.specs.Opening.{Made, OpensInHub}
 use Rattle.iox_hub_base.specs.declared.hub.Hub.{Hub}
 use Rattle.iox_hub_base.specs.Negotiate.Negotiation.{Creates}
-use Rattle.iox_hub_commands.specs.NegotiateBase.EventErrors as event
-use Rattle.iox_hub_commands.specs.NegotiateBase.PublishSubscribeErrors as publish_subscribe
-use Rattle.iox_hub_commands.specs.NegotiateBase.RequestResponseErrors as request_response
-use Rattle.iox_hub_commands.specs.NegotiateBase.declared.errors.event.EventCreateError.TheVariants as event_error
-use Rattle.iox_hub_commands.specs.NegotiateBase.declared.errors.publish_subscribe.PublishSubscribeCreateError.TheVariants as
+use Rattle.iox_command.specs.NegotiateBase.EventErrors as event
+use Rattle.iox_command.specs.NegotiateBase.PublishSubscribeErrors as publish_subscribe
+use Rattle.iox_command.specs.NegotiateBase.RequestResponseErrors as request_response
+use Rattle.iox_command.specs.NegotiateBase.declared.errors.event.EventCreateError.TheVariants as event_error
+use Rattle.iox_command.specs.NegotiateBase.declared.errors.publish_subscribe.PublishSubscribeCreateError.TheVariants as
     publish_subscribe_error
-use Rattle.iox_hub_commands.specs.NegotiateBase.declared.errors.request_response.RequestResponseCreateError.TheVariants as
+use Rattle.iox_command.specs.NegotiateBase.declared.errors.request_response.RequestResponseCreateError.TheVariants as
     request_response_error
-use Rattle.iox_hub_commands.specs.NegotiateBase.declared.failure.CreateFailure.{CreateFailure}
-use Rattle.iox_hub_commands.specs.NegotiateBase.declared.failure.CreateFailure.TheVariants.{OutOfMemory}
-use Rattle.iox_hub_commands.specs.NegotiateTable.Stepped.{SteppedSight}
-use Rattle.iox_hub_commands.specs.NegotiateTable.declared.step.ForeignStep.{ForeignStep}
+use Rattle.iox_command.specs.NegotiateBase.declared.failure.CreateFailure.{CreateFailure}
+use Rattle.iox_command.specs.NegotiateBase.declared.failure.CreateFailure.TheVariants.{OutOfMemory}
+use Rattle.iox_negotiate_table.specs.Stepped.{SteppedSight}
+use Rattle.iox_negotiate_table.specs.declared.step.ForeignStep.{ForeignStep}
 use Rattle.iox_hub_commands.specs.Asking.{hash_of, agreed_of, IsHistoryTooLong}
 use Rattle.iox_hub_commands.specs.ServicesNumbering.{Prepares, GetsNumber, IsSkipped, IsRefusedWith}
 use Rattle.iox_hub_commands.specs.ServicesTables.{FactoryTable}

@@ -1,38 +1,38 @@
 -- A service is opened or created as options ask, and its factory gets a number.
 use Rattle.std.specs.Prelude.{ℕ, ◌≡◌, Bool, true, false, List, Option, Some, Result, Ok, Err}
 use Rattle.std.specs.declared.alloc.AllocError.{AllocError}
-use Rattle.iox_hub_commands.specs.Command.declared.refusal.Refusal.{Refusal}
-use Rattle.iox_hub_commands.specs.Command.declared.refusal.Refusal.TheVariants as refusal
-use Rattle.iox_hub_commands.specs.Command.declared.service.ServiceOptions.{ServiceOptions}
-use Rattle.iox_hub_commands.specs.Command.declared.service.ServiceOptions.TheVariants as options
-use Rattle.iox_hub_commands.specs.Command.declared.step.StepBefore.{StepBefore}
+use Rattle.iox_command.specs.declared.refusal.Refusal.{Refusal}
+use Rattle.iox_command.specs.declared.refusal.Refusal.TheVariants as refusal
+use Rattle.iox_command.specs.declared.service.ServiceOptions.{ServiceOptions}
+use Rattle.iox_command.specs.declared.service.ServiceOptions.TheVariants as options
+use Rattle.iox_command.specs.declared.step.StepBefore.{StepBefore}
 use Rattle.iox_hub_base.specs.DescribeBase.Attributes.{Required}
 use Rattle.iox_hub_base.specs.DescribeBase.Detail.{Detail}
 use Rattle.iox_hub_base.specs.DescribeBase.declared.hash.ServiceHash.{ServiceHash}
 use Rattle.iox_hub_base.specs.DescribeBase.declared.message_type.MessageTypeDetails.{MessageTypeDetails}
 use Rattle.iox_hub_base.specs.DescribeBase.declared.pattern.MessagingPattern.TheVariants as pattern
 use Rattle.iox_hub_base.specs.DescribeSettings.Agreement.{Agreement, AreWithinLimits}
-use Rattle.iox_hub_commands.specs.DescribeVerdict.EventClauses as event_clauses
-use Rattle.iox_hub_commands.specs.DescribeVerdict.PublishSubscribeClauses as publish_subscribe_clauses
-use Rattle.iox_hub_commands.specs.DescribeVerdict.RequestResponseClauses as request_response_clauses
-use Rattle.iox_hub_commands.specs.DescribeVerdict.Verdict.{first_unmet}
+use Rattle.iox_negotiate_table.specs.DescribeVerdict.EventClauses as event_clauses
+use Rattle.iox_negotiate_table.specs.DescribeVerdict.PublishSubscribeClauses as publish_subscribe_clauses
+use Rattle.iox_negotiate_table.specs.DescribeVerdict.RequestResponseClauses as request_response_clauses
+use Rattle.iox_negotiate_table.specs.DescribeVerdict.Verdict.{first_unmet}
 use Rattle.iox_hub_base.specs.Opening.{Made, OpensInHub, lacking_either}
 use Rattle.iox_hub_base.specs.declared.hub.Hub.{Hub}
 use Rattle.iox_hub_base.specs.Negotiate.Negotiation.{Either}
-use Rattle.iox_hub_commands.specs.NegotiateBase.EventErrors as event
-use Rattle.iox_hub_commands.specs.NegotiateBase.PublishSubscribeErrors as publish_subscribe
-use Rattle.iox_hub_commands.specs.NegotiateBase.RequestResponseErrors as request_response
-use Rattle.iox_hub_commands.specs.NegotiateBase.declared.errors.event.EventOpenError.TheVariants as event_unopened
-use Rattle.iox_hub_commands.specs.NegotiateBase.declared.errors.event.EventOpenOrCreateError.TheVariants.{EventOpenError}
-use Rattle.iox_hub_commands.specs.NegotiateBase.declared.errors.publish_subscribe.PublishSubscribeOpenError.TheVariants as
+use Rattle.iox_command.specs.NegotiateBase.EventErrors as event
+use Rattle.iox_command.specs.NegotiateBase.PublishSubscribeErrors as publish_subscribe
+use Rattle.iox_command.specs.NegotiateBase.RequestResponseErrors as request_response
+use Rattle.iox_command.specs.NegotiateBase.declared.errors.event.EventOpenError.TheVariants as event_unopened
+use Rattle.iox_command.specs.NegotiateBase.declared.errors.event.EventOpenOrCreateError.TheVariants.{EventOpenError}
+use Rattle.iox_command.specs.NegotiateBase.declared.errors.publish_subscribe.PublishSubscribeOpenError.TheVariants as
     publish_subscribe_unopened
-use Rattle.iox_hub_commands.specs.NegotiateBase.declared.errors.publish_subscribe.PublishSubscribeOpenOrCreateError.TheVariants.{PublishSubscribeOpenError}
-use Rattle.iox_hub_commands.specs.NegotiateBase.declared.errors.request_response.RequestResponseOpenError.TheVariants as
+use Rattle.iox_command.specs.NegotiateBase.declared.errors.publish_subscribe.PublishSubscribeOpenOrCreateError.TheVariants.{PublishSubscribeOpenError}
+use Rattle.iox_command.specs.NegotiateBase.declared.errors.request_response.RequestResponseOpenError.TheVariants as
     request_response_unopened
-use Rattle.iox_hub_commands.specs.NegotiateBase.declared.errors.request_response.RequestResponseOpenOrCreateError.TheVariants.{RequestResponseOpenError}
-use Rattle.iox_hub_commands.specs.NegotiateBase.declared.failure.OpenOrCreateFailure.{OpenOrCreateFailure}
-use Rattle.iox_hub_commands.specs.NegotiateTable.Stepped.{SteppedSight}
-use Rattle.iox_hub_commands.specs.NegotiateTable.declared.step.ForeignStep.{ForeignStep}
+use Rattle.iox_command.specs.NegotiateBase.declared.errors.request_response.RequestResponseOpenOrCreateError.TheVariants.{RequestResponseOpenError}
+use Rattle.iox_command.specs.NegotiateBase.declared.failure.OpenOrCreateFailure.{OpenOrCreateFailure}
+use Rattle.iox_negotiate_table.specs.Stepped.{SteppedSight}
+use Rattle.iox_negotiate_table.specs.declared.step.ForeignStep.{ForeignStep}
 use Rattle.iox_hub_commands.specs.Asking.{hash_of, required_agreement, IsHistoryTooLong, required_publish_subscribe, required_event, required_request_response}
 use Rattle.iox_hub_commands.specs.ServicesNumbering.{Prepares, GetsNumber, IsSkipped, IsRefusedWith}
 use Rattle.iox_hub_commands.specs.ServicesTables.{FactoryTable}

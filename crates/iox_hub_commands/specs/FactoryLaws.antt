@@ -1,17 +1,17 @@
 -- What the calls come to for the factories under numbers, in other words than theirs.
 use Rattle.std.specs.Prelude.{ℕ, ◌≡◌, ◌≢◌, Bool, List, Option, None, Some, option_map, Result, Ok, Err}
-use Rattle.iox_hub_commands.specs.Command.Patterns.{pattern_of}
-use Rattle.iox_hub_commands.specs.Command.declared.refusal.Refusal.{Refusal}
-use Rattle.iox_hub_commands.specs.Command.declared.step.StepBefore.{StepBefore}
+use Rattle.iox_command.specs.Patterns.{pattern_of}
+use Rattle.iox_command.specs.declared.refusal.Refusal.{Refusal}
+use Rattle.iox_command.specs.declared.step.StepBefore.{StepBefore}
 use Rattle.iox_hub_base.specs.DescribeBase.Attributes.{Required}
 use Rattle.iox_hub_base.specs.DescribeBase.Detail.{Detail}
 use Rattle.iox_hub_base.specs.DescribeBase.declared.attribute.Attribute.{Attribute}
 use Rattle.iox_hub_base.specs.DescribeBase.declared.message_type.MessageTypeDetails.{MessageTypeDetails}
 use Rattle.iox_hub_base.specs.DescribeBase.declared.pattern.MessagingPattern.{MessagingPattern}
 use Rattle.iox_hub_base.specs.declared.hub.Hub.{Hub}
-use Rattle.iox_hub_commands.specs.NegotiateBase.declared.errors.close.CloseError.{CloseError}
-use Rattle.iox_hub_commands.specs.NegotiateBase.declared.errors.close.CloseError.TheVariants.{StillInUse}
-use Rattle.iox_maps.specs.NumberTable.{Rises, value_at}
+use Rattle.iox_command.specs.NegotiateBase.declared.errors.close.CloseError.{CloseError}
+use Rattle.iox_command.specs.NegotiateBase.declared.errors.close.CloseError.TheVariants.{StillInUse}
+use Rattle.iox_container.specs.NumberTable.{Rises, value_at}
 use Rattle.iox_hub_commands.specs.Closing.{ClosesNumbered}
 use Rattle.iox_hub_commands.specs.Creating.{CreatesNumbered}
 use Rattle.iox_hub_commands.specs.Either.{EitherNumbered}

@@ -1,8 +1,8 @@
 -- Nodes of others do the steps that a command names.
 use Rattle.std.specs.Prelude.{ℕ, ◌≡◌, ◌⊎◌, List, [], Result, Err}
-use Rattle.iox_hub_commands.specs.Command.declared.refusal.HubError.{HubError}
-use Rattle.iox_hub_commands.specs.Command.declared.refusal.HubError.TheVariants.{OutOfMemory}
-use Rattle.iox_hub_commands.specs.Command.declared.step.ForeignStep.{ForeignStep as Named}
+use Rattle.iox_command.specs.declared.refusal.HubError.{HubError}
+use Rattle.iox_command.specs.declared.refusal.HubError.TheVariants.{OutOfMemory}
+use Rattle.iox_command.specs.declared.step.ForeignStep.{ForeignStep as Named}
 use Rattle.iox_hub_base.specs.DescribeBase.Hash.{service_hash_of}
 use Rattle.iox_hub_base.specs.DescribeBase.declared.message_type.MessageTypeDetails.{MessageTypeDetails}
 use Rattle.iox_hub_base.specs.DescribeBase.declared.pattern.MessagingPattern.{MessagingPattern}

@@ -1,4 +1,4 @@
--- The definitions that contracts about the commands of ports cite.
+-- The definitions that contracts about commands cite.
 pub mod Naming
 pub mod Replies
 pub mod Arriving
@@ -27,19 +27,26 @@ pub mod FactoryLaws
 pub mod Asked
 pub mod Described
 pub mod Steps
+pub mod Numbers
+pub mod Services
+pub mod CommandSteps
+pub mod Runs
+pub mod Room
+pub mod PortRoom
+pub mod RoomLaws
+pub mod Lives
+pub mod Grown
+pub mod Agreements
+pub mod AgreementLaws
 pub use Rattle.iox_command.specs as Command
+pub use Rattle.iox_hub_base.specs as HubBase
+pub use Rattle.iox_command.specs.Ports as CommandPorts
 pub use Rattle.iox_command.specs.DomainValues as DomainValues
 pub use Rattle.iox_delivery.specs.DescribeBase as DescribeBase
 pub use Rattle.iox_delivery.specs.DescribeSettings as DescribeSettings
 pub use Rattle.iox_delivery.specs.Domain as Domain
-pub use Rattle.iox_delivery.specs.DomainPublisher as DomainPublisher
-pub use Rattle.iox_delivery.specs.DomainSubscriber as DomainSubscriber
-pub use Rattle.iox_delivery.specs.IndexBase as IndexBase
-pub use Rattle.iox_maps.specs as Maps
+pub use Rattle.iox_delivery.specs.DomainPorts as DomainPorts
+pub use Rattle.iox_delivery.specs.Container as Container
 pub use Rattle.iox_delivery.specs as Delivery
-pub use Rattle.iox_hub_base.specs as HubBase
-pub use Rattle.iox_hub_base.specs.HubServices as HubServices
-pub use Rattle.iox_negotiate_table.specs.Describe as Describe
 pub use Rattle.iox_negotiate_table.specs.DescribeVerdict as DescribeVerdict
 pub use Rattle.iox_command.specs.NegotiateBase as NegotiateBase
-pub use Rattle.iox_negotiate_table.specs as NegotiateTable

@@ -5,10 +5,10 @@ use Rattle.iox_delivery.specs.DomainValues.declared.backpressure.BackpressureInf
 use Rattle.iox_delivery.specs.DomainValues.declared.degradation.DegradationAction.{DegradationAction}
 use Rattle.iox_delivery.specs.DomainValues.declared.degradation.DegradationInfo.{DegradationInfo}
 use Rattle.iox_delivery.specs.DomainValues.declared.port_error.SendError.{SendError}
-use Rattle.iox_delivery.specs.DomainPublisher.Messages.{Loan, write_value, write_all}
-use Rattle.iox_delivery.specs.DomainPublisher.MessagesSending.{has_place, has_length, is_written_loan}
-use Rattle.iox_delivery.specs.DomainPublisher.Writing.{value_at}
-use Rattle.iox_delivery.specs.DomainPublisher.declared.meeting.Sent.{Sent}
+use Rattle.iox_delivery.specs.DomainPorts.Messages.{Loan, write_value, write_all}
+use Rattle.iox_delivery.specs.DomainPorts.MessagesSending.{has_place, has_length, is_written_loan}
+use Rattle.iox_delivery.specs.DomainPorts.Writing.{value_at}
+use Rattle.iox_delivery.specs.DomainPorts.declared.meeting.Sent.{Sent}
 use Rattle.iox_delivery.specs.Domain.Lending.{passes, written_in}
 use Rattle.iox_delivery.specs.Domain.declared.ports.service_ports.ServicePorts.{ServicePorts}
 use Rattle.iox_delivery.specs.Domain.declared.domain_id.DomainId.{DomainId}

@@ -1,6 +1,6 @@
 -- Ports come to a domain, and get numbers.
 use Rattle.std.specs.Prelude.{ℕ, ◌≡◌, Bool, Option, None, Some, Result, Ok, Err}
-use Rattle.iox_maps.specs.NumberTable.{inserted}
+use Rattle.iox_container.specs.NumberTable.{inserted}
 use Rattle.iox_delivery.specs.Domain.declared.domain_id.DomainId.{DomainId}
 use Rattle.iox_hub_commands.specs.Tables.{IsRoomier}
 use Rattle.iox_hub_commands.specs.declared.ports.made.Made.{Made}

@@ -6,10 +6,10 @@ use Rattle.std.specs.Global.{Vec}
 use Rattle.std.specs.declared.alloc.AllocError.{AllocError}
 use Rattle.iox_command.specs.declared.reply.Reply.{Reply}
 use Rattle.iox_command.specs.declared.reply.Reply.TheVariants as reply
-use Rattle.iox_hub_commands.specs.Domain.declared.domain_id.DomainId.{DomainId}
-use Rattle.iox_hub_commands.specs.Domain.Lending.{gave_up_in}
-use Rattle.iox_hub_commands.specs.Domain.declared.ports.service_ports.ServicePorts.{ServicePorts}
-use Rattle.iox_hub_commands.specs.DomainPublisher.declared.meeting.Sent.{Sent}
+use Rattle.iox_delivery.specs.Domain.declared.domain_id.DomainId.{DomainId}
+use Rattle.iox_delivery.specs.Domain.Lending.{gave_up_in}
+use Rattle.iox_delivery.specs.Domain.declared.ports.service_ports.ServicePorts.{ServicePorts}
+use Rattle.iox_delivery.specs.DomainPorts.declared.meeting.Sent.{Sent}
 use Rattle.iox_command.specs.DomainValues.declared.backpressure.BackpressureDecision.{BackpressureDecision}
 use Rattle.iox_command.specs.DomainValues.declared.backpressure.BackpressureInfo.{BackpressureInfo}
 use Rattle.iox_command.specs.DomainValues.declared.degradation.DegradationAction.{DegradationAction}
@@ -21,7 +21,7 @@ use Rattle.iox_hub_commands.specs.Numbering.{removed_if}
 use Rattle.iox_hub_commands.specs.Reading.{values_under, is_held, ReleasesUnder}
 use Rattle.iox_hub_commands.specs.Tables.{port_under, without_loan, without_sample}
 use Rattle.iox_hub_commands.specs.declared.ports.made.Made.{Made}
-use Rattle.iox_hub_commands.specs.Maps.NumberTable.{value_at}
+use Rattle.iox_delivery.specs.Container.NumberTable.{value_at}
 use Rattle.iox_hub_commands.specs.Replies.{sent_reply, given_up_reply, done_reply}
 
 -- One value of a written loan is written.

@@ -1,11 +1,11 @@
 -- How loans and samples get numbers, and when a number is spent.
 use Rattle.std.specs.Prelude.{ℕ, ◌≡◌, Bool, true, false, Option, None, Some, Result, Ok, Err}
-use Rattle.iox_maps.specs.NumberTable.{inserted}
+use Rattle.iox_container.specs.NumberTable.{inserted}
 use Rattle.iox_delivery.specs.DomainValues.declared.degradation.DegradationAction.{DegradationAction}
 use Rattle.iox_delivery.specs.DomainValues.declared.degradation.DegradationInfo.{DegradationInfo}
 use Rattle.iox_delivery.specs.DomainValues.declared.port_error.LoanError.{LoanError}
 use Rattle.iox_delivery.specs.DomainValues.declared.port_error.ReceiveError.{ReceiveError}
-use Rattle.iox_delivery.specs.DomainSubscriber.declared.attached.Taken.{Taken}
+use Rattle.iox_delivery.specs.DomainPorts.declared.attached.Taken.{Taken}
 use Rattle.iox_delivery.specs.Domain.declared.ports.service_ports.ServicePorts.{ServicePorts}
 use Rattle.iox_delivery.specs.Domain.declared.domain_id.DomainId.{DomainId}
 use Rattle.iox_delivery.specs.declared.port_id.PortId.{PortId}

@@ -6,8 +6,8 @@ use Rattle.std.specs.declared.alloc.AllocError.{AllocError}
 use Rattle.iox_command.specs.declared.refusal.Refusal.TheVariants as refusal
 use Rattle.iox_command.specs.declared.reply.Reply.{Reply}
 use Rattle.iox_command.specs.declared.reply.Reply.TheVariants as reply
-use Rattle.iox_hub_commands.specs.Domain.declared.domain_id.DomainId.{DomainId}
-use Rattle.iox_hub_commands.specs.Domain.declared.ports.service_ports.ServicePorts.{ServicePorts}
+use Rattle.iox_delivery.specs.Domain.declared.domain_id.DomainId.{DomainId}
+use Rattle.iox_delivery.specs.Domain.declared.ports.service_ports.ServicePorts.{ServicePorts}
 use Rattle.iox_command.specs.DomainValues.declared.degradation.DegradationAction.{DegradationAction}
 use Rattle.iox_command.specs.DomainValues.declared.degradation.DegradationInfo.{DegradationInfo}
 use Rattle.iox_command.specs.DomainValues.declared.port_error.ReceiveError.{ReceiveError}
@@ -16,7 +16,7 @@ use Rattle.iox_hub_commands.specs.Numbering.{ReceivesNumbered}
 use Rattle.iox_hub_commands.specs.Reading.{values_under}
 use Rattle.iox_hub_commands.specs.Tables.{IsFull}
 use Rattle.iox_hub_commands.specs.declared.ports.made.Made.{Made}
-use Rattle.iox_hub_commands.specs.Maps.NumberTable.{value_at}
+use Rattle.iox_delivery.specs.Container.NumberTable.{value_at}
 use Rattle.iox_hub_commands.specs.Messages.{SomeValues}
 
 module _ {T : Type 0} where

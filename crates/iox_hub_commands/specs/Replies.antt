@@ -5,8 +5,8 @@ use Rattle.iox_command.specs.declared.refusal.Refusal.{Refusal}
 use Rattle.iox_command.specs.declared.refusal.Refusal.TheVariants as refusal
 use Rattle.iox_command.specs.declared.reply.Reply.{Reply}
 use Rattle.iox_command.specs.declared.reply.Reply.TheVariants as reply
-use Rattle.iox_hub_commands.specs.DomainPublisher.declared.meeting.Sent.{Sent}
-use Rattle.iox_hub_commands.specs.DomainPublisher.declared.meeting.Sent.TheVariants as sent
+use Rattle.iox_delivery.specs.DomainPorts.declared.meeting.Sent.{Sent}
+use Rattle.iox_delivery.specs.DomainPorts.declared.meeting.Sent.TheVariants as sent
 use Rattle.iox_command.specs.DomainValues.declared.connection_failure.ConnectionFailure.{ConnectionFailure}
 use Rattle.iox_command.specs.DomainValues.declared.create_error.PublisherCreateError.{PublisherCreateError}
 use Rattle.iox_command.specs.DomainValues.declared.create_error.SubscriberCreateError.{SubscriberCreateError}

@@ -1,15 +1,15 @@
 -- How a factory gets a number, and what is made ready before the first access.
 use Rattle.std.specs.Prelude.{ℕ, ◌≡◌, ◌<◌, ◌≤◌, ◌⊎◌, List, [], length, Option, None, Some, Result, Ok, Err}
 use Rattle.std.specs.declared.alloc.AllocError.{AllocError}
-use Rattle.iox_hub_commands.specs.Command.declared.refusal.Refusal.{Refusal}
-use Rattle.iox_hub_commands.specs.Command.declared.step.StepBefore.{StepBefore}
-use Rattle.iox_hub_commands.specs.Describe.Within.{HasForm}
+use Rattle.iox_command.specs.declared.refusal.Refusal.{Refusal}
+use Rattle.iox_command.specs.declared.step.StepBefore.{StepBefore}
+use Rattle.iox_negotiate_table.specs.Describe.Within.{HasForm}
 use Rattle.iox_hub_base.specs.DescribeBase.declared.message_type.MessageTypeDetails.{MessageTypeDetails}
 use Rattle.iox_hub_base.specs.DescribeBase.declared.pattern.MessagingPattern.{MessagingPattern}
 use Rattle.iox_hub_base.specs.Opening.{Made}
 use Rattle.iox_hub_commands.specs.Steps.{lists_of}
-use Rattle.iox_hub_commands.specs.NegotiateTable.declared.step.ForeignStep.{ForeignStep}
-use Rattle.iox_maps.specs.NumberTable.{inserted}
+use Rattle.iox_negotiate_table.specs.declared.step.ForeignStep.{ForeignStep}
+use Rattle.iox_container.specs.NumberTable.{inserted}
 use Rattle.iox_hub_commands.specs.ServicesTables.{FactoryTable, SameNumbers, pattern_in, parts_of}
 use Rattle.iox_hub_commands.specs.declared.services.made.MadeFactory.{MadeFactory}
 

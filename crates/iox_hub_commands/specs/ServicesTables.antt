@@ -3,7 +3,7 @@ use Rattle.std.specs.Prelude.{ℕ, ◌≡◌, [], Option, None, Some}
 use Rattle.iox_hub_base.specs.DescribeBase.declared.pattern.MessagingPattern.{MessagingPattern}
 use Rattle.iox_hub_base.specs.DescribeBase.declared.pattern.MessagingPattern.TheVariants as pattern
 use Rattle.iox_hub_base.specs.Opening.{Made}
-use Rattle.iox_maps.specs.NumberTable.{NumberTable}
+use Rattle.iox_container.specs.NumberTable.{NumberTable}
 use Rattle.iox_hub_commands.specs.declared.services.made.MadeFactory.{MadeFactory}
 use Rattle.iox_hub_commands.specs.declared.services.made.MadeFactory.TheVariants as made
 

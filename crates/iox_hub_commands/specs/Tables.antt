@@ -1,6 +1,6 @@
 -- Which port, loan or sample goes by a number.
 use Rattle.std.specs.Prelude.{ℕ, ◌≡◌, ◌≤◌, ◌||◌, ◌==◌, [], length, Option, None, Some, if◌then◌else◌}
-use Rattle.iox_maps.specs.NumberTable.{NumberTable, removed}
+use Rattle.iox_container.specs.NumberTable.{NumberTable, removed}
 use Rattle.iox_delivery.specs.declared.port_id.PortId.{PortId}
 use Rattle.iox_hub_commands.specs.declared.ports.made.Made.{Made}
 use Rattle.iox_hub_commands.specs.declared.ports.made.MadePublisher.{MadePublisher}

@@ -1,7 +1,7 @@
 //! The commands by which ports come, over the tables of what goes by numbers and any home.
 ghost use Rattle.iox_domain.specs.Homes as homes;
 ghost use Rattle.std.specs.Prelude.{◌≡◌, ◌+◌, ◌<◌, ◌^◌, Err, option_map};
-ghost use Rattle.iox_hub_commands.specs.Domain.Steps.{why_no_publisher, why_no_subscriber};
+ghost use Rattle.iox_delivery.specs.Domain.Steps.{why_no_publisher, why_no_subscriber};
 ghost use Rattle.iox_hub_commands.specs.declared.ports.made.Made.{Made};
 ghost use Rattle.iox_hub_commands.specs.Arriving.{PublisherStep, SubscriberStep};
 ghost use Rattle.iox_hub_commands.specs.Naming.{publisher_config, subscriber_config};

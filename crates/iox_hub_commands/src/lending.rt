@@ -2,7 +2,7 @@
 ghost use Rattle.iox_domain.specs.Homes as homes;
 ghost use Rattle.std.specs.Prelude.{◌≡◌, ◌+◌, ◌<◌, ◌^◌, None, Ok};
 ghost use Rattle.iox_command.specs.declared.reply.Reply.TheVariants as reply;
-ghost use Rattle.iox_maps.specs.NumberTable.{value_at};
+ghost use Rattle.iox_container.specs.NumberTable.{value_at};
 ghost use Rattle.iox_hub_commands.specs.Calls.{ready};
 ghost use Rattle.iox_hub_commands.specs.Lending.{LoanStep, LoanUninitStep, PutStep};
 ghost use Rattle.iox_hub_commands.specs.Tables.{lender};

@@ -14,28 +14,55 @@
 //! | `messages` | loans are written, sent and given up; samples are read and released |
 //! | `receiving` | subscribers receive |
 //! | `following` | ports follow the list of the others, say whether messages wait, and leave |
+//! | `numbered_hub` | the hub with what was made in it |
+//! | `service_step` | the commands on nodes and services |
+//! | `room_arriving` | ports come, once there is room for the numbers of their loans and samples |
+//! | `step` | one command, and its reply |
+//! | `port_step` | one command of a port, and its reply |
+//! | `room` | room for the numbers of what a list of commands may make, and of the loans and samples that ports may have |
+//! | `run` | a list of commands |
+//! | `laws` | what it comes to that each service has one agreement |
 //!
-//! First calls, where nothing was made. `NumberedHub` of `iox_hub_run` makes the others.
+//! First calls, where nothing was made. `NumberedHub` of `iox_hub_commands` makes the others.
 //!
 //! ```
 //! let mut made = Made::new(alloc);
 //! let reply = messages::release(&mut made, home, sample);
+//! ```
+//!
+//! First calls. `Script` of `iox_script` makes the first two.
+//!
+//! ```
+//! let mut hub = NumberedHub::<u64, ()>::new(alloc, config);
+//! let reply = hub.step(alloc, Command::Node)?;
+//! let report = hub.run(alloc, commands);
 //! ```
 #![tactic(auto)]
 
 pub mod arriving;
 pub mod following;
 pub mod handlers;
+pub mod laws;
 pub mod lending;
 pub mod messages;
 mod naming;
+pub mod numbered_hub;
+mod port_step;
 pub mod ports;
 pub mod receiving;
 pub mod replies;
+pub mod room;
+mod room_arriving;
+pub mod run;
+mod service_step;
 pub mod services;
+mod step;
 
+pub use crate::services::HubConfig;
 pub use handlers::{
     FixedDegradation, FixedHandlers, NamedSlots, PublisherHandlers, SubscriberHandler,
 };
 pub use naming::{most_loans, publisher_handlers, subscriber_handler};
+pub use numbered_hub::NumberedHub;
 pub use ports::Made;
+pub use run::RunReport;

@@ -4,7 +4,7 @@ ghost use Rattle.std.specs.Prelude.{◌≡◌, ◌+◌, ◌<◌, ◌^◌, IsSome
 ghost use Rattle.iox_command.specs.declared.reply.Reply.TheVariants as reply;
 ghost use Rattle.iox_hub_commands.specs.Receiving.{IsShown, ReceiveStep};
 ghost use Rattle.iox_hub_commands.specs.Reading.{values_under};
-ghost use Rattle.iox_hub_commands.specs.Maps.NumberTable.{value_at};
+ghost use Rattle.iox_delivery.specs.Container.NumberTable.{value_at};
 
 use crate::messages::copied;
 use crate::ports::Made;

@@ -3,7 +3,7 @@ ghost use Rattle.std.specs.Prelude.{◌≡◌};
 ghost use Rattle.iox_hub_commands.specs.Replies as replied;
 
 use iox_command::{HubError, Refusal, Reply};
-use iox_domain_publisher::Sent;
+use iox_domain_ports::Sent;
 use iox_domain_values::{
     ConnectionFailure, LoanError, PublisherCreateError, SendError, SubscriberCreateError,
 };

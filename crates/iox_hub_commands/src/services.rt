@@ -14,7 +14,7 @@
 //! | `acting` | nodes of others act |
 //! | `laws` | what these calls come to for the factories, in other words than theirs |
 //!
-//! First calls, where nothing was opened. `NumberedHub` of `iox_hub_run` makes the others.
+//! First calls, where nothing was opened. `NumberedHub` of `iox_hub_commands` makes the others.
 //!
 //! ```
 //! let mut factories = Factories::new(alloc);

@@ -24,19 +24,19 @@ use Rattle.iox_hub_laws.specs.HubCommands.Asking.{hash_of}
 use Rattle.iox_hub_laws.specs.HubCommands.HubBase.Hubs.{factories_of}
 use Rattle.iox_hub_laws.specs.HubCommands.HubBase.Opening.{Made, Settles, OpensInHub}
 use Rattle.iox_hub_laws.specs.HubCommands.HubBase.declared.hub.Hub.{Hub}
-use Rattle.iox_hub_laws.specs.HubCommands.HubServices.Numbered.{others_beside}
-use Rattle.iox_hub_laws.specs.HubCommands.HubServices.Open.{OpenServices, presence_of}
-use Rattle.iox_hub_laws.specs.HubCommands.HubServices.Opening.{Opens as ServiceOpens}
-use Rattle.iox_hub_laws.specs.HubCommands.HubServices.declared.presence.Presence.TheVariants.{Here}
-use Rattle.iox_hub_laws.specs.HubCommands.Maps.NumberTable.{Rises, value_at, inserted}
+use Rattle.iox_hub_laws.specs.HubCommands.HubBase.Numbered.{others_beside}
+use Rattle.iox_hub_laws.specs.HubCommands.HubBase.Open.{OpenServices, presence_of}
+use Rattle.iox_hub_laws.specs.HubCommands.HubBase.ServicesOpening.{Opens as ServiceOpens}
+use Rattle.iox_hub_laws.specs.HubCommands.HubBase.declared.presence.Presence.TheVariants.{Here}
+use Rattle.iox_hub_laws.specs.HubCommands.Container.NumberTable.{Rises, value_at, inserted}
 use Rattle.iox_hub_laws.specs.HubCommands.ServicesNumbering.{Numbers, GetsNumber}
 use Rattle.iox_hub_laws.specs.HubCommands.ServicesTables.{FactoryTable, SameNumbers}
 use Rattle.iox_hub_laws.specs.HubCommands.declared.services.made.MadeFactory.{MadeFactory}
-use Rattle.iox_hub_laws.proofs.HubCommands.Maps.Telling.{found_and_gone}
-use Rattle.iox_hub_laws.specs.HubRun.AgreementLaws.{service_of, carried_by}
-use Rattle.iox_hub_laws.specs.HubRun.Lives.{NumbersRise}
-use Rattle.iox_hub_laws.specs.HubRun.Steps.{Step}
-use Rattle.iox_hub_laws.specs.HubRun.declared.numbered_hub.NumberedHub.{NumberedHub}
+use Rattle.iox_hub_laws.proofs.HubCommands.Container.Telling.{found_and_gone}
+use Rattle.iox_hub_laws.specs.HubCommands.AgreementLaws.{service_of, carried_by}
+use Rattle.iox_hub_laws.specs.HubCommands.Lives.{NumbersRise}
+use Rattle.iox_hub_laws.specs.HubCommands.CommandSteps.{Step}
+use Rattle.iox_hub_laws.specs.HubCommands.declared.numbered_hub.NumberedHub.{NumberedHub}
 use Rattle.iox_hub_laws.specs.Asking.{hash_asked, number_asked}
 use Rattle.iox_hub_laws.specs.Left.{AllLeft, IsLeft}
 use Rattle.iox_hub_laws.proofs.Names.{AllUnder, closes_under, untouched_same, untouched_on, stepped_went_leaves, went_leaves}

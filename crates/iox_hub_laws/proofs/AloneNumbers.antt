@@ -1,7 +1,7 @@
 -- Tables of what goes by numbers: all of one service, and numbers that are passed over.
 use Rattle.std.proofs.Common.{◌≡◌, ◌∙◌, ◌+◌, ◌≤◌, ◌<◌, ℕ, Bool, true, false, List, [], ◌∷◌, Option, None, Some, option_map, refl, sym, ap, nat_eq, arith}
 use Rattle.std.specs.Map.{lookup}
-use Rattle.iox_hub_laws.specs.HubCommands.Maps.NumberTable.{NumberTable, Rises, value_at}
+use Rattle.iox_hub_laws.specs.HubCommands.Container.NumberTable.{NumberTable, Rises, value_at}
 use Rattle.iox_hub_laws.specs.Left.{AllLeft}
 use Rattle.iox_hub_laws.proofs.IndependenceTables.{found_as_before}
 use Rattle.iox_hub_laws.specs.Agreeing.{SameOf}

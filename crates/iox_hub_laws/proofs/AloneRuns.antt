@@ -15,18 +15,18 @@ use Rattle.iox_hub_laws.specs.HubCommands.DomainValues.declared.degradation.Degr
 use Rattle.iox_hub_laws.specs.HubCommands.DomainValues.declared.degradation.DegradationCause.{DegradationCause}
 use Rattle.iox_hub_laws.specs.HubCommands.DomainValues.declared.degradation.DegradationInfo.{DegradationInfo}
 use Rattle.iox_hub_laws.specs.HubCommands.HubBase.Hubs.{factories_of, one_more}
-use Rattle.iox_hub_laws.specs.HubCommands.HubServices.Open.{presence_of}
-use Rattle.iox_hub_laws.specs.HubCommands.Maps.NumberTable.{value_at}
+use Rattle.iox_hub_laws.specs.HubCommands.HubBase.Open.{presence_of}
+use Rattle.iox_hub_laws.specs.HubCommands.Container.NumberTable.{value_at}
 use Rattle.iox_hub_laws.specs.HubCommands.HubBase.declared.hub.HubConfig.{HubConfig}
 use Rattle.std.specs.Map.{lookup}
 use Rattle.std.specs.Prelude.{nat_eq}
-use Rattle.iox_hub_laws.specs.HubRun.AgreementLaws.{service_of}
-use Rattle.iox_hub_laws.specs.HubRun.Lives.{NumbersGoOn}
-use Rattle.iox_hub_laws.specs.HubRun.Numbers.{IsNew}
-use Rattle.iox_hub_laws.specs.HubRun.Steps.{Step}
-use Rattle.iox_hub_laws.specs.HubRun.declared.numbered_hub.NumberedHub.{NumberedHub}
-use Rattle.iox_hub_laws.proofs.HubRun.Rooms.{new_rises}
-use Rattle.iox_hub_laws.proofs.HubRun.StepChanges.{step_changes, numbers_go_on}
+use Rattle.iox_hub_laws.specs.HubCommands.AgreementLaws.{service_of}
+use Rattle.iox_hub_laws.specs.HubCommands.Lives.{NumbersGoOn}
+use Rattle.iox_hub_laws.specs.HubCommands.Numbers.{IsNew}
+use Rattle.iox_hub_laws.specs.HubCommands.CommandSteps.{Step}
+use Rattle.iox_hub_laws.specs.HubCommands.declared.numbered_hub.NumberedHub.{NumberedHub}
+use Rattle.iox_hub_laws.proofs.HubCommands.Rooms.{new_rises}
+use Rattle.iox_hub_laws.proofs.HubCommands.StepChanges.{step_changes, numbers_go_on}
 use Rattle.iox_hub_laws.specs.Asking.{hash_asked, number_asked, service_at, publisher_service, loan_service, sample_service}
 use Rattle.iox_hub_laws.specs.Left.{if_of, IsLeft}
 use Rattle.iox_hub_laws.proofs.Negotiated.{same-good}

@@ -3,15 +3,15 @@ use Rattle.std.proofs.Common.{◌≡◌, ◌∙◌, ℕ, cond, List, map, Option
 use Rattle.std.specs.BTreeMap.{is_at}
 use Rattle.std.specs.Ordering.{nat_cmp}
 use Rattle.std.specs.declared.alloc.AllocError.{AllocError}
-use Rattle.iox_domain.specs.DomainPublisher.Ports.{detached_at}
-use Rattle.iox_domain.specs.DomainPublisher.declared.publisher_port.PublisherPort.{PublisherPort}
-use Rattle.iox_domain.specs.DomainPublisher.Messages.{Message}
+use Rattle.iox_domain.specs.DomainPorts.Ports.{detached_at}
+use Rattle.iox_domain.specs.DomainPorts.declared.publisher_port.PublisherPort.{PublisherPort}
+use Rattle.iox_domain.specs.DomainPorts.Messages.{Message}
 use Rattle.iox_domain.specs.DomainSlots.Uses.{Connection}
-use Rattle.iox_domain.specs.DomainSubscriber.Following.{lacks_connection}
-use Rattle.iox_domain.specs.DomainSubscriber.Publishers as ports
-use Rattle.iox_domain.specs.DomainSubscriber.Reading.{taken_at, given_back_at}
-use Rattle.iox_domain.specs.DomainSubscriber.Subscribing.{connection_by, most_by, ended_ports, taken_of, taken_ports}
-use Rattle.iox_domain.specs.DomainSubscriber.declared.attached.Attached.{Attached}
+use Rattle.iox_domain.specs.DomainPorts.Following.{lacks_connection}
+use Rattle.iox_domain.specs.DomainPorts.Publishers as ports
+use Rattle.iox_domain.specs.DomainPorts.Reading.{taken_at, given_back_at}
+use Rattle.iox_domain.specs.DomainPorts.Subscribing.{connection_by, most_by, ended_ports, taken_of, taken_ports}
+use Rattle.iox_domain.specs.DomainPorts.declared.attached.Attached.{Attached}
 use Rattle.iox_hub_laws.specs.Renaming.{Renaming, renamed_publisher, renamed_publishers}
 use Rattle.iox_hub_laws.proofs.Lists.{pick, each_found, each_set, each_gone, each_come}
 use Rattle.iox_hub_laws.proofs.Publishers.{attaches, left_as, given_back_as}

@@ -39,23 +39,23 @@ use Rattle.iox_hub_laws.specs.HubCommands.HubBase.Closing.{is_last, less_one}
 use Rattle.iox_hub_laws.specs.HubCommands.HubBase.Opening.{Made as Opened, Enters, Settles, OpensInHub}
 use Rattle.iox_hub_laws.specs.HubCommands.HubBase.declared.hub.Hub.{Hub}
 use Rattle.iox_hub_laws.specs.HubCommands.HubBase.declared.hub.HubConfig.{HubConfig}
-use Rattle.iox_hub_laws.specs.HubCommands.HubServices.AsHome.{domain_at, stepped_if}
-use Rattle.iox_hub_laws.specs.HubCommands.HubServices.Numbered.{one_value, others_beside}
-use Rattle.iox_hub_laws.specs.HubCommands.HubServices.Open.{OpenServices, presence_of}
-use Rattle.iox_hub_laws.specs.HubCommands.HubServices.Opening.{Opens as ServiceOpens}
-use Rattle.iox_hub_laws.specs.HubCommands.HubServices.declared.presence.Presence.{Presence}
-use Rattle.iox_hub_laws.specs.HubCommands.HubServices.declared.presence.Presence.TheVariants.{Here}
-use Rattle.iox_hub_laws.specs.HubCommands.Maps.NumberTable.{NumberTable}
+use Rattle.iox_hub_laws.specs.HubCommands.HubBase.ServicesAsHome.{domain_at, stepped_if}
+use Rattle.iox_hub_laws.specs.HubCommands.HubBase.Numbered.{one_value, others_beside}
+use Rattle.iox_hub_laws.specs.HubCommands.HubBase.Open.{OpenServices, presence_of}
+use Rattle.iox_hub_laws.specs.HubCommands.HubBase.ServicesOpening.{Opens as ServiceOpens}
+use Rattle.iox_hub_laws.specs.HubCommands.HubBase.declared.presence.Presence.{Presence}
+use Rattle.iox_hub_laws.specs.HubCommands.HubBase.declared.presence.Presence.TheVariants.{Here}
+use Rattle.iox_hub_laws.specs.HubCommands.Container.NumberTable.{NumberTable}
 use Rattle.iox_hub_laws.specs.HubCommands.ServicesNumbering.{GetsNumber}
 use Rattle.iox_hub_laws.specs.HubCommands.ServicesTables.{FactoryTable, parts_of}
 use Rattle.iox_hub_laws.specs.HubCommands.declared.services.made.MadeFactory.{MadeFactory}
-use Rattle.iox_hub_laws.specs.HubRun.AgreementLaws.{service_of}
-use Rattle.iox_hub_laws.specs.HubRun.Numbers.{IsNew}
-use Rattle.iox_hub_laws.specs.HubRun.Runs.{IsRun}
-use Rattle.iox_hub_laws.specs.HubRun.Steps.{IsReplied, Step}
-use Rattle.iox_hub_laws.specs.HubRun.declared.numbered_hub.NumberedHub.{NumberedHub}
-use Rattle.iox_hub_laws.proofs.HubRun.RunLemmas.{run_goes}
-use Rattle.iox_hub_laws.proofs.HubRun.StepChanges.{step_changes, numbers_go_on}
+use Rattle.iox_hub_laws.specs.HubCommands.AgreementLaws.{service_of}
+use Rattle.iox_hub_laws.specs.HubCommands.Numbers.{IsNew}
+use Rattle.iox_hub_laws.specs.HubCommands.Runs.{IsRun}
+use Rattle.iox_hub_laws.specs.HubCommands.CommandSteps.{IsReplied, Step}
+use Rattle.iox_hub_laws.specs.HubCommands.declared.numbered_hub.NumberedHub.{NumberedHub}
+use Rattle.iox_hub_laws.proofs.HubCommands.RunLemmas.{run_goes}
+use Rattle.iox_hub_laws.proofs.HubCommands.StepChanges.{step_changes, numbers_go_on}
 use Rattle.iox_hub_laws.specs.Asking.{hash_asked, service_at, publisher_service, loan_service, sample_service}
 use Rattle.iox_hub_laws.specs.Left.{IsLeft}
 use Rattle.iox_hub_laws.proofs.Steps as beside

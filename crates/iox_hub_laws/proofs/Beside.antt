@@ -15,15 +15,15 @@ use Rattle.iox_hub_commands.specs.Command.declared.reply.Reply.{Reply}
 use Rattle.iox_hub_commands.specs.DescribeBase.declared.hash.ServiceHash.{ServiceHash}
 use Rattle.iox_hub_commands.specs.HubBase.declared.hub.HubConfig.{HubConfig}
 use Rattle.iox_negotiate.proofs.Agreements.{was-agreed-on}
-use Rattle.iox_hub_run.specs.Agreements.{AreOfOneAgreement}
-use Rattle.iox_hub_run.specs.Lives.{NumbersRise}
-use Rattle.iox_hub_run.specs.Numbers.{IsNew}
-use Rattle.iox_hub_run.specs.Steps.{Step}
-use Rattle.iox_hub_run.specs.declared.numbered_hub.NumberedHub.{NumberedHub}
-use Rattle.iox_hub_run.proofs.RunLemmas.{run_goes}
-use Rattle.iox_hub_run.proofs.ServicesAgree.{nothing_agrees}
-use Rattle.iox_hub_run.proofs.StepChanges.{step_changes, numbers_go_on}
-use Rattle.iox_hub_run.proofs.StepMoves.{step_goes}
+use Rattle.iox_hub_commands.specs.Agreements.{AreOfOneAgreement}
+use Rattle.iox_hub_commands.specs.Lives.{NumbersRise}
+use Rattle.iox_hub_commands.specs.Numbers.{IsNew}
+use Rattle.iox_hub_commands.specs.CommandSteps.{Step}
+use Rattle.iox_hub_commands.specs.declared.numbered_hub.NumberedHub.{NumberedHub}
+use Rattle.iox_hub_commands.proofs.RunLemmas.{run_goes}
+use Rattle.iox_hub_commands.proofs.ServicesAgree.{nothing_agrees}
+use Rattle.iox_hub_commands.proofs.StepChanges.{step_changes, numbers_go_on}
+use Rattle.iox_hub_commands.proofs.StepMoves.{step_goes}
 use Rattle.iox_hub_laws.specs.Laws.{IsService, StepBeside, LeavesOthers, RunsLeaveOthers, LeftIsFound}
 use Rattle.iox_hub_laws.specs.Left.{IsLeft}
 use Rattle.iox_hub_laws.proofs.Names.{untouched_on}
@@ -31,8 +31,8 @@ use Rattle.iox_hub_laws.proofs.Ports.{made_on}
 use Rattle.iox_hub_laws.proofs.Steps.{step_left, by_same}
 use Rattle.iox_hub_laws.proofs.IndependenceTables.{found_as_before}
 use Rattle.iox_hub_laws.specs.Asking.{service_at, publisher_service, loan_service, sample_service}
-use Rattle.iox_hub_run.proofs.Rooms.{new_rises}
-use Rattle.iox_hub_run.specs.AgreementLaws.{service_of}
+use Rattle.iox_hub_commands.proofs.Rooms.{new_rises}
+use Rattle.iox_hub_commands.specs.AgreementLaws.{service_of}
 
 module _ {T U B D : Type 0} where
   -- what holds of the hubs of a run

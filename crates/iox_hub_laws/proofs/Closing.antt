@@ -26,17 +26,17 @@ use Rattle.iox_hub_laws.specs.HubCommands.Domain.Kept.{kept, forgotten}
 use Rattle.iox_hub_laws.specs.HubCommands.HubBase.Closing.{is_last, who_counts, lives_in, in_use, less_one}
 use Rattle.iox_hub_laws.specs.HubCommands.HubBase.Hubs.{factories_of}
 use Rattle.iox_hub_laws.specs.HubCommands.HubBase.declared.hub.Hub.{Hub}
-use Rattle.iox_hub_laws.specs.HubCommands.HubServices.Numbered.{is_number, not_number, others_beside}
-use Rattle.iox_hub_laws.specs.HubCommands.HubServices.Open.{presence_of}
-use Rattle.iox_hub_laws.specs.HubCommands.HubServices.Opening.{without_service}
-use Rattle.iox_hub_laws.specs.HubCommands.Maps.NumberTable.{Rises, value_at, removed}
+use Rattle.iox_hub_laws.specs.HubCommands.HubBase.Numbered.{is_number, not_number, others_beside}
+use Rattle.iox_hub_laws.specs.HubCommands.HubBase.Open.{presence_of}
+use Rattle.iox_hub_laws.specs.HubCommands.HubBase.ServicesOpening.{without_service}
+use Rattle.iox_hub_laws.specs.HubCommands.Container.NumberTable.{Rises, value_at, removed}
 use Rattle.iox_hub_laws.specs.HubCommands.ServicesTables.{FactoryTable, parts_of}
 use Rattle.iox_hub_laws.specs.HubCommands.declared.services.made.MadeFactory.{MadeFactory}
-use Rattle.iox_hub_laws.specs.HubRun.AgreementLaws.{service_of, carried_by}
-use Rattle.iox_hub_laws.specs.HubRun.Lives.{NumbersRise}
-use Rattle.iox_hub_laws.specs.HubRun.Services.{Closes}
-use Rattle.iox_hub_laws.specs.HubRun.Steps.{Step}
-use Rattle.iox_hub_laws.specs.HubRun.declared.numbered_hub.NumberedHub.{NumberedHub}
+use Rattle.iox_hub_laws.specs.HubCommands.AgreementLaws.{service_of, carried_by}
+use Rattle.iox_hub_laws.specs.HubCommands.Lives.{NumbersRise}
+use Rattle.iox_hub_laws.specs.HubCommands.Services.{Closes}
+use Rattle.iox_hub_laws.specs.HubCommands.CommandSteps.{Step}
+use Rattle.iox_hub_laws.specs.HubCommands.declared.numbered_hub.NumberedHub.{NumberedHub}
 use Rattle.iox_hub_laws.proofs.Names.{closes_under, AllUnder}
 use Rattle.iox_hub_laws.specs.Negotiate.declared.factory.Membership.{Membership}
 use Rattle.iox_hub_laws.specs.Negotiate.NegotiateBase.declared.errors.close.CloseError.{CloseError}

@@ -21,9 +21,9 @@ use Rattle.iox_hub_laws.specs.HubCommands.declared.services.factories.Factories.
 use Rattle.iox_hub_laws.specs.HubCommands.HubBase.Opening.{Made as Opened}
 use Rattle.iox_hub_laws.specs.HubCommands.Command.declared.port.PublisherOptions.{PublisherOptions}
 use Rattle.iox_hub_laws.specs.HubCommands.Command.declared.port.SubscriberOptions.{SubscriberOptions}
-use Rattle.iox_hub_laws.specs.HubRun.Services.{NodeMakes, PublisherComes, SubscriberComes}
-use Rattle.iox_hub_laws.specs.HubRun.Steps.{IsReplied, Step}
-use Rattle.iox_hub_laws.specs.HubRun.declared.numbered_hub.NumberedHub.{NumberedHub}
+use Rattle.iox_hub_laws.specs.HubCommands.Services.{NodeMakes, PublisherComes, SubscriberComes}
+use Rattle.iox_hub_laws.specs.HubCommands.CommandSteps.{IsReplied, Step}
+use Rattle.iox_hub_laws.specs.HubCommands.declared.numbered_hub.NumberedHub.{NumberedHub}
 use Rattle.iox_hub_laws.proofs.Negotiate.Tables.{IsTable, reached}
 use Rattle.iox_hub_laws.specs.Negotiate.NegotiateTable.Contents.{Contents}
 use Rattle.iox_hub_laws.specs.NegotiateRenamedRenaming.{AreInOrder, GoBy}

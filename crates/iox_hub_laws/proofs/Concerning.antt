@@ -4,8 +4,8 @@ use Rattle.iox_hub_laws.specs.HubCommands.Command.declared.command.Command.{Comm
 use Rattle.iox_hub_laws.specs.HubCommands.Command.declared.command.Command.TheVariants as command
 use Rattle.iox_hub_laws.specs.HubCommands.Command.declared.port.PortNumber.TheVariants as port
 use Rattle.iox_hub_laws.specs.HubCommands.DescribeBase.declared.hash.ServiceHash.{ServiceHash}
-use Rattle.iox_hub_laws.specs.HubRun.AgreementLaws.{service_of, carried_by}
-use Rattle.iox_hub_laws.specs.HubRun.declared.numbered_hub.NumberedHub.{NumberedHub}
+use Rattle.iox_hub_laws.specs.HubCommands.AgreementLaws.{service_of, carried_by}
+use Rattle.iox_hub_laws.specs.HubCommands.declared.numbered_hub.NumberedHub.{NumberedHub}
 use Rattle.iox_hub_laws.specs.Asking.{hash_asked, number_asked, service_at, publisher_service, loan_service, sample_service}
 use Rattle.iox_hub_laws.specs.Agreeing.{AgreeOn}
 use Rattle.iox_hub_laws.specs.Locality.{HashFound, Concerns}

@@ -13,10 +13,10 @@ use Rattle.iox_hub_laws.specs.HubCommands.Domain.Domains.{with_ports}
 use Rattle.iox_hub_laws.specs.HubCommands.Domain.declared.domain.Domain.{Domain}
 use Rattle.iox_hub_laws.specs.HubCommands.HubBase.AsHome.{hub_ports, with_hub_ports, with_services}
 use Rattle.iox_hub_laws.specs.HubCommands.HubBase.declared.hub.Hub.{Hub}
-use Rattle.iox_hub_laws.specs.HubCommands.HubServices.AsHome.{domain_at, ports_if, stepped, stepped_if}
-use Rattle.iox_hub_laws.specs.HubCommands.HubServices.Numbered.{changed_found, absent_unchanged, others_unchanged}
-use Rattle.iox_hub_laws.specs.HubCommands.HubServices.Open.{OpenServices, presence_of, here_if, with_domain}
-use Rattle.iox_hub_laws.specs.HubCommands.HubServices.declared.presence.Presence.TheVariants.{Here}
+use Rattle.iox_hub_laws.specs.HubCommands.HubBase.ServicesAsHome.{domain_at, ports_if, stepped, stepped_if}
+use Rattle.iox_hub_laws.specs.HubCommands.HubBase.Numbered.{changed_found, absent_unchanged, others_unchanged}
+use Rattle.iox_hub_laws.specs.HubCommands.HubBase.Open.{OpenServices, presence_of, here_if, with_domain}
+use Rattle.iox_hub_laws.specs.HubCommands.HubBase.declared.presence.Presence.TheVariants.{Here}
 use Rattle.iox_hub_laws.specs.Agreeing.{HubsAgree}
 
 set_found : {X : Type 0} (number : ℕ) (values : List (ℕ × X)) (w : X) (found : Option X) → lookup (is_at (nat_cmp number)) values ≡ found → lookup (is_at (nat_cmp number)) (set_value (is_at (nat_cmp number)) values w) ≡ option_map (λ x. w) found

@@ -19,16 +19,16 @@ use Rattle.iox_hub_laws.specs.HubCommands.DomainValues.declared.degradation.Degr
 use Rattle.iox_hub_laws.specs.HubCommands.Closing.{ClosesUnless, ClosesIfOf, ClosesNumbered}
 use Rattle.iox_hub_laws.specs.HubCommands.HubBase.Opening.{Made as Opened}
 use Rattle.iox_hub_laws.specs.HubCommands.HubBase.declared.hub.Hub.{Hub}
-use Rattle.iox_hub_laws.specs.HubCommands.Maps.NumberTable.{Rises, value_at, removed}
+use Rattle.iox_hub_laws.specs.HubCommands.Container.NumberTable.{Rises, value_at, removed}
 use Rattle.iox_hub_laws.specs.HubCommands.ServicesTables.{FactoryTable, parts_of}
 use Rattle.iox_hub_laws.specs.HubCommands.declared.services.made.MadeFactory.{MadeFactory}
-use Rattle.iox_hub_laws.proofs.HubCommands.Maps.Telling.{found_and_gone}
+use Rattle.iox_hub_laws.proofs.HubCommands.Container.Telling.{found_and_gone}
 use Rattle.std.proofs.lemmas.Bool.{eqb-true, eq-eqb}
-use Rattle.iox_hub_laws.specs.HubRun.AgreementLaws.{service_of, carried_by}
-use Rattle.iox_hub_laws.specs.HubRun.Lives.{NumbersRise}
-use Rattle.iox_hub_laws.specs.HubRun.Services.{PublisherComes, SubscriberComes}
-use Rattle.iox_hub_laws.specs.HubRun.Steps.{IsReplied, Step}
-use Rattle.iox_hub_laws.specs.HubRun.declared.numbered_hub.NumberedHub.{NumberedHub}
+use Rattle.iox_hub_laws.specs.HubCommands.AgreementLaws.{service_of, carried_by}
+use Rattle.iox_hub_laws.specs.HubCommands.Lives.{NumbersRise}
+use Rattle.iox_hub_laws.specs.HubCommands.Services.{PublisherComes, SubscriberComes}
+use Rattle.iox_hub_laws.specs.HubCommands.CommandSteps.{IsReplied, Step}
+use Rattle.iox_hub_laws.specs.HubCommands.declared.numbered_hub.NumberedHub.{NumberedHub}
 use Rattle.iox_hub_laws.specs.Asking.{hash_asked}
 use Rattle.iox_hub_laws.proofs.Steps as beside
 use Rattle.iox_hub_laws.specs.Negotiate.declared.factory.Membership.{Membership}

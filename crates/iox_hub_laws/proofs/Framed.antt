@@ -32,15 +32,15 @@ use Rattle.iox_hub_laws.specs.HubCommands.HubBase.Closing.{is_last, less_one}
 use Rattle.iox_hub_laws.specs.HubCommands.HubBase.Hubs.{one_more, factories_of}
 use Rattle.iox_hub_laws.specs.HubCommands.HubBase.Opening.{Made, Enters, Settles, OpensInHub}
 use Rattle.iox_hub_laws.specs.HubCommands.HubBase.declared.hub.Hub.{Hub}
-use Rattle.iox_hub_laws.specs.HubCommands.HubServices.AsHome.{domain_at, stepped, stepped_if}
-use Rattle.iox_hub_laws.specs.HubCommands.HubServices.Open.{OpenServices}
-use Rattle.iox_hub_laws.specs.HubCommands.HubServices.Opening.{Opens as ServiceOpens}
-use Rattle.iox_hub_laws.specs.HubCommands.HubServices.declared.presence.Presence.TheVariants.{Here}
+use Rattle.iox_hub_laws.specs.HubCommands.HubBase.ServicesAsHome.{domain_at, stepped, stepped_if}
+use Rattle.iox_hub_laws.specs.HubCommands.HubBase.Open.{OpenServices}
+use Rattle.iox_hub_laws.specs.HubCommands.HubBase.ServicesOpening.{Opens as ServiceOpens}
+use Rattle.iox_hub_laws.specs.HubCommands.HubBase.declared.presence.Presence.TheVariants.{Here}
 use Rattle.iox_hub_laws.specs.HubCommands.ServicesNumbering.{GetsNumber}
 use Rattle.iox_hub_laws.specs.HubCommands.ServicesTables.{FactoryTable, parts_of}
 use Rattle.iox_hub_laws.specs.HubCommands.declared.services.made.MadeFactory.{MadeFactory}
-use Rattle.iox_hub_laws.specs.HubRun.Steps.{IsReplied, Step}
-use Rattle.iox_hub_laws.specs.HubRun.declared.numbered_hub.NumberedHub.{NumberedHub}
+use Rattle.iox_hub_laws.specs.HubCommands.CommandSteps.{IsReplied, Step}
+use Rattle.iox_hub_laws.specs.HubCommands.declared.numbered_hub.NumberedHub.{NumberedHub}
 use Rattle.iox_hub_laws.specs.Asking.{hash_asked}
 use Rattle.iox_hub_laws.specs.Negotiate.declared.factory.Membership.{Membership}
 use Rattle.iox_hub_laws.specs.Negotiate.NegotiateBase.declared.errors.close.CloseError.{CloseError}

@@ -23,12 +23,12 @@ use Rattle.iox_hub_laws.specs.HubCommands.Domain.Handling.{kept_degrades, kept_d
 use Rattle.iox_hub_laws.specs.HubCommands.Domain.declared.domain.Domain.{Domain}
 use Rattle.iox_hub_laws.specs.HubCommands.HubBase.AsHome.{hub_ports, with_hub_ports, with_services}
 use Rattle.iox_hub_laws.specs.HubCommands.HubBase.declared.hub.Hub.{Hub}
-use Rattle.iox_hub_laws.specs.HubCommands.HubServices.AsHome.{domain_at, ports_if, stepped_if, stepped, publisher_handlers_in, subscriber_handler_in}
-use Rattle.iox_hub_laws.specs.HubCommands.HubServices.Open.{OpenServices, presence_of, domain_of, here_if}
-use Rattle.iox_hub_laws.specs.HubCommands.HubServices.declared.presence.Presence.{Presence}
-use Rattle.iox_hub_laws.specs.HubCommands.HubServices.declared.presence.Presence.TheVariants.{Here, Out}
-use Rattle.iox_hub_laws.specs.HubRun.Grown.{AnySlots, AnyAction, AnyDecision}
-use Rattle.iox_hub_laws.specs.HubRun.Steps.{publisher_may_degrade, publisher_may_decide, subscriber_may_degrade}
+use Rattle.iox_hub_laws.specs.HubCommands.HubBase.ServicesAsHome.{domain_at, ports_if, stepped_if, stepped, publisher_handlers_in, subscriber_handler_in}
+use Rattle.iox_hub_laws.specs.HubCommands.HubBase.Open.{OpenServices, presence_of, domain_of, here_if}
+use Rattle.iox_hub_laws.specs.HubCommands.HubBase.declared.presence.Presence.{Presence}
+use Rattle.iox_hub_laws.specs.HubCommands.HubBase.declared.presence.Presence.TheVariants.{Here, Out}
+use Rattle.iox_hub_laws.specs.HubCommands.Grown.{AnySlots, AnyAction, AnyDecision}
+use Rattle.iox_hub_laws.specs.HubCommands.CommandSteps.{publisher_may_degrade, publisher_may_decide, subscriber_may_degrade}
 use Rattle.iox_hub_laws.specs.NegotiateRenamedRenaming.{AreInOrder}
 use Rattle.iox_hub_laws.proofs.Numbers.{at_as, moved_found, moved_set, weaker}
 use Rattle.iox_hub_laws.proofs.Negotiate.Maps.{set-found}

@@ -2,8 +2,8 @@
 use Rattle.std.proofs.Common.{◌≡◌, ◌≢◌, ◌∙◌, ◌++◌, ℕ, Bool, true, false, cond, List, [], ◌∷◌, Option, None, Some, option_map, refl, sym, ap, nat_eq}
 use Rattle.std.proofs.lemmas.Bool.{eqb-true, eq-eqb}
 use Rattle.std.specs.Map.{lookup}
-use Rattle.iox_hub_commands.specs.Maps.NumberTable.{NumberTable, Rises, value_at, inserted, removed}
-use Rattle.iox_hub_commands.proofs.Maps.Telling.{found_and_gone}
+use Rattle.iox_hub_commands.specs.Container.NumberTable.{NumberTable, Rises, value_at, inserted, removed}
+use Rattle.iox_hub_commands.proofs.Container.Telling.{found_and_gone}
 use Rattle.iox_hub_laws.specs.Laws.{FoundAsBefore}
 use Rattle.iox_hub_laws.specs.Left.{if_of, AllLeft}
 

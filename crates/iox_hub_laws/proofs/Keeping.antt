@@ -14,8 +14,8 @@ use Rattle.iox_hub_laws.specs.HubCommands.Domain.Steps as steps
 use Rattle.iox_hub_laws.specs.HubCommands.Domain.declared.domain_id.DomainId.{DomainId}
 use Rattle.iox_hub_laws.specs.HubCommands.Domain.Lending.{gave_up_in}
 use Rattle.iox_hub_laws.specs.HubCommands.Domain.declared.ports.service_ports.ServicePorts.{ServicePorts}
-use Rattle.iox_hub_laws.specs.HubCommands.DomainPublisher.declared.meeting.Sent.{Sent}
-use Rattle.iox_hub_laws.specs.HubCommands.DomainSubscriber.declared.attached.Taken.{Taken}
+use Rattle.iox_hub_laws.specs.HubCommands.DomainPorts.declared.meeting.Sent.{Sent}
+use Rattle.iox_hub_laws.specs.HubCommands.DomainPorts.declared.attached.Taken.{Taken}
 use Rattle.iox_hub_laws.specs.HubCommands.DomainValues.declared.backpressure.BackpressureDecision.{BackpressureDecision}
 use Rattle.iox_hub_laws.specs.HubCommands.DomainValues.declared.backpressure.BackpressureInfo.{BackpressureInfo}
 use Rattle.iox_hub_laws.specs.HubCommands.DomainValues.declared.connection_failure.ConnectionFailure.{ConnectionFailure}
@@ -27,7 +27,7 @@ use Rattle.iox_hub_laws.specs.HubCommands.DomainValues.declared.port_error.Recei
 use Rattle.iox_hub_laws.specs.HubCommands.DomainValues.declared.port_error.SendError.{SendError}
 use Rattle.iox_hub_laws.specs.HubCommands.HubBase.AsHome.{hub_ports, with_hub_ports, without_hub_publisher, without_hub_subscriber}
 use Rattle.iox_hub_laws.specs.HubCommands.HubBase.declared.hub.Hub.{Hub}
-use Rattle.iox_hub_laws.specs.HubCommands.HubServices.AsHome.{publisher_kept, subscriber_kept, publisher_forgotten, subscriber_forgotten}
+use Rattle.iox_hub_laws.specs.HubCommands.HubBase.ServicesAsHome.{publisher_kept, subscriber_kept, publisher_forgotten, subscriber_forgotten}
 use Rattle.iox_hub_laws.specs.HubCommands.Following.{UpdateStep, HasStep, LeaveStep}
 use Rattle.iox_hub_laws.specs.HubCommands.Lending.{LoanStep, LoanUninitStep, PutStep}
 use Rattle.iox_hub_laws.specs.HubCommands.Messages.{SetStep, FillStep, DropStep, SendStep, RetryStep, GiveUpStep, ReleaseStep}
@@ -41,7 +41,7 @@ use Rattle.iox_hub_laws.specs.HubCommands.Tables.{IsFull, lender, port_under}
 use Rattle.iox_hub_laws.specs.HubCommands.declared.ports.made.Made.{Made}
 use Rattle.iox_hub_laws.specs.HubCommands.declared.ports.made.MadeLoan.{MadeLoan}
 use Rattle.iox_hub_laws.specs.HubCommands.declared.ports.made.MadeSample.{MadeSample}
-use Rattle.iox_hub_laws.specs.HubCommands.Maps.NumberTable.{value_at}
+use Rattle.iox_hub_laws.specs.HubCommands.Container.NumberTable.{value_at}
 use Rattle.iox_hub_laws.specs.HubCommands.Command.declared.command.Command.{Command}
 use Rattle.iox_hub_laws.specs.HubCommands.Command.declared.command.Command.TheVariants as command
 use Rattle.iox_hub_laws.specs.HubCommands.Command.declared.port.PublisherOptions.{PublisherOptions}
@@ -57,10 +57,10 @@ use Rattle.iox_hub_laws.specs.HubCommands.Domain.Domains.{with_ports}
 use Rattle.iox_hub_laws.specs.HubCommands.Domain.declared.domain.Domain.{Domain}
 use Rattle.iox_hub_laws.specs.HubCommands.HubBase.AsHome.{with_services}
 use Rattle.iox_hub_laws.specs.HubCommands.HubBase.Opening.{Made as Opened}
-use Rattle.iox_hub_laws.specs.HubCommands.HubServices.AsHome.{stepped}
-use Rattle.iox_hub_laws.specs.HubRun.Services.{PublisherComes, SubscriberComes, domain_of_factory}
-use Rattle.iox_hub_laws.specs.HubRun.Steps.{IsReplied, Step, publisher_may_degrade, publisher_may_decide, subscriber_may_degrade}
-use Rattle.iox_hub_laws.specs.HubRun.declared.numbered_hub.NumberedHub.{NumberedHub}
+use Rattle.iox_hub_laws.specs.HubCommands.HubBase.ServicesAsHome.{stepped}
+use Rattle.iox_hub_laws.specs.HubCommands.Services.{PublisherComes, SubscriberComes, domain_of_factory}
+use Rattle.iox_hub_laws.specs.HubCommands.CommandSteps.{IsReplied, Step, publisher_may_degrade, publisher_may_decide, subscriber_may_degrade}
+use Rattle.iox_hub_laws.specs.HubCommands.declared.numbered_hub.NumberedHub.{NumberedHub}
 
 -- a command that makes a node, or is about a service and its factories
 abbrev pub OfServices : {T : Type 0} → Command T → Type 0

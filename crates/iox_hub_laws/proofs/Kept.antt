@@ -15,9 +15,9 @@ use Rattle.iox_hub_laws.specs.HubCommands.DomainValues.declared.backpressure_str
 use Rattle.iox_hub_laws.specs.HubCommands.DomainValues.declared.degradation.DegradationAction.{DegradationAction}
 use Rattle.iox_hub_laws.specs.HubCommands.DomainValues.declared.degradation.DegradationCause.{DegradationCause}
 use Rattle.iox_hub_laws.specs.HubCommands.DomainValues.declared.degradation.DegradationInfo.{DegradationInfo}
-use Rattle.iox_hub_laws.specs.HubRun.Lives.{NumbersRise}
-use Rattle.iox_hub_laws.specs.HubRun.Steps.{Step}
-use Rattle.iox_hub_laws.specs.HubRun.declared.numbered_hub.NumberedHub.{NumberedHub}
+use Rattle.iox_hub_laws.specs.HubCommands.Lives.{NumbersRise}
+use Rattle.iox_hub_laws.specs.HubCommands.CommandSteps.{Step}
+use Rattle.iox_hub_laws.specs.HubCommands.declared.numbered_hub.NumberedHub.{NumberedHub}
 use Rattle.iox_hub_laws.specs.Agreeing.{AgreeOn}
 use Rattle.iox_hub_laws.specs.Locality.{IsOfLife, NumbersOnce}
 use Rattle.iox_hub_laws.proofs.Closing.{close_alike}

@@ -52,5 +52,4 @@ pub mod RenamedServices
 pub mod Commands
 pub mod RenamedRuns
 pub use Rattle.iox_hub_commands.proofs as HubCommands
-pub use Rattle.iox_hub_run.proofs as HubRun
 pub use Rattle.iox_negotiate.proofs as Negotiate

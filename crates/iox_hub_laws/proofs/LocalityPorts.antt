@@ -11,9 +11,9 @@ use Rattle.iox_hub_laws.specs.HubCommands.Delivery.Slices.{each_written_in, Fill
 use Rattle.iox_hub_laws.specs.HubCommands.Domain.Steps as steps
 use Rattle.iox_hub_laws.specs.HubCommands.Domain.Lending.{written_in}
 use Rattle.iox_hub_laws.specs.HubCommands.Domain.declared.ports.service_ports.ServicePorts.{ServicePorts}
-use Rattle.iox_hub_laws.specs.HubCommands.DomainPublisher.declared.meeting.Sent.{Sent}
-use Rattle.iox_hub_laws.specs.HubCommands.DomainPublisher.Messages.{write_all}
-use Rattle.iox_hub_laws.specs.HubCommands.DomainPublisher.MessagesSending.{has_length}
+use Rattle.iox_hub_laws.specs.HubCommands.DomainPorts.declared.meeting.Sent.{Sent}
+use Rattle.iox_hub_laws.specs.HubCommands.DomainPorts.Messages.{write_all}
+use Rattle.iox_hub_laws.specs.HubCommands.DomainPorts.MessagesSending.{has_length}
 use Rattle.iox_hub_laws.specs.HubCommands.DomainValues.declared.backpressure.BackpressureDecision.{BackpressureDecision}
 use Rattle.iox_hub_laws.specs.HubCommands.DomainValues.declared.backpressure.BackpressureInfo.{BackpressureInfo}
 use Rattle.iox_hub_laws.specs.HubCommands.DomainValues.declared.degradation.DegradationAction.{DegradationAction}
@@ -31,9 +31,9 @@ use Rattle.iox_hub_laws.specs.HubCommands.declared.ports.made.MadeSample.{MadeSa
 use Rattle.iox_hub_laws.specs.HubCommands.Domain.Handling.{kept_degrades, kept_decides}
 use Rattle.iox_hub_laws.specs.HubCommands.HubBase.AsHome.{hub_ports, with_hub_ports, without_hub_publisher, without_hub_subscriber}
 use Rattle.iox_hub_laws.specs.HubCommands.HubBase.declared.hub.Hub.{Hub}
-use Rattle.iox_hub_laws.specs.HubCommands.HubServices.AsHome.{publisher_forgotten, subscriber_forgotten, publisher_handlers_in, subscriber_handler_in}
+use Rattle.iox_hub_laws.specs.HubCommands.HubBase.ServicesAsHome.{publisher_forgotten, subscriber_forgotten, publisher_handlers_in, subscriber_handler_in}
 use Rattle.iox_hub_laws.specs.Asking.{service_at, publisher_service, loan_service, sample_service}
-use Rattle.iox_hub_laws.specs.HubRun.Steps.{publisher_may_degrade, publisher_may_decide, subscriber_may_degrade}
+use Rattle.iox_hub_laws.specs.HubCommands.CommandSteps.{publisher_may_degrade, publisher_may_decide, subscriber_may_degrade}
 use Rattle.iox_hub_laws.specs.Agreeing.{HubsAgree}
 use Rattle.iox_hub_laws.proofs.Domains.{Alike, agree_still, ports_same, at_domain_alike, leaves_alike, changed_agree}
 use Rattle.iox_hub_laws.proofs.LocalityTables.{IsOf}

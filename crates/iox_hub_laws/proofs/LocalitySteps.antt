@@ -14,7 +14,7 @@ use Rattle.iox_hub_laws.specs.HubCommands.DescribeBase.declared.hash.ServiceHash
 use Rattle.iox_hub_laws.specs.HubCommands.DescribeBase.declared.message_type.MessageTypeDetails.{MessageTypeDetails}
 use Rattle.iox_hub_laws.specs.HubCommands.Domain.declared.domain_id.DomainId.{DomainId}
 use Rattle.iox_hub_laws.specs.HubCommands.Domain.Lending.{gave_up_in}
-use Rattle.iox_hub_laws.specs.HubCommands.DomainSubscriber.declared.attached.Taken.{Taken}
+use Rattle.iox_hub_laws.specs.HubCommands.DomainPorts.declared.attached.Taken.{Taken}
 use Rattle.iox_hub_laws.specs.HubCommands.DomainValues.declared.backpressure.BackpressureAction.{BackpressureAction}
 use Rattle.iox_hub_laws.specs.HubCommands.DomainValues.declared.backpressure.BackpressureDecision.{BackpressureDecision}
 use Rattle.iox_hub_laws.specs.HubCommands.DomainValues.declared.backpressure.BackpressureInfo.{BackpressureInfo}
@@ -44,16 +44,16 @@ use Rattle.iox_hub_laws.specs.HubCommands.HubBase.AsHome.{hub_ports, with_hub_po
 use Rattle.iox_hub_laws.specs.HubCommands.HubBase.Hubs.{one_more}
 use Rattle.iox_hub_laws.specs.HubCommands.HubBase.Opening.{Made as Opened}
 use Rattle.iox_hub_laws.specs.HubCommands.HubBase.declared.hub.Hub.{Hub}
-use Rattle.iox_hub_laws.specs.HubCommands.HubServices.AsHome.{publisher_kept, subscriber_kept}
-use Rattle.iox_hub_laws.specs.HubCommands.Maps.NumberTable.{value_at, inserted}
-use Rattle.iox_hub_laws.proofs.HubCommands.Maps.Telling.{found_and_gone}
+use Rattle.iox_hub_laws.specs.HubCommands.HubBase.ServicesAsHome.{publisher_kept, subscriber_kept}
+use Rattle.iox_hub_laws.specs.HubCommands.Container.NumberTable.{value_at, inserted}
+use Rattle.iox_hub_laws.proofs.HubCommands.Container.Telling.{found_and_gone}
 use Rattle.iox_hub_laws.specs.HubCommands.ServicesTables.{publish_subscribe_in}
 use Rattle.iox_hub_laws.specs.HubCommands.declared.services.made.MadeFactory.{MadeFactory}
 use Rattle.iox_hub_laws.specs.HubCommands.declared.services.made.MadeFactory.TheVariants as made
-use Rattle.iox_hub_laws.specs.HubRun.AgreementLaws.{service_of}
-use Rattle.iox_hub_laws.specs.HubRun.Services.{NodeMakes, PublisherComes, SubscriberComes, domain_of_factory}
-use Rattle.iox_hub_laws.specs.HubRun.Steps.{Step, publisher_may_degrade, publisher_may_decide, subscriber_may_degrade}
-use Rattle.iox_hub_laws.specs.HubRun.declared.numbered_hub.NumberedHub.{NumberedHub}
+use Rattle.iox_hub_laws.specs.HubCommands.AgreementLaws.{service_of}
+use Rattle.iox_hub_laws.specs.HubCommands.Services.{NodeMakes, PublisherComes, SubscriberComes, domain_of_factory}
+use Rattle.iox_hub_laws.specs.HubCommands.CommandSteps.{Step, publisher_may_degrade, publisher_may_decide, subscriber_may_degrade}
+use Rattle.iox_hub_laws.specs.HubCommands.declared.numbered_hub.NumberedHub.{NumberedHub}
 use Rattle.iox_hub_laws.specs.Asking.{service_at, publisher_service, loan_service, sample_service}
 use Rattle.iox_hub_laws.specs.Agreeing.{SameOf, HubsAgree, MadeAgree, AgreeOn}
 use Rattle.iox_hub_laws.specs.Locality.{IsOfPorts, FoundMine, Concerns, PortsAnswerAlike}

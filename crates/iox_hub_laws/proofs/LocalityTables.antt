@@ -1,8 +1,8 @@
 -- Two tables of what goes by numbers, in which the same comes or goes.
 use Rattle.std.proofs.Common.{◌≡◌, ◌≢◌, ◌∙◌, ◌+◌, ℕ, Bool, true, false, Option, None, Some, option_map, refl, sym, ap, nat_eq}
 use Rattle.std.proofs.lemmas.Bool.{eqb-true, eq-eqb}
-use Rattle.iox_hub_laws.specs.HubCommands.Maps.NumberTable.{NumberTable, Rises, value_at, inserted, removed}
-use Rattle.iox_hub_laws.proofs.HubCommands.Maps.Telling.{found_and_gone}
+use Rattle.iox_hub_laws.specs.HubCommands.Container.NumberTable.{NumberTable, Rises, value_at, inserted, removed}
+use Rattle.iox_hub_laws.proofs.HubCommands.Container.Telling.{found_and_gone}
 use Rattle.iox_hub_laws.specs.Left.{if_of, AllLeft}
 use Rattle.iox_hub_laws.proofs.IndependenceTables.{found_as_before}
 use Rattle.iox_hub_laws.specs.Agreeing.{SameOf}

@@ -2,7 +2,7 @@
 use Rattle.std.proofs.Common.{◌≡◌, ◌∙◌, ◌≤◌, ℕ, Bool, true, false, List, Option, None, Some, Result, Ok, Err, refl, sym, ap, subst, arith}
 use Rattle.iox_hub_laws.specs.HubCommands.Delivery.declared.port_id.PortId.{PortId}
 use Rattle.iox_hub_laws.specs.HubCommands.Domain.declared.domain_id.DomainId.{DomainId}
-use Rattle.iox_hub_laws.specs.HubCommands.DomainSubscriber.declared.attached.Taken.{Taken}
+use Rattle.iox_hub_laws.specs.HubCommands.DomainPorts.declared.attached.Taken.{Taken}
 use Rattle.iox_hub_laws.specs.HubCommands.DomainValues.declared.port_error.LoanError.{LoanError}
 use Rattle.iox_hub_laws.specs.HubCommands.DomainValues.declared.port_error.ReceiveError.{ReceiveError}
 use Rattle.iox_hub_laws.specs.HubCommands.Making.{with_publisher, with_subscriber, NumbersPort}
@@ -12,7 +12,7 @@ use Rattle.iox_hub_laws.specs.HubCommands.declared.ports.made.Made.{Made}
 use Rattle.iox_hub_laws.specs.HubCommands.declared.ports.made.MadeLoan.{MadeLoan}
 use Rattle.iox_hub_laws.specs.HubCommands.declared.ports.made.MadePublisher.{MadePublisher}
 use Rattle.iox_hub_laws.specs.HubCommands.declared.ports.made.MadeSample.{MadeSample}
-use Rattle.iox_hub_laws.specs.HubCommands.Maps.NumberTable.{NumberTable, Rises}
+use Rattle.iox_hub_laws.specs.HubCommands.Container.NumberTable.{NumberTable, Rises}
 use Rattle.iox_hub_laws.specs.Asking.{service_at, publisher_service, loan_service, sample_service}
 use Rattle.iox_hub_laws.proofs.IndependenceTables.{same_left}
 use Rattle.iox_hub_laws.specs.Agreeing.{SameOf, MadeAgree}

@@ -4,7 +4,7 @@ use Rattle.iox_hub_laws.specs.Renaming.{Renaming}
 use Rattle.iox_hub_laws.proofs.Lists.{each_found, each_gone}
 use Rattle.iox_hub_laws.specs.HubCommands.Delivery.declared.port_id.PortId.{PortId}
 use Rattle.iox_hub_laws.specs.HubCommands.Domain.declared.domain_id.DomainId.{DomainId}
-use Rattle.iox_hub_laws.specs.HubCommands.DomainSubscriber.declared.attached.Taken.{Taken}
+use Rattle.iox_hub_laws.specs.HubCommands.DomainPorts.declared.attached.Taken.{Taken}
 use Rattle.iox_hub_laws.specs.HubCommands.DomainValues.declared.port_error.LoanError.{LoanError}
 use Rattle.iox_hub_laws.specs.HubCommands.DomainValues.declared.port_error.ReceiveError.{ReceiveError}
 use Rattle.iox_hub_laws.specs.HubCommands.Making.{with_publisher, with_subscriber, NumbersPort}
@@ -13,7 +13,7 @@ use Rattle.iox_hub_laws.specs.HubCommands.Tables.{SameNumbers, IsRoomier, IsFull
 use Rattle.iox_hub_laws.specs.HubCommands.declared.ports.made.Made.{Made}
 use Rattle.iox_hub_laws.specs.HubCommands.declared.ports.made.MadePublisher.{MadePublisher}
 use Rattle.iox_hub_laws.specs.HubCommands.HubBase.Opening.{Made as Opened}
-use Rattle.iox_hub_laws.specs.HubCommands.Maps.NumberTable.{NumberTable, value_at, inserted, removed}
+use Rattle.iox_hub_laws.specs.HubCommands.Container.NumberTable.{NumberTable, value_at, inserted, removed}
 use Rattle.iox_hub_laws.specs.HubCommands.ServicesTables.{publish_subscribe_in}
 use Rattle.iox_hub_laws.specs.HubCommands.declared.services.made.MadeFactory.{MadeFactory}
 use Rattle.iox_hub_laws.specs.HubCommands.declared.services.made.MadeFactory.TheVariants as made_factory

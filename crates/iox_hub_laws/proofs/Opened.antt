@@ -31,8 +31,8 @@ use Rattle.iox_hub_laws.specs.HubCommands.ServicesNumbering.{GetsNumber}
 use Rattle.iox_hub_laws.specs.HubCommands.Opening.{OpensAs, OpensNumbered}
 use Rattle.iox_hub_laws.specs.HubCommands.ServicesTables.{FactoryTable, SameNumbers}
 use Rattle.iox_hub_laws.specs.HubCommands.declared.services.asked.ServiceAsked.{ServiceAsked}
-use Rattle.iox_hub_laws.specs.HubRun.Steps.{IsReplied, Step}
-use Rattle.iox_hub_laws.specs.HubRun.declared.numbered_hub.NumberedHub.{NumberedHub}
+use Rattle.iox_hub_laws.specs.HubCommands.CommandSteps.{IsReplied, Step}
+use Rattle.iox_hub_laws.specs.HubCommands.declared.numbered_hub.NumberedHub.{NumberedHub}
 use Rattle.iox_hub_laws.specs.Asking.{hash_asked}
 use Rattle.iox_hub_laws.specs.Negotiate.declared.factory.Membership.{Membership}
 use Rattle.iox_hub_laws.specs.Negotiate.NegotiateTable.Stepped.{Steps}

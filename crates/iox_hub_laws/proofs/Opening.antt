@@ -33,19 +33,19 @@ use Rattle.iox_hub_laws.specs.HubCommands.Either.{EitherAs, EitherNumbered, eith
 use Rattle.iox_hub_laws.specs.HubCommands.HubBase.Hubs.{factories_of, with_factory, one_more, is_node}
 use Rattle.iox_hub_laws.specs.HubCommands.HubBase.Opening.{Made, Enters, Settles, OpensInHub}
 use Rattle.iox_hub_laws.specs.HubCommands.HubBase.declared.hub.Hub.{Hub}
-use Rattle.iox_hub_laws.specs.HubCommands.HubServices.Numbered.{others_beside}
-use Rattle.iox_hub_laws.specs.HubCommands.HubServices.Open.{OpenServices, presence_of, opened}
-use Rattle.iox_hub_laws.specs.HubCommands.HubServices.Opening.{Opens as ServiceOpens}
+use Rattle.iox_hub_laws.specs.HubCommands.HubBase.Numbered.{others_beside}
+use Rattle.iox_hub_laws.specs.HubCommands.HubBase.Open.{OpenServices, presence_of, opened}
+use Rattle.iox_hub_laws.specs.HubCommands.HubBase.ServicesOpening.{Opens as ServiceOpens}
 use Rattle.iox_hub_laws.specs.HubCommands.Domain.Domains.{IsNewDomain}
-use Rattle.iox_hub_laws.specs.HubCommands.HubServices.declared.presence.Presence.TheVariants.{Here}
-use Rattle.iox_hub_laws.specs.HubCommands.Maps.NumberTable.{Rises, inserted}
+use Rattle.iox_hub_laws.specs.HubCommands.HubBase.declared.presence.Presence.TheVariants.{Here}
+use Rattle.iox_hub_laws.specs.HubCommands.Container.NumberTable.{Rises, inserted}
 use Rattle.iox_hub_laws.specs.HubCommands.ServicesNumbering.{Numbers, GetsNumber}
 use Rattle.iox_hub_laws.specs.HubCommands.Opening.{OpensAs, OpensNumbered, open_lacking}
 use Rattle.iox_hub_laws.specs.HubCommands.ServicesTables.{FactoryTable}
 use Rattle.iox_hub_laws.specs.HubCommands.declared.services.asked.ServiceAsked.{ServiceAsked}
-use Rattle.iox_hub_laws.specs.HubRun.AgreementLaws.{service_of}
-use Rattle.iox_hub_laws.specs.HubRun.Steps.{Step}
-use Rattle.iox_hub_laws.specs.HubRun.declared.numbered_hub.NumberedHub.{NumberedHub}
+use Rattle.iox_hub_laws.specs.HubCommands.AgreementLaws.{service_of}
+use Rattle.iox_hub_laws.specs.HubCommands.CommandSteps.{Step}
+use Rattle.iox_hub_laws.specs.HubCommands.declared.numbered_hub.NumberedHub.{NumberedHub}
 use Rattle.iox_hub_laws.specs.Negotiate.Lives.{number_of}
 use Rattle.iox_hub_laws.specs.Negotiate.declared.factory.Membership.{Membership}
 use Rattle.iox_hub_laws.specs.Negotiate.NegotiateTable.Contents.{Contents, entry_at}

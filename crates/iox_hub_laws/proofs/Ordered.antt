@@ -16,10 +16,10 @@ use Rattle.iox_hub_laws.specs.HubCommands.DomainValues.declared.degradation.Degr
 use Rattle.iox_hub_laws.specs.HubCommands.DomainValues.declared.degradation.DegradationInfo.{DegradationInfo}
 use Rattle.iox_hub_laws.specs.HubCommands.HubBase.declared.hub.Hub.{Hub}
 use Rattle.iox_hub_laws.specs.HubCommands.HubBase.declared.hub.HubConfig.{HubConfig}
-use Rattle.iox_hub_laws.specs.HubRun.Numbers.{IsNew}
-use Rattle.iox_hub_laws.specs.HubRun.Steps.{Step}
-use Rattle.iox_hub_laws.specs.HubRun.declared.numbered_hub.NumberedHub.{NumberedHub}
-use Rattle.iox_hub_laws.proofs.HubRun.RunLemmas.{run_goes}
+use Rattle.iox_hub_laws.specs.HubCommands.Numbers.{IsNew}
+use Rattle.iox_hub_laws.specs.HubCommands.CommandSteps.{Step}
+use Rattle.iox_hub_laws.specs.HubCommands.declared.numbered_hub.NumberedHub.{NumberedHub}
+use Rattle.iox_hub_laws.proofs.HubCommands.RunLemmas.{run_goes}
 use Rattle.iox_hub_laws.proofs.Negotiate.Maps.{Distinct, Rising, weaker, rising-distinct}
 use Rattle.iox_hub_laws.specs.Locality.{EachOnce, NumbersOnce}
 use Rattle.iox_hub_laws.specs.Order.{AreRising, InOrder, StaysInOrder, RunsAreInOrder}

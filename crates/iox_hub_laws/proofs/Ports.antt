@@ -10,10 +10,10 @@ use Rattle.iox_hub_commands.specs.Domain.Steps as steps
 use Rattle.iox_hub_commands.specs.Domain.declared.domain_id.DomainId.{DomainId}
 use Rattle.iox_hub_commands.specs.Domain.Lending.{written_in}
 use Rattle.iox_hub_commands.specs.Domain.declared.ports.service_ports.ServicePorts.{ServicePorts}
-use Rattle.iox_hub_commands.specs.DomainPublisher.declared.meeting.Sent.{Sent}
-use Rattle.iox_hub_commands.specs.DomainPublisher.Messages.{write_all}
-use Rattle.iox_hub_commands.specs.DomainPublisher.MessagesSending.{has_length}
-use Rattle.iox_hub_commands.specs.DomainSubscriber.declared.attached.Taken.{Taken}
+use Rattle.iox_hub_commands.specs.DomainPorts.declared.meeting.Sent.{Sent}
+use Rattle.iox_hub_commands.specs.DomainPorts.Messages.{write_all}
+use Rattle.iox_hub_commands.specs.DomainPorts.MessagesSending.{has_length}
+use Rattle.iox_hub_commands.specs.DomainPorts.declared.attached.Taken.{Taken}
 use Rattle.iox_hub_commands.specs.DomainValues.declared.backpressure.BackpressureDecision.{BackpressureDecision}
 use Rattle.iox_hub_commands.specs.DomainValues.declared.backpressure.BackpressureInfo.{BackpressureInfo}
 use Rattle.iox_hub_commands.specs.DomainValues.declared.connection_failure.ConnectionFailure.{ConnectionFailure}
@@ -24,7 +24,7 @@ use Rattle.iox_hub_commands.specs.DomainValues.declared.port_error.ReceiveError.
 use Rattle.iox_hub_commands.specs.DomainValues.declared.port_error.SendError.{SendError}
 use Rattle.iox_hub_commands.specs.HubBase.AsHome.{hub_ports, with_hub_ports, without_hub_publisher, without_hub_subscriber}
 use Rattle.iox_hub_commands.specs.HubBase.declared.hub.Hub.{Hub}
-use Rattle.iox_hub_commands.specs.HubServices.AsHome.{publisher_forgotten, subscriber_forgotten}
+use Rattle.iox_hub_commands.specs.HubBase.ServicesAsHome.{publisher_forgotten, subscriber_forgotten}
 use Rattle.iox_hub_commands.specs.Calls.{AtPort, AtPortIf, Lends, LendsWritten, Puts, Follows, Sends, Retries, GivesUp, PublisherGoes, FollowsPublishers, Tells, Receives, SubscriberGoes, ready}
 use Rattle.iox_hub_commands.specs.Loans.{changed_under, SendsUnder}
 use Rattle.iox_hub_commands.specs.Reading.{ReleasesUnder}
@@ -32,16 +32,16 @@ use Rattle.iox_hub_commands.specs.Tables.{lender, port_under}
 use Rattle.iox_hub_commands.specs.declared.ports.made.Made.{Made}
 use Rattle.iox_hub_commands.specs.declared.ports.made.MadeLoan.{MadeLoan}
 use Rattle.iox_hub_commands.specs.declared.ports.made.MadeSample.{MadeSample}
-use Rattle.iox_hub_commands.specs.Maps.NumberTable.{Rises, value_at}
+use Rattle.iox_hub_commands.specs.Container.NumberTable.{Rises, value_at}
 use Rattle.iox_hub_commands.specs.Domain.AtHomes.{LeavesDomain, MakesAt}
 use Rattle.iox_hub_commands.specs.Delivery.Publishing.{changed_at}
 use Rattle.iox_hub_commands.specs.Domain.Domains.{with_ports}
 use Rattle.iox_hub_commands.specs.Domain.declared.domain.Domain.{Domain}
 use Rattle.iox_hub_commands.specs.HubBase.AsHome.{with_services}
-use Rattle.iox_hub_commands.specs.HubServices.AsHome.{domain_at, stepped, stepped_if}
-use Rattle.iox_hub_commands.specs.HubServices.Numbered.{others_unchanged}
-use Rattle.iox_hub_commands.specs.HubServices.Open.{OpenServices, presence_of}
-use Rattle.iox_hub_commands.specs.HubServices.declared.presence.Presence.TheVariants.{Here}
+use Rattle.iox_hub_commands.specs.HubBase.ServicesAsHome.{domain_at, stepped, stepped_if}
+use Rattle.iox_hub_commands.specs.HubBase.Numbered.{others_unchanged}
+use Rattle.iox_hub_commands.specs.HubBase.Open.{OpenServices, presence_of}
+use Rattle.iox_hub_commands.specs.HubBase.declared.presence.Presence.TheVariants.{Here}
 use Rattle.iox_hub_commands.specs.Calls.{may_lend}
 use Rattle.iox_hub_commands.specs.Making.{with_publisher, with_subscriber, NumbersPort}
 use Rattle.iox_hub_commands.specs.Numbering.{removed_if, NumbersLoan, NumbersSample}

@@ -5,25 +5,25 @@ use Rattle.std.specs.declared.alloc.AllocError.{AllocError}
 use Rattle.iox_domain.specs.Lending as lending
 use Rattle.iox_domain.specs.PortsPublishing as publishing
 use Rattle.iox_domain.specs.Rolls.{RollState}
-use Rattle.iox_domain.specs.DomainPublisher.Leaving.{parted_at, parted_from, departed}
-use Rattle.iox_domain.specs.DomainPublisher.Loaning as loaning
-use Rattle.iox_domain.specs.DomainPublisher.Places.{is_attached}
-use Rattle.iox_domain.specs.DomainPublisher.Ports.{connection_of, is_live, with_connection_of, connection_to, Connects, Joins, Attaches, ended_at, greeted_at, welcomed_at}
-use Rattle.iox_domain.specs.DomainPublisher.Sending as sending
-use Rattle.iox_domain.specs.DomainPublisher.Ties.{tie_put}
-use Rattle.iox_domain.specs.DomainPublisher.Updating as updating
-use Rattle.iox_domain.specs.DomainPublisher.Writing.{place_of, changed_if, given_up_at, given_up}
-use Rattle.iox_domain.specs.DomainPublisher.declared.meeting.Meeting.{Meeting}
-use Rattle.iox_domain.specs.DomainPublisher.declared.meeting.Meeting.TheVariants as meeting
-use Rattle.iox_domain.specs.DomainPublisher.declared.meeting.Sent.{Sent}
-use Rattle.iox_domain.specs.DomainPublisher.declared.publisher_port.PublisherPort.{PublisherPort}
-use Rattle.iox_domain.specs.DomainPublisher.declared.reader.Reader.{Reader}
-use Rattle.iox_domain.specs.DomainPublisher.declared.subscriber_entry.SubscriberEntry.{SubscriberEntry}
-use Rattle.iox_domain.specs.DomainPublisher.Messages.{Loan, Message}
-use Rattle.iox_domain.specs.DomainPublisher.MessagesSending.{opened_for}
+use Rattle.iox_domain.specs.DomainPorts.Leaving.{parted_at, parted_from, departed}
+use Rattle.iox_domain.specs.DomainPorts.Loaning as loaning
+use Rattle.iox_domain.specs.DomainPorts.Places.{is_attached}
+use Rattle.iox_domain.specs.DomainPorts.Ports.{connection_of, is_live, with_connection_of, connection_to, Connects, Joins, Attaches, ended_at, greeted_at, welcomed_at}
+use Rattle.iox_domain.specs.DomainPorts.Sending as sending
+use Rattle.iox_domain.specs.DomainPorts.Ties.{tie_put}
+use Rattle.iox_domain.specs.DomainPorts.PublisherUpdating as updating
+use Rattle.iox_domain.specs.DomainPorts.Writing.{place_of, changed_if, given_up_at, given_up}
+use Rattle.iox_domain.specs.DomainPorts.declared.meeting.Meeting.{Meeting}
+use Rattle.iox_domain.specs.DomainPorts.declared.meeting.Meeting.TheVariants as meeting
+use Rattle.iox_domain.specs.DomainPorts.declared.meeting.Sent.{Sent}
+use Rattle.iox_domain.specs.DomainPorts.declared.publisher_port.PublisherPort.{PublisherPort}
+use Rattle.iox_domain.specs.DomainPorts.declared.reader.Reader.{Reader}
+use Rattle.iox_domain.specs.DomainPorts.declared.subscriber_entry.SubscriberEntry.{SubscriberEntry}
+use Rattle.iox_domain.specs.DomainPorts.Messages.{Loan, Message}
+use Rattle.iox_domain.specs.DomainPorts.MessagesSending.{opened_for}
 use Rattle.iox_domain.specs.DomainSlots.Uses.{ended}
-use Rattle.iox_domain.specs.DomainSubscriber.Publishers.{ended_if_left}
-use Rattle.iox_domain.specs.DomainSubscriber.Reading.{given_back_at}
+use Rattle.iox_domain.specs.DomainPorts.Publishers.{ended_if_left}
+use Rattle.iox_domain.specs.DomainPorts.Reading.{given_back_at}
 use Rattle.iox_domain.specs.DomainValues.declared.data_segment.AllocationStrategy.{AllocationStrategy}
 use Rattle.iox_domain.specs.DomainValues.declared.data_segment.AllocationStrategy.TheVariants as strategy
 use Rattle.iox_domain.specs.DomainValues.declared.backpressure.BackpressureDecision.{BackpressureDecision}
@@ -35,7 +35,7 @@ use Rattle.iox_domain.specs.DomainValues.declared.degradation.DegradationInfo.{D
 use Rattle.iox_domain.specs.DomainValues.declared.port_error.LoanError.{LoanError}
 use Rattle.iox_domain.specs.DomainValues.declared.port_error.LoanError.TheVariants as refusal
 use Rattle.iox_domain.specs.DomainValues.declared.port_error.SendError.{SendError}
-use Rattle.iox_domain.specs.IndexBase.declared.container.Member.{Member}
+use Rattle.iox_domain.specs.Container.declared.container.Member.{Member}
 use Rattle.iox_hub_laws.specs.Renaming.{Renaming, renamed_publisher, renamed_failure, renamed_mailbox}
 
 module _ {T U : Type 0} (by : Renaming) where

@@ -23,14 +23,14 @@ use Rattle.iox_hub_laws.specs.HubCommands.Domain.Lending.{passes_port, written_i
 use Rattle.iox_hub_laws.specs.HubCommands.Domain.PortsPublishing.{is_blocked}
 use Rattle.iox_hub_laws.specs.HubCommands.Domain.Subscribers.{subscriber_of}
 use Rattle.iox_hub_laws.specs.HubCommands.Domain.declared.ports.service_ports.ServicePorts.{ServicePorts}
-use Rattle.iox_hub_laws.specs.HubCommands.DomainPublisher.Writing.{changed_if}
-use Rattle.iox_hub_laws.specs.HubCommands.DomainPublisher.declared.meeting.Sent.{Sent}
-use Rattle.iox_hub_laws.specs.HubCommands.DomainPublisher.declared.publisher_port.PublisherPort.{PublisherPort}
-use Rattle.iox_hub_laws.specs.HubCommands.DomainPublisher.Messages.{Loan, write_value, write_all}
-use Rattle.iox_hub_laws.specs.HubCommands.DomainPublisher.MessagesSending.{has_place, has_length}
-use Rattle.iox_hub_laws.specs.HubCommands.DomainSubscriber.Publishers as among
-use Rattle.iox_hub_laws.specs.HubCommands.DomainSubscriber.declared.attached.Taken.{Taken}
-use Rattle.iox_hub_laws.specs.HubCommands.DomainSubscriber.declared.subscriber_port.SubscriberPort.{SubscriberPort}
+use Rattle.iox_hub_laws.specs.HubCommands.DomainPorts.Writing.{changed_if}
+use Rattle.iox_hub_laws.specs.HubCommands.DomainPorts.declared.meeting.Sent.{Sent}
+use Rattle.iox_hub_laws.specs.HubCommands.DomainPorts.declared.publisher_port.PublisherPort.{PublisherPort}
+use Rattle.iox_hub_laws.specs.HubCommands.DomainPorts.Messages.{Loan, write_value, write_all}
+use Rattle.iox_hub_laws.specs.HubCommands.DomainPorts.MessagesSending.{has_place, has_length}
+use Rattle.iox_hub_laws.specs.HubCommands.DomainPorts.Publishers as among
+use Rattle.iox_hub_laws.specs.HubCommands.DomainPorts.declared.attached.Taken.{Taken}
+use Rattle.iox_hub_laws.specs.HubCommands.DomainPorts.declared.subscriber_port.SubscriberPort.{SubscriberPort}
 use Rattle.iox_hub_laws.specs.HubCommands.DomainValues.declared.backpressure.BackpressureDecision.{BackpressureDecision}
 use Rattle.iox_hub_laws.specs.HubCommands.DomainValues.declared.backpressure.BackpressureInfo.{BackpressureInfo}
 use Rattle.iox_hub_laws.specs.HubCommands.DomainValues.declared.connection_failure.ConnectionFailure.{ConnectionFailure}
@@ -48,9 +48,9 @@ use Rattle.iox_hub_laws.specs.HubCommands.declared.ports.made.MadeSample.{MadeSa
 use Rattle.iox_hub_laws.specs.HubCommands.Domain.Domains.{with_ports}
 use Rattle.iox_hub_laws.specs.HubCommands.HubBase.AsHome.{hub_ports, with_hub_ports, without_hub_publisher, without_hub_subscriber}
 use Rattle.iox_hub_laws.specs.HubCommands.HubBase.declared.hub.Hub.{Hub}
-use Rattle.iox_hub_laws.specs.HubCommands.HubServices.AsHome.{publisher_forgotten, subscriber_forgotten}
-use Rattle.iox_hub_laws.specs.HubRun.Grown.{AnySlots, AnyAction, AnyDecision}
-use Rattle.iox_hub_laws.specs.HubRun.Steps.{publisher_may_degrade, publisher_may_decide, subscriber_may_degrade}
+use Rattle.iox_hub_laws.specs.HubCommands.HubBase.ServicesAsHome.{publisher_forgotten, subscriber_forgotten}
+use Rattle.iox_hub_laws.specs.HubCommands.Grown.{AnySlots, AnyAction, AnyDecision}
+use Rattle.iox_hub_laws.specs.HubCommands.CommandSteps.{publisher_may_degrade, publisher_may_decide, subscriber_may_degrade}
 use Rattle.iox_hub_laws.specs.NegotiateRenamedRenaming.{AreInOrder}
 use Rattle.iox_hub_laws.specs.RenamedRenaming.{renamed_port, renamed_made_loan, renamed_made_sample, renamed_hub}
 use Rattle.iox_hub_laws.specs.RenamedRenamingLaws.{HaveNumbers}

@@ -37,11 +37,11 @@ use Rattle.iox_hub_laws.specs.HubCommands.HubBase.Foreign.{ActsOn}
 use Rattle.iox_hub_laws.specs.HubCommands.HubBase.Hubs.{factories_of, with_factory, one_more}
 use Rattle.iox_hub_laws.specs.HubCommands.HubBase.Opening.{Made, Enters, Settles, OpensInHub}
 use Rattle.iox_hub_laws.specs.HubCommands.HubBase.declared.hub.Hub.{Hub}
-use Rattle.iox_hub_laws.specs.HubCommands.HubServices.Open.{OpenServices, presence_of}
-use Rattle.iox_hub_laws.specs.HubCommands.HubServices.Opening.{is_open, Opens as ServiceOpens, without_service}
-use Rattle.iox_hub_laws.specs.HubCommands.HubServices.declared.presence.Presence.{Presence}
-use Rattle.iox_hub_laws.specs.HubCommands.HubServices.declared.presence.Presence.TheVariants.{Here, Out}
-use Rattle.iox_hub_laws.specs.HubCommands.Maps.NumberTable.{value_at}
+use Rattle.iox_hub_laws.specs.HubCommands.HubBase.Open.{OpenServices, presence_of}
+use Rattle.iox_hub_laws.specs.HubCommands.HubBase.ServicesOpening.{is_open, Opens as ServiceOpens, without_service}
+use Rattle.iox_hub_laws.specs.HubCommands.HubBase.declared.presence.Presence.{Presence}
+use Rattle.iox_hub_laws.specs.HubCommands.HubBase.declared.presence.Presence.TheVariants.{Here, Out}
+use Rattle.iox_hub_laws.specs.HubCommands.Container.NumberTable.{value_at}
 use Rattle.iox_hub_laws.specs.HubCommands.ServicesNumbering.{Prepares, Numbers, GetsNumber, IsSkipped, IsRefusedWith}
 use Rattle.iox_hub_laws.specs.HubCommands.Opening.{OpensAs, OpensNumbered, open_lacking}
 use Rattle.iox_hub_laws.specs.HubCommands.ServicesTables.{FactoryTable, pattern_in, parts_of}

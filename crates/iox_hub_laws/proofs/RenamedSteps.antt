@@ -45,15 +45,15 @@ use Rattle.iox_hub_laws.specs.HubCommands.Domain.declared.domain.Domain.{Domain}
 use Rattle.iox_hub_laws.specs.HubCommands.HubBase.AsHome.{with_services, hub_ports, with_hub_ports, without_hub_publisher, without_hub_subscriber}
 use Rattle.iox_hub_laws.specs.HubCommands.HubBase.Opening.{Made as Opened}
 use Rattle.iox_hub_laws.specs.HubCommands.HubBase.declared.hub.Hub.{Hub}
-use Rattle.iox_hub_laws.specs.HubCommands.HubServices.AsHome.{stepped, publisher_kept, subscriber_kept}
-use Rattle.iox_hub_laws.specs.HubCommands.Maps.NumberTable.{value_at}
+use Rattle.iox_hub_laws.specs.HubCommands.HubBase.ServicesAsHome.{stepped, publisher_kept, subscriber_kept}
+use Rattle.iox_hub_laws.specs.HubCommands.Container.NumberTable.{value_at}
 use Rattle.iox_hub_laws.specs.HubCommands.ServicesTables.{publish_subscribe_in}
 use Rattle.iox_hub_laws.specs.HubCommands.declared.services.factories.Factories.{Factories}
-use Rattle.iox_hub_laws.specs.HubRun.Grown.{AnySlots, AnyDecision}
-use Rattle.iox_hub_laws.specs.HubRun.Runs.{Runs}
-use Rattle.iox_hub_laws.specs.HubRun.Services.{domain_of_factory, owner_of_factory, PublisherComes, SubscriberComes}
-use Rattle.iox_hub_laws.specs.HubRun.Steps.{IsReplied, Step, publisher_may_degrade, publisher_may_decide, subscriber_may_degrade}
-use Rattle.iox_hub_laws.specs.HubRun.declared.numbered_hub.NumberedHub.{NumberedHub}
+use Rattle.iox_hub_laws.specs.HubCommands.Grown.{AnySlots, AnyDecision}
+use Rattle.iox_hub_laws.specs.HubCommands.Runs.{Runs}
+use Rattle.iox_hub_laws.specs.HubCommands.Services.{domain_of_factory, owner_of_factory, PublisherComes, SubscriberComes}
+use Rattle.iox_hub_laws.specs.HubCommands.CommandSteps.{IsReplied, Step, publisher_may_degrade, publisher_may_decide, subscriber_may_degrade}
+use Rattle.iox_hub_laws.specs.HubCommands.declared.numbered_hub.NumberedHub.{NumberedHub}
 use Rattle.iox_hub_laws.specs.NegotiateRenamedRenaming.{AreInOrder}
 use Rattle.iox_hub_laws.specs.RenamedRenaming.{mapped, renamed_factory, renamed_id, renamed_port, renamed_made_loan, renamed_made_sample, renamed_hub, renamed_numbered}
 use Rattle.iox_hub_laws.specs.RenamedRenamingLaws.{LooksAtNoService, HaveNumbers, IsOfPorts, GoesByAnyNumber, RunGoesByAnyNumber}

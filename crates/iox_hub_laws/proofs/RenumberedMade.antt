@@ -2,14 +2,14 @@
 use Rattle.std.proofs.Common.{◌≡◌, ◌∙◌, ◌+◌, ◌⊎◌, ℕ, Bool, true, false, Option, None, Some, Result, Ok, Err, refl, sym, ap, subst, inl, inr}
 use Rattle.iox_hub_laws.specs.HubCommands.Delivery.declared.port_id.PortId.{PortId}
 use Rattle.iox_hub_laws.specs.HubCommands.Domain.declared.domain_id.DomainId.{DomainId}
-use Rattle.iox_hub_laws.specs.HubCommands.DomainSubscriber.declared.attached.Taken.{Taken}
+use Rattle.iox_hub_laws.specs.HubCommands.DomainPorts.declared.attached.Taken.{Taken}
 use Rattle.iox_hub_laws.specs.HubCommands.DomainValues.declared.port_error.LoanError.{LoanError}
 use Rattle.iox_hub_laws.specs.HubCommands.DomainValues.declared.port_error.ReceiveError.{ReceiveError}
 use Rattle.iox_hub_laws.specs.HubCommands.Making.{with_publisher, with_subscriber, NumbersPort}
 use Rattle.iox_hub_laws.specs.HubCommands.Numbering.{removed_if, with_loan, with_sample, NumbersLoan, NumbersSample}
 use Rattle.iox_hub_laws.specs.HubCommands.Tables.{IsRoomier, without_publisher, without_subscriber, without_loan, without_sample}
 use Rattle.iox_hub_laws.specs.HubCommands.declared.ports.made.Made.{Made}
-use Rattle.iox_hub_laws.specs.HubCommands.Maps.NumberTable.{NumberTable}
+use Rattle.iox_hub_laws.specs.HubCommands.Container.NumberTable.{NumberTable}
 use Rattle.iox_hub_laws.proofs.Made.{MadeRises}
 use Rattle.iox_hub_laws.specs.RenumberedRenaming.{Renaming}
 use Rattle.iox_hub_laws.proofs.RenumberedTables.{RenamedIn, NewBy, NewIf, Alike, roomier_renamed, inserted_renamed, removed_renamed}

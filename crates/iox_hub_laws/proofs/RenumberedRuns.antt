@@ -15,13 +15,13 @@ use Rattle.iox_hub_laws.specs.HubCommands.DomainValues.declared.degradation.Degr
 use Rattle.iox_hub_laws.specs.HubCommands.DomainValues.declared.degradation.DegradationCause.{DegradationCause}
 use Rattle.iox_hub_laws.specs.HubCommands.DomainValues.declared.degradation.DegradationInfo.{DegradationInfo}
 use Rattle.iox_hub_laws.specs.HubCommands.HubBase.declared.hub.HubConfig.{HubConfig}
-use Rattle.iox_hub_laws.specs.HubCommands.Maps.NumberTable.{NumberTable, Rises, value_at}
-use Rattle.iox_hub_laws.proofs.HubRun.Rooms.{new_rises}
-use Rattle.iox_hub_laws.specs.HubRun.Lives.{NumbersRise, NumbersGoOn}
-use Rattle.iox_hub_laws.specs.HubRun.Numbers.{IsNew}
-use Rattle.iox_hub_laws.specs.HubRun.Steps.{Step}
-use Rattle.iox_hub_laws.specs.HubRun.declared.numbered_hub.NumberedHub.{NumberedHub}
-use Rattle.iox_hub_laws.proofs.HubRun.StepChanges.{step_changes, numbers_go_on}
+use Rattle.iox_hub_laws.specs.HubCommands.Container.NumberTable.{NumberTable, Rises, value_at}
+use Rattle.iox_hub_laws.proofs.HubCommands.Rooms.{new_rises}
+use Rattle.iox_hub_laws.specs.HubCommands.Lives.{NumbersRise, NumbersGoOn}
+use Rattle.iox_hub_laws.specs.HubCommands.Numbers.{IsNew}
+use Rattle.iox_hub_laws.specs.HubCommands.CommandSteps.{Step}
+use Rattle.iox_hub_laws.specs.HubCommands.declared.numbered_hub.NumberedHub.{NumberedHub}
+use Rattle.iox_hub_laws.proofs.HubCommands.StepChanges.{step_changes, numbers_go_on}
 use Rattle.iox_hub_laws.specs.HubCommands.DescribeBase.declared.hash.ServiceHash.{ServiceHash}
 use Rattle.iox_hub_laws.specs.Alone.{StepWithMemory, RunsAlone, RunsAmongOthers}
 use Rattle.iox_hub_laws.specs.Passing.{PassesIn, PassesOver}

@@ -25,8 +25,8 @@ use Rattle.iox_hub_laws.specs.HubCommands.DomainValues.declared.backpressure_str
 use Rattle.iox_hub_laws.specs.HubCommands.DomainValues.declared.degradation.DegradationAction.{DegradationAction}
 use Rattle.iox_hub_laws.specs.HubCommands.DomainValues.declared.degradation.DegradationCause.{DegradationCause}
 use Rattle.iox_hub_laws.specs.HubCommands.DomainValues.declared.degradation.DegradationInfo.{DegradationInfo}
-use Rattle.iox_hub_laws.specs.HubCommands.DomainPublisher.declared.meeting.Sent.{Sent}
-use Rattle.iox_hub_laws.specs.HubCommands.DomainPublisher.declared.meeting.Sent.TheVariants as sent_as
+use Rattle.iox_hub_laws.specs.HubCommands.DomainPorts.declared.meeting.Sent.{Sent}
+use Rattle.iox_hub_laws.specs.HubCommands.DomainPorts.declared.meeting.Sent.TheVariants as sent_as
 use Rattle.iox_hub_laws.specs.HubCommands.Domain.Lending.{gave_up_in}
 use Rattle.iox_hub_laws.specs.HubCommands.DomainValues.declared.connection_failure.ConnectionFailure.{ConnectionFailure}
 use Rattle.iox_hub_laws.specs.HubCommands.DomainValues.declared.create_error.PublisherCreateError.{PublisherCreateError}
@@ -57,16 +57,16 @@ use Rattle.iox_hub_laws.specs.HubCommands.NegotiateBase.RequestResponseErrors as
 use Rattle.iox_hub_laws.specs.HubCommands.HubBase.AsHome.{hub_ports, with_hub_ports, without_hub_publisher, without_hub_subscriber}
 use Rattle.iox_hub_laws.specs.HubCommands.HubBase.Opening.{Made as Opened}
 use Rattle.iox_hub_laws.specs.HubCommands.HubBase.declared.hub.Hub.{Hub}
-use Rattle.iox_hub_laws.specs.HubCommands.Maps.NumberTable.{Rises, value_at, inserted, removed}
+use Rattle.iox_hub_laws.specs.HubCommands.Container.NumberTable.{Rises, value_at, inserted, removed}
 use Rattle.iox_hub_laws.specs.HubCommands.ServicesNumbering.{Numbers, GetsNumber}
 use Rattle.iox_hub_laws.specs.HubCommands.Opening.{OpensJudged, OpensAs, OpensNumbered, open_lacking}
 use Rattle.iox_hub_laws.specs.HubCommands.ServicesTables.{FactoryTable, parts_of, publish_subscribe_in}
 use Rattle.iox_hub_laws.specs.HubCommands.declared.services.asked.ServiceAsked.{ServiceAsked}
 use Rattle.iox_hub_laws.specs.HubCommands.declared.services.made.MadeFactory.{MadeFactory}
-use Rattle.iox_hub_laws.specs.HubRun.Lives.{NumbersRise}
-use Rattle.iox_hub_laws.specs.HubRun.Services.{PublisherComes, SubscriberComes}
-use Rattle.iox_hub_laws.specs.HubRun.Steps.{Step, publisher_may_degrade, publisher_may_decide, subscriber_may_degrade}
-use Rattle.iox_hub_laws.specs.HubRun.declared.numbered_hub.NumberedHub.{NumberedHub}
+use Rattle.iox_hub_laws.specs.HubCommands.Lives.{NumbersRise}
+use Rattle.iox_hub_laws.specs.HubCommands.Services.{PublisherComes, SubscriberComes}
+use Rattle.iox_hub_laws.specs.HubCommands.CommandSteps.{Step, publisher_may_degrade, publisher_may_decide, subscriber_may_degrade}
+use Rattle.iox_hub_laws.specs.HubCommands.declared.numbered_hub.NumberedHub.{NumberedHub}
 use Rattle.iox_hub_laws.specs.Negotiate.declared.factory.Membership.{Membership}
 use Rattle.iox_hub_laws.specs.Negotiate.NegotiateBase.declared.errors.close.CloseError.{CloseError}
 use Rattle.iox_hub_laws.specs.Negotiate.NegotiateTable.declared.step.ForeignStep.{ForeignStep}

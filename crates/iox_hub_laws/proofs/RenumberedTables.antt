@@ -2,8 +2,8 @@
 use Rattle.std.proofs.Common.{◌≡◌, ◌≢◌, ◌∙◌, ◌+◌, ◌⊎◌, ℕ, nat_eq, Bool, true, false, Option, None, refl, sym, ap, inl, inr}
 use Rattle.std.specs.Map.{lookup}
 use Rattle.std.proofs.lemmas.Bool.{eqb-true, eq-eqb}
-use Rattle.iox_hub_laws.specs.HubCommands.Maps.NumberTable.{NumberTable, Rises, value_at, inserted, removed}
-use Rattle.iox_hub_laws.proofs.HubCommands.Maps.Telling.{found_and_gone}
+use Rattle.iox_hub_laws.specs.HubCommands.Container.NumberTable.{NumberTable, Rises, value_at, inserted, removed}
+use Rattle.iox_hub_laws.proofs.HubCommands.Container.Telling.{found_and_gone}
 use Rattle.iox_hub_laws.proofs.Negotiate.Maps.{no}
 
 -- What goes by a number in the one table goes by another in the other; two numbers are the same one there only if nothing goes by them.

@@ -21,9 +21,9 @@ use Rattle.iox_hub_commands.specs.DescribeSettings.Agreement.{Agreement}
 use Rattle.iox_hub_commands.specs.DescribeSettings.declared.static_config.Settings.{Settings}
 use Rattle.iox_hub_commands.specs.HubBase.Closing.{is_last, less_one}
 use Rattle.iox_hub_commands.specs.HubBase.declared.hub.Hub.{Hub}
-use Rattle.iox_hub_commands.specs.HubServices.Open.{OpenServices, presence_of}
-use Rattle.iox_hub_commands.specs.HubServices.Opening.{Opens as ServiceOpens}
-use Rattle.iox_hub_commands.specs.HubServices.declared.presence.Presence.TheVariants.{Here}
+use Rattle.iox_hub_commands.specs.HubBase.Open.{OpenServices, presence_of}
+use Rattle.iox_hub_commands.specs.HubBase.ServicesOpening.{Opens as ServiceOpens}
+use Rattle.iox_hub_commands.specs.HubBase.declared.presence.Presence.TheVariants.{Here}
 use Rattle.iox_hub_commands.specs.Closing.{ClosesUnless, ClosesIfOf, ClosesNumbered}
 use Rattle.iox_hub_commands.specs.Creating.{CreatesAs, CreatesPrepared, CreatesNumbered}
 use Rattle.iox_hub_commands.specs.Either.{EitherAs, EitherPrepared, EitherNumbered}
@@ -52,9 +52,9 @@ use Rattle.iox_hub_commands.specs.Asking.{hash_of}
 use Rattle.iox_hub_commands.specs.Domain.Kept.{kept, forgotten}
 use Rattle.iox_hub_commands.specs.HubBase.Hubs.{factories_of}
 use Rattle.iox_hub_commands.specs.HubBase.Opening.{Made, Enters, Settles, OpensInHub}
-use Rattle.iox_hub_commands.specs.HubServices.Numbered.{is_number, not_number, others_beside}
-use Rattle.iox_hub_commands.specs.Maps.NumberTable.{Rises, value_at}
-use Rattle.iox_hub_run.specs.AgreementLaws.{service_of, carried_by}
+use Rattle.iox_hub_commands.specs.HubBase.Numbered.{is_number, not_number, others_beside}
+use Rattle.iox_hub_commands.specs.Container.NumberTable.{Rises, value_at}
+use Rattle.iox_hub_commands.specs.AgreementLaws.{service_of, carried_by}
 use Rattle.iox_hub_laws.specs.Left.{AllLeft, HubLeft}
 use Rattle.iox_hub_laws.specs.Laws.{IsService}
 use Rattle.iox_hub_laws.proofs.Names.{closes_under, untouched_same, untouched_on, acts_leave, went_leaves}

@@ -4,8 +4,8 @@ use Rattle.iox_hub_commands.specs.Command.declared.port.PortNumber.TheVariants a
 use Rattle.iox_hub_commands.specs.DescribeBase.declared.hash.ServiceHash.{ServiceHash}
 use Rattle.iox_hub_commands.specs.HubBase.Opening.{Made as Opened}
 use Rattle.iox_hub_commands.specs.HubBase.Hubs.{factories_of}
-use Rattle.iox_hub_commands.specs.HubServices.Open.{presence_of}
-use Rattle.iox_hub_commands.specs.Maps.NumberTable.{Rises, value_at}
+use Rattle.iox_hub_commands.specs.HubBase.Open.{presence_of}
+use Rattle.iox_hub_commands.specs.Container.NumberTable.{Rises, value_at}
 use Rattle.iox_hub_commands.specs.ServicesTables.{publish_subscribe_in}
 use Rattle.iox_hub_commands.specs.declared.services.made.MadeFactory.{MadeFactory}
 use Rattle.iox_hub_commands.specs.declared.services.made.MadeFactory.TheVariants as made
@@ -33,21 +33,21 @@ use Rattle.iox_hub_commands.specs.Calls.{ready, Lends, LendsWritten, Puts, Follo
 use Rattle.iox_hub_commands.specs.Numbering.{LendsNumbered, LendsWrittenNumbered, ReceivesNumbered}
 use Rattle.iox_hub_commands.specs.Tables.{IsFull, lender, port_under}
 use Rattle.iox_hub_commands.specs.declared.ports.made.Made.{Made}
-use Rattle.iox_hub_run.specs.Services.{PublisherComes, SubscriberComes, domain_of_factory}
-use Rattle.iox_hub_run.specs.Steps.{IsReplied, Step, publisher_may_degrade, publisher_may_decide, subscriber_may_degrade}
-use Rattle.iox_hub_run.specs.declared.numbered_hub.NumberedHub.{NumberedHub}
+use Rattle.iox_hub_commands.specs.Services.{PublisherComes, SubscriberComes, domain_of_factory}
+use Rattle.iox_hub_commands.specs.CommandSteps.{IsReplied, Step, publisher_may_degrade, publisher_may_decide, subscriber_may_degrade}
+use Rattle.iox_hub_commands.specs.declared.numbered_hub.NumberedHub.{NumberedHub}
 use Rattle.iox_hub_commands.specs.Domain.Lending.{gave_up_in}
 use Rattle.iox_hub_commands.specs.HubBase.AsHome.{hub_ports, with_hub_ports, with_hub_publisher, with_hub_subscriber, without_hub_publisher, without_hub_subscriber}
 use Rattle.iox_hub_commands.specs.HubBase.declared.hub.Hub.{Hub}
-use Rattle.iox_hub_commands.specs.HubServices.AsHome.{publisher_kept, subscriber_kept}
+use Rattle.iox_hub_commands.specs.HubBase.ServicesAsHome.{publisher_kept, subscriber_kept}
 use Rattle.iox_hub_commands.specs.Growing.{GrowsFirst}
 use Rattle.iox_hub_commands.specs.Loans.{set_in, filled_in}
 use Rattle.iox_hub_commands.specs.Naming.{publisher_handlers, subscriber_handler}
 use Rattle.iox_negotiate.proofs.Agreements.{no-past}
 use Rattle.iox_negotiate.proofs.Stepping.{Past}
 use Rattle.iox_negotiate.specs.Histories.{IsReached}
-use Rattle.iox_hub_run.specs.AgreementLaws.{service_of}
-use Rattle.iox_hub_run.specs.Lives.{NumbersRise}
+use Rattle.iox_hub_commands.specs.AgreementLaws.{service_of}
+use Rattle.iox_hub_commands.specs.Lives.{NumbersRise}
 use Rattle.iox_hub_laws.specs.Asking.{service_at, publisher_service, loan_service, sample_service}
 use Rattle.iox_hub_laws.specs.Laws.{IsService, AsksNothing}
 use Rattle.iox_hub_laws.specs.Left.{MadeLeft, IsLeft}

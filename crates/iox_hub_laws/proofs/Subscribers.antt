@@ -2,26 +2,26 @@
 use Rattle.std.proofs.Common.{◌≡◌, ◌∙◌, ◌==◌, ℕ, zero, suc, ◌+◌, Bool, true, false, cond, List, [], ◌∷◌, length, Option, None, Some, Result, Ok, Err, refl, sym, ap, subst, inl, inr, get_or, ◌&&◌, ◌||◌}
 use Rattle.std.specs.Prelude.{nat_lt, nat_le, slice_get, remove}
 use Rattle.std.specs.declared.alloc.AllocError.{AllocError}
-use Rattle.iox_domain.specs.DomainPublisher.Ports.{detached_at}
+use Rattle.iox_domain.specs.DomainPorts.Ports.{detached_at}
 use Rattle.iox_domain.specs.Rolls.{RollState}
 use Rattle.iox_domain.specs.PortsSubscribing as subscribing
-use Rattle.iox_domain.specs.DomainPublisher.declared.publisher_port.PublisherPort.{PublisherPort}
+use Rattle.iox_domain.specs.DomainPorts.declared.publisher_port.PublisherPort.{PublisherPort}
 use Rattle.iox_domain.specs.DomainSlots.Uses.{is_there}
-use Rattle.iox_domain.specs.DomainSubscriber.Following as following
-use Rattle.iox_domain.specs.DomainSubscriber.Publishers as among
-use Rattle.iox_domain.specs.DomainSubscriber.Receiving as receiving
-use Rattle.iox_domain.specs.DomainSubscriber.Subscribing as seeing
-use Rattle.iox_domain.specs.DomainSubscriber.Updating as updating
-use Rattle.iox_domain.specs.DomainSubscriber.declared.attached.Attached.{Attached}
-use Rattle.iox_domain.specs.DomainSubscriber.declared.attached.Taken.{Taken}
-use Rattle.iox_domain.specs.DomainSubscriber.declared.publisher_entry.PublisherEntry.{PublisherEntry}
-use Rattle.iox_domain.specs.DomainSubscriber.declared.subscriber_port.SubscriberPort.{SubscriberPort}
+use Rattle.iox_domain.specs.DomainPorts.Following as following
+use Rattle.iox_domain.specs.DomainPorts.Publishers as among
+use Rattle.iox_domain.specs.DomainPorts.Receiving as receiving
+use Rattle.iox_domain.specs.DomainPorts.Subscribing as seeing
+use Rattle.iox_domain.specs.DomainPorts.SubscriberUpdating as updating
+use Rattle.iox_domain.specs.DomainPorts.declared.attached.Attached.{Attached}
+use Rattle.iox_domain.specs.DomainPorts.declared.attached.Taken.{Taken}
+use Rattle.iox_domain.specs.DomainPorts.declared.publisher_entry.PublisherEntry.{PublisherEntry}
+use Rattle.iox_domain.specs.DomainPorts.declared.subscriber_port.SubscriberPort.{SubscriberPort}
 use Rattle.iox_domain.specs.DomainValues.declared.connection_failure.ConnectionFailure.{ConnectionFailure}
 use Rattle.iox_domain.specs.DomainValues.declared.connection_failure.ZeroCopyCreationError.{ZeroCopyCreationError}
 use Rattle.iox_domain.specs.DomainValues.declared.degradation.DegradationAction.{DegradationAction}
 use Rattle.iox_domain.specs.DomainValues.declared.degradation.DegradationInfo.{DegradationInfo}
 use Rattle.iox_domain.specs.DomainValues.declared.port_error.ReceiveError.{ReceiveError}
-use Rattle.iox_domain.specs.IndexBase.declared.container.Member.{Member}
+use Rattle.iox_domain.specs.Container.declared.container.Member.{Member}
 use Rattle.iox_hub_laws.specs.Renaming.{Renaming, renamed_publishers, renamed_subscriber, renamed_failure}
 use Rattle.iox_hub_laws.proofs.AmongPublishers.{stands_as, lacks_as, connection_by_as, most_by_as, taken_of_as, ended_ports_as, taken_ports_as, detached_as, attaches_to}
 

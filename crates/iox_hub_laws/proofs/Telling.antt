@@ -20,13 +20,13 @@ use Rattle.iox_hub_laws.specs.HubCommands.DomainValues.declared.degradation.Degr
 use Rattle.iox_hub_laws.specs.HubCommands.DomainValues.declared.degradation.DegradationInfo.{DegradationInfo}
 use Rattle.iox_hub_laws.specs.HubCommands.Asking.{hash_of}
 use Rattle.iox_hub_laws.specs.HubCommands.HubBase.declared.hub.HubConfig.{HubConfig}
-use Rattle.iox_hub_laws.specs.HubCommands.Maps.NumberTable.{NumberTable, value_at}
+use Rattle.iox_hub_laws.specs.HubCommands.Container.NumberTable.{NumberTable, value_at}
 use Rattle.iox_hub_laws.specs.HubCommands.declared.services.made.MadeFactory.{MadeFactory}
-use Rattle.iox_hub_laws.specs.HubRun.AgreementLaws.{service_of, carried_by}
-use Rattle.iox_hub_laws.specs.HubRun.Numbers.{IsNew}
-use Rattle.iox_hub_laws.specs.HubRun.Runs.{Runs}
-use Rattle.iox_hub_laws.specs.HubRun.Steps.{Step}
-use Rattle.iox_hub_laws.specs.HubRun.declared.numbered_hub.NumberedHub.{NumberedHub}
+use Rattle.iox_hub_laws.specs.HubCommands.AgreementLaws.{service_of, carried_by}
+use Rattle.iox_hub_laws.specs.HubCommands.Numbers.{IsNew}
+use Rattle.iox_hub_laws.specs.HubCommands.Runs.{Runs}
+use Rattle.iox_hub_laws.specs.HubCommands.CommandSteps.{Step}
+use Rattle.iox_hub_laws.specs.HubCommands.declared.numbered_hub.NumberedHub.{NumberedHub}
 use Rattle.iox_hub_laws.specs.Asking.{hash_asked, number_asked, service_at, publisher_service, loan_service, sample_service}
 use Rattle.iox_hub_laws.specs.Left.{IsLeft}
 use Rattle.iox_hub_laws.specs.Locality.{HashFound}

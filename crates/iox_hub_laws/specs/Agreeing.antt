@@ -1,13 +1,13 @@
 -- When two hubs have the same of a service.
 use Rattle.std.specs.Prelude.{ℕ, ◌≡◌, Bool, true}
-use Rattle.iox_hub_laws.specs.HubRun.AgreementLaws.{service_of}
-use Rattle.iox_hub_laws.specs.HubRun.HubBase.DescribeBase.declared.hash.ServiceHash.{ServiceHash}
-use Rattle.iox_hub_laws.specs.HubRun.HubBase.Hubs.{factories_of}
-use Rattle.iox_hub_laws.specs.HubRun.HubBase.HubServices.Open.{presence_of}
-use Rattle.iox_hub_laws.specs.HubRun.HubBase.declared.hub.Hub.{Hub}
-use Rattle.iox_hub_laws.specs.HubRun.HubCommands.Maps.NumberTable.{NumberTable}
-use Rattle.iox_hub_laws.specs.HubRun.HubCommands.declared.ports.made.Made.{Made}
-use Rattle.iox_hub_laws.specs.HubRun.declared.numbered_hub.NumberedHub.{NumberedHub}
+use Rattle.iox_hub_laws.specs.HubCommands.AgreementLaws.{service_of}
+use Rattle.iox_hub_laws.specs.HubCommands.HubBase.DescribeBase.declared.hash.ServiceHash.{ServiceHash}
+use Rattle.iox_hub_laws.specs.HubCommands.HubBase.Hubs.{factories_of}
+use Rattle.iox_hub_laws.specs.HubCommands.HubBase.Open.{presence_of}
+use Rattle.iox_hub_laws.specs.HubCommands.HubBase.declared.hub.Hub.{Hub}
+use Rattle.iox_hub_laws.specs.HubCommands.Container.NumberTable.{NumberTable}
+use Rattle.iox_hub_laws.specs.HubCommands.declared.ports.made.Made.{Made}
+use Rattle.iox_hub_laws.specs.HubCommands.declared.numbered_hub.NumberedHub.{NumberedHub}
 use Rattle.iox_hub_laws.specs.Asking.{service_at, publisher_service, loan_service, sample_service}
 use Rattle.iox_hub_laws.specs.Left.{AllLeft}
 use Rattle.iox_hub_laws.specs.Negotiate.Closing.{IsUntouched}

@@ -1,12 +1,12 @@
 -- A service among others, and alone.
 use Rattle.std.specs.Prelude.{ℕ, ◌≡◌, ◌≢◌, ◌≤◌, ◌<◌, Bool, true, false, List, [], ◌∷◌, Option, None, Some, Result, Ok}
 use Rattle.std.specs.declared.alloc.AllocError.{AllocError}
-use Rattle.iox_hub_laws.specs.HubRun.Command.declared.command.Command.{Command}
-use Rattle.iox_hub_laws.specs.HubRun.Command.declared.reply.Reply.{Reply}
-use Rattle.iox_hub_laws.specs.HubRun.HubBase.DescribeBase.declared.hash.ServiceHash.{ServiceHash}
-use Rattle.iox_hub_laws.specs.HubRun.HubBase.declared.hub.HubConfig.{HubConfig}
-use Rattle.iox_hub_laws.specs.HubRun.Numbers.{IsNew}
-use Rattle.iox_hub_laws.specs.HubRun.declared.numbered_hub.NumberedHub.{NumberedHub}
+use Rattle.iox_hub_laws.specs.HubCommands.Command.declared.command.Command.{Command}
+use Rattle.iox_hub_laws.specs.HubCommands.Command.declared.reply.Reply.{Reply}
+use Rattle.iox_hub_laws.specs.HubCommands.HubBase.DescribeBase.declared.hash.ServiceHash.{ServiceHash}
+use Rattle.iox_hub_laws.specs.HubCommands.HubBase.declared.hub.HubConfig.{HubConfig}
+use Rattle.iox_hub_laws.specs.HubCommands.Numbers.{IsNew}
+use Rattle.iox_hub_laws.specs.HubCommands.declared.numbered_hub.NumberedHub.{NumberedHub}
 use Rattle.iox_hub_laws.specs.Asking.{hash_asked, number_asked}
 use Rattle.iox_hub_laws.specs.Agreeing.{AgreeOn}
 use Rattle.iox_hub_laws.specs.Locality.{HashFound, IsNode, IsMemoryWanted}

@@ -1,17 +1,17 @@
 -- Which service a command asks something of.
 use Rattle.std.specs.Prelude.{ℕ, Option, None, Some, option_map}
-use Rattle.iox_hub_run.specs.AgreementLaws.{service_of, carried_by}
-use Rattle.iox_hub_run.specs.Command.declared.command.Command.{Command}
-use Rattle.iox_hub_run.specs.Command.declared.command.Command.TheVariants as command
-use Rattle.iox_hub_run.specs.Command.declared.port.PortNumber.TheVariants as port
-use Rattle.iox_hub_run.specs.HubBase.DescribeBase.Hash.{service_hash_of}
-use Rattle.iox_hub_run.specs.HubBase.DescribeBase.declared.hash.ServiceHash.{ServiceHash}
-use Rattle.iox_hub_run.specs.HubCommands.Delivery.declared.port_id.PortId.{PortId}
-use Rattle.iox_hub_run.specs.HubCommands.Maps.NumberTable.{value_at}
-use Rattle.iox_hub_run.specs.HubCommands.declared.ports.made.MadeLoan.{MadeLoan}
-use Rattle.iox_hub_run.specs.HubCommands.declared.ports.made.MadePublisher.{MadePublisher}
-use Rattle.iox_hub_run.specs.HubCommands.declared.ports.made.MadeSample.{MadeSample}
-use Rattle.iox_hub_run.specs.declared.numbered_hub.NumberedHub.{NumberedHub}
+use Rattle.iox_hub_commands.specs.AgreementLaws.{service_of, carried_by}
+use Rattle.iox_hub_commands.specs.Command.declared.command.Command.{Command}
+use Rattle.iox_hub_commands.specs.Command.declared.command.Command.TheVariants as command
+use Rattle.iox_hub_commands.specs.Command.declared.port.PortNumber.TheVariants as port
+use Rattle.iox_hub_commands.specs.HubBase.DescribeBase.Hash.{service_hash_of}
+use Rattle.iox_hub_commands.specs.HubBase.DescribeBase.declared.hash.ServiceHash.{ServiceHash}
+use Rattle.iox_hub_commands.specs.Delivery.declared.port_id.PortId.{PortId}
+use Rattle.iox_hub_commands.specs.Container.NumberTable.{value_at}
+use Rattle.iox_hub_commands.specs.declared.ports.made.MadeLoan.{MadeLoan}
+use Rattle.iox_hub_commands.specs.declared.ports.made.MadePublisher.{MadePublisher}
+use Rattle.iox_hub_commands.specs.declared.ports.made.MadeSample.{MadeSample}
+use Rattle.iox_hub_commands.specs.declared.numbered_hub.NumberedHub.{NumberedHub}
 use Rattle.iox_hub_commands.specs.Asking.{hash_of}
 
 -- the number of the service of a port

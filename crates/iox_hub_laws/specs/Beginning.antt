@@ -2,23 +2,23 @@
 use Rattle.std.specs.Prelude.{ℕ, ◌≡◌, ◌≢◌, ◌≤◌, ◌⊎◌, Bool, List, [], None, Some, Result}
 use Rattle.std.specs.List.{AllByRecursion}
 use Rattle.std.specs.declared.alloc.AllocError.{AllocError}
-use Rattle.iox_hub_laws.specs.HubRun.AgreementLaws.{service_of}
-use Rattle.iox_hub_laws.specs.HubRun.Command.declared.command.Command.{Command}
-use Rattle.iox_hub_laws.specs.HubRun.Command.declared.reply.Reply.{Reply}
-use Rattle.iox_hub_laws.specs.HubRun.HubBase.DescribeBase.declared.hash.ServiceHash.{ServiceHash}
-use Rattle.iox_hub_laws.specs.HubRun.HubBase.Domain.declared.domain.Domain.{Domain}
-use Rattle.iox_hub_laws.specs.HubRun.HubBase.HubServices.Open.{presence_of}
-use Rattle.iox_hub_laws.specs.HubRun.HubBase.HubServices.declared.presence.Presence.{Presence}
-use Rattle.iox_hub_laws.specs.HubRun.HubBase.HubServices.declared.presence.Presence.TheVariants.{Here}
-use Rattle.iox_hub_laws.specs.HubRun.HubBase.declared.hub.Hub.{Hub}
-use Rattle.iox_hub_laws.specs.HubRun.HubBase.declared.hub.HubConfig.{HubConfig}
-use Rattle.iox_hub_laws.specs.HubRun.HubCommands.Domain.Living.{living}
-use Rattle.iox_hub_laws.specs.HubRun.HubCommands.Domain.Sizes.{sizes}
-use Rattle.iox_hub_laws.specs.HubRun.HubCommands.Maps.NumberTable.{NumberTable, value_at}
-use Rattle.iox_hub_laws.specs.HubRun.HubCommands.declared.ports.made.Made.{Made}
-use Rattle.iox_hub_laws.specs.HubRun.Numbers.{IsNew}
-use Rattle.iox_hub_laws.specs.HubRun.Runs.{Runs, IsRun}
-use Rattle.iox_hub_laws.specs.HubRun.declared.numbered_hub.NumberedHub.{NumberedHub}
+use Rattle.iox_hub_laws.specs.HubCommands.AgreementLaws.{service_of}
+use Rattle.iox_hub_laws.specs.HubCommands.Command.declared.command.Command.{Command}
+use Rattle.iox_hub_laws.specs.HubCommands.Command.declared.reply.Reply.{Reply}
+use Rattle.iox_hub_laws.specs.HubCommands.HubBase.DescribeBase.declared.hash.ServiceHash.{ServiceHash}
+use Rattle.iox_hub_laws.specs.HubCommands.HubBase.Domain.declared.domain.Domain.{Domain}
+use Rattle.iox_hub_laws.specs.HubCommands.HubBase.Open.{presence_of}
+use Rattle.iox_hub_laws.specs.HubCommands.HubBase.declared.presence.Presence.{Presence}
+use Rattle.iox_hub_laws.specs.HubCommands.HubBase.declared.presence.Presence.TheVariants.{Here}
+use Rattle.iox_hub_laws.specs.HubCommands.HubBase.declared.hub.Hub.{Hub}
+use Rattle.iox_hub_laws.specs.HubCommands.HubBase.declared.hub.HubConfig.{HubConfig}
+use Rattle.iox_hub_laws.specs.HubCommands.Domain.Living.{living}
+use Rattle.iox_hub_laws.specs.HubCommands.Domain.Sizes.{sizes}
+use Rattle.iox_hub_laws.specs.HubCommands.Container.NumberTable.{NumberTable, value_at}
+use Rattle.iox_hub_laws.specs.HubCommands.declared.ports.made.Made.{Made}
+use Rattle.iox_hub_laws.specs.HubCommands.Numbers.{IsNew}
+use Rattle.iox_hub_laws.specs.HubCommands.Runs.{Runs, IsRun}
+use Rattle.iox_hub_laws.specs.HubCommands.declared.numbered_hub.NumberedHub.{NumberedHub}
 use Rattle.iox_hub_laws.specs.Asking.{service_at, publisher_service, loan_service, sample_service}
 use Rattle.iox_hub_laws.specs.Locality.{IsOpening}
 use Rattle.iox_hub_laws.specs.Negotiate.Lives.{number_of}

@@ -1,20 +1,20 @@
 -- Services are beside one another: what is asked of one leaves each other one as it was.
 use Rattle.std.specs.Prelude.{ℕ, ◌≡◌, ◌≢◌, Bool, List, Some, Result}
 use Rattle.std.specs.declared.alloc.AllocError.{AllocError}
-use Rattle.iox_hub_run.specs.Agreements.{AreOfOneAgreement}
-use Rattle.iox_hub_run.specs.Command.declared.command.Command.{Command}
-use Rattle.iox_hub_run.specs.Command.declared.reply.Reply.{Reply}
-use Rattle.iox_hub_run.specs.HubBase.DescribeBase.declared.hash.ServiceHash.{ServiceHash}
-use Rattle.iox_hub_run.specs.HubBase.DescribeSettings.Agreement.{Agreement}
-use Rattle.iox_hub_run.specs.HubBase.declared.hub.HubConfig.{HubConfig}
-use Rattle.iox_hub_run.specs.Lives.{NumbersRise}
-use Rattle.iox_hub_run.specs.Numbers.{IsNew}
-use Rattle.iox_hub_run.specs.Runs.{Runs, IsRun}
-use Rattle.iox_hub_run.specs.declared.numbered_hub.NumberedHub.{NumberedHub}
+use Rattle.iox_hub_commands.specs.Agreements.{AreOfOneAgreement}
+use Rattle.iox_hub_commands.specs.Command.declared.command.Command.{Command}
+use Rattle.iox_hub_commands.specs.Command.declared.reply.Reply.{Reply}
+use Rattle.iox_hub_commands.specs.HubBase.DescribeBase.declared.hash.ServiceHash.{ServiceHash}
+use Rattle.iox_hub_commands.specs.HubBase.DescribeSettings.Agreement.{Agreement}
+use Rattle.iox_hub_commands.specs.HubBase.declared.hub.HubConfig.{HubConfig}
+use Rattle.iox_hub_commands.specs.Lives.{NumbersRise}
+use Rattle.iox_hub_commands.specs.Numbers.{IsNew}
+use Rattle.iox_hub_commands.specs.Runs.{Runs, IsRun}
+use Rattle.iox_hub_commands.specs.declared.numbered_hub.NumberedHub.{NumberedHub}
 use Rattle.iox_negotiate.specs.Agreements.{WasAgreed}
 use Rattle.iox_negotiate.specs.NegotiateTable.Contents.{Contents}
-use Rattle.iox_hub_run.specs.AgreementLaws.{service_of}
-use Rattle.iox_hub_run.specs.HubCommands.Maps.NumberTable.{NumberTable, value_at}
+use Rattle.iox_hub_commands.specs.AgreementLaws.{service_of}
+use Rattle.iox_hub_commands.specs.Container.NumberTable.{NumberTable, value_at}
 use Rattle.iox_hub_laws.specs.Asking.{hash_asked, number_asked, service_at, publisher_service, loan_service, sample_service}
 use Rattle.iox_hub_laws.specs.Left.{IsLeft}
 

@@ -1,13 +1,13 @@
 -- What a service has in a hub, and when that is left as it was.
 use Rattle.std.specs.Prelude.{ℕ, ◌≡◌, Option, None, Some, if◌then◌else◌, nat_eq}
-use Rattle.iox_hub_run.specs.AgreementLaws.{service_of}
-use Rattle.iox_hub_run.specs.HubBase.DescribeBase.declared.hash.ServiceHash.{ServiceHash}
-use Rattle.iox_hub_run.specs.HubBase.Hubs.{factories_of}
-use Rattle.iox_hub_run.specs.HubBase.HubServices.Open.{presence_of}
-use Rattle.iox_hub_run.specs.HubBase.declared.hub.Hub.{Hub}
-use Rattle.iox_hub_run.specs.HubCommands.Maps.NumberTable.{NumberTable, value_at}
-use Rattle.iox_hub_run.specs.HubCommands.declared.ports.made.Made.{Made}
-use Rattle.iox_hub_run.specs.declared.numbered_hub.NumberedHub.{NumberedHub}
+use Rattle.iox_hub_commands.specs.AgreementLaws.{service_of}
+use Rattle.iox_hub_commands.specs.HubBase.DescribeBase.declared.hash.ServiceHash.{ServiceHash}
+use Rattle.iox_hub_commands.specs.HubBase.Hubs.{factories_of}
+use Rattle.iox_hub_commands.specs.HubBase.Open.{presence_of}
+use Rattle.iox_hub_commands.specs.HubBase.declared.hub.Hub.{Hub}
+use Rattle.iox_hub_commands.specs.Container.NumberTable.{NumberTable, value_at}
+use Rattle.iox_hub_commands.specs.declared.ports.made.Made.{Made}
+use Rattle.iox_hub_commands.specs.declared.numbered_hub.NumberedHub.{NumberedHub}
 use Rattle.iox_negotiate.specs.Closing.{IsUntouched}
 use Rattle.iox_hub_laws.specs.Asking.{service_at, publisher_service, loan_service, sample_service}
 

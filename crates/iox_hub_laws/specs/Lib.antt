@@ -19,5 +19,4 @@ pub mod RenamedRenaming
 pub mod RenamedRenamingLaws
 pub mod RenamedAnew
 pub use Rattle.iox_hub_commands.specs as HubCommands
-pub use Rattle.iox_hub_run.specs as HubRun
 pub use Rattle.iox_negotiate.specs as Negotiate

@@ -2,18 +2,18 @@
 use Rattle.std.specs.Prelude.{ℕ, ◌≡◌, ◌≢◌, ◌≤◌, ◌<◌, ◌⊎◌, Bool, true, List, [], ◌∷◌, Option, None, Some, Result, Ok, Err}
 use Rattle.std.specs.List.{AllByRecursion}
 use Rattle.std.specs.declared.alloc.AllocError.{AllocError}
-use Rattle.iox_hub_laws.specs.HubRun.Command.declared.command.Command.{Command}
-use Rattle.iox_hub_laws.specs.HubRun.Command.declared.command.Command.TheVariants as command
-use Rattle.iox_hub_laws.specs.HubRun.Command.declared.reply.Reply.{Reply}
+use Rattle.iox_hub_laws.specs.HubCommands.Command.declared.command.Command.{Command}
+use Rattle.iox_hub_laws.specs.HubCommands.Command.declared.command.Command.TheVariants as command
+use Rattle.iox_hub_laws.specs.HubCommands.Command.declared.reply.Reply.{Reply}
 use Rattle.iox_hub_laws.specs.HubCommands.Replies.{factory_reply}
 use Rattle.iox_hub_laws.specs.HubCommands.Creating.{create_lacking}
 use Rattle.iox_hub_laws.specs.HubCommands.Either.{either_lacking}
 use Rattle.iox_hub_laws.specs.HubCommands.Opening.{open_lacking}
-use Rattle.iox_hub_laws.specs.HubRun.HubBase.DescribeBase.declared.hash.ServiceHash.{ServiceHash}
-use Rattle.iox_hub_laws.specs.HubRun.HubBase.declared.hub.Hub.{Hub}
-use Rattle.iox_hub_laws.specs.HubRun.Lives.{NumbersRise}
-use Rattle.iox_hub_laws.specs.HubRun.Runs.{Runs}
-use Rattle.iox_hub_laws.specs.HubRun.declared.numbered_hub.NumberedHub.{NumberedHub}
+use Rattle.iox_hub_laws.specs.HubCommands.HubBase.DescribeBase.declared.hash.ServiceHash.{ServiceHash}
+use Rattle.iox_hub_laws.specs.HubCommands.HubBase.declared.hub.Hub.{Hub}
+use Rattle.iox_hub_laws.specs.HubCommands.Lives.{NumbersRise}
+use Rattle.iox_hub_laws.specs.HubCommands.Runs.{Runs}
+use Rattle.iox_hub_laws.specs.HubCommands.declared.numbered_hub.NumberedHub.{NumberedHub}
 use Rattle.iox_hub_laws.specs.Asking.{hash_asked, number_asked}
 use Rattle.iox_hub_laws.specs.Negotiate.Histories.{IsReached}
 use Rattle.iox_hub_laws.specs.Negotiate.Lives.{number_of}

@@ -2,13 +2,13 @@
 use Rattle.std.specs.Prelude.{ℕ, ◌<◌, Bool, List, [], ◌∷◌, Result}
 use Rattle.std.specs.List.{AllByRecursion}
 use Rattle.std.specs.declared.alloc.AllocError.{AllocError}
-use Rattle.iox_hub_laws.specs.HubRun.Command.declared.command.Command.{Command}
-use Rattle.iox_hub_laws.specs.HubRun.Command.declared.reply.Reply.{Reply}
-use Rattle.iox_hub_laws.specs.HubRun.HubBase.declared.hub.Hub.{Hub}
-use Rattle.iox_hub_laws.specs.HubRun.HubBase.declared.hub.HubConfig.{HubConfig}
-use Rattle.iox_hub_laws.specs.HubRun.Numbers.{IsNew}
-use Rattle.iox_hub_laws.specs.HubRun.Runs.{IsRun}
-use Rattle.iox_hub_laws.specs.HubRun.declared.numbered_hub.NumberedHub.{NumberedHub}
+use Rattle.iox_hub_laws.specs.HubCommands.Command.declared.command.Command.{Command}
+use Rattle.iox_hub_laws.specs.HubCommands.Command.declared.reply.Reply.{Reply}
+use Rattle.iox_hub_laws.specs.HubCommands.HubBase.declared.hub.Hub.{Hub}
+use Rattle.iox_hub_laws.specs.HubCommands.HubBase.declared.hub.HubConfig.{HubConfig}
+use Rattle.iox_hub_laws.specs.HubCommands.Numbers.{IsNew}
+use Rattle.iox_hub_laws.specs.HubCommands.Runs.{IsRun}
+use Rattle.iox_hub_laws.specs.HubCommands.declared.numbered_hub.NumberedHub.{NumberedHub}
 use Rattle.iox_hub_laws.specs.Locality.{NumbersOnce}
 
 -- Each number is below all those after it.

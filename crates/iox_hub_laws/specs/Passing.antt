@@ -1,9 +1,9 @@
 -- Numbers are passed over.
 use Rattle.std.specs.Prelude.{◌≡◌, ◌≤◌}
-use Rattle.iox_hub_laws.specs.HubRun.HubBase.declared.hub.Hub.{Hub}
-use Rattle.iox_hub_laws.specs.HubRun.HubCommands.Maps.NumberTable.{NumberTable}
-use Rattle.iox_hub_laws.specs.HubRun.HubCommands.declared.ports.made.Made.{Made}
-use Rattle.iox_hub_laws.specs.HubRun.declared.numbered_hub.NumberedHub.{NumberedHub}
+use Rattle.iox_hub_laws.specs.HubCommands.HubBase.declared.hub.Hub.{Hub}
+use Rattle.iox_hub_laws.specs.HubCommands.Container.NumberTable.{NumberTable}
+use Rattle.iox_hub_laws.specs.HubCommands.declared.ports.made.Made.{Made}
+use Rattle.iox_hub_laws.specs.HubCommands.declared.numbered_hub.NumberedHub.{NumberedHub}
 
 -- The number that comes next may be a later one; the same values stand under the same numbers.
 pub record PassesIn {V : Type 0} (old new : NumberTable V) : Type 0 where

@@ -4,16 +4,16 @@ use Rattle.std.specs.declared.alloc.AllocError.{AllocError}
 use Rattle.iox_hub_laws.specs.HubCommands.DescribeBase.Detail.{Detail}
 use Rattle.iox_hub_laws.specs.HubCommands.DescribeBase.declared.message_type.MessageTypeDetails.{MessageTypeDetails}
 use Rattle.iox_hub_laws.specs.HubCommands.DomainValues.Actions.{decision_of}
-use Rattle.iox_hub_laws.specs.HubRun.Command.declared.command.Command.{Command}
-use Rattle.iox_hub_laws.specs.HubRun.Command.declared.reply.Reply.{Reply}
-use Rattle.iox_hub_laws.specs.HubRun.HubBase.DescribeBase.declared.hash.ServiceHash.{ServiceHash}
-use Rattle.iox_hub_laws.specs.HubRun.HubBase.declared.hub.HubConfig.{HubConfig}
-use Rattle.iox_hub_laws.specs.HubRun.HubCommands.declared.handlers.FixedDegradation.{FixedDegradation}
-use Rattle.iox_hub_laws.specs.HubRun.HubCommands.declared.handlers.FixedHandlers.{FixedHandlers}
-use Rattle.iox_hub_laws.specs.HubRun.Numbers.{IsNew}
-use Rattle.iox_hub_laws.specs.HubRun.Runs.{Runs}
-use Rattle.iox_hub_laws.specs.HubRun.Steps.{Step}
-use Rattle.iox_hub_laws.specs.HubRun.declared.numbered_hub.NumberedHub.{NumberedHub}
+use Rattle.iox_hub_laws.specs.HubCommands.Command.declared.command.Command.{Command}
+use Rattle.iox_hub_laws.specs.HubCommands.Command.declared.reply.Reply.{Reply}
+use Rattle.iox_hub_laws.specs.HubCommands.HubBase.DescribeBase.declared.hash.ServiceHash.{ServiceHash}
+use Rattle.iox_hub_laws.specs.HubCommands.HubBase.declared.hub.HubConfig.{HubConfig}
+use Rattle.iox_hub_laws.specs.HubCommands.declared.handlers.FixedDegradation.{FixedDegradation}
+use Rattle.iox_hub_laws.specs.HubCommands.declared.handlers.FixedHandlers.{FixedHandlers}
+use Rattle.iox_hub_laws.specs.HubCommands.Numbers.{IsNew}
+use Rattle.iox_hub_laws.specs.HubCommands.Runs.{Runs}
+use Rattle.iox_hub_laws.specs.HubCommands.CommandSteps.{Step}
+use Rattle.iox_hub_laws.specs.HubCommands.declared.numbered_hub.NumberedHub.{NumberedHub}
 use Rattle.iox_hub_laws.specs.Alone.{StepWithMemory, RunsAmongOthers}
 use Rattle.iox_hub_laws.specs.Telling.{commands_told, replies_told}
 use Rattle.iox_hub_laws.specs.RenumberedRenaming.{Renaming, renamed, renamed_reply}

@@ -9,13 +9,13 @@ use Rattle.iox_hub_laws.specs.HubCommands.declared.ports.made.MadePublisher.{Mad
 use Rattle.iox_hub_laws.specs.HubCommands.declared.ports.made.MadeSample.{MadeSample}
 use Rattle.iox_hub_laws.specs.HubCommands.Domain.declared.domain.Domain.{Domain}
 use Rattle.iox_hub_laws.specs.HubCommands.HubBase.declared.hub.Hub.{Hub}
-use Rattle.iox_hub_laws.specs.HubCommands.HubServices.Open.{OpenServices}
-use Rattle.iox_hub_laws.specs.HubCommands.HubServices.declared.presence.Presence.{Presence}
-use Rattle.iox_hub_laws.specs.HubCommands.HubServices.declared.presence.Presence.TheVariants.{Here, Out}
-use Rattle.iox_hub_laws.specs.HubCommands.Maps.NumberTable.{NumberTable}
+use Rattle.iox_hub_laws.specs.HubCommands.HubBase.Open.{OpenServices}
+use Rattle.iox_hub_laws.specs.HubCommands.HubBase.declared.presence.Presence.{Presence}
+use Rattle.iox_hub_laws.specs.HubCommands.HubBase.declared.presence.Presence.TheVariants.{Here, Out}
+use Rattle.iox_hub_laws.specs.HubCommands.Container.NumberTable.{NumberTable}
 use Rattle.iox_hub_laws.specs.HubCommands.declared.services.made.MadeFactory.{MadeFactory}
 use Rattle.iox_hub_laws.specs.HubCommands.declared.services.made.MadeFactory.TheVariants as made
-use Rattle.iox_hub_laws.specs.HubRun.declared.numbered_hub.NumberedHub.{NumberedHub}
+use Rattle.iox_hub_laws.specs.HubCommands.declared.numbered_hub.NumberedHub.{NumberedHub}
 use Rattle.iox_hub_laws.specs.NegotiateRenamedRenaming.{renamed_member, renamed_table}
 
 -- the domain of a life under its other number

@@ -1,11 +1,11 @@
 -- Factories, ports, loans and samples go by other numbers.
 use Rattle.std.specs.Prelude.{ℕ}
-use Rattle.iox_hub_laws.specs.HubRun.Command.declared.command.Command.{Command}
-use Rattle.iox_hub_laws.specs.HubRun.Command.declared.command.Command.TheVariants as command
-use Rattle.iox_hub_laws.specs.HubRun.Command.declared.port.PortNumber.{PortNumber}
-use Rattle.iox_hub_laws.specs.HubRun.Command.declared.port.PortNumber.TheVariants as port
-use Rattle.iox_hub_laws.specs.HubRun.Command.declared.reply.Reply.{Reply}
-use Rattle.iox_hub_laws.specs.HubRun.Command.declared.reply.Reply.TheVariants as reply
+use Rattle.iox_hub_laws.specs.HubCommands.Command.declared.command.Command.{Command}
+use Rattle.iox_hub_laws.specs.HubCommands.Command.declared.command.Command.TheVariants as command
+use Rattle.iox_hub_laws.specs.HubCommands.Command.declared.port.PortNumber.{PortNumber}
+use Rattle.iox_hub_laws.specs.HubCommands.Command.declared.port.PortNumber.TheVariants as port
+use Rattle.iox_hub_laws.specs.HubCommands.Command.declared.reply.Reply.{Reply}
+use Rattle.iox_hub_laws.specs.HubCommands.Command.declared.reply.Reply.TheVariants as reply
 
 -- By which number each goes: of factories, publishers, subscribers, loans and samples.
 pub record Renaming : Type 0 where

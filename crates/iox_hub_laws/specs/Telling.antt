@@ -1,13 +1,13 @@
 -- Every run can be told as one of a service among others.
 use Rattle.std.specs.Prelude.{ℕ, ◌≡◌, Bool, true, false, List, [], ◌∷◌, Result}
 use Rattle.std.specs.declared.alloc.AllocError.{AllocError}
-use Rattle.iox_hub_laws.specs.HubRun.Command.declared.command.Command.{Command}
-use Rattle.iox_hub_laws.specs.HubRun.Command.declared.reply.Reply.{Reply}
-use Rattle.iox_hub_laws.specs.HubRun.HubBase.DescribeBase.declared.hash.ServiceHash.{ServiceHash}
-use Rattle.iox_hub_laws.specs.HubRun.HubBase.declared.hub.HubConfig.{HubConfig}
-use Rattle.iox_hub_laws.specs.HubRun.Numbers.{IsNew}
-use Rattle.iox_hub_laws.specs.HubRun.Runs.{Runs}
-use Rattle.iox_hub_laws.specs.HubRun.declared.numbered_hub.NumberedHub.{NumberedHub}
+use Rattle.iox_hub_laws.specs.HubCommands.Command.declared.command.Command.{Command}
+use Rattle.iox_hub_laws.specs.HubCommands.Command.declared.reply.Reply.{Reply}
+use Rattle.iox_hub_laws.specs.HubCommands.HubBase.DescribeBase.declared.hash.ServiceHash.{ServiceHash}
+use Rattle.iox_hub_laws.specs.HubCommands.HubBase.declared.hub.HubConfig.{HubConfig}
+use Rattle.iox_hub_laws.specs.HubCommands.Numbers.{IsNew}
+use Rattle.iox_hub_laws.specs.HubCommands.Runs.{Runs}
+use Rattle.iox_hub_laws.specs.HubCommands.declared.numbered_hub.NumberedHub.{NumberedHub}
 use Rattle.iox_hub_laws.specs.Alone.{StepWithMemory, RunsAmongOthers}
 
 module _ {T : Type 0} where

@@ -11,7 +11,7 @@ ghost use Rattle.iox_hub_laws.specs.Telling.{EachRunCanBeTold};
 ghost use Rattle.iox_hub_laws.specs.HubCommands.DescribeBase.Detail.{detail};
 ghost use Rattle.iox_hub_laws.specs.HubCommands.DescribeBase.declared.type_detail.TypeVariant.TheVariants.{FixedSize};
 ghost use Rattle.iox_hub_laws.specs.HubCommands.Asked.{types_of};
-ghost use Rattle.iox_hub_laws.specs.HubRun.Steps.{Step};
+ghost use Rattle.iox_hub_laws.specs.HubCommands.CommandSteps.{Step};
 
 pub use crate::locality::{PublisherHandlers, SubscriberHandler, Words, ZeroCopySend};
 

@@ -10,7 +10,7 @@ ghost use Rattle.iox_hub_commands.specs.DescribeBase.Detail.{detail};
 ghost use Rattle.iox_hub_commands.specs.DescribeBase.declared.type_detail.TypeVariant.TheVariants.{FixedSize};
 ghost use Rattle.iox_hub_commands.specs.Asked.{types_of};
 ghost use Rattle.iox_hub_laws.specs.Laws.{LeavesOthers, LeftIsFound, RunsLeaveOthers};
-ghost use Rattle.iox_hub_run.specs.Steps.{Step};
+ghost use Rattle.iox_hub_commands.specs.CommandSteps.{Step};
 
 pub use iox_describe_base::ZeroCopySend;
 pub use iox_hub_commands::{PublisherHandlers, SubscriberHandler};

@@ -10,7 +10,7 @@ ghost use Rattle.iox_hub_laws.specs.HubCommands.DescribeBase.declared.type_detai
 ghost use Rattle.iox_hub_laws.specs.HubCommands.Asked.{types_of};
 ghost use Rattle.iox_hub_laws.specs.Locality.{CloseAnswersAlike, ForeignAnswersAlike, OpensAnswerAlike, PortsAnswerAlike, RunsAnswerAlike};
 ghost use Rattle.iox_hub_laws.specs.Order.{RunsAreInOrder, StaysInOrder};
-ghost use Rattle.iox_hub_laws.specs.HubRun.Steps.{Step};
+ghost use Rattle.iox_hub_laws.specs.HubCommands.CommandSteps.{Step};
 
 pub use crate::independence::{PublisherHandlers, SubscriberHandler, Words, ZeroCopySend};
 

@@ -11,7 +11,7 @@ ghost use Rattle.iox_hub_laws.specs.HubCommands.DescribeBase.declared.type_detai
 ghost use Rattle.iox_hub_laws.specs.HubCommands.Asked.{types_of};
 ghost use Rattle.iox_hub_laws.specs.RenamedAnew.{EachServiceIsAlone, FixedStep};
 ghost use Rattle.iox_hub_laws.specs.RenamedRenamingLaws.{EachGoesByOtherNumbers, GoesByAnyNumber, LooksAtNoService, RunGoesByAnyNumber};
-ghost use Rattle.iox_hub_laws.specs.HubRun.Steps.{Step};
+ghost use Rattle.iox_hub_laws.specs.HubCommands.CommandSteps.{Step};
 
 use crate::renumbered::{PublisherHandlers, SubscriberHandler, Words, ZeroCopySend};
 

@@ -1,6 +1,6 @@
 //! Handlers that commands name by their places: what is asked of them, how often, and which are left.
 ghost use Rattle.std.specs.Prelude.{◌+◌, ◌<◌, ◌≤◌, ◌^◌, ⊤, length};
-ghost use Rattle.iox_hub_run.specs.Numbers.{numbers_used};
+ghost use Rattle.iox_hub_commands.specs.Numbers.{numbers_used};
 
 use iox_command::{Command, Reply};
 use iox_domain_values::{
@@ -8,7 +8,7 @@ use iox_domain_values::{
     DegradationCause, DegradationFn, DegradationHandler, DegradationInfo, Handlers,
 };
 use iox_hub::{GivenHandler, GivenHandlers, HandledCommand, run, step};
-use iox_hub_run::{HubConfig, NumberedHub};
+use iox_hub_commands::{HubConfig, NumberedHub};
 use iox_line::{Scratch, print_reply, read_command};
 use std::alloc::{AllocError, Global};
 use std::cell::Cell;

@@ -1,13 +1,13 @@
 //! The container whose capacity its type fixes.
 ghost use Rattle.std.specs.Prelude.{◌≡◌, ◌≤◌, ◌↔◌, ◌+◌, ℕ, List, Option, true, false, length, slice_get, not, nat_eq, IfOk, OnErr, IsErr};
-ghost use Rattle.iox_index_base.specs.declared.container.Member.{Member};
+ghost use Rattle.iox_container.specs.declared.container.Member.{Member};
 ghost use Rattle.std.specs.Bool.{OnFalse};
 ghost use Rattle.std.specs.List.{FoldsTo};
-ghost use Rattle.iox_index_base.specs.Places.{padded};
-ghost use Rattle.iox_index_base.specs.Release.{state_of};
-ghost use Rattle.iox_index_base.specs.Container.{Contents, Copied, empty_container, count_members, lowest_free, handle_of, with_member, without_member, settled, owns, HasRoom, copy_of, may_update, IsCopyOf, member_of, handle_at, first_handle, members_of, Recovered};
+ghost use Rattle.iox_container.specs.CountedPlaces.{padded};
+ghost use Rattle.iox_container.specs.Release.{state_of};
+ghost use Rattle.iox_container.specs.Container.{Contents, Copied, empty_container, count_members, lowest_free, handle_of, with_member, without_member, settled, owns, HasRoom, copy_of, may_update, IsCopyOf, member_of, handle_at, first_handle, members_of, Recovered};
 
-use iox_index_base::{
+use iox_container::{
     Container, ContainerAddFailure, ContainerHandle, ContainerRemoveError, ContainerState, Member,
     OwnerId, ReleaseMode, ReleaseState,
 };
@@ -25,7 +25,7 @@ pub struct FixedSizeContainer<T: Copy, const CAPACITY: usize> {
 
 impl<T: Copy, const CAPACITY: usize> Model for FixedSizeContainer<T, CAPACITY> {
     ghost use Rattle.std.specs.Prelude.{◌≡◌, length};
-    ghost use Rattle.iox_index_base.specs.Container.{Contents};
+    ghost use Rattle.iox_container.specs.Container.{Contents};
 
     ghost Value = { Contents T };
 

@@ -7,7 +7,7 @@
 //! | `robust` | `StaticRobustUniqueIndexSet`, which knows its holders |
 //! | `container` | `FixedSizeContainer`, members at indices |
 //!
-//! All else comes from `iox_index_base`.
+//! All else comes from `iox_container`.
 //!
 //! A first call:
 //!
@@ -28,7 +28,7 @@ pub mod robust;
 pub mod unique;
 
 pub use container::FixedSizeContainer;
-pub use iox_index_base::{
+pub use iox_container::{
     Container, ContainerAddFailure, ContainerHandle, ContainerRemoveError, ContainerState,
     HeadDetails, Member, OwnerId, OwnerIdNewError, ReleaseMode, ReleaseState, RobustUniqueIndexSet,
     SharedIndexSet, UniqueIndex, UniqueIndexSet, UniqueIndexSetAcquireFailure,

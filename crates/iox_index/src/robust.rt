@@ -1,10 +1,10 @@
 //! The set of indices whose capacity its type bounds, and which knows its holders.
 ghost use Rattle.std.specs.Prelude.{◌≡◌, ◌≤◌, ℕ, List, Option, Some, length, slice_set, true, false, IfOk, OnErr};
 ghost use Rattle.std.specs.List.{FoldsTo};
-ghost use Rattle.iox_index_base.specs.Release.{state_of};
-ghost use Rattle.iox_index_base.specs.Robust.{RobustSetState, new_robust_set, is_held, lowest_free, borrowed, answer_of, freed, settled, held_by, Recovered};
+ghost use Rattle.iox_container.specs.Release.{state_of};
+ghost use Rattle.iox_container.specs.Robust.{RobustSetState, new_robust_set, is_held, lowest_free, borrowed, answer_of, freed, settled, held_by, Recovered};
 
-use iox_index_base::{
+use iox_container::{
     OwnerId, ReleaseMode, ReleaseState, RobustUniqueIndexSet, UniqueIndexSetAcquireFailure,
 };
 use std::alloc::{AllocError, Global};
@@ -20,7 +20,7 @@ pub struct StaticRobustUniqueIndexSet<const CAPACITY: usize> {
 
 impl<const CAPACITY: usize> Model for StaticRobustUniqueIndexSet<CAPACITY> {
     ghost use Rattle.std.specs.Prelude.{◌≤◌, length};
-    ghost use Rattle.iox_index_base.specs.Robust.{RobustSetState};
+    ghost use Rattle.iox_container.specs.Robust.{RobustSetState};
 
     ghost Value = { RobustSetState };
 

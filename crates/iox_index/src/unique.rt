@@ -1,11 +1,11 @@
 //! The set of indices whose capacity its type bounds, and which hands out the last released first.
 ghost use Rattle.std.specs.Prelude.{◌≡◌, ◌≤◌, ◌<◌, ◌+◌, ◌^◌, ℕ, true, false, IfOk, IfErr, OnErr};
 ghost use Rattle.std.specs.List.{count_by, range_with_len};
-ghost use Rattle.iox_index_base.specs.Shared.{shared_form};
-ghost use Rattle.iox_index_base.specs.Release.{state_of};
-ghost use Rattle.iox_index_base.specs.Unique.{UniqueSetState, new_unique_set, is_held, borrowed, answer_of, acquired, freed, settled, Takes};
+ghost use Rattle.iox_container.specs.Shared.{shared_form};
+ghost use Rattle.iox_container.specs.Release.{state_of};
+ghost use Rattle.iox_container.specs.Unique.{UniqueSetState, new_unique_set, is_held, borrowed, answer_of, acquired, freed, settled, Takes};
 
-use iox_index_base::{
+use iox_container::{
     ReleaseMode, ReleaseState, SharedIndexSet, UniqueIndexSet, UniqueIndexSetAcquireFailure,
 };
 use std::alloc::{AllocError, Global};
@@ -21,7 +21,7 @@ pub struct FixedSizeUniqueIndexSet<const CAPACITY: usize> {
 
 impl<const CAPACITY: usize> Model for FixedSizeUniqueIndexSet<CAPACITY> {
     ghost use Rattle.std.specs.Prelude.{◌≤◌};
-    ghost use Rattle.iox_index_base.specs.Unique.{UniqueSetState};
+    ghost use Rattle.iox_container.specs.Unique.{UniqueSetState};
 
     ghost Value = { UniqueSetState };
 

@@ -13,10 +13,10 @@ use Rattle.std.specs.FinMap.{nat_cmp-IsAntisymmetric}
 use Rattle.std.specs.Ordering.{nat_cmp, eq_by_cmp, is_eq}
 use Rattle.std.specs.declared.cmp.Ordering.{Ordering}
 use Rattle.std.specs.declared.cmp.Ordering.TheVariants.{Less, Equal, Greater}
-use Rattle.iox_domain_publisher.specs.MessagesSending.{SenderState, with_uses}
-use Rattle.iox_domain_publisher.specs.DomainSlots.Uses.{Connection, nobody, emptied}
-use Rattle.iox_domain_publisher.specs.declared.publisher_port.PublisherPort.{PublisherPort}
-use Rattle.iox_domain_subscriber.specs.Publishers.{port_of, changed, changed_at_port}
+use Rattle.iox_domain_ports.specs.MessagesSending.{SenderState, with_uses}
+use Rattle.iox_domain_ports.specs.DomainSlots.Uses.{Connection, nobody, emptied}
+use Rattle.iox_domain_ports.specs.declared.publisher_port.PublisherPort.{PublisherPort}
+use Rattle.iox_domain_ports.specs.Publishers.{port_of, changed, changed_at_port}
 use Rattle.iox_lanes_opening.specs.Clearing.{IsCleared}
 use Rattle.iox_lanes.specs.Emptied.{without_messages, is_among, emptied_if, AreWithout}
 

@@ -1,8 +1,8 @@
 -- Messages that lie in slots.
 use Rattle.std.proofs.Common.{arith, ℕ, ◌≡◌, ◌+◌, ◌<◌, ◌≤◌, Bool, true, false, nat_lt, List, length, Option, None, Some, option_map, slice_get, map, refl, ap, sym, subst, ◌∙◌}
 use Rattle.std.proofs.lemmas.Option.{slice_get-map, slice_get_past}
-use Rattle.iox_domain.specs.DomainPublisher.Messages.{Message}
-use Rattle.iox_domain.specs.DomainPublisher.declared.publisher_port.PublisherPort.{PublisherPort}
+use Rattle.iox_domain.specs.DomainPorts.Messages.{Message}
+use Rattle.iox_domain.specs.DomainPorts.declared.publisher_port.PublisherPort.{PublisherPort}
 use Rattle.iox_lanes_machine.specs.LanesBase.Table.{TableWords}
 use Rattle.iox_lanes.specs.Holding.{IsNamedIf}
 use Rattle.iox_lanes.specs.Lying.{WordsLie, IsLaidAt}

@@ -1,7 +1,7 @@
 -- The numbers of the ports that are listed.
 use Rattle.std.proofs.Common.{arith, ℕ, zero, suc, ◌≡◌, ◌+◌, ◌-◌, ◌<◌, ◌≤◌, ◌++◌, ◌∷◌, [], List, length, take, get_or, replicate, Option, None, Some, refl, ap, sym, ◌∙◌}
-use Rattle.iox_domain.specs.IndexBase.Places.{padded}
-use Rattle.iox_domain.specs.IndexBase.declared.container.Member.{Member}
+use Rattle.iox_domain.specs.Container.CountedPlaces.{padded}
+use Rattle.iox_domain.specs.Container.declared.container.Member.{Member}
 use Rattle.iox_lanes.specs.Holding.{numbers_of}
 
 numbers_none : {V : Type 0} (number : V → ℕ) (count : ℕ) → numbers_of number (replicate count None) ≡ []

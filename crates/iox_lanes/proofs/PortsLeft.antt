@@ -6,8 +6,8 @@ use Rattle.std.proofs.lemmas.Bool.{OnTrue_at, cond-true, cond-false}
 use Rattle.std.proofs.lemmas.Bool.Decides.{eqb_tells}
 use Rattle.std.proofs.lemmas.List.Sums.{passes_at_first}
 use Rattle.std.proofs.lemmas.Option.{get_or_from_slice_get, slice_get-get_or, slice_get_within}
-use Rattle.iox_domain.specs.DomainPublisher.Ports.{connection_of}
-use Rattle.iox_domain.specs.DomainPublisher.declared.publisher_port.PublisherPort.{PublisherPort}
+use Rattle.iox_domain.specs.DomainPorts.Ports.{connection_of}
+use Rattle.iox_domain.specs.DomainPorts.declared.publisher_port.PublisherPort.{PublisherPort}
 use Rattle.iox_lanes_opening.specs.Restored.{IsRested, IsRestored, MayWaitAt, place_of, with_waiting}
 use Rattle.iox_lanes_opening.specs.Restoring.{IsOwn, MayRememberAll, MayWaitAll}
 use Rattle.iox_lanes_machine.specs.Fixed.{fixed_slots}

@@ -1,10 +1,10 @@
 -- A domain whose publishers have no messages any longer.
 use Rattle.std.specs.Prelude.{ℕ, ◌≡◌, ◌==◌, Bool, true, false, List, [], map, Option, option_map}
 use Rattle.std.specs.List.{list_any}
-use Rattle.iox_domain_publisher.specs.MessagesSending.{with_uses}
-use Rattle.iox_domain_publisher.specs.DomainSlots.Uses.{emptied}
-use Rattle.iox_domain_subscriber.specs.Publishers.{port_of}
-use Rattle.iox_domain_publisher.specs.declared.publisher_port.PublisherPort.{PublisherPort}
+use Rattle.iox_domain_ports.specs.MessagesSending.{with_uses}
+use Rattle.iox_domain_ports.specs.DomainSlots.Uses.{emptied}
+use Rattle.iox_domain_ports.specs.Publishers.{port_of}
+use Rattle.iox_domain_ports.specs.declared.publisher_port.PublisherPort.{PublisherPort}
 use Rattle.iox_domain.specs.declared.domain.Domain.{Domain}
 
 -- a publisher without its messages: nothing waits at its connections, and its history is empty; all else is as it was

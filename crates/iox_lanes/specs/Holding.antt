@@ -1,12 +1,12 @@
 -- What lanes hold of a domain.
 use Rattle.std.specs.Prelude.{ℕ, ◌≡◌, ◌+◌, ◌*◌, ◌<◌, Bool, true, false, is_some, count_by, List, [], ◌∷◌, length, take, get_or, slice_get, Option, None, Some}
-use Rattle.iox_domain.specs.IndexBase.declared.container.Member.{Member}
-use Rattle.iox_domain.specs.DomainSubscriber.Publishers.{port_of}
-use Rattle.iox_domain.specs.DomainSubscriber.Subscribing.{attached_at}
-use Rattle.iox_domain.specs.DomainSubscriber.declared.attached.Attached.{Attached}
-use Rattle.iox_domain.specs.DomainSubscriber.declared.subscriber_port.SubscriberPort.{SubscriberPort}
-use Rattle.iox_domain.specs.DomainPublisher.Ports.{connection_of}
-use Rattle.iox_domain.specs.DomainPublisher.declared.publisher_port.PublisherPort.{PublisherPort}
+use Rattle.iox_domain.specs.Container.declared.container.Member.{Member}
+use Rattle.iox_domain.specs.DomainPorts.Publishers.{port_of}
+use Rattle.iox_domain.specs.DomainPorts.Subscribing.{attached_at}
+use Rattle.iox_domain.specs.DomainPorts.declared.attached.Attached.{Attached}
+use Rattle.iox_domain.specs.DomainPorts.declared.subscriber_port.SubscriberPort.{SubscriberPort}
+use Rattle.iox_domain.specs.DomainPorts.Ports.{connection_of}
+use Rattle.iox_domain.specs.DomainPorts.declared.publisher_port.PublisherPort.{PublisherPort}
 use Rattle.iox_domain.specs.Subscribers.{subscriber_of}
 use Rattle.iox_domain.specs.declared.domain.Domain.{Domain}
 use Rattle.iox_lanes_machine.specs.Links.{LinkState}

@@ -1,7 +1,7 @@
 -- What lanes and the domain beside them have in common, whatever steps the lanes make.
 use Rattle.std.specs.Prelude.{ℕ, ◌≡◌, ◌+◌, ◌*◌, ◌<◌, List, length, take, drop, slice_get, Option, None, Some}
-use Rattle.iox_domain.specs.DomainPublisher.Ports.{connection_of}
-use Rattle.iox_domain.specs.DomainPublisher.declared.publisher_port.PublisherPort.{PublisherPort}
+use Rattle.iox_domain.specs.DomainPorts.Ports.{connection_of}
+use Rattle.iox_domain.specs.DomainPorts.declared.publisher_port.PublisherPort.{PublisherPort}
 use Rattle.iox_domain.specs.DomainSlots.declared.stage.Stage.TheVariants as stage
 use Rattle.iox_lanes_opening.specs.Restored.{IsRested, place_of}
 use Rattle.iox_lanes_machine.specs.Fixed.{FixedSlots, StaysFixed, slots_at}

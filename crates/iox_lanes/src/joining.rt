@@ -1,7 +1,7 @@
 //! Whether lanes go with the domain that they came from, whatever steps they make.
 ghost use Rattle.std.specs.Prelude.{◌≡◌, ◌+◌, ◌*◌, ◌<◌, ℕ, length, slice_get, option_copied, option_map, IfSome, None, Some};
 ghost use Rattle.std.specs.Bool.{OnTrue};
-ghost use Rattle.iox_domain.specs.DomainPublisher.Ports.{connection_of};
+ghost use Rattle.iox_domain.specs.DomainPorts.Ports.{connection_of};
 ghost use Rattle.iox_domain.specs.DomainSlots.declared.stage.Stage.TheVariants as stage;
 ghost use Rattle.iox_lanes_opening.specs.Restored.{place_of};
 ghost use Rattle.iox_lanes_machine.specs.Fixed.{fixed_slots};
@@ -12,7 +12,7 @@ use crate::domain_lanes::Opened;
 use crate::linking::{leads_from, number_of};
 use crate::sending::publisher_at;
 use iox_domain::Domain;
-use iox_domain_publisher::{PublisherPort, Stage};
+use iox_domain_ports::{PublisherPort, Stage};
 use iox_lanes_machine::Link;
 use iox_lanes_opening::leaving::is_rested;
 use iox_lanes_parties::PublisherLane;

@@ -1,7 +1,7 @@
 //! Whether connections of lanes are those of a domain.
 ghost use Rattle.std.specs.Prelude.{◌≡◌, ◌+◌, ◌<◌, ◌*◌, ℕ, true, length, get_or, slice_get, option_copied, IfSome, None, Some};
 ghost use Rattle.std.specs.Bool.{OnTrue};
-ghost use Rattle.iox_domain.specs.DomainPublisher.Ports.{connection_of};
+ghost use Rattle.iox_domain.specs.DomainPorts.Ports.{connection_of};
 ghost use Rattle.iox_domain.specs.DomainSlots.Uses.{is_there};
 ghost use Rattle.iox_lanes.specs.Lying.{AreLaid, IsLaidAt};
 ghost use Rattle.iox_lanes.specs.Holding.{kind_of, reader_if, IsLinkOf, IsLinkIf, LinkHolds};
@@ -10,8 +10,7 @@ use crate::domain_lanes::Opened;
 use crate::lying::lies;
 use crate::sending::{has, in_lanes, publisher_at};
 use iox_domain::Domain;
-use iox_domain_publisher::{PublisherPort, Stage};
-use iox_domain_subscriber::SubscriberPort;
+use iox_domain_ports::{PublisherPort, Stage, SubscriberPort};
 use iox_lanes_base::words::WordTable;
 use iox_lanes_machine::Link;
 use iox_lanes_parties::PublisherLane;

@@ -3,8 +3,7 @@ ghost use Rattle.std.specs.Prelude.{◌≡◌, ◌++◌, ◌∷◌, [], IfOk, On
 ghost use Rattle.iox_lanes.specs.Holding.{numbers_of};
 
 use iox_domain::ports::Roll;
-use iox_domain_publisher::Member;
-use iox_domain_subscriber::{PublisherEntry, SubscriberEntry};
+use iox_domain_ports::{Member, PublisherEntry, SubscriberEntry};
 use std::alloc::{AllocError, Global};
 
 /// The numbers of the publishers that are listed, in the order of their places.

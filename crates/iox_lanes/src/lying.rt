@@ -1,15 +1,15 @@
 //! Whether a message of a domain lies in a slot of lanes.
 ghost use Rattle.std.specs.Prelude.{◌≡◌, ◌+◌, ◌<◌, ℕ, slice_get, Some};
 ghost use Rattle.std.specs.Bool.{OnTrue};
-ghost use Rattle.iox_domain.specs.DomainPublisher.Messages.{Message};
-ghost use Rattle.iox_domain.specs.DomainPublisher.Ports.{connection_of};
+ghost use Rattle.iox_domain.specs.DomainPorts.Messages.{Message};
+ghost use Rattle.iox_domain.specs.DomainPorts.Ports.{connection_of};
 ghost use Rattle.iox_lanes_machine.specs.LanesBase.Numbers.{IsWord};
 ghost use Rattle.iox_lanes_machine.specs.LanesBase.Table.{held_by};
 ghost use Rattle.iox_lanes_machine.specs.LanesBase.declared.words.word.SharedWord.TheVariants as SharedWord;
 ghost use Rattle.iox_lanes_machine.specs.LanesBase.declared.words.word.SlotWord.TheVariants as SlotWord;
 ghost use Rattle.iox_lanes.specs.Lying.{HeaderLies, UserHeaderLies, ValueLies, PayloadLies, WordsLie};
 
-use iox_domain_publisher::PublisherPort;
+use iox_domain_ports::PublisherPort;
 use iox_lanes_base::words::{SharedWord, SlotWord, WordTable};
 use iox_queues_base::Words;
 

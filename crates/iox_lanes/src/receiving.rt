@@ -1,13 +1,13 @@
 //! Whether subscribers of lanes are those of a domain.
 ghost use Rattle.std.specs.Prelude.{◌≡◌, ◌+◌, if◌then◌else◌, is_some, slice_get, option_copied, IfSome, Some};
 ghost use Rattle.std.specs.Bool.{OnTrue};
-ghost use Rattle.iox_domain.specs.DomainSubscriber.Subscribing.{attached_at};
+ghost use Rattle.iox_domain.specs.DomainPorts.Subscribing.{attached_at};
 ghost use Rattle.iox_lanes.specs.Holding.{LeadsFrom, IsRouteOf, IsRouteIf, FollowKeys, FollowIf, ReaderHolds};
 
 use crate::domain_lanes::Opened;
 use crate::linking::subscriber_at;
 use iox_domain::Domain;
-use iox_domain_subscriber::{Attached, SubscriberPort};
+use iox_domain_ports::{Attached, SubscriberPort};
 use iox_lanes_base::calls::Route;
 use iox_lanes_machine::{Lanes, Link};
 use iox_lanes_parties::SubscriberLane;

@@ -1,8 +1,8 @@
 //! The domain that lanes leave.
 ghost use Rattle.std.specs.Prelude.{◌≡◌, ◌+◌, ◌*◌, ◌^◌, ◌<◌, ◌≤◌, ℕ, IfErr, IfOk, OnOk, length, slice_get, option_copied, vec_capacity, IfSome, None, Some, false};
 ghost use Rattle.std.specs.Bool.{OnTrue};
-ghost use Rattle.iox_domain.specs.DomainPublisher.MessagesSending.{with_uses};
-ghost use Rattle.iox_domain.specs.DomainSubscriber.Publishers.{port_of};
+ghost use Rattle.iox_domain.specs.DomainPorts.MessagesSending.{with_uses};
+ghost use Rattle.iox_domain.specs.DomainPorts.Publishers.{port_of};
 ghost use Rattle.iox_lanes_opening.specs.Restored.{IsRested, IsRestored, place_of};
 ghost use Rattle.iox_lanes_opening.specs.Restoring.{IsWhole};
 ghost use Rattle.iox_lanes_machine.specs.Kept.{IsWithin};
@@ -14,8 +14,7 @@ ghost use Rattle.iox_lanes.specs.Returning.{AllRest, ArePortsLeft, IsPortLeftIf,
 use crate::domain_lanes::DomainLanes;
 use crate::into_domain_error::IntoDomainError;
 use iox_domain::Domain;
-use iox_domain_publisher::PublisherPort;
-use iox_domain_subscriber::Publishers;
+use iox_domain_ports::{PublisherPort, Publishers};
 use iox_lanes_machine::{Lanes, Unrest};
 use iox_lanes_opening::leaving::restore;
 use iox_lanes_parties::PublisherLane;

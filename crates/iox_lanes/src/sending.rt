@@ -7,7 +7,7 @@ ghost use Rattle.iox_lanes.specs.Holding.{port_if, IsNamed, IsNamedIf, IsLaneOf,
 use crate::domain_lanes::Opened;
 use crate::lying::lies;
 use iox_domain::Domain;
-use iox_domain_publisher::PublisherPort;
+use iox_domain_ports::PublisherPort;
 use iox_lanes_base::words::WordTable;
 use iox_lanes_parties::{Head, PublisherLane};
 use iox_queues_base::Words;

@@ -1,33 +1,23 @@
 -- What a publisher's own steps put into the order of a connection: puts alone, and only at its own connections.
-use Rattle.std.proofs.Common.{ℕ, ◌≡◌, ◌+◌, ◌-◌, ◌==◌, Bool, true, false, nat_lt, if◌then◌else◌, List, [], ◌∷◌, ◌++◌, length, map, slice_get, Some, option_map, refl, sym, ◌∙◌, ap, subst, inl, inr, arith, append_assoc, append-nil, length-append}
+use Rattle.std.proofs.Common.{ℕ, ◌≡◌, ◌+◌, ◌-◌, Bool, List, [], ◌∷◌, ◌++◌, length, map, slice_get, Some, option_map, refl, sym, ◌∙◌, ap, subst, inl, inr, arith, append_assoc, append-nil, length-append}
 use Rattle.std.proofs.lemmas.List.{length-map}
 use Rattle.std.proofs.lemmas.Option.{slice_get-map}
-use Rattle.iox_lanes_machine.specs.QueuesSteps.Order.{Acts, after_acts, after_act, acts_of, puts, put_of, take_of, put_values, take_values, push_call, PutNow}
-use Rattle.iox_lanes_machine.specs.QueuesSteps.declared.access.Word.TheVariants.{Read}
+use Rattle.iox_lanes_machine.specs.QueuesSteps.Order.{Acts, after_acts, after_act, acts_of, puts, put_of, put_values, take_values, push_call, PutNow}
 use Rattle.iox_lanes_machine.specs.QueuesSteps.declared.order.Act.{Act}
 use Rattle.iox_lanes_machine.specs.QueuesSteps.declared.order.Act.TheVariants.{Put, Take}
 use Rattle.iox_lanes_machine.specs.QueuesSteps.declared.order.Placed.{Placed}
 use Rattle.iox_lanes_machine.specs.QueuesSteps.declared.order.PopAnswer.{PopAnswer}
 use Rattle.iox_lanes_machine.specs.QueuesSteps.declared.order.PushAnswer.{PushAnswer}
-use Rattle.iox_lanes_machine.specs.QueuesSteps.declared.order.PushAnswer.TheVariants.{Kept, LeftOut}
 use Rattle.iox_lanes_machine.specs.QueuesSteps.declared.order.PushCall.{PushCall}
 use Rattle.iox_lanes_machine.proofs.QueuesSteps.Orders.{acts_more, after_acts-append}
-use Rattle.iox_lanes_machine.proofs.QueuesSteps.RefusingSteps as refusing_steps
-use Rattle.iox_lanes_machine.specs.QueuesSteps.OverflowingRing as overflowing_ring
-use Rattle.iox_lanes_machine.specs.QueuesSteps.declared.rings.overflowing.push.Push as overflowing_push_type
-use Rattle.iox_lanes_machine.specs.QueuesSteps.declared.rings.overflowing.push.Push.TheVariants as overflowing_push
-use Rattle.iox_lanes_machine.specs.QueuesSteps.Ends.{overflows, placed_by_push}
-use Rattle.iox_lanes_machine.specs.QueuesSteps.declared.rings.ends.Push.{Push}
-use Rattle.iox_lanes_machine.specs.QueuesSteps.declared.rings.ends.Push.TheVariants as push
-use Rattle.iox_lanes_machine.specs.LanesBase.Table.{TableWords, held_by}
-use Rattle.iox_lanes_machine.specs.LanesBase.declared.calls.publisher.PublisherCall.{PublisherCall}
-use Rattle.iox_lanes_machine.specs.LanesBase.declared.calls.publisher.PublisherCall.TheVariants as publishing
+use Rattle.iox_lanes_machine.specs.QueuesSteps.Ends.{overflows}
 use Rattle.iox_lanes_machine.specs.LanesParties.Parties.{PublisherLaneState}
 use Rattle.iox_lanes_machine.specs.Kept.{IsWithin}
 use Rattle.iox_lanes_machine.specs.Links.{LinkState}
-use Rattle.iox_lanes_machine.specs.Rings.{sent_word, waiting}
+use Rattle.iox_lanes_machine.specs.Rings.{waiting}
 use Rattle.iox_lanes_machine.specs.World.{World, pushes_to, push_acts, added}
 use Rattle.iox_lanes_machine.proofs.Ends.{some_is}
+use Rattle.iox_lanes_machine.proofs.Receipts.{takes_append, publisher_no_takes}
 use Rattle.iox_lanes_machine.proofs.Steps.{stands, added_other, added_here, pushes_own}
 
 -- between two orders of a connection there are puts alone, and none where the connection is another publisher's
@@ -48,45 +38,6 @@ puts_none m place = λ connection before after got now. record {
   takes = refl;
   own = λ link found other. refl;
 }
-
-one_put : (test : Bool) (put : List Act) → take_values put ≡ [] → take_values (if test then put else []) ≡ []
-one_put true put h = h
-one_put false put h = refl
-
-other_put : (test : Bool) (put : List Act) → take_values put ≡ [] → take_values (if test then [] else put) ≡ []
-other_put true put h = refl
-other_put false put h = h
-
-overflowing_no_takes : (limit read : ℕ) (p : overflowing_push_type.Push) → take_values (overflowing_ring.placed_by_push limit read p) ≡ []
-overflowing_no_takes limit read overflowing_push.Idle = refl
-overflowing_no_takes limit read (overflowing_push.Begun l value) = refl
-overflowing_no_takes limit read (overflowing_push.SawWrite l value write next) = refl
-overflowing_no_takes limit read (overflowing_push.SawRead l value write next seen) = refl
-overflowing_no_takes limit read (overflowing_push.Filled l value write next seen) = other_put (nat_lt limit (next - read)) (Put value Kept ∷ []) refl
-overflowing_no_takes limit read (overflowing_push.Full value seen next) = refl
-overflowing_no_takes limit read (overflowing_push.SawOldest value seen next oldest) = one_put (read == seen) (Put value (LeftOut oldest) ∷ []) refl
-overflowing_no_takes limit read (overflowing_push.Pushed value answer) = refl
-
-push_no_takes : (limit read : ℕ) (p : Push) → take_values (placed_by_push limit read p) ≡ []
-push_no_takes limit read (push.Overflowing p) = overflowing_no_takes limit read p
-push_no_takes limit read (push.Refusing p) = refusing_steps.push_takes read p
-
-publisher_no_takes : (table : TableWords) (c : PublisherCall) → take_values (push_acts table c) ≡ []
-publisher_no_takes table publishing.Idle = refl
-publisher_no_takes table (publishing.LoanReclaims place route p) = refl
-publisher_no_takes table publishing.Lending = refl
-publisher_no_takes table (publishing.Writing slot word value) = refl
-publisher_no_takes table (publishing.Written slot) = refl
-publisher_no_takes table (publishing.Heading slot word value) = refl
-publisher_no_takes table (publishing.Remembering slot) = refl
-publisher_no_takes table (publishing.SendReclaims slot place route p) = refl
-publisher_no_takes table (publishing.Pushing slot place route p delivery) = push_no_takes route.limit (held_by table (sent_word route.connection Read)) p
-publisher_no_takes table (publishing.Sent slot delivery) = refl
-publisher_no_takes table (publishing.Dropping slot) = refl
-
-takes_append : (xs ys : List Act) → take_values (xs ++ ys) ≡ take_values xs ++ take_values ys
-takes_append [] ys = refl
-takes_append (x ∷ xs) ys = ap (λ (zs : List PopAnswer). take_of x ++ zs) (takes_append xs ys) ∙ sym (append_assoc (take_of x) (take_values xs) (take_values ys))
 
 puts_append : (xs ys : List Act) → put_values (xs ++ ys) ≡ put_values xs ++ put_values ys
 puts_append [] ys = refl

@@ -176,7 +176,7 @@ none_behind xs e = sym e
 
 -- what stands at a step of a pop or a look where nobody pushes: its take or its look, if it is answered, and nothing else
 pub popped : (table : TableWords) (moments : ℕ) (place : ℕ) (route : Route) (p : Pop) (waits : Bool) (link : LinkState) (order : List Placed) (sends : PublisherCall) (cells : ℕ) (push : Push)
-    → cells ≡ cells_of link.kind link.limit → push ≡ push_on route.connection link.kind sends → push_on route.connection link.kind sends ≡ push_idle link.kind → IsSeat table route.connection (cells_of link.kind link.limit) → moments < 2 ^ 63
+    → cells ≡ cells_of link.kind link.limit → push ≡ push_on route.connection link.kind sends → push_on route.connection link.kind sends ≡ push_idle link.kind → IsSeat Submission table route.connection (cells_of link.kind link.limit) → moments < 2 ^ 63
     → IsKeptAt table moments route.connection link order sends (subscribing.Receiving place route p waits)
     → Acts (overflows link.kind) link.limit (waiting link order) (placed_by_pop (ring_in table route.connection cells) push p)
     → Given (waiting link order) (after_acts (overflows link.kind) link.limit (waiting link order) (placed_by_pop (ring_in table route.connection cells) push p)) (pop_answer (pop_take p (shared_answer table (on_ring route.connection Submission cells (pop_next p)))))
@@ -204,5 +204,5 @@ popped table moments place route p waits link order sends cells push size is idl
     takes : take_values (placed_by_pop words (push_idle link.kind) p) ≡ answers (pop_answer (pop_take p (shared_answer table (on_ring route.connection Submission (cells_of link.kind link.limit) (pop_next p)))))
     takes =
         let g = pop_goes link.kind link.limit words (waiting link order) (push_idle link.kind) p (omega (arith, k.few, bound)) shape in
-        let given : answer_of words (pop_next p) ≡ shared_answer table (on_ring route.connection Submission (cells_of link.kind link.limit) (pop_next p)) = access_answer table route.connection (cells_of link.kind link.limit) (pop_next p) st in
+        let given : answer_of words (pop_next p) ≡ shared_answer table (on_ring route.connection Submission (cells_of link.kind link.limit) (pop_next p)) = access_answer Submission table route.connection (cells_of link.kind link.limit) (pop_next p) st in
         sym g.ended ∙ ap (λ (a : ℕ). pop_ended (pop_take p a)) given ∙ pop_answers (pop_take p (shared_answer table (on_ring route.connection Submission (cells_of link.kind link.limit) (pop_next p))))

@@ -268,7 +268,7 @@ takes_told m place lane at route p waits found e bound kept = core route.submiss
         let few : words.write + 1 < 2 ^ 64 = omega (arith, kept_at.few, bound) in
         let g = pop_goes (mine.link).kind (mine.link).limit words (waiting mine.link (get_or m.orders route.connection [])) push' p few s in
         let given : answer_of words (pop_next p) ≡ shared_answer m.table (on_ring route.connection Submission (cells_of (mine.link).kind (mine.link).limit) (pop_next p)) =
-        access_answer m.table route.connection (cells_of (mine.link).kind (mine.link).limit) (pop_next p) (seat m route.connection mine.link mine.found kept.within) in
+        access_answer Submission m.table route.connection (cells_of (mine.link).kind (mine.link).limit) (pop_next p) (seat m route.connection mine.link mine.found kept.within) in
         sym g.ended ∙ ap (λ (a : ℕ). pop_ended (pop_take p a)) given ∙ ended_is (pop_take p (shared_answer m.table (on_ring route.connection Submission (cells_of (mine.link).kind (mine.link).limit) (pop_next p))))
 
     core : (cells : ℕ) (push : Push) → cells ≡ cells_of (mine.link).kind (mine.link).limit → push ≡ push_on route.connection (mine.link).kind sends

@@ -32,6 +32,7 @@ use Rattle.iox_lanes_machine.specs.Uses.{given_back}
 use Rattle.iox_lanes_machine.specs.World.{World}
 use Rattle.iox_lanes_machine.proofs.Ends.{some_is}
 use Rattle.iox_lanes_machine.proofs.FoundFresh.{set_cases, rows_after}
+use Rattle.iox_lanes_machine.specs.LanesBase.declared.words.word.ConnectionRing.TheVariants.{Submission}
 use Rattle.iox_lanes_machine.proofs.InTable.{start, same_ring}
 use Rattle.iox_lanes_machine.proofs.Kept.{cells_some}
 use Rattle.iox_lanes_machine.proofs.Within.{set_same, set_other}
@@ -148,7 +149,7 @@ fewer_cells kind.Refusing few most some h = omega (arith, h, some_cells few some
 -- the ring of a smaller buffer lies in the cells of the larger one, and is as new if that is
 pub fewer_ring : (table : TableWords) (c : ℕ) (k : RingKind) (few most : ℕ) → cells_of k few ≤ cells_of k most → ring_in table c (cells_of k most) ≡ first_words k most [] → ring_in table c (cells_of k few) ≡ first_words k few []
 fewer_ring table c k few most less is =
-    let words : List ℕ = drop (start table c) table.words in
+    let words : List ℕ = drop (start Submission table c) table.words in
     let all : take (cells_of k most) words ≡ replicate {A = ℕ} (cells_of k most - 0) 0 = ap (λ (r : RingWords). r.cells) is in
     let whole : cells_of k few ≡ cells_of k few - 0 = omega arith in
     same_ring (take (cells_of k few) words) (replicate {A = ℕ} (cells_of k few - 0) 0) _ 0 _ 0

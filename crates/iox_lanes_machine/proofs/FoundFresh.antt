@@ -34,8 +34,7 @@ use Rattle.iox_lanes_machine.specs.Slots.{SlotsInRows}
 use Rattle.iox_lanes_machine.specs.World.{World}
 use Rattle.iox_lanes_machine.proofs.Ends.{some_is}
 use Rattle.iox_lanes_machine.proofs.Findings.{cell_below}
-use Rattle.iox_lanes_machine.proofs.InBack.{IsBackSeat, back_after}
-use Rattle.iox_lanes_machine.proofs.InTable.{IsSeat, same_ring, access_after}
+use Rattle.iox_lanes_machine.proofs.InTable.{IsSeat, access_after, same_ring}
 use Rattle.iox_lanes_machine.proofs.Within.{set_same, set_other}
 
 -- a place of a list after one was set: that one, or another as it was
@@ -266,31 +265,31 @@ laid_words k limit q v below small =
     refl
 
 -- the ring of messages of a connection after a slot was laid into it
-pub laid_ring : (table : TableWords) (c : ℕ) (k : RingKind) (limit : ℕ) (q : List ℕ) (v : ℕ) → IsSeat table c (cells_of k limit) → length q < cells_of k limit → length q < 2 ^ 63 → ring_in table c (cells_of k limit) ≡ first_words k limit q
+pub laid_ring : (table : TableWords) (c : ℕ) (k : RingKind) (limit : ℕ) (q : List ℕ) (v : ℕ) → IsSeat Submission table c (cells_of k limit) → length q < cells_of k limit → length q < 2 ^ 63 → ring_in table c (cells_of k limit) ≡ first_words k limit q
     → ring_in (laid table c Submission (length q) v) c (cells_of k limit) ≡ first_words k limit (q ++ v ∷ [])
 laid_ring table c k limit q v st below small is =
     let cells : ℕ = cells_of k limit in
     let at : length q % cells ≡ length q = mod-eq_of_lt below in
     let t1 : TableWords = stored_in table (Ring c Submission (Cell (length q))) v in
-    let st1 : IsSeat t1 c cells = record { there = st.there; some = st.some; room = st.room; words = length-set table.words (number_of table.sizes (Ring c Submission (Cell (length q)))) v ∙ st.words } in
+    let st1 : IsSeat Submission t1 c cells = record { there = st.there; some = st.some; room = st.room; words = length-set table.words (number_of table.sizes (Ring c Submission (Cell (length q)))) v ∙ st.words } in
     let first : after_store (ring_in table c cells) (Cell (length q)) v ≡ ring_in t1 c cells =
-    access_after table c cells (own.Store (Cell (length q)) v) st ∙ ap (λ (i : ℕ). ring_in (stored_in table (Ring c Submission (Cell i)) v) c cells) at in
-    let second : after_store (ring_in t1 c cells) Write (successor (length q)) ≡ ring_in (laid table c Submission (length q) v) c cells = access_after t1 c cells (own.Store Write (successor (length q))) st1 in
+    access_after Submission table c cells (own.Store (Cell (length q)) v) st ∙ ap (λ (i : ℕ). ring_in (stored_in table (Ring c Submission (Cell i)) v) c cells) at in
+    let second : after_store (ring_in t1 c cells) Write (successor (length q)) ≡ ring_in (laid table c Submission (length q) v) c cells = access_after Submission t1 c cells (own.Store Write (successor (length q))) st1 in
     sym second
     ∙ ap (λ (ws : RingWords). after_store ws Write (successor (length q))) (sym first)
     ∙ ap (λ (ws : RingWords). after_store (after_store ws (Cell (length q)) v) Write (successor (length q))) is
     ∙ laid_words k limit q v below small
 
 -- the ring of samples given back at a connection after a slot was laid into it
-pub laid_back : (table : TableWords) (c cells : ℕ) (q : List ℕ) (v : ℕ) → IsBackSeat table c cells → length q < cells → length q < 2 ^ 63 → back_ring table c cells ≡ first_words kind.Refusing cells q
+pub laid_back : (table : TableWords) (c cells : ℕ) (q : List ℕ) (v : ℕ) → IsSeat Completion table c cells → length q < cells → length q < 2 ^ 63 → back_ring table c cells ≡ first_words kind.Refusing cells q
     → back_ring (laid table c Completion (length q) v) c cells ≡ first_words kind.Refusing cells (q ++ v ∷ [])
 laid_back table c cells q v st below small is =
     let at : length q % cells ≡ length q = mod-eq_of_lt below in
     let t1 : TableWords = stored_in table (Ring c Completion (Cell (length q))) v in
-    let st1 : IsBackSeat t1 c cells = record { there = st.there; some = st.some; room = st.room; words = length-set table.words (number_of table.sizes (Ring c Completion (Cell (length q)))) v ∙ st.words } in
+    let st1 : IsSeat Completion t1 c cells = record { there = st.there; some = st.some; room = st.room; words = length-set table.words (number_of table.sizes (Ring c Completion (Cell (length q)))) v ∙ st.words } in
     let first : after_store (back_ring table c cells) (Cell (length q)) v ≡ back_ring t1 c cells =
-    back_after table c cells (own.Store (Cell (length q)) v) st ∙ ap (λ (i : ℕ). back_ring (stored_in table (Ring c Completion (Cell i)) v) c cells) at in
-    let second : after_store (back_ring t1 c cells) Write (successor (length q)) ≡ back_ring (laid table c Completion (length q) v) c cells = back_after t1 c cells (own.Store Write (successor (length q))) st1 in
+    access_after Completion table c cells (own.Store (Cell (length q)) v) st ∙ ap (λ (i : ℕ). back_ring (stored_in table (Ring c Completion (Cell i)) v) c cells) at in
+    let second : after_store (back_ring t1 c cells) Write (successor (length q)) ≡ back_ring (laid table c Completion (length q) v) c cells = access_after Completion t1 c cells (own.Store Write (successor (length q))) st1 in
     sym second
     ∙ ap (λ (ws : RingWords). after_store ws Write (successor (length q))) (sym first)
     ∙ ap (λ (ws : RingWords). after_store (after_store ws (Cell (length q)) v) Write (successor (length q))) is

@@ -51,7 +51,6 @@ use Rattle.iox_lanes_machine.proofs.Ends.{some_is}
 use Rattle.iox_lanes_machine.proofs.Fresh.{returned_is, fresh_kept}
 use Rattle.iox_lanes_machine.proofs.Findings.{MayWait, may_wait_is, MayBeBack, may_be_back_is, cell_below}
 use Rattle.iox_lanes_machine.proofs.FoundFresh.{set_cases, SameEnds, same_ends, found_ends, relinked_within, after, PublisherAfter, fresh_after, link_stays, rows_after, laid_ring, laid_back}
-use Rattle.iox_lanes_machine.proofs.InBack.{IsBackSeat, IsOffBack, back_stays}
 use Rattle.iox_lanes_machine.proofs.InTable.{IsSeat, IsElsewhere, access_elsewhere}
 use Rattle.iox_lanes_machine.proofs.Kept.{seat}
 use Rattle.iox_lanes_machine.proofs.Opening.{after_access}
@@ -60,7 +59,7 @@ use Rattle.iox_lanes_machine.proofs.Swaps.{swaps_keep, swapped_moments}
 use Rattle.iox_lanes_machine.proofs.Within.{set_same, set_other, publisher_within}
 
 -- the ring of samples given back at a connection has its words
-pub back_seat : (m : World) (c : ℕ) (link : LinkState) → slice_get m.links c ≡ Some link → IsWithin m → IsFresh m → IsBackSeat m.table c m.table.sizes.completion_cells
+pub back_seat : (m : World) (c : ℕ) (link : LinkState) → slice_get m.links c ≡ Some link → IsWithin m → IsFresh m → IsSeat Completion m.table c m.table.sizes.completion_cells
 back_seat m c link found w h = record { there = (w.links c link found).connection_is; some = h.some; room = omega arith; words = w.words }
 
 -- how many samples were found given back
@@ -68,21 +67,21 @@ pub back_count : (m : World) (c : ℕ) (link : LinkState) (found : slice_get m.l
 back_count m c link found h = ap (λ (words : RingWords). words.write) (h.links c link found).returned
 
 -- two stores that lay a slot leave the ring of messages of another connection, and of this one if they lie in the other ring
-sent_stays : (table : TableWords) (c other cells cell slot : ℕ) (ring : ConnectionRing) → IsSeat table other cells → IsWord table.sizes (Ring c ring (Cell cell)) → ((word : Word) → IsElsewhere other (Ring c ring word))
+sent_stays : (table : TableWords) (c other cells cell slot : ℕ) (ring : ConnectionRing) → IsSeat Submission table other cells → IsWord table.sizes (Ring c ring (Cell cell)) → ((word : Word) → IsElsewhere Submission other (Ring c ring word))
     → ring_in (laid table c ring cell slot) other cells ≡ ring_in table other cells
 sent_stays table c other cells cell slot ring st is away =
     let t1 : TableWords = stored_in table (Ring c ring (Cell cell)) slot in
-    let st1 : IsSeat t1 other cells = record { there = st.there; some = st.some; room = st.room; words = length-set table.words (number_of table.sizes (Ring c ring (Cell cell))) slot ∙ st.words } in
-    access_elsewhere t1 other cells (Store (Ring c ring Write) (successor cell)) st1 ((is.0, tt), away Write)
-    ∙ access_elsewhere table other cells (Store (Ring c ring (Cell cell)) slot) st (is, away (Cell cell))
+    let st1 : IsSeat Submission t1 other cells = record { there = st.there; some = st.some; room = st.room; words = length-set table.words (number_of table.sizes (Ring c ring (Cell cell))) slot ∙ st.words } in
+    access_elsewhere Submission t1 other cells (Store (Ring c ring Write) (successor cell)) st1 ((is.0, tt), away Write)
+    ∙ access_elsewhere Submission table other cells (Store (Ring c ring (Cell cell)) slot) st (is, away (Cell cell))
 
-pub back_away : (table : TableWords) (c other cells cell slot : ℕ) (ring : ConnectionRing) → IsBackSeat table other cells → IsWord table.sizes (Ring c ring (Cell cell)) → ((word : Word) → IsOffBack other (Ring c ring word))
+pub back_away : (table : TableWords) (c other cells cell slot : ℕ) (ring : ConnectionRing) → IsSeat Completion table other cells → IsWord table.sizes (Ring c ring (Cell cell)) → ((word : Word) → IsElsewhere Completion other (Ring c ring word))
     → back_ring (laid table c ring cell slot) other cells ≡ back_ring table other cells
 back_away table c other cells cell slot ring st is away =
     let t1 : TableWords = stored_in table (Ring c ring (Cell cell)) slot in
-    let st1 : IsBackSeat t1 other cells = record { there = st.there; some = st.some; room = st.room; words = length-set table.words (number_of table.sizes (Ring c ring (Cell cell))) slot ∙ st.words } in
-    back_stays t1 other cells (Store (Ring c ring Write) (successor cell)) st1 ((is.0, tt), away Write)
-    ∙ back_stays table other cells (Store (Ring c ring (Cell cell)) slot) st (is, away (Cell cell))
+    let st1 : IsSeat Completion t1 other cells = record { there = st.there; some = st.some; room = st.room; words = length-set table.words (number_of table.sizes (Ring c ring (Cell cell))) slot ∙ st.words } in
+    access_elsewhere Completion t1 other cells (Store (Ring c ring Write) (successor cell)) st1 ((is.0, tt), away Write)
+    ∙ access_elsewhere Completion table other cells (Store (Ring c ring (Cell cell)) slot) st (is, away (Cell cell))
 
 -- they leave as many words, the first of them, and that each cell names a slot
 laid_named : (table : TableWords) (c cell slot : ℕ) (ring : ConnectionRing) → length table.words ≡ words_of table.sizes → IsWord table.sizes (Ring c ring (Cell cell)) → slot < table.sizes.slots → CellsNameSlots table → slice_index table.words 0 ≡ 0
@@ -476,7 +475,7 @@ held_fresh m slot word value is w h = (within, fresh)
     named = after_access m.table w.words (Store (Slot slot word) value) is tt h.named h.spare
 
     backs : (d : ℕ) (link : LinkState) → slice_get m.links d ≡ Some link → back_ring table' d m.table.sizes.completion_cells ≡ back_ring m.table d m.table.sizes.completion_cells
-    backs d link e = back_stays m.table d m.table.sizes.completion_cells (Store (Slot slot word) value) (back_seat m d link e w h) (is, tt)
+    backs d link e = access_elsewhere Completion m.table d m.table.sizes.completion_cells (Store (Slot slot word) value) (back_seat m d link e w h) (is, tt)
 
     lanes : (who : ℕ) (lane : PublisherLaneState) → slice_get m.publishers who ≡ Some lane → PublisherAfter m world who lane
     lanes who lane e =
@@ -496,7 +495,7 @@ held_fresh m slot word value is w h = (within, fresh)
     fresh : IsFresh world
     fresh = fresh_after m table'.words m.links m.publishers (same_ends m.links) named.1 named.0
         (λ d link e. link_stays m table'.words m.links m.publishers d link refl
-        (access_elsewhere m.table d (cells_of link.kind link.limit) (Store (Slot slot word) value) (seat m d link e w) (is, tt))
+        (access_elsewhere Submission m.table d (cells_of link.kind link.limit) (Store (Slot slot word) value) (seat m d link e w) (is, tt))
         (backs d link e) (h.links d link e))
         lanes h.rows h
 

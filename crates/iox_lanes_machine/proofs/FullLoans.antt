@@ -54,7 +54,8 @@ use Rattle.iox_lanes_machine.specs.Uses.{aside_at, given_back}
 use Rattle.iox_lanes_machine.specs.World.{World, fits, happens, placed, publisher_stage, subscriber_stage, publisher_given, publisher_begins, publisher_goes_on, publisher_fits_at, subscriber_begins, subscriber_goes_on, subscriber_fits_at, pops_from, pop_acts, added}
 use Rattle.iox_lanes_machine.specs.Links.{LinkState}
 use Rattle.iox_lanes_machine.proofs.Ends.{some_is}
-use Rattle.iox_lanes_machine.proofs.InBack.{back_answer, back_stays}
+use Rattle.iox_lanes_machine.specs.LanesBase.declared.words.word.ConnectionRing.TheVariants.{Completion}
+use Rattle.iox_lanes_machine.proofs.InTable.{access_answer, access_elsewhere}
 use Rattle.iox_lanes_machine.proofs.Loans.{finds, lends_at, goes}
 use Rattle.iox_lanes_machine.proofs.Paces.{turn, begun_first, one_more, later, may_begin, came_kept}
 use Rattle.iox_lanes_machine.proofs.PublisherUses as publishers
@@ -81,7 +82,7 @@ other_publisher m own place connection slot link (Some lane) e fit k found is no
     let in_table : IsPublisher m.table.sizes lane = all_at (IsPublisher m.table.sizes) m.publishers own lane e w.publishers in
     let off : reclaims_at lane.port.call ≡ Some connection → ⊥ = λ h. not (sym (reclaims_own m own lane connection link e w found h) ∙ is) in
     let same = back_same m.table (publisher_next lane.port.call) connection
-    (back_stays m.table connection m.table.sizes.completion_cells (publisher_next lane.port.call) (back_seat m connection link found k.returns.some w) (publisher_off m.table connection lane.port.call off ((publishers_stay_within m.table.sizes lane in_table).2))) slot in
+    (access_elsewhere Completion m.table connection m.table.sizes.completion_cells (publisher_next lane.port.call) (back_seat m connection link found k.returns.some w) (publisher_off m.table connection lane.port.call off ((publishers_stay_within m.table.sizes lane in_table).2))) slot in
     omega (arith, same)
 
 subscriber_back : (m : World) (own connection slot : ℕ) (link : LinkState) (lane : SubscriberLaneState) (c : SubscriberCall) → subscribers.Setting m own lane c → slice_get m.links connection ≡ Some link → link.subscriber ≡ own
@@ -122,7 +123,7 @@ other_subscriber m own connection slot link (Some lane) e fit k bound found =
           omega (
             arith,
             back_same m.table (subscriber_next lane.port.call) connection
-                (back_stays m.table connection m.table.sizes.completion_cells (subscriber_next lane.port.call) (back_seat m connection link found k.returns.some k.within) (subscriber_off m.table connection lane.port.call off setting.access)) slot,
+                (access_elsewhere Completion m.table connection m.table.sizes.completion_cells (subscriber_next lane.port.call) (back_seat m connection link found k.returns.some k.within) (subscriber_off m.table connection lane.port.call off setting.access)) slot,
           )
     ]
 
@@ -161,7 +162,7 @@ back_empty m who routes stored at route seen k e slot =
     let words : RingWords = back_ring m.table route.connection m.table.sizes.completion_cells in
     let shape : refusing.Shape m.table.sizes.completion_cells words returning.list (release_on route.connection receives) (pop.SawRead seen) =
     subst (λ (x : Pop). refusing.Shape m.table.sizes.completion_cells words returning.list (release_on route.connection receives) x) (loan_here at route (pop.SawRead seen)) returning.shape in
-    let answered : words.write ≡ told m c = back_answer m.table route.connection m.table.sizes.completion_cells (refusing.pop_next (pop.SawRead seen)) (back_seat m route.connection mine.link mine.found k.some k.within) in
+    let answered : words.write ≡ told m c = access_answer Completion m.table route.connection m.table.sizes.completion_cells (refusing.pop_next (pop.SawRead seen)) (back_seat m route.connection mine.link mine.found k.some k.within) in
     let same : told m c ≡ seen = is_equal (told m c) seen e in
     let empty : length returning.list ≡ 0 = omega (arith, shape.level, shape.pop_knows, answered, same) in
     none_in slot (given_back m.table route.connection) (ap (λ (xs : List ℕ). length xs) (between_is m.table.sizes.completion_cells words returning.list (release_on route.connection receives) (pop.SawRead seen) shape) ∙ empty)

@@ -48,7 +48,7 @@ cells_some kind.Refusing limit = by_test (nat_lt 0 limit) refl
     by_test true e = ltb-true 0 limit e
     by_test false e = omega arith
 
-pub seat : (m : World) (connection : ℕ) (link : LinkState) → slice_get m.links connection ≡ Some link → IsWithin m → IsSeat m.table connection (cells_of link.kind link.limit)
+pub seat : (m : World) (connection : ℕ) (link : LinkState) → slice_get m.links connection ≡ Some link → IsWithin m → IsSeat Submission m.table connection (cells_of link.kind link.limit)
 seat m connection link found k =
     let is : IsLink m.table.sizes connection link = k.links connection link found in
     record { there = is.connection_is; some = cells_some link.kind link.limit; room = is.cells; words = k.words }
@@ -82,7 +82,7 @@ more_mailbox link order moment new bound h k = record {
 -- a step of the push that stands at a connection
 push_core : (table : TableWords) (moments : ℕ) (links : List LinkState) (who : ℕ) (routes : List Route) (slot place : ℕ) (route : Route) (p : Push) (delivery : Delivery) (link : LinkState) (order : List Placed) (receives : SubscriberCall)
     → (cells limit : ℕ) → cells ≡ cells_of link.kind link.limit → limit ≡ link.limit
-    → All (IsLinkOf links sender who) routes → slice_get links route.connection ≡ Some link → IsSeat table route.connection (cells_of link.kind link.limit) → moments < 2 ^ 63
+    → All (IsLinkOf links sender who) routes → slice_get links route.connection ≡ Some link → IsSeat Submission table route.connection (cells_of link.kind link.limit) → moments < 2 ^ 63
     → IsKeptAt table moments route.connection link order (publishing.Pushing slot place route p delivery) receives
     → IsKeptAt (after_shared table (on_ring route.connection Submission cells (push_next p))) (successor moments) route.connection link (order ++ at moments (placed_by_push limit (held_by table (sent_word route.connection Read)) p))
     (pushed routes slot place route (push_take p (shared_answer table (on_ring route.connection Submission cells (push_next p)))) delivery (push_answer (push_take p (shared_answer table (on_ring route.connection Submission cells (push_next p)))))) receives
@@ -100,8 +100,8 @@ push_core table moments links who routes slot place route p delivery link order 
         let s : Shape link.kind link.limit words (waiting link order) p pop = subst (λ (x : Push). Shape link.kind link.limit words (waiting link order) x pop) (push_here slot place route link.kind p delivery) k.shape in
         let fits : words.write + 1 < 2 ^ 64 = omega (arith, k.few, bound) in
         let g = push_goes link.kind link.limit words (waiting link order) p pop fits s in
-        let answer : answer_of words (push_next p) ≡ shared_answer table (on_ring route.connection Submission (cells_of link.kind link.limit) (push_next p)) = access_answer table route.connection (cells_of link.kind link.limit) (push_next p) st in
-        let after : after_access words (push_next p) ≡ ring_in (after_shared table (on_ring route.connection Submission (cells_of link.kind link.limit) (push_next p))) route.connection (cells_of link.kind link.limit) = access_after table route.connection (cells_of link.kind link.limit) (push_next p) st in
+        let answer : answer_of words (push_next p) ≡ shared_answer table (on_ring route.connection Submission (cells_of link.kind link.limit) (push_next p)) = access_answer Submission table route.connection (cells_of link.kind link.limit) (push_next p) st in
+        let after : after_access words (push_next p) ≡ ring_in (after_shared table (on_ring route.connection Submission (cells_of link.kind link.limit) (push_next p))) route.connection (cells_of link.kind link.limit) = access_after Submission table route.connection (cells_of link.kind link.limit) (push_next p) st in
         record {
           mailbox = more_mailbox link order moments (placed_by_push link.limit words.read p) bound g.acts k.mailbox;
           shape = next_push links sender who routes slot place route _ delivery _ link _ _ pop refl all found
@@ -114,7 +114,7 @@ push_core table moments links who routes slot place route p delivery link order 
 
 pub push_active : (table : TableWords) (moments connection : ℕ) (links : List LinkState) (who : ℕ) (routes : List Route) (stored : List ℕ) (call : PublisherCall) (link : LinkState) (order : List Placed) (receives : SubscriberCall)
     → pushes_to call ≡ Some connection → All (IsLinkOf links sender who) routes → IsPublishing table.sizes routes stored call → slice_get links connection ≡ Some link
-    → IsSeat table connection (cells_of link.kind link.limit) → moments < 2 ^ 63 → IsKeptAt table moments connection link order call receives
+    → IsSeat Submission table connection (cells_of link.kind link.limit) → moments < 2 ^ 63 → IsKeptAt table moments connection link order call receives
     → IsKeptAt (after_shared table (publisher_next call)) (successor moments) connection link (order ++ at moments (push_acts table call)) (publisher_take routes stored call (shared_answer table (publisher_next call))) receives
 push_active table moments connection links who routes stored publishing.Idle link order receives e all h found st bound k = absurd (cc)
 push_active table moments connection links who routes stored (publishing.LoanReclaims place route p) link order receives e all h found st bound k = absurd (cc)
@@ -132,7 +132,7 @@ push_active table moments connection links who routes stored (publishing.Pushing
     subst (λ (c : ℕ). IsKeptAt (after_shared table (publisher_next (publishing.Pushing slot place route p delivery))) (successor moments) c link (order ++ at moments (push_acts table (publishing.Pushing slot place route p delivery))) (publisher_take routes stored (publishing.Pushing slot place route p delivery) (shared_answer table (publisher_next (publishing.Pushing slot place route p delivery)))) receives) here
     (push_core table moments links who routes slot place route p delivery link order receives route.submission_cells route.limit
     (mine.cells ∙ ap (λ (l : LinkState). cells_of l.kind l.limit) same) (mine.limit ∙ ap (λ (l : LinkState). l.limit) same) all found'
-    (subst (λ (c : ℕ). IsSeat table c (cells_of link.kind link.limit)) (sym here) st) bound
+    (subst (λ (c : ℕ). IsSeat Submission table c (cells_of link.kind link.limit)) (sym here) st) bound
     (subst (λ (c : ℕ). IsKeptAt table moments c link order (publishing.Pushing slot place route p delivery) receives) (sym here) k))
 push_active table moments connection links who routes stored (publishing.Sent slot delivery) link order receives e all h found st bound k = absurd (cc)
 push_active table moments connection links who routes stored (publishing.Dropping slot) link order receives e all h found st bound k = absurd (cc)
@@ -140,7 +140,7 @@ push_active table moments connection links who routes stored (publishing.Droppin
 -- a step of the pop or look that stands at a connection
 pop_core : (table : TableWords) (moments : ℕ) (links : List LinkState) (who : ℕ) (routes : List Route) (borrowed : List ℕ) (most place : ℕ) (route : Route) (p : Pop) (waits_too : Bool) (link : LinkState) (order : List Placed) (sends : PublisherCall)
     → (cells : ℕ) (push : Push) → cells ≡ cells_of link.kind link.limit → push ≡ push_on route.connection link.kind sends
-    → All (IsLinkOf links receiver who) routes → slice_get links route.connection ≡ Some link → IsSeat table route.connection (cells_of link.kind link.limit) → moments < 2 ^ 63
+    → All (IsLinkOf links receiver who) routes → slice_get links route.connection ≡ Some link → IsSeat Submission table route.connection (cells_of link.kind link.limit) → moments < 2 ^ 63
     → IsKeptAt table moments route.connection link order sends (subscribing.Receiving place route p waits_too)
     → IsKeptAt (after_shared table (on_ring route.connection Submission cells (pop_next p))) (successor moments) route.connection link (order ++ at moments (placed_by_pop (ring_in table route.connection cells) push p)) sends
     (received routes borrowed most place route (pop_take p (shared_answer table (on_ring route.connection Submission cells (pop_next p)))) waits_too (pop_answer (pop_take p (shared_answer table (on_ring route.connection Submission cells (pop_next p))))))
@@ -158,8 +158,8 @@ pop_core table moments links who routes borrowed most place route p waits_too li
         let s : Shape link.kind link.limit words (waiting link order) push p = subst (λ (x : Pop). Shape link.kind link.limit words (waiting link order) push x) (pop_here place route link.kind p waits_too) k.shape in
         let fits : words.write + 1 < 2 ^ 64 = omega (arith, k.few, bound) in
         let g = pop_goes link.kind link.limit words (waiting link order) push p fits s in
-        let answer : answer_of words (pop_next p) ≡ shared_answer table (on_ring route.connection Submission (cells_of link.kind link.limit) (pop_next p)) = access_answer table route.connection (cells_of link.kind link.limit) (pop_next p) st in
-        let after : after_access words (pop_next p) ≡ ring_in (after_shared table (on_ring route.connection Submission (cells_of link.kind link.limit) (pop_next p))) route.connection (cells_of link.kind link.limit) = access_after table route.connection (cells_of link.kind link.limit) (pop_next p) st in
+        let answer : answer_of words (pop_next p) ≡ shared_answer table (on_ring route.connection Submission (cells_of link.kind link.limit) (pop_next p)) = access_answer Submission table route.connection (cells_of link.kind link.limit) (pop_next p) st in
+        let after : after_access words (pop_next p) ≡ ring_in (after_shared table (on_ring route.connection Submission (cells_of link.kind link.limit) (pop_next p))) route.connection (cells_of link.kind link.limit) = access_after Submission table route.connection (cells_of link.kind link.limit) (pop_next p) st in
         record {
           mailbox = more_mailbox link order moments (placed_by_pop words push p) bound g.acts k.mailbox;
           shape = next_pop links receiver who routes borrowed most place route _ waits_too _ link _ _ push all found
@@ -172,7 +172,7 @@ pop_core table moments links who routes borrowed most place route p waits_too li
 
 pub pop_active : (m : World) (connection who : ℕ) (routes : List Route) (borrowed : List ℕ) (most : ℕ) (call : SubscriberCall) (link : LinkState) (order : List Placed)
     → pops_from call ≡ Some connection → All (IsLinkOf m.links receiver who) routes → IsSubscribing m.table.sizes routes call → slice_get m.links connection ≡ Some link
-    → IsSeat m.table connection (cells_of link.kind link.limit) → m.moments < 2 ^ 63 → IsKeptAt m.table m.moments connection link order (publisher_stage (slice_get m.publishers link.publisher)) call
+    → IsSeat Submission m.table connection (cells_of link.kind link.limit) → m.moments < 2 ^ 63 → IsKeptAt m.table m.moments connection link order (publisher_stage (slice_get m.publishers link.publisher)) call
     → IsKeptAt (after_shared m.table (subscriber_next call)) (successor m.moments) connection link (order ++ at m.moments (pop_acts m call)) (publisher_stage (slice_get m.publishers link.publisher)) (subscriber_take routes borrowed most call (shared_answer m.table (subscriber_next call)))
 pop_active m connection who routes borrowed most subscribing.Idle link order e all h found st bound k = absurd (cc)
 pop_active m connection who routes borrowed most (subscribing.Receiving place route p waits_too) link order e all h found st bound k =
@@ -186,7 +186,7 @@ pop_active m connection who routes borrowed most (subscribing.Receiving place ro
     subst (λ (c : ℕ). IsKeptAt (after_shared m.table (subscriber_next (subscribing.Receiving place route p waits_too))) (successor m.moments) c link (order ++ at m.moments (pop_acts m (subscribing.Receiving place route p waits_too))) (publisher_stage (slice_get m.publishers link.publisher)) (subscriber_take routes borrowed most (subscribing.Receiving place route p waits_too) (shared_answer m.table (subscriber_next (subscribing.Receiving place route p waits_too))))) here
     (pop_core m.table m.moments m.links who routes borrowed most place route p waits_too link order (publisher_stage (slice_get m.publishers link.publisher)) route.submission_cells (push_at m route.connection route.kind)
     (mine.cells ∙ ap (λ (l : LinkState). cells_of l.kind l.limit) same) push_is all found'
-    (subst (λ (c : ℕ). IsSeat m.table c (cells_of link.kind link.limit)) (sym here) st) bound
+    (subst (λ (c : ℕ). IsSeat Submission m.table c (cells_of link.kind link.limit)) (sym here) st) bound
     (subst (λ (c : ℕ). IsKeptAt m.table m.moments c link order (publisher_stage (slice_get m.publishers link.publisher)) (subscribing.Receiving place route p waits_too)) (sym here) k))
 pop_active m connection who routes borrowed most (subscribing.Received receipt) link order e all h found st bound k = absurd (cc)
 pop_active m connection who routes borrowed most (subscribing.Reading slot word extent) link order e all h found st bound k = absurd (cc)

@@ -20,7 +20,6 @@ pub mod Slots
 pub mod Fixed
 pub mod Told
 pub mod ReadWords
-pub mod InBack
 pub mod Returns
 pub mod ReturnSteps
 pub mod Standing

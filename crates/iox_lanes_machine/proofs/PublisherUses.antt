@@ -42,8 +42,8 @@ use Rattle.iox_lanes_machine.specs.Uses.{stands_at, IsBalanced, PublisherUses, S
 use Rattle.iox_lanes_machine.specs.Links.{LinkState}
 use Rattle.iox_lanes_machine.proofs.Calls.{set_is}
 use Rattle.iox_lanes_machine.proofs.Ends.{some_is, push_begins}
+use Rattle.iox_lanes_machine.specs.LanesBase.declared.words.word.ConnectionRing.TheVariants.{Submission, Completion}
 use Rattle.iox_lanes_machine.proofs.InTable.{access_elsewhere}
-use Rattle.iox_lanes_machine.proofs.InBack.{back_stays}
 use Rattle.iox_lanes_machine.proofs.Kept.{seat}
 use Rattle.iox_lanes_machine.proofs.Returns.{reclaims_at, publisher_off}
 use Rattle.iox_lanes_machine.proofs.ReturnSteps.{back_seat, reclaims_own}
@@ -186,9 +186,9 @@ gone_other m place who lane other e f not w some k u = record {
         arith,
         u.balanced at route link order here found was slot,
         ap (λ (ws : RingWords). count slot (aside ws.read (push_on route.connection link.kind other.port.call)))
-            (access_elsewhere m.table route.connection (cells_of link.kind link.limit) (publisher_next lane.port.call) (seat m route.connection link found w) (publisher_elsewhere m.table route.connection lane.port.call off k.access)),
+            (access_elsewhere Submission m.table route.connection (cells_of link.kind link.limit) (publisher_next lane.port.call) (seat m route.connection link found w) (publisher_elsewhere m.table route.connection lane.port.call off k.access)),
         back_same m.table (publisher_next lane.port.call) route.connection
-            (back_stays m.table route.connection m.table.sizes.completion_cells (publisher_next lane.port.call) (back_seat m route.connection link found some w) (publisher_off m.table route.connection lane.port.call off_back k.access)) slot,
+            (access_elsewhere Completion m.table route.connection m.table.sizes.completion_cells (publisher_next lane.port.call) (back_seat m route.connection link found some w) (publisher_off m.table route.connection lane.port.call off_back k.access)) slot,
       );
 }
 

@@ -47,7 +47,7 @@ use Rattle.iox_lanes_machine.specs.Uses.{given_back}
 use Rattle.iox_lanes_machine.specs.World.{World, fits, happens, StepsTo, placed, publisher_stage, subscriber_stage, publisher_given, publisher_begins, publisher_goes_on, publisher_fits_at, subscriber_given, subscriber_begins, subscriber_goes_on, subscriber_fits_at}
 use Rattle.iox_lanes_machine.specs.Links.{LinkState}
 use Rattle.iox_lanes_machine.proofs.Ends.{some_is}
-use Rattle.iox_lanes_machine.proofs.InBack.{IsBackSeat, back_after, back_stays}
+use Rattle.iox_lanes_machine.proofs.InTable.{IsSeat, access_after, access_elsewhere}
 use Rattle.iox_lanes_machine.proofs.PublisherUses as publishers
 use Rattle.iox_lanes_machine.proofs.Returns.{reclaims_at, releases_at, loan_here, send_here, release_here, publisher_off, subscriber_off}
 use Rattle.iox_lanes_machine.proofs.ReturnSteps.{back_seat}
@@ -59,7 +59,7 @@ use Rattle.iox_lanes_machine.proofs.SubscriberUses as subscribers
 use Rattle.iox_lanes_machine.proofs.Within.{set_same}
 
 -- a pop that takes back takes the first
-pop_list : (table : TableWords) (moments connection : ℕ) (sends : PublisherCall) (receives : SubscriberCall) (c : Pop) (cells : ℕ) → cells ≡ table.sizes.completion_cells → reclaim_on connection sends ≡ c → IsBackSeat table connection table.sizes.completion_cells → moments < 2 ^ 63
+pop_list : (table : TableWords) (moments connection : ℕ) (sends : PublisherCall) (receives : SubscriberCall) (c : Pop) (cells : ℕ) → cells ≡ table.sizes.completion_cells → reclaim_on connection sends ≡ c → IsSeat Completion table connection table.sizes.completion_cells → moments < 2 ^ 63
     → IsReturning table.sizes.completion_cells table moments connection sends receives → given_back table connection ≡ taking_refusing c ++ given_back (after_shared table (on_ring connection Completion cells (refusing.pop_next c))) connection
 pop_list table moments connection sends receives c cells size is st bound k =
     subst (λ (n : ℕ). given_back table connection ≡ taking_refusing c ++ given_back (after_shared table (on_ring connection Completion n (refusing.pop_next c))) connection) (sym size) exact
@@ -70,14 +70,14 @@ pop_list table moments connection sends receives c cells size is st bound k =
         let given : Push = release_on connection receives in
         let shape : refusing.Shape table.sizes.completion_cells words k.list given c = subst (λ (x : Pop). refusing.Shape table.sizes.completion_cells words k.list given x) is k.shape in
         let g = refusing_steps.pop_goes table.sizes.completion_cells words k.list given c (omega (arith, k.few, bound)) shape in
-        let after : after_access words (refusing.pop_next c) ≡ back_ring (after_shared table (on_ring connection Completion table.sizes.completion_cells (refusing.pop_next c))) connection table.sizes.completion_cells = back_after table connection table.sizes.completion_cells (refusing.pop_next c) st in
+        let after : after_access words (refusing.pop_next c) ≡ back_ring (after_shared table (on_ring connection Completion table.sizes.completion_cells (refusing.pop_next c))) connection table.sizes.completion_cells = access_after Completion table connection table.sizes.completion_cells (refusing.pop_next c) st in
         let now : g.list ≡ given_back (after_shared table (on_ring connection Completion table.sizes.completion_cells (refusing.pop_next c))) connection =
         sym (between_is table.sizes.completion_cells (after_access words (refusing.pop_next c)) g.list given (refusing.pop_take c (answer_of words (refusing.pop_next c))) g.shape)
         ∙ ap between after ∙ sym (back_is table (on_ring connection Completion table.sizes.completion_cells (refusing.pop_next c)) connection) in
         between_is table.sizes.completion_cells words k.list given c shape ∙ takes_first table.sizes.completion_cells words.write k.list c g.acts ∙ ap (λ (q : List ℕ). taking_refusing c ++ q) (g.after ∙ now)
 
 -- a release puts its sample behind the others
-push_list : (table : TableWords) (moments connection : ℕ) (sends : PublisherCall) (receives : SubscriberCall) (p : Push) (cells : ℕ) → cells ≡ table.sizes.completion_cells → release_on connection receives ≡ p → IsBackSeat table connection table.sizes.completion_cells → moments < 2 ^ 63
+push_list : (table : TableWords) (moments connection : ℕ) (sends : PublisherCall) (receives : SubscriberCall) (p : Push) (cells : ℕ) → cells ≡ table.sizes.completion_cells → release_on connection receives ≡ p → IsSeat Completion table connection table.sizes.completion_cells → moments < 2 ^ 63
     → IsReturning table.sizes.completion_cells table moments connection sends receives → given_back (after_shared table (on_ring connection Completion cells (refusing.push_next p))) connection ≡ given_back table connection ++ storing_refusing p
 push_list table moments connection sends receives p cells size is st bound k =
     subst (λ (n : ℕ). given_back (after_shared table (on_ring connection Completion n (refusing.push_next p))) connection ≡ given_back table connection ++ storing_refusing p) (sym size) exact
@@ -88,7 +88,7 @@ push_list table moments connection sends receives p cells size is st bound k =
         let taking : Pop = reclaim_on connection sends in
         let shape : refusing.Shape table.sizes.completion_cells words k.list p taking = subst (λ (x : Push). refusing.Shape table.sizes.completion_cells words k.list x taking) is k.shape in
         let g = refusing_steps.push_goes table.sizes.completion_cells words k.list p taking (omega (arith, k.few, bound)) shape in
-        let after : after_access words (refusing.push_next p) ≡ back_ring (after_shared table (on_ring connection Completion table.sizes.completion_cells (refusing.push_next p))) connection table.sizes.completion_cells = back_after table connection table.sizes.completion_cells (refusing.push_next p) st in
+        let after : after_access words (refusing.push_next p) ≡ back_ring (after_shared table (on_ring connection Completion table.sizes.completion_cells (refusing.push_next p))) connection table.sizes.completion_cells = access_after Completion table connection table.sizes.completion_cells (refusing.push_next p) st in
         let now : g.list ≡ given_back (after_shared table (on_ring connection Completion table.sizes.completion_cells (refusing.push_next p))) connection =
         sym (between_is table.sizes.completion_cells (after_access words (refusing.push_next p)) g.list (refusing.push_take p (answer_of words (refusing.push_next p))) taking g.shape)
         ∙ ap between after ∙ sym (back_is table (on_ring connection Completion table.sizes.completion_cells (refusing.push_next p)) connection) in
@@ -171,7 +171,7 @@ publisher_queue m own lane n connection link e bound k found now table_is = by_c
 
     elsewhere : (reclaims_at lane.port.call ≡ Some connection → ⊥) → QueueMoves m (Publisher own) n connection link
     elsewhere off = inl (ap (λ (t : TableWords). given_back t connection) table_is ∙ back_is m.table (publisher_next lane.port.call) connection
-        ∙ ap between (back_stays m.table connection m.table.sizes.completion_cells (publisher_next lane.port.call) (back_seat m connection link found k.returns.some k.within) (publisher_off m.table connection lane.port.call off setting.access)))
+        ∙ ap between (access_elsewhere Completion m.table connection m.table.sizes.completion_cells (publisher_next lane.port.call) (back_seat m connection link found k.returns.some k.within) (publisher_off m.table connection lane.port.call off setting.access)))
 
     takes : (c : PublisherCall) (at : ℕ) (route : Route) (p : Pop) → lane.port.call ≡ c → reclaim_on route.connection c ≡ p → slice_get lane.port.routes at ≡ Some route → publisher_next c ≡ on_ring route.connection Completion route.completion_cells (refusing.pop_next p)
         → ((value next : ℕ) → p ≡ pop.SawCell next value → publisher_change c (told m c) ≡ change.TakenBack at value) → (other : LinkState) → slice_get m.links route.connection ≡ Some other → QueueMoves m (Publisher own) n route.connection other
@@ -245,7 +245,7 @@ subscriber_queue m own lane n connection link e bound k found now table_is = by_
 
     elsewhere : (releases_at lane.port.call ≡ Some connection → ⊥) → QueueMoves m (Subscriber own) n connection link
     elsewhere off = inl (ap (λ (t : TableWords). given_back t connection) table_is ∙ back_is m.table (subscriber_next lane.port.call) connection
-        ∙ ap between (back_stays m.table connection m.table.sizes.completion_cells (subscriber_next lane.port.call) (back_seat m connection link found k.returns.some k.within) (subscriber_off m.table connection lane.port.call off setting.access)))
+        ∙ ap between (access_elsewhere Completion m.table connection m.table.sizes.completion_cells (subscriber_next lane.port.call) (back_seat m connection link found k.returns.some k.within) (subscriber_off m.table connection lane.port.call off setting.access)))
 
     gives : (at : ℕ) (route : Route) (p : Push) → lane.port.call ≡ subscribing.Releasing at route p → (other : LinkState) → slice_get m.links route.connection ≡ Some other → QueueMoves m (Subscriber own) n route.connection other
     gives at route p stage other there =

@@ -71,7 +71,7 @@ slots_append (Got (Some slot) ∷ xs) ys = ap (λ (ss : List ℕ). slot ∷ ss) 
 slots_append (Got None ∷ xs) ys = slots_append xs ys
 slots_append (Saw some ∷ xs) ys = slots_append xs ys
 
-takes_append : (xs ys : List Act) → take_values (xs ++ ys) ≡ take_values xs ++ take_values ys
+pub takes_append : (xs ys : List Act) → take_values (xs ++ ys) ≡ take_values xs ++ take_values ys
 takes_append [] ys = refl
 takes_append (x ∷ xs) ys = ap (λ (zs : List PopAnswer). take_of x ++ zs) (takes_append xs ys) ∙ sym (append_assoc (take_of x) (take_values xs) (take_values ys))
 
@@ -104,7 +104,7 @@ push_no_takes : (limit read : ℕ) (p : Push) → take_values (placed_by_push li
 push_no_takes limit read (push.Overflowing p) = overflowing_no_takes limit read p
 push_no_takes limit read (push.Refusing p) = refusing_steps.push_takes read p
 
-publisher_no_takes : (table : TableWords) (c : PublisherCall) → take_values (push_acts table c) ≡ []
+pub publisher_no_takes : (table : TableWords) (c : PublisherCall) → take_values (push_acts table c) ≡ []
 publisher_no_takes table publishing.Idle = refl
 publisher_no_takes table (publishing.LoanReclaims place route p) = refl
 publisher_no_takes table publishing.Lending = refl
@@ -198,7 +198,7 @@ take_given sizes routes borrowed most (subscribing.Released done) a connection i
 -- what stands at a step of the pop or look at a connection gives what the receive then has in hand
 take_core : (table : TableWords) (moments : ℕ) (links : List LinkState) (routes : List Route) (borrowed : List ℕ) (most place : ℕ) (route : Route) (p : Pop) (waits : Bool) (link : LinkState) (order : List Placed) (sends : PublisherCall)
     → (cells : ℕ) (push : Push) → cells ≡ cells_of link.kind link.limit → push ≡ push_on route.connection link.kind sends
-    → IsAt routes place route → IsSeat table route.connection (cells_of link.kind link.limit) → moments < 2 ^ 63
+    → IsAt routes place route → IsSeat Submission table route.connection (cells_of link.kind link.limit) → moments < 2 ^ 63
     → IsKeptAt table moments route.connection link order sends (subscribing.Receiving place route p waits)
     → slots_of (take_values (placed_by_pop (ring_in table route.connection cells) push p))
     ≡ given_in_hand routes route.connection (received routes borrowed most place route (pop_take p (shared_answer table (on_ring route.connection Submission cells (pop_next p)))) waits (pop_answer (pop_take p (shared_answer table (on_ring route.connection Submission cells (pop_next p))))))
@@ -216,13 +216,13 @@ take_core table moments links routes borrowed most place route p waits link orde
         let s : Shape link.kind link.limit words (waiting link order) push' p = subst (λ (x : Pop). Shape link.kind link.limit words (waiting link order) push' x) (pop_here place route link.kind p waits) k.shape in
         let few : words.write + 1 < 2 ^ 64 = omega (arith, k.few, bound) in
         let g = pop_goes link.kind link.limit words (waiting link order) push' p few s in
-        let given : answer_of words (pop_next p) ≡ shared_answer table (on_ring route.connection Submission (cells_of link.kind link.limit) (pop_next p)) = access_answer table route.connection (cells_of link.kind link.limit) (pop_next p) st in
+        let given : answer_of words (pop_next p) ≡ shared_answer table (on_ring route.connection Submission (cells_of link.kind link.limit) (pop_next p)) = access_answer Submission table route.connection (cells_of link.kind link.limit) (pop_next p) st in
         ap slots_of (sym g.ended ∙ ap (λ (a : ℕ). pop_ended (pop_take p a)) given ∙ pop_answers (pop_take p (shared_answer table (on_ring route.connection Submission (cells_of link.kind link.limit) (pop_next p)))))
         ∙ own_given routes borrowed most place route (pop_take p (shared_answer table (on_ring route.connection Submission (cells_of link.kind link.limit) (pop_next p)))) waits (pop_answer (pop_take p (shared_answer table (on_ring route.connection Submission (cells_of link.kind link.limit) (pop_next p))))) at
 
 pop_takes : (m : World) (connection who : ℕ) (routes : List Route) (borrowed : List ℕ) (most : ℕ) (c : SubscriberCall) (link : LinkState) (order : List Placed)
     → pops_from c ≡ Some connection → All (IsLinkOf m.links receiver who) routes → IsSubscribing m.table.sizes routes c → slice_get m.links connection ≡ Some link
-    → IsSeat m.table connection (cells_of link.kind link.limit) → m.moments < 2 ^ 63 → IsKeptAt m.table m.moments connection link order (publisher_stage (slice_get m.publishers link.publisher)) c
+    → IsSeat Submission m.table connection (cells_of link.kind link.limit) → m.moments < 2 ^ 63 → IsKeptAt m.table m.moments connection link order (publisher_stage (slice_get m.publishers link.publisher)) c
     → slots_of (take_values (pop_acts m c)) ≡ given_in_hand routes connection (subscriber_take routes borrowed most c (shared_answer m.table (subscriber_next c)))
 pop_takes m connection who routes borrowed most subscribing.Idle link order e all h found st bound k = absurd (cc)
 pop_takes m connection who routes borrowed most (subscribing.Receiving place route p waits) link order e all h found st bound k =
@@ -236,7 +236,7 @@ pop_takes m connection who routes borrowed most (subscribing.Receiving place rou
     subst (λ (n : ℕ). slots_of (take_values (pop_acts m (subscribing.Receiving place route p waits))) ≡ given_in_hand routes n (subscriber_take routes borrowed most (subscribing.Receiving place route p waits) (shared_answer m.table (subscriber_next (subscribing.Receiving place route p waits))))) here
     (take_core m.table m.moments m.links routes borrowed most place route p waits link order (publisher_stage (slice_get m.publishers link.publisher)) route.submission_cells (push_at m route.connection route.kind)
     (mine.cells ∙ ap (λ (l : LinkState). cells_of l.kind l.limit) same) push_is h
-    (subst (λ (c : ℕ). IsSeat m.table c (cells_of link.kind link.limit)) (sym here) st) bound
+    (subst (λ (c : ℕ). IsSeat Submission m.table c (cells_of link.kind link.limit)) (sym here) st) bound
     (subst (λ (c : ℕ). IsKeptAt m.table m.moments c link order (publisher_stage (slice_get m.publishers link.publisher)) (subscribing.Receiving place route p waits)) (sym here) k))
 pop_takes m connection who routes borrowed most (subscribing.Received given) link order e all h found st bound k = absurd (cc)
 pop_takes m connection who routes borrowed most (subscribing.Reading slot word extent) link order e all h found st bound k = absurd (cc)

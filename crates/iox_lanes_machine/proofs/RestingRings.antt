@@ -21,6 +21,7 @@ use Rattle.iox_lanes_machine.specs.Owned.{MailHasRoom}
 use Rattle.iox_lanes_machine.specs.Resting.{Rests, mail_at, mail_by}
 use Rattle.iox_lanes_machine.specs.Rings.{sent_word, ring_in, cells_in, waiting, push_on, pop_on}
 use Rattle.iox_lanes_machine.specs.World.{World, publisher_stage, subscriber_stage}
+use Rattle.iox_lanes_machine.specs.LanesBase.declared.words.word.ConnectionRing.TheVariants.{Submission}
 use Rattle.iox_lanes_machine.proofs.InTable.{IsSeat, cell_held, cells_length}
 use Rattle.iox_lanes_machine.proofs.Mailboxes.{order_there}
 
@@ -75,7 +76,7 @@ just_holds kind.Refusing limit words q size s = record {
   each = λ at below. subst (λ (n : ℕ). slice_index words.cells ((words.read + at) % n) ≡ slice_index q at) size (s.held.each at below);
 }
 
-seat_of : (m : World) (connection : ℕ) (link : LinkState) → IsKept m → slice_get m.links connection ≡ Some link → IsSeat m.table connection (cells_of link.kind link.limit)
+seat_of : (m : World) (connection : ℕ) (link : LinkState) → IsKept m → slice_get m.links connection ≡ Some link → IsSeat Submission m.table connection (cells_of link.kind link.limit)
 seat_of m connection link k found = record {
   there = (k.within.links connection link found).connection_is;
   some = some_cells link.kind link.limit;
@@ -98,7 +99,7 @@ ring_rests m connection link k rests found =
     subst (λ c. Shape link.kind link.limit ring q (push_idle link.kind) c) receives
     (subst (λ p. Shape link.kind link.limit ring q p (pop_on connection link.kind (subscriber_stage (slice_get m.subscribers link.subscriber)))) sends is.shape) in
     subst (HoldsJust link.kind link.limit ring) (sym (mail_is m connection link found))
-    (just_holds link.kind link.limit ring q (cells_length m.table connection (cells_of link.kind link.limit) (seat_of m connection link k found)) shape)
+    (just_holds link.kind link.limit ring q (cells_length Submission m.table connection (cells_of link.kind link.limit) (seat_of m connection link k found)) shape)
 
 -- no more wait than may
 pub mail_has_room : (m : World) (connection : ℕ) → IsKept m → MailHasRoom m connection
@@ -135,7 +136,7 @@ waits_in_cell m connection at position slot k below holds position_is rests ther
     let is = (k.rings rests.few) connection link (get_or m.orders connection []) found (order_there m connection link k found) in
     let at_is : position ≡ read + at = position_is (omega (arith, just.level, there, is.few, rests.few)) in
     let held : slice_index (cells_in m.table connection cells) ((read + at) % cells) ≡ held_by m.table (sent_word connection (Cell ((read + at) % cells))) =
-    cell_held m.table connection cells ((read + at) % cells) (mod_below (read + at) cells (some_cells link.kind link.limit)) in
+    cell_held Submission m.table connection cells ((read + at) % cells) (mod_below (read + at) cells (some_cells link.kind link.limit)) in
     let slot_is : slot ≡ held_by m.table (sent_word connection (Cell ((read + at) % cells))) =
     subst (λ (p : ℕ). slot ≡ held_by m.table (sent_word connection (Cell (p % cells)))) at_is (holds link found) in
     slice_get-get_or (mail_at m connection) at 0 there ∙ ap Some (sym (slot_is ∙ sym held ∙ just.each at there))

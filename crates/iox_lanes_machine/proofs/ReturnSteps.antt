@@ -37,7 +37,7 @@ use Rattle.iox_lanes_machine.specs.Returns.{back_ring, reclaim_on, release_on, I
 use Rattle.iox_lanes_machine.specs.World.{World, fits, happens, publisher_stage, subscriber_stage, publisher_fits_at, subscriber_fits_at, publisher_begins, publisher_goes_on, publisher_given, subscriber_begins, subscriber_goes_on, subscriber_given}
 use Rattle.iox_lanes_machine.specs.Links.{LinkState}
 use Rattle.iox_lanes_machine.proofs.Ends.{some_is}
-use Rattle.iox_lanes_machine.proofs.InBack.{IsBackSeat, back_stays}
+use Rattle.iox_lanes_machine.proofs.InTable.{IsSeat, access_elsewhere}
 use Rattle.iox_lanes_machine.proofs.Returns.{reclaims_at, releases_at, IsFresh, fresh_shape, idle_shape, loan_here, send_here, release_here, loan_fresh, take_fresh, next_reclaim, next_sweep, receive_none, read_none, take_none, next_release, publisher_off, subscriber_off, pop_goes, push_goes}
 use Rattle.iox_lanes_machine.proofs.Steps.{stands, sender_now, receiver_now}
 use Rattle.iox_lanes_machine.proofs.Within.{set_same, at_each, sizes_stay, publisher_routes, subscriber_routes, changed_routes}
@@ -45,7 +45,7 @@ use Rattle.iox_lanes_machine.proofs.Within.{set_same, at_each, sizes_stay, publi
 next_le : (n : ℕ) → n < 2 ^ 63 → n ≤ successor n
 next_le n h = omega arith
 
-pub back_seat : (m : World) (connection : ℕ) (link : LinkState) → slice_get m.links connection ≡ Some link → 0 < m.table.sizes.completion_cells → IsWithin m → IsBackSeat m.table connection m.table.sizes.completion_cells
+pub back_seat : (m : World) (connection : ℕ) (link : LinkState) → slice_get m.links connection ≡ Some link → 0 < m.table.sizes.completion_cells → IsWithin m → IsSeat Completion m.table connection m.table.sizes.completion_cells
 back_seat m connection link found some w =
     let is : IsLink m.table.sizes connection link = w.links connection link found in
     record { there = is.connection_is; some = some; room = omega arith; words = w.words }
@@ -122,7 +122,7 @@ releases_own m place lane connection link e w found here =
     by_call (subscribing.Released done) h is = absurd (cc)
 
 -- a step of the pop or the push that stands at a connection
-loan_active : (cells : ℕ) (table : TableWords) (moments : ℕ) (routes : List Route) (place : ℕ) (route : Route) (p : Pop) (receives : SubscriberCall) (n : ℕ) → n ≡ cells → IsBackSeat table route.connection cells → moments < 2 ^ 63
+loan_active : (cells : ℕ) (table : TableWords) (moments : ℕ) (routes : List Route) (place : ℕ) (route : Route) (p : Pop) (receives : SubscriberCall) (n : ℕ) → n ≡ cells → IsSeat Completion table route.connection cells → moments < 2 ^ 63
     → IsReturning cells table moments route.connection (publishing.LoanReclaims place route p) receives
     → (words : List ℕ) → IsReturning cells (after_shared table (on_ring route.connection Completion n (refusing.pop_next p))) (successor moments) route.connection (publisher_take routes words (publishing.LoanReclaims place route p) (shared_answer table (on_ring route.connection Completion n (refusing.pop_next p)))) receives
 loan_active cells table moments routes place route p receives n is st bound k words =
@@ -131,7 +131,7 @@ loan_active cells table moments routes place route p receives n is st bound k wo
     let g = pop_goes cells table moments route.connection k.list (release_on route.connection receives) p st bound k.few s in
     record { list = g.list; shape = next_reclaim cells _ g.list (release_on route.connection receives) routes place route _ (refusing_pop_answer (refusing.pop_take p (shared_answer table (on_ring route.connection Completion cells (refusing.pop_next p))))) g.shape; few = g.few })
 
-send_active : (cells : ℕ) (table : TableWords) (moments : ℕ) (routes : List Route) (slot place : ℕ) (route : Route) (p : Pop) (receives : SubscriberCall) (n : ℕ) → n ≡ cells → IsBackSeat table route.connection cells → moments < 2 ^ 63
+send_active : (cells : ℕ) (table : TableWords) (moments : ℕ) (routes : List Route) (slot place : ℕ) (route : Route) (p : Pop) (receives : SubscriberCall) (n : ℕ) → n ≡ cells → IsSeat Completion table route.connection cells → moments < 2 ^ 63
     → IsReturning cells table moments route.connection (publishing.SendReclaims slot place route p) receives
     → (words : List ℕ) → IsReturning cells (after_shared table (on_ring route.connection Completion n (refusing.pop_next p))) (successor moments) route.connection (publisher_take routes words (publishing.SendReclaims slot place route p) (shared_answer table (on_ring route.connection Completion n (refusing.pop_next p)))) receives
 send_active cells table moments routes slot place route p receives n is st bound k words =
@@ -140,7 +140,7 @@ send_active cells table moments routes slot place route p receives n is st bound
     let g = pop_goes cells table moments route.connection k.list (release_on route.connection receives) p st bound k.few s in
     record { list = g.list; shape = next_sweep cells _ g.list (release_on route.connection receives) routes slot place route _ (refusing_pop_answer (refusing.pop_take p (shared_answer table (on_ring route.connection Completion cells (refusing.pop_next p))))) g.shape; few = g.few })
 
-release_active : (cells : ℕ) (table : TableWords) (moments : ℕ) (routes : List Route) (borrowed : List ℕ) (most place : ℕ) (route : Route) (p : Push) (sends : PublisherCall) (n : ℕ) → n ≡ cells → IsBackSeat table route.connection cells → moments < 2 ^ 63
+release_active : (cells : ℕ) (table : TableWords) (moments : ℕ) (routes : List Route) (borrowed : List ℕ) (most place : ℕ) (route : Route) (p : Push) (sends : PublisherCall) (n : ℕ) → n ≡ cells → IsSeat Completion table route.connection cells → moments < 2 ^ 63
     → IsReturning cells table moments route.connection sends (subscribing.Releasing place route p)
     → IsReturning cells (after_shared table (on_ring route.connection Completion n (refusing.push_next p))) (successor moments) route.connection sends (subscriber_take routes borrowed most (subscribing.Releasing place route p) (shared_answer table (on_ring route.connection Completion n (refusing.push_next p))))
 release_active cells table moments routes borrowed most place route p sends n is st bound k =
@@ -151,14 +151,14 @@ release_active cells table moments routes borrowed most place route p sends n is
 
 -- a publisher at its own connection
 publisher_active : (cells : ℕ) (table : TableWords) (moments connection : ℕ) (sizes : TableSizes) (routes : List Route) (words : List ℕ) (c : PublisherCall) (receives : SubscriberCall) → GoesRound cells routes → IsPublishing sizes routes words c → reclaims_at c ≡ Some connection
-    → IsBackSeat table connection cells → moments < 2 ^ 63 → IsReturning cells table moments connection c receives
+    → IsSeat Completion table connection cells → moments < 2 ^ 63 → IsReturning cells table moments connection c receives
     → IsReturning cells (after_shared table (publisher_next c)) (successor moments) connection (publisher_take routes words c (shared_answer table (publisher_next c))) receives
 publisher_active cells table moments connection sizes routes words publishing.Idle receives round is here st bound k = absurd (cc)
 publisher_active cells table moments connection sizes routes words (publishing.LoanReclaims at route p) receives round is here st bound k =
     let same : route.connection ≡ connection = some_is route.connection connection here in
     subst (λ (c : ℕ). IsReturning cells (after_shared table (publisher_next (publishing.LoanReclaims at route p))) (successor moments) c (publisher_take routes words (publishing.LoanReclaims at route p) (shared_answer table (publisher_next (publishing.LoanReclaims at route p)))) receives) same
     (loan_active cells table moments routes at route p receives route.completion_cells (all_at (λ (r : Route). r.completion_cells ≡ cells) routes at route is round)
-    (subst (λ (c : ℕ). IsBackSeat table c cells) (sym same) st) bound (subst (λ (c : ℕ). IsReturning cells table moments c (publishing.LoanReclaims at route p) receives) (sym same) k) words)
+    (subst (λ (c : ℕ). IsSeat Completion table c cells) (sym same) st) bound (subst (λ (c : ℕ). IsReturning cells table moments c (publishing.LoanReclaims at route p) receives) (sym same) k) words)
 publisher_active cells table moments connection sizes routes words publishing.Lending receives round is here st bound k = absurd (cc)
 publisher_active cells table moments connection sizes routes words (publishing.Writing slot word value) receives round is here st bound k = absurd (cc)
 publisher_active cells table moments connection sizes routes words (publishing.Written slot) receives round is here st bound k = absurd (cc)
@@ -168,14 +168,14 @@ publisher_active cells table moments connection sizes routes words (publishing.S
     let same : route.connection ≡ connection = some_is route.connection connection here in
     subst (λ (c : ℕ). IsReturning cells (after_shared table (publisher_next (publishing.SendReclaims slot at route p))) (successor moments) c (publisher_take routes words (publishing.SendReclaims slot at route p) (shared_answer table (publisher_next (publishing.SendReclaims slot at route p)))) receives) same
     (send_active cells table moments routes slot at route p receives route.completion_cells (all_at (λ (r : Route). r.completion_cells ≡ cells) routes at route is round)
-    (subst (λ (c : ℕ). IsBackSeat table c cells) (sym same) st) bound (subst (λ (c : ℕ). IsReturning cells table moments c (publishing.SendReclaims slot at route p) receives) (sym same) k) words)
+    (subst (λ (c : ℕ). IsSeat Completion table c cells) (sym same) st) bound (subst (λ (c : ℕ). IsReturning cells table moments c (publishing.SendReclaims slot at route p) receives) (sym same) k) words)
 publisher_active cells table moments connection sizes routes words (publishing.Pushing slot at route p delivery) receives round is here st bound k = absurd (cc)
 publisher_active cells table moments connection sizes routes words (publishing.Sent slot delivery) receives round is here st bound k = absurd (cc)
 publisher_active cells table moments connection sizes routes words (publishing.Dropping slot) receives round is here st bound k = absurd (cc)
 
 -- a subscriber at its own
 subscriber_active : (cells : ℕ) (table : TableWords) (moments connection : ℕ) (sizes : TableSizes) (routes : List Route) (borrowed : List ℕ) (most : ℕ) (c : SubscriberCall) (sends : PublisherCall) → GoesRound cells routes → IsSubscribing sizes routes c → releases_at c ≡ Some connection
-    → IsBackSeat table connection cells → moments < 2 ^ 63 → IsReturning cells table moments connection sends c
+    → IsSeat Completion table connection cells → moments < 2 ^ 63 → IsReturning cells table moments connection sends c
     → IsReturning cells (after_shared table (subscriber_next c)) (successor moments) connection sends (subscriber_take routes borrowed most c (shared_answer table (subscriber_next c)))
 subscriber_active cells table moments connection sizes routes borrowed most subscribing.Idle sends round is here st bound k = absurd (cc)
 subscriber_active cells table moments connection sizes routes borrowed most (subscribing.Receiving at route p waits) sends round is here st bound k = absurd (cc)
@@ -186,7 +186,7 @@ subscriber_active cells table moments connection sizes routes borrowed most (sub
     let same : route.connection ≡ connection = some_is route.connection connection here in
     subst (λ (c : ℕ). IsReturning cells (after_shared table (subscriber_next (subscribing.Releasing at route p))) (successor moments) c sends (subscriber_take routes borrowed most (subscribing.Releasing at route p) (shared_answer table (subscriber_next (subscribing.Releasing at route p))))) same
     (release_active cells table moments routes borrowed most at route p sends route.completion_cells (all_at (λ (r : Route). r.completion_cells ≡ cells) routes at route is round)
-    (subst (λ (c : ℕ). IsBackSeat table c cells) (sym same) st) bound (subst (λ (c : ℕ). IsReturning cells table moments c sends (subscribing.Releasing at route p)) (sym same) k))
+    (subst (λ (c : ℕ). IsSeat Completion table c cells) (sym same) st) bound (subst (λ (c : ℕ). IsReturning cells table moments c sends (subscribing.Releasing at route p)) (sym same) k))
 subscriber_active cells table moments connection sizes routes borrowed most (subscribing.Released done) sends round is here st bound k = absurd (cc)
 
 -- a begin of a publisher
@@ -305,7 +305,7 @@ gone_publisher m place orders (Some lane) e fit bound w r k = λ connection link
         → IsReturning cells (after_shared m.table (publisher_next lane.port.call)) (successor m.moments) connection (publisher_stage (slice_get (set m.publishers place (publisher_after (publisher_given m.table lane) lane)) link.publisher)) (subscriber_stage (slice_get m.subscribers link.subscriber))
     quiet connection link found off =
         quiet_returning cells m.table (after_shared m.table (publisher_next lane.port.call)) m.moments (successor m.moments) connection _ _ _ _
-        (back_stays m.table connection cells (publisher_next lane.port.call) (back_seat m connection link found r.some w) (publisher_off m.table connection lane.port.call off ((publishers_stay_within m.table.sizes lane is).2)))
+        (access_elsewhere Completion m.table connection cells (publisher_next lane.port.call) (back_seat m connection link found r.some w) (publisher_off m.table connection lane.port.call off ((publishers_stay_within m.table.sizes lane is).2)))
         (next_le m.moments bound)
         (λ q s. publisher_again m.publishers place lane (publisher_after (publisher_given m.table lane) lane) cells connection link.publisher (back_ring m.table connection cells) q _ e (take_fresh connection lane.port.routes (words_of lane.port) lane.port.call (publisher_given m.table lane) off) s)
         (k connection link found)
@@ -344,7 +344,7 @@ gone_subscriber m place orders (Some lane) e fit bound w r k = λ connection lin
         → IsReturning cells (after_shared m.table (subscriber_next lane.port.call)) (successor m.moments) connection (publisher_stage (slice_get m.publishers link.publisher)) (subscriber_stage (slice_get (set m.subscribers place (subscriber_after (subscriber_given m.table lane) lane)) link.subscriber))
     quiet connection link found off =
         quiet_returning cells m.table (after_shared m.table (subscriber_next lane.port.call)) m.moments (successor m.moments) connection _ _ _ _
-        (back_stays m.table connection cells (subscriber_next lane.port.call) (back_seat m connection link found r.some w) (subscriber_off m.table connection lane.port.call off ((subscribers_stay_within m.table.sizes lane is).2)))
+        (access_elsewhere Completion m.table connection cells (subscriber_next lane.port.call) (back_seat m connection link found r.some w) (subscriber_off m.table connection lane.port.call off ((subscribers_stay_within m.table.sizes lane is).2)))
         (next_le m.moments bound)
         (λ q s. subscriber_again m.subscribers place lane (subscriber_after (subscriber_given m.table lane) lane) cells connection link.subscriber (back_ring m.table connection cells) q _ e
         (none_shape cells connection (back_ring m.table connection cells) q _ (subscriber_after (subscriber_given m.table lane) lane).port.call (ap (release_on connection) taken ∙ take_none connection lane.port.routes lane.port.borrowed lane.port.most_borrowed lane.port.call (subscriber_given m.table lane) off)) s)

@@ -34,7 +34,7 @@ use Rattle.iox_lanes_machine.specs.LanesBase.declared.calls.subscriber.Subscribe
 use Rattle.iox_lanes_machine.specs.LanesBase.declared.calls.subscriber.SubscriberCall.TheVariants as subscribing
 use Rattle.iox_lanes_machine.specs.Returns.{back_ring, reclaim_on, release_on}
 use Rattle.iox_lanes_machine.proofs.Ends.{choose_one, choose_other}
-use Rattle.iox_lanes_machine.proofs.InBack.{IsBackSeat, GoesOffBack, back_answer, back_after}
+use Rattle.iox_lanes_machine.proofs.InTable.{IsSeat, GoesElsewhere, access_answer, access_after}
 
 -- the connection where a publisher takes back
 abbrev pub reclaims_at : PublisherCall → Option ℕ
@@ -224,19 +224,19 @@ next_release cells words q c place route p (Some (LeftOut oldest)) s = idle_shap
 next_release cells words q c place route p (Some Refused) s = idle_shape cells words q p c s
 
 -- an access elsewhere
-sent_off : (table : TableWords) (here connection cells : ℕ) (access : Access) → IsOfTable table.sizes (on_ring connection Submission cells access) → GoesOffBack table here (on_ring connection Submission cells access)
+sent_off : (table : TableWords) (here connection cells : ℕ) (access : Access) → IsOfTable table.sizes (on_ring connection Submission cells access) → GoesElsewhere Completion table here (on_ring connection Submission cells access)
 sent_off table here connection cells (own.Load word) h = tt
 sent_off table here connection cells (own.Store word value) h = (h, tt)
 sent_off table here connection cells (own.Exchange word old new) h = (h, tt)
 sent_off table here connection cells own.Local h = tt
 
-other_off : (table : TableWords) (here connection cells : ℕ) (access : Access) → (Some connection ≡ Some here → ⊥) → IsOfTable table.sizes (on_ring connection Completion cells access) → GoesOffBack table here (on_ring connection Completion cells access)
+other_off : (table : TableWords) (here connection cells : ℕ) (access : Access) → (Some connection ≡ Some here → ⊥) → IsOfTable table.sizes (on_ring connection Completion cells access) → GoesElsewhere Completion table here (on_ring connection Completion cells access)
 other_off table here connection cells (own.Load word) off h = tt
 other_off table here connection cells (own.Store word value) off h = (h, λ e. off (ap (λ (n : ℕ). Some n) e))
 other_off table here connection cells (own.Exchange word old new) off h = (h, λ e. off (ap (λ (n : ℕ). Some n) e))
 other_off table here connection cells own.Local off h = tt
 
-pub publisher_off : (table : TableWords) (here : ℕ) (call : PublisherCall) → (reclaims_at call ≡ Some here → ⊥) → IsOfTable table.sizes (publisher_next call) → GoesOffBack table here (publisher_next call)
+pub publisher_off : (table : TableWords) (here : ℕ) (call : PublisherCall) → (reclaims_at call ≡ Some here → ⊥) → IsOfTable table.sizes (publisher_next call) → GoesElsewhere Completion table here (publisher_next call)
 publisher_off table here publishing.Idle off h = tt
 publisher_off table here (publishing.LoanReclaims place route p) off h = other_off table here route.connection route.completion_cells _ off h
 publisher_off table here publishing.Lending off h = tt
@@ -249,7 +249,7 @@ publisher_off table here (publishing.Pushing slot place route p delivery) off h 
 publisher_off table here (publishing.Sent slot delivery) off h = tt
 publisher_off table here (publishing.Dropping slot) off h = tt
 
-pub subscriber_off : (table : TableWords) (here : ℕ) (call : SubscriberCall) → (releases_at call ≡ Some here → ⊥) → IsOfTable table.sizes (subscriber_next call) → GoesOffBack table here (subscriber_next call)
+pub subscriber_off : (table : TableWords) (here : ℕ) (call : SubscriberCall) → (releases_at call ≡ Some here → ⊥) → IsOfTable table.sizes (subscriber_next call) → GoesElsewhere Completion table here (subscriber_next call)
 subscriber_off table here subscribing.Idle off h = tt
 subscriber_off table here (subscribing.Receiving place route p waits) off h = sent_off table here route.connection route.submission_cells _ h
 subscriber_off table here (subscribing.Received given) off h = tt
@@ -267,13 +267,13 @@ pub record Back (cells moments : ℕ) (words : RingWords) (p : Push) (c : Pop) :
 later : (n : ℕ) → n < 2 ^ 63 → successor n ≡ n + 1
 later n h = omega arith
 
-pub pop_goes : (cells : ℕ) (table : TableWords) (moments connection : ℕ) (q : List ℕ) (p : Push) (c : Pop) → IsBackSeat table connection cells → moments < 2 ^ 63 → (back_ring table connection cells).write ≤ moments + 2 ^ 62 → Shape cells (back_ring table connection cells) q p c
+pub pop_goes : (cells : ℕ) (table : TableWords) (moments connection : ℕ) (q : List ℕ) (p : Push) (c : Pop) → IsSeat Completion table connection cells → moments < 2 ^ 63 → (back_ring table connection cells).write ≤ moments + 2 ^ 62 → Shape cells (back_ring table connection cells) q p c
     → Back cells (successor moments) (back_ring (after_shared table (on_ring connection Completion cells (refusing.pop_next c))) connection cells) p (refusing.pop_take c (shared_answer table (on_ring connection Completion cells (refusing.pop_next c))))
 pop_goes cells table moments connection q p c st bound few s =
     let words : RingWords = back_ring table connection cells in
     let g = refusing_steps.pop_goes cells words q p c (omega (arith, few, bound)) s in
-    let given : answer_of words (refusing.pop_next c) ≡ shared_answer table (on_ring connection Completion cells (refusing.pop_next c)) = back_answer table connection cells (refusing.pop_next c) st in
-    let after : after_access words (refusing.pop_next c) ≡ back_ring (after_shared table (on_ring connection Completion cells (refusing.pop_next c))) connection cells = back_after table connection cells (refusing.pop_next c) st in
+    let given : answer_of words (refusing.pop_next c) ≡ shared_answer table (on_ring connection Completion cells (refusing.pop_next c)) = access_answer Completion table connection cells (refusing.pop_next c) st in
+    let after : after_access words (refusing.pop_next c) ≡ back_ring (after_shared table (on_ring connection Completion cells (refusing.pop_next c))) connection cells = access_after Completion table connection cells (refusing.pop_next c) st in
     record {
       list = g.list;
       shape = subst (λ (a : ℕ). Shape cells (back_ring (after_shared table (on_ring connection Completion cells (refusing.pop_next c))) connection cells) g.list p (refusing.pop_take c a)) given
@@ -281,13 +281,13 @@ pop_goes cells table moments connection q p c st bound few s =
       few = omega (arith, ap (λ (ws : RingWords). ws.write) after, refusing_steps.pop_grows words c, few, later moments bound);
     }
 
-pub push_goes : (cells : ℕ) (table : TableWords) (moments connection : ℕ) (q : List ℕ) (p : Push) (c : Pop) → IsBackSeat table connection cells → moments < 2 ^ 63 → (back_ring table connection cells).write ≤ moments + 2 ^ 62 → Shape cells (back_ring table connection cells) q p c
+pub push_goes : (cells : ℕ) (table : TableWords) (moments connection : ℕ) (q : List ℕ) (p : Push) (c : Pop) → IsSeat Completion table connection cells → moments < 2 ^ 63 → (back_ring table connection cells).write ≤ moments + 2 ^ 62 → Shape cells (back_ring table connection cells) q p c
     → Back cells (successor moments) (back_ring (after_shared table (on_ring connection Completion cells (refusing.push_next p))) connection cells) (refusing.push_take p (shared_answer table (on_ring connection Completion cells (refusing.push_next p)))) c
 push_goes cells table moments connection q p c st bound few s =
     let words : RingWords = back_ring table connection cells in
     let g = refusing_steps.push_goes cells words q p c (omega (arith, few, bound)) s in
-    let given : answer_of words (refusing.push_next p) ≡ shared_answer table (on_ring connection Completion cells (refusing.push_next p)) = back_answer table connection cells (refusing.push_next p) st in
-    let after : after_access words (refusing.push_next p) ≡ back_ring (after_shared table (on_ring connection Completion cells (refusing.push_next p))) connection cells = back_after table connection cells (refusing.push_next p) st in
+    let given : answer_of words (refusing.push_next p) ≡ shared_answer table (on_ring connection Completion cells (refusing.push_next p)) = access_answer Completion table connection cells (refusing.push_next p) st in
+    let after : after_access words (refusing.push_next p) ≡ back_ring (after_shared table (on_ring connection Completion cells (refusing.push_next p))) connection cells = access_after Completion table connection cells (refusing.push_next p) st in
     record {
       list = g.list;
       shape = subst (λ (a : ℕ). Shape cells (back_ring (after_shared table (on_ring connection Completion cells (refusing.push_next p))) connection cells) g.list (refusing.push_take p a) c) given

@@ -46,7 +46,7 @@ use Rattle.iox_lanes_machine.specs.Sends.{IsAmong}
 use Rattle.iox_lanes_machine.specs.Uses.{aside_at, given_back, stands_at, UsesKept}
 use Rattle.iox_lanes_machine.specs.World.{World, publisher_stage, subscriber_stage}
 use Rattle.iox_lanes_machine.specs.Links.{LinkState}
-use Rattle.iox_lanes_machine.proofs.InBack.{back_answer}
+use Rattle.iox_lanes_machine.proofs.InTable.{access_answer}
 use Rattle.iox_lanes_machine.proofs.PublisherUses.{Balanced, order_there}
 use Rattle.iox_lanes_machine.proofs.ReturnSteps.{back_seat}
 use Rattle.iox_lanes_machine.proofs.Returns.{release_here}
@@ -118,7 +118,7 @@ reclaim_finds m who routes stored book c at route (pop.SawRead seen) k here is i
     shape = subst (λ (x : Pop). refusing.Shape cells words returning.list (release_on route.connection (subscriber_stage receiver_lane)) x) is returning.shape
 
     answered : words.write ≡ shared_answer m.table (on_ring route.connection Completion route.completion_cells (refusing.pop_next (pop.SawRead seen)))
-    answered = back_answer m.table route.connection cells (refusing.pop_next (pop.SawRead seen)) (back_seat m route.connection link mine.found k.some k.within)
+    answered = access_answer Completion m.table route.connection cells (refusing.pop_next (pop.SawRead seen)) (back_seat m route.connection link mine.found k.some k.within)
 
     back : length (given_back m.table route.connection) ≡ length returning.list
     back = ap (λ (xs : List ℕ). length xs) (between_is cells words returning.list (release_on route.connection (subscriber_stage receiver_lane)) (pop.SawRead seen) shape)
@@ -222,7 +222,7 @@ release_finds m who lane place route (push.SawWrite limit value write next) k r 
     shape = subst (λ (x : Push). refusing.Shape cells words returning.list x (reclaim_on route.connection (publisher_stage (slice_get m.publishers link.publisher)))) (release_here place route (push.SawWrite limit value write next)) returning.shape
 
     answered : words.read ≡ subscribers.told m call
-    answered = back_answer m.table route.connection cells (refusing.push_next (push.SawWrite limit value write next)) (back_seat m route.connection link mine.found k.some k.within)
+    answered = access_answer Completion m.table route.connection cells (refusing.push_next (push.SawWrite limit value write next)) (back_seat m route.connection link mine.found k.some k.within)
 
     back : length (given_back m.table route.connection) ≡ length returning.list
     back = ap (λ (xs : List ℕ). length xs) (between_is cells words returning.list (push.SawWrite limit value write next) (reclaim_on route.connection (publisher_stage (slice_get m.publishers link.publisher))) shape)

@@ -83,11 +83,11 @@ off_push : (m : World) (c : PublisherCall) → IsOfTable m.table.sizes (publishe
 off_push m c touch w call route link found off =
     still m.moments m.orders (added m.orders (pushes_to c) m.moments (push_acts m.table c)) m.table (after_shared m.table (publisher_next c)) call route
     (puts_off m.orders (pushes_to c) m.moments (push_acts m.table c) route off)
-    (ap (λ (ws : RingWords). ws.read) (access_elsewhere m.table route.connection (cells_of link.kind link.limit) (publisher_next c) (seat m route.connection link found w) (publisher_elsewhere m.table route.connection c off touch)))
+    (ap (λ (ws : RingWords). ws.read) (access_elsewhere Submission m.table route.connection (cells_of link.kind link.limit) (publisher_next c) (seat m route.connection link found w) (publisher_elsewhere m.table route.connection c off touch)))
 
 -- what a push has in hand after its next access
 push_core : (table : TableWords) (moments slot place : ℕ) (route : Route) (p : Push) (delivery : Delivery) (link : LinkState) (order : List Placed) (receives : SubscriberCall) (cells limit : ℕ) → cells ≡ cells_of link.kind link.limit → limit ≡ link.limit
-    → IsSeat table route.connection (cells_of link.kind link.limit) → moments < 2 ^ 63 → push_answer p ≡ None → IsKeptAt table moments route.connection link order (publishing.Pushing slot place route p delivery) receives
+    → IsSeat Submission table route.connection (cells_of link.kind link.limit) → moments < 2 ^ 63 → push_answer p ≡ None → IsKeptAt table moments route.connection link order (publishing.Pushing slot place route p delivery) receives
     → put_in_hand (held_by (after_shared table (on_ring route.connection Submission cells (push_next p))) (sent_word route.connection Read)) (push_take p (shared_answer table (on_ring route.connection Submission cells (push_next p))))
     ≡ put_in_hand (held_by table (sent_word route.connection Read)) p ++ put_values (placed_by_push limit (held_by table (sent_word route.connection Read)) p)
 push_core table moments slot place route p delivery link order receives cells limit size is st bound unanswered k =
@@ -104,8 +104,8 @@ push_core table moments slot place route p delivery link order receives cells li
         let s : Shape link.kind link.limit words (waiting link order) p pop = subst (λ (x : Push). Shape link.kind link.limit words (waiting link order) x pop) (push_here slot place route link.kind p delivery) k.shape in
         let few : words.write + 1 < 2 ^ 64 = omega (arith, k.few, bound) in
         let g = push_goes link.kind link.limit words (waiting link order) p pop few s in
-        let given : answer_of words (push_next p) ≡ shared_answer table (on_ring route.connection Submission (cells_of link.kind link.limit) (push_next p)) = access_answer table route.connection (cells_of link.kind link.limit) (push_next p) st in
-        let after : after_access words (push_next p) ≡ ring_in (after_shared table (on_ring route.connection Submission (cells_of link.kind link.limit) (push_next p))) route.connection (cells_of link.kind link.limit) = access_after table route.connection (cells_of link.kind link.limit) (push_next p) st in
+        let given : answer_of words (push_next p) ≡ shared_answer table (on_ring route.connection Submission (cells_of link.kind link.limit) (push_next p)) = access_answer Submission table route.connection (cells_of link.kind link.limit) (push_next p) st in
+        let after : after_access words (push_next p) ≡ ring_in (after_shared table (on_ring route.connection Submission (cells_of link.kind link.limit) (push_next p))) route.connection (cells_of link.kind link.limit) = access_after Submission table route.connection (cells_of link.kind link.limit) (push_next p) st in
         sym (ap (λ (ws : RingWords). put_in_hand ws.read (push_take p (shared_answer table (on_ring route.connection Submission (cells_of link.kind link.limit) (push_next p))))) after)
         ∙ sym (ap (λ (a : ℕ). put_in_hand (after_access words (push_next p)).read (push_take p a)) given)
         ∙ sym (ap (λ (vs : List PutNow). vs ++ put_in_hand (after_access words (push_next p)).read (push_take p (answer_of words (push_next p)))) (ended_none p unanswered))
@@ -113,7 +113,7 @@ push_core table moments slot place route p delivery link order receives cells li
 
 -- what a push has in hand after an access of the pop at its connection
 pop_core : (table : TableWords) (moments place : ℕ) (route : Route) (p : Pop) (waits : Bool) (link : LinkState) (order : List Placed) (sends : PublisherCall) (cells : ℕ) (push : Push) → cells ≡ cells_of link.kind link.limit → push ≡ push_on route.connection link.kind sends
-    → IsSeat table route.connection (cells_of link.kind link.limit) → moments < 2 ^ 63 → IsKeptAt table moments route.connection link order sends (subscribing.Receiving place route p waits)
+    → IsSeat Submission table route.connection (cells_of link.kind link.limit) → moments < 2 ^ 63 → IsKeptAt table moments route.connection link order sends (subscribing.Receiving place route p waits)
     → put_in_hand (held_by (after_shared table (on_ring route.connection Submission cells (pop_next p))) (sent_word route.connection Read)) push
     ≡ put_in_hand (held_by table (sent_word route.connection Read)) push ++ put_values (placed_by_pop (ring_in table route.connection cells) push p)
 pop_core table moments place route p waits link order sends cells push size is st bound k =
@@ -130,7 +130,7 @@ pop_core table moments place route p waits link order sends cells push size is s
         let s : Shape link.kind link.limit words (waiting link order) push' p = subst (λ (x : Pop). Shape link.kind link.limit words (waiting link order) push' x) (pop_here place route link.kind p waits) k.shape in
         let few : words.write + 1 < 2 ^ 64 = omega (arith, k.few, bound) in
         let g = pop_goes link.kind link.limit words (waiting link order) push' p few s in
-        let after : after_access words (pop_next p) ≡ ring_in (after_shared table (on_ring route.connection Submission (cells_of link.kind link.limit) (pop_next p))) route.connection (cells_of link.kind link.limit) = access_after table route.connection (cells_of link.kind link.limit) (pop_next p) st in
+        let after : after_access words (pop_next p) ≡ ring_in (after_shared table (on_ring route.connection Submission (cells_of link.kind link.limit) (pop_next p))) route.connection (cells_of link.kind link.limit) = access_after Submission table route.connection (cells_of link.kind link.limit) (pop_next p) st in
         sym (ap (λ (ws : RingWords). put_in_hand ws.read push') after) ∙ g.in_hand
 
 -- a step of a subscriber, at a connection of a publisher
@@ -152,7 +152,7 @@ pop_route m place reader who lane i route es ep at w kept bound =
           (subst (λ (c : PublisherCall). IsKeptAt m.table m.moments route.connection own.link order c (subscriber_stage (slice_get m.subscribers (own.link).subscriber))) sends (kept route.connection own.link order own.found there)))
       | inr off ↦ still m.moments m.orders (added m.orders (pops_from reader.port.call) m.moments (pop_acts m reader.port.call)) m.table (after_shared m.table (subscriber_next reader.port.call)) lane.port.call route
           (puts_off m.orders (pops_from reader.port.call) m.moments (pop_acts m reader.port.call) route off)
-          (ap (λ (ws : RingWords). ws.read) (access_elsewhere m.table route.connection (cells_of (own.link).kind (own.link).limit) (subscriber_next reader.port.call) (seat m route.connection own.link own.found w)
+          (ap (λ (ws : RingWords). ws.read) (access_elsewhere Submission m.table route.connection (cells_of (own.link).kind (own.link).limit) (subscriber_next reader.port.call) (seat m route.connection own.link own.found w)
           (subscriber_elsewhere m.table route.connection reader.port.call off ((subscribers_stay_within m.table.sizes reader is).2))))
     ]
   where

@@ -29,7 +29,8 @@ use Rattle.iox_lanes_machine.specs.Kept.{IsLinkOf, sender, IsWithin, IsKeptAt, A
 use Rattle.iox_lanes_machine.specs.Uses.{aside_at, given_back, stands_at}
 use Rattle.iox_lanes_machine.specs.Links.{LinkState}
 use Rattle.iox_lanes_machine.proofs.Ends.{some_is, push_off, fresh_take}
-use Rattle.iox_lanes_machine.proofs.InBack.{back_stays}
+use Rattle.iox_lanes_machine.specs.LanesBase.declared.words.word.ConnectionRing.TheVariants.{Completion}
+use Rattle.iox_lanes_machine.proofs.InTable.{access_elsewhere}
 use Rattle.iox_lanes_machine.proofs.Kept.{seat}
 use Rattle.iox_lanes_machine.proofs.Returns.{reclaims_at, loan_here, send_here, publisher_off}
 use Rattle.iox_lanes_machine.proofs.ReturnSteps.{back_seat}
@@ -109,7 +110,7 @@ pub returned_same : (m : World) (who : ℕ) (routes : List Route) (stored : List
     → (reclaims_at call ≡ Some route.connection → ⊥) → (s : ℕ) → count s (given_back (after_shared m.table (publisher_next call)) route.connection) ≡ count s (given_back m.table route.connection)
 returned_same m who routes stored call place route link order order' k p off s =
     back_same m.table (publisher_next call) route.connection
-    (back_stays m.table route.connection m.table.sizes.completion_cells (publisher_next call) (back_seat m route.connection link p.found k.some k.within) (publisher_off m.table route.connection call off k.access)) s
+    (access_elsewhere Completion m.table route.connection m.table.sizes.completion_cells (publisher_next call) (back_seat m route.connection link p.found k.some k.within) (publisher_off m.table route.connection call off k.access)) s
 
 -- how often a slot stood at the connection before the step
 abbrev pub Before : World → PublisherCall → Route → LinkState → List Placed → Option SubscriberLaneState → ℕ → ℕ

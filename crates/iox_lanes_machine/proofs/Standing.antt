@@ -39,8 +39,7 @@ use Rattle.iox_lanes_machine.specs.Kept.{IsLinkOf, sender, IsKeptAt}
 use Rattle.iox_lanes_machine.specs.Uses.{aside_at, given_back}
 use Rattle.iox_lanes_machine.specs.Links.{LinkState}
 use Rattle.iox_lanes_machine.proofs.Ends.{IsFreshPush, fresh_push_at, push_here, pop_here}
-use Rattle.iox_lanes_machine.proofs.InBack.{IsBackSeat, back_after}
-use Rattle.iox_lanes_machine.proofs.InTable.{IsSeat, access_answer, access_after}
+use Rattle.iox_lanes_machine.proofs.InTable.{IsSeat, access_after, access_answer}
 use Rattle.iox_lanes_machine.proofs.Kept.{waits}
 use Rattle.iox_lanes_machine.proofs.Within.{sizes_stay}
 
@@ -67,7 +66,7 @@ PushMoves table moments routes slot place route p delivery link order s limit ce
     + count s (put_by (push_change place p (shared_answer table (on_ring route.connection Submission cells (push_next p)))))
 
 pub push_moves : (table : TableWords) (moments : ℕ) (links : List LinkState) (who : ℕ) (routes : List Route) (slot place : ℕ) (route : Route) (p : Push) (delivery : Delivery) (link : LinkState) (order : List Placed) (receives : SubscriberCall) (cells limit : ℕ)
-    → cells ≡ cells_of link.kind link.limit → limit ≡ link.limit → All (IsLinkOf links sender who) routes → slice_get links route.connection ≡ Some link → IsSeat table route.connection (cells_of link.kind link.limit) → moments < 2 ^ 63
+    → cells ≡ cells_of link.kind link.limit → limit ≡ link.limit → All (IsLinkOf links sender who) routes → slice_get links route.connection ≡ Some link → IsSeat Submission table route.connection (cells_of link.kind link.limit) → moments < 2 ^ 63
     → IsKeptAt table moments route.connection link order (publishing.Pushing slot place route p delivery) receives → (s : ℕ) → PushMoves table moments routes slot place route p delivery link order s limit cells
 push_moves table moments links who routes slot place route p delivery link order receives cells limit size is all found st bound k s =
     subst (λ (n : ℕ). PushMoves table moments routes slot place route p delivery link order s n cells) (sym is)
@@ -79,8 +78,8 @@ push_moves table moments links who routes slot place route p delivery link order
         let pop : Pop = pop_on route.connection link.kind receives in
         let shape : Shape link.kind link.limit words (waiting link order) p pop = subst (λ (x : Push). Shape link.kind link.limit words (waiting link order) x pop) (push_here slot place route link.kind p delivery) k.shape in
         let g = push_goes link.kind link.limit words (waiting link order) p pop (omega (arith, k.few, bound)) shape in
-        let answer : answer_of words (push_next p) ≡ shared_answer table (on_ring route.connection Submission (cells_of link.kind link.limit) (push_next p)) = access_answer table route.connection (cells_of link.kind link.limit) (push_next p) st in
-        let after : after_access words (push_next p) ≡ ring_in (after_shared table (on_ring route.connection Submission (cells_of link.kind link.limit) (push_next p))) route.connection (cells_of link.kind link.limit) = access_after table route.connection (cells_of link.kind link.limit) (push_next p) st in
+        let answer : answer_of words (push_next p) ≡ shared_answer table (on_ring route.connection Submission (cells_of link.kind link.limit) (push_next p)) = access_answer Submission table route.connection (cells_of link.kind link.limit) (push_next p) st in
+        let after : after_access words (push_next p) ≡ ring_in (after_shared table (on_ring route.connection Submission (cells_of link.kind link.limit) (push_next p))) route.connection (cells_of link.kind link.limit) = access_after Submission table route.connection (cells_of link.kind link.limit) (push_next p) st in
         let follows = push_follows place words p in
         omega (
           arith,
@@ -106,7 +105,7 @@ PopMoves table moments place route c link order sends s push cells =
     ≡ count s (waiting link order) + count s (aside_at table route.connection link sends)
 
 pub pop_moves : (table : TableWords) (moments place : ℕ) (route : Route) (c : Pop) (waits_there : Bool) (link : LinkState) (order : List Placed) (sends : PublisherCall) (push : Push) (cells : ℕ)
-    → cells ≡ cells_of link.kind link.limit → push ≡ push_on route.connection link.kind sends → IsSeat table route.connection (cells_of link.kind link.limit) → moments < 2 ^ 63
+    → cells ≡ cells_of link.kind link.limit → push ≡ push_on route.connection link.kind sends → IsSeat Submission table route.connection (cells_of link.kind link.limit) → moments < 2 ^ 63
     → IsKeptAt table moments route.connection link order sends (subscribing.Receiving place route c waits_there) → (s : ℕ) → PopMoves table moments place route c link order sends s push cells
 pop_moves table moments place route c waits_there link order sends push cells size is st bound k s =
     subst (λ (x : Push). PopMoves table moments place route c link order sends s x cells) (sym is)
@@ -118,8 +117,8 @@ pop_moves table moments place route c waits_there link order sends push cells si
         let push' : Push = push_on route.connection link.kind sends in
         let shape : Shape link.kind link.limit words (waiting link order) push' c = subst (λ (x : Pop). Shape link.kind link.limit words (waiting link order) push' x) (pop_here place route link.kind c waits_there) k.shape in
         let g = pop_goes link.kind link.limit words (waiting link order) push' c (omega (arith, k.few, bound)) shape in
-        let answer : answer_of words (pop_next c) ≡ shared_answer table (on_ring route.connection Submission (cells_of link.kind link.limit) (pop_next c)) = access_answer table route.connection (cells_of link.kind link.limit) (pop_next c) st in
-        let after : after_access words (pop_next c) ≡ ring_in (after_shared table (on_ring route.connection Submission (cells_of link.kind link.limit) (pop_next c))) route.connection (cells_of link.kind link.limit) = access_after table route.connection (cells_of link.kind link.limit) (pop_next c) st in
+        let answer : answer_of words (pop_next c) ≡ shared_answer table (on_ring route.connection Submission (cells_of link.kind link.limit) (pop_next c)) = access_answer Submission table route.connection (cells_of link.kind link.limit) (pop_next c) st in
+        let after : after_access words (pop_next c) ≡ ring_in (after_shared table (on_ring route.connection Submission (cells_of link.kind link.limit) (pop_next c))) route.connection (cells_of link.kind link.limit) = access_after Submission table route.connection (cells_of link.kind link.limit) (pop_next c) st in
         let follows = pop_follows place words c in
         omega (
           arith,
@@ -136,7 +135,7 @@ back_is table access connection = ap (λ (sizes : TableSizes). between (back_rin
 
 -- a step of a publisher that takes back
 pub reclaim_moves : (table : TableWords) (moments connection : ℕ) (sends : PublisherCall) (receives : SubscriberCall) (c : refusing_pop_type.Pop) (cells : ℕ) → cells ≡ table.sizes.completion_cells → reclaim_on connection sends ≡ c
-    → IsBackSeat table connection table.sizes.completion_cells → moments < 2 ^ 63 → IsReturning table.sizes.completion_cells table moments connection sends receives
+    → IsSeat Completion table connection table.sizes.completion_cells → moments < 2 ^ 63 → IsReturning table.sizes.completion_cells table moments connection sends receives
     → (s : ℕ) → count s (given_back (after_shared table (on_ring connection Completion cells (refusing.pop_next c))) connection) + count s (taking_refusing c) ≡ count s (given_back table connection)
 reclaim_moves table moments connection sends receives c cells size is st bound k s =
     subst (λ (n : ℕ). count s (given_back (after_shared table (on_ring connection Completion n (refusing.pop_next c))) connection) + count s (taking_refusing c) ≡ count s (given_back table connection)) (sym size) exact
@@ -147,7 +146,7 @@ reclaim_moves table moments connection sends receives c cells size is st bound k
         let push : refusing_push_type.Push = release_on connection receives in
         let shape : refusing.Shape table.sizes.completion_cells words k.list push c = subst (λ (x : refusing_pop_type.Pop). refusing.Shape table.sizes.completion_cells words k.list push x) is k.shape in
         let g = refusing_steps.pop_goes table.sizes.completion_cells words k.list push c (omega (arith, k.few, bound)) shape in
-        let after : after_access words (refusing.pop_next c) ≡ back_ring (after_shared table (on_ring connection Completion table.sizes.completion_cells (refusing.pop_next c))) connection table.sizes.completion_cells = back_after table connection table.sizes.completion_cells (refusing.pop_next c) st in
+        let after : after_access words (refusing.pop_next c) ≡ back_ring (after_shared table (on_ring connection Completion table.sizes.completion_cells (refusing.pop_next c))) connection table.sizes.completion_cells = access_after Completion table connection table.sizes.completion_cells (refusing.pop_next c) st in
         omega (
           arith,
           back_pop_counts s table.sizes.completion_cells words.write k.list c g.acts,
@@ -160,7 +159,7 @@ reclaim_moves table moments connection sends receives c cells size is st bound k
 
 -- a step of a subscriber that gives back
 pub release_moves : (table : TableWords) (moments connection : ℕ) (sends : PublisherCall) (receives : SubscriberCall) (p : refusing_push_type.Push) (cells : ℕ) → cells ≡ table.sizes.completion_cells → release_on connection receives ≡ p
-    → IsBackSeat table connection table.sizes.completion_cells → moments < 2 ^ 63 → IsReturning table.sizes.completion_cells table moments connection sends receives
+    → IsSeat Completion table connection table.sizes.completion_cells → moments < 2 ^ 63 → IsReturning table.sizes.completion_cells table moments connection sends receives
     → (s : ℕ) → count s (given_back (after_shared table (on_ring connection Completion cells (refusing.push_next p))) connection) ≡ count s (given_back table connection) + count s (storing_refusing p)
 release_moves table moments connection sends receives p cells size is st bound k s =
     subst (λ (n : ℕ). count s (given_back (after_shared table (on_ring connection Completion n (refusing.push_next p))) connection) ≡ count s (given_back table connection) + count s (storing_refusing p)) (sym size) exact
@@ -171,7 +170,7 @@ release_moves table moments connection sends receives p cells size is st bound k
         let pop : refusing_pop_type.Pop = reclaim_on connection sends in
         let shape : refusing.Shape table.sizes.completion_cells words k.list p pop = subst (λ (x : refusing_push_type.Push). refusing.Shape table.sizes.completion_cells words k.list x pop) is k.shape in
         let g = refusing_steps.push_goes table.sizes.completion_cells words k.list p pop (omega (arith, k.few, bound)) shape in
-        let after : after_access words (refusing.push_next p) ≡ back_ring (after_shared table (on_ring connection Completion table.sizes.completion_cells (refusing.push_next p))) connection table.sizes.completion_cells = back_after table connection table.sizes.completion_cells (refusing.push_next p) st in
+        let after : after_access words (refusing.push_next p) ≡ back_ring (after_shared table (on_ring connection Completion table.sizes.completion_cells (refusing.push_next p))) connection table.sizes.completion_cells = access_after Completion table connection table.sizes.completion_cells (refusing.push_next p) st in
         omega (
           arith,
           back_push_counts s table.sizes.completion_cells words.read k.list p g.acts,

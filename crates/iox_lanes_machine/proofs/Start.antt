@@ -28,9 +28,9 @@ use Rattle.iox_lanes_machine.specs.Made.{listed, cells_back, receiving_routes, t
 use Rattle.iox_lanes_machine.specs.Links.{LinkState}
 use Rattle.iox_lanes_machine.specs.declared.sizes.LaneSizes.{LaneSizes}
 use Rattle.iox_lanes_machine.proofs.Ends.{choose_one}
+use Rattle.iox_lanes_machine.specs.LanesBase.declared.words.word.ConnectionRing.TheVariants.{Submission, Completion}
 use Rattle.iox_lanes_machine.proofs.InTable.{IsSeat, same_ring, ends_below, write_below, read_below}
 use Rattle.iox_lanes_machine.proofs.Kept.{cells_some}
-use Rattle.iox_lanes_machine.proofs.InBack.{IsBackSeat, ends_below as back_ends_below, write_below as back_write_below, read_below as back_read_below}
 
 pub listed_length : {X : Type 0} (f : ℕ → X) (n : ℕ) → length (listed f n) ≡ n
 listed_length f zero = refl
@@ -126,17 +126,17 @@ start_within sizes = record {
 pub start_ring : (sizes : LaneSizes) (connection : ℕ) → connection < sizes.publishers * sizes.subscribers
     → ring_in (start sizes).table connection (cells_of sizes.kind sizes.buffer) ≡ first_words sizes.kind sizes.buffer []
 start_ring sizes connection h =
-    let st : IsSeat (start sizes).table connection (cells_of sizes.kind sizes.buffer) =
+    let st : IsSeat Submission (start sizes).table connection (cells_of sizes.kind sizes.buffer) =
     record { there = h; some = cells_some sizes.kind sizes.buffer; room = omega arith; words = length-replicate (words_of (table_sizes sizes)) 0 } in
     let total : length {A = ℕ} (replicate (words_of (table_sizes sizes)) 0) ≡ words_of (table_sizes sizes) = length-replicate {A = ℕ} (words_of (table_sizes sizes)) 0 in
-    let below = ends_below (start sizes).table connection (cells_of sizes.kind sizes.buffer) st in
+    let below = ends_below Submission (start sizes).table connection (cells_of sizes.kind sizes.buffer) st in
     let less : cells_of sizes.kind sizes.buffer - 0 ≡ cells_of sizes.kind sizes.buffer = omega arith in
     same_ring _ (replicate (cells_of sizes.kind sizes.buffer - length {A = ℕ} []) 0) _ 0 _ 0
     (ap (λ (ws : List ℕ). take (cells_of sizes.kind sizes.buffer) ws) (drop-replicate (number_of (table_sizes sizes) (sent_word connection (Cell 0))) (words_of (table_sizes sizes)) 0)
     ∙ take-replicate (cells_of sizes.kind sizes.buffer) (words_of (table_sizes sizes) - number_of (table_sizes sizes) (sent_word connection (Cell 0))) 0 (omega (arith, below, total))
     ∙ ap (λ (k : ℕ). replicate k 0) (sym less))
-    (get_or-replicate (words_of (table_sizes sizes)) (number_of (table_sizes sizes) (sent_word connection Write)) 0 0 (omega (arith, below, total, write_below (start sizes).table connection)))
-    (get_or-replicate (words_of (table_sizes sizes)) (number_of (table_sizes sizes) (sent_word connection Read)) 0 0 (omega (arith, below, total, read_below (start sizes).table connection)))
+    (get_or-replicate (words_of (table_sizes sizes)) (number_of (table_sizes sizes) (sent_word connection Write)) 0 0 (omega (arith, below, total, write_below Submission (start sizes).table connection)))
+    (get_or-replicate (words_of (table_sizes sizes)) (number_of (table_sizes sizes) (sent_word connection Read)) 0 0 (omega (arith, below, total, read_below Submission (start sizes).table connection)))
 
 -- the connections of a publisher are numbered one behind the other
 pub start_connections : (sizes : LaneSizes) (who : ℕ) → who < sizes.publishers → HasConnections (listed (link_at sizes) (sizes.publishers * sizes.subscribers)) who (sending_routes sizes who sizes.subscribers)
@@ -182,17 +182,17 @@ pub start_back : (sizes : LaneSizes) (connection : ℕ) → connection < sizes.p
     → back_ring (start sizes).table connection (sizes.buffer + sizes.most_borrowed + 1) ≡ first_words kind.Refusing (sizes.buffer + sizes.most_borrowed + 1) []
 start_back sizes connection h =
     let cells : ℕ = sizes.buffer + sizes.most_borrowed + 1 in
-    let st : IsBackSeat (start sizes).table connection cells = record { there = h; some = omega arith; room = omega arith; words = length-replicate (words_of (table_sizes sizes)) 0 } in
+    let st : IsSeat Completion (start sizes).table connection cells = record { there = h; some = omega arith; room = omega arith; words = length-replicate (words_of (table_sizes sizes)) 0 } in
     let total : length {A = ℕ} (replicate (words_of (table_sizes sizes)) 0) ≡ words_of (table_sizes sizes) = length-replicate {A = ℕ} (words_of (table_sizes sizes)) 0 in
-    let below = back_ends_below (start sizes).table connection cells st in
+    let below = ends_below Completion (start sizes).table connection cells st in
     let wide : cells_of kind.Refusing cells ≡ cells = choose_one (nat_lt 0 cells) cells 1 (lt-ltb 0 cells (omega arith)) in
     let less : cells_of kind.Refusing cells - 0 ≡ cells = omega (arith, wide) in
     same_ring _ (replicate (cells_of kind.Refusing cells - length {A = ℕ} []) 0) _ 0 _ 0
     (ap (λ (ws : List ℕ). take cells ws) (drop-replicate (number_of (table_sizes sizes) (back_word connection (Cell 0))) (words_of (table_sizes sizes)) 0)
     ∙ take-replicate cells (words_of (table_sizes sizes) - number_of (table_sizes sizes) (back_word connection (Cell 0))) 0 (omega (arith, below, total))
     ∙ ap (λ (k : ℕ). replicate k 0) (sym less))
-    (get_or-replicate (words_of (table_sizes sizes)) (number_of (table_sizes sizes) (back_word connection Write)) 0 0 (omega (arith, below, total, back_write_below (start sizes).table connection)))
-    (get_or-replicate (words_of (table_sizes sizes)) (number_of (table_sizes sizes) (back_word connection Read)) 0 0 (omega (arith, below, total, back_read_below (start sizes).table connection)))
+    (get_or-replicate (words_of (table_sizes sizes)) (number_of (table_sizes sizes) (back_word connection Write)) 0 0 (omega (arith, below, total, write_below Completion (start sizes).table connection)))
+    (get_or-replicate (words_of (table_sizes sizes)) (number_of (table_sizes sizes) (back_word connection Read)) 0 0 (omega (arith, below, total, read_below Completion (start sizes).table connection)))
 
 -- both ends of a ring of samples given back go round all its cells
 pub start_sends_round : (sizes : LaneSizes) (place : ℕ) → GoesRound (cells_back sizes) (sending_routes sizes place sizes.subscribers)

@@ -40,7 +40,7 @@ use Rattle.iox_lanes_machine.proofs.Ends.{some_is, IsFreshPush, IsFreshPop, fres
 use Rattle.iox_lanes_machine.proofs.Kept.{seat, quiet_kept, push_active, pop_active}
 
 -- an access of a returned ring is none of the ring of messages
-back_elsewhere : (table : TableWords) (here connection cells : ℕ) (access : Access) → IsOfTable table.sizes (on_ring connection Completion cells access) → GoesElsewhere table here (on_ring connection Completion cells access)
+back_elsewhere : (table : TableWords) (here connection cells : ℕ) (access : Access) → IsOfTable table.sizes (on_ring connection Completion cells access) → GoesElsewhere Submission table here (on_ring connection Completion cells access)
 back_elsewhere table here connection cells (own.Load word) h = tt
 back_elsewhere table here connection cells (own.Store word value) h = (h, tt)
 back_elsewhere table here connection cells (own.Exchange word old new) h = (h, tt)
@@ -48,13 +48,13 @@ back_elsewhere table here connection cells own.Local h = tt
 
 -- nor is one of another ring of messages
 other_elsewhere : (table : TableWords) (here connection cells : ℕ) (access : Access) → (Some connection ≡ Some here → ⊥) → IsOfTable table.sizes (on_ring connection Submission cells access)
-    → GoesElsewhere table here (on_ring connection Submission cells access)
+    → GoesElsewhere Submission table here (on_ring connection Submission cells access)
 other_elsewhere table here connection cells (own.Load word) off h = tt
 other_elsewhere table here connection cells (own.Store word value) off h = (h, λ e. off (ap (λ (n : ℕ). Some n) e))
 other_elsewhere table here connection cells (own.Exchange word old new) off h = (h, λ e. off (ap (λ (n : ℕ). Some n) e))
 other_elsewhere table here connection cells own.Local off h = tt
 
-pub publisher_elsewhere : (table : TableWords) (here : ℕ) (call : PublisherCall) → (pushes_to call ≡ Some here → ⊥) → IsOfTable table.sizes (publisher_next call) → GoesElsewhere table here (publisher_next call)
+pub publisher_elsewhere : (table : TableWords) (here : ℕ) (call : PublisherCall) → (pushes_to call ≡ Some here → ⊥) → IsOfTable table.sizes (publisher_next call) → GoesElsewhere Submission table here (publisher_next call)
 publisher_elsewhere table here publishing.Idle off h = tt
 publisher_elsewhere table here (publishing.LoanReclaims place route p) off h = back_elsewhere table here route.connection route.completion_cells _ h
 publisher_elsewhere table here publishing.Lending off h = tt
@@ -67,7 +67,7 @@ publisher_elsewhere table here (publishing.Pushing slot place route p delivery) 
 publisher_elsewhere table here (publishing.Sent slot delivery) off h = tt
 publisher_elsewhere table here (publishing.Dropping slot) off h = tt
 
-pub subscriber_elsewhere : (table : TableWords) (here : ℕ) (call : SubscriberCall) → (pops_from call ≡ Some here → ⊥) → IsOfTable table.sizes (subscriber_next call) → GoesElsewhere table here (subscriber_next call)
+pub subscriber_elsewhere : (table : TableWords) (here : ℕ) (call : SubscriberCall) → (pops_from call ≡ Some here → ⊥) → IsOfTable table.sizes (subscriber_next call) → GoesElsewhere Submission table here (subscriber_next call)
 subscriber_elsewhere table here subscribing.Idle off h = tt
 subscriber_elsewhere table here (subscribing.Receiving place route p waits) off h = other_elsewhere table here route.connection route.submission_cells _ off h
 subscriber_elsewhere table here (subscribing.Received receipt) off h = tt
@@ -233,7 +233,7 @@ gone_publisher m place lane e bound w k = λ connection link order found got. el
     quiet connection link order found got off =
         let was = k connection link order found (sym (added_other m.orders (pushes_to lane.port.call) m.moments (push_acts m.table lane.port.call) connection off) ∙ got) in
         quiet_kept m.table (after_shared m.table (publisher_next lane.port.call)) m.moments (successor m.moments) connection link order _ _ _ _
-        (access_elsewhere m.table connection (cells_of link.kind link.limit) (publisher_next lane.port.call) (seat m connection link found w) (publisher_elsewhere m.table connection lane.port.call off ((publishers_stay_within m.table.sizes lane is).2)))
+        (access_elsewhere Submission m.table connection (cells_of link.kind link.limit) (publisher_next lane.port.call) (seat m connection link found w) (publisher_elsewhere m.table connection lane.port.call off ((publishers_stay_within m.table.sizes lane is).2)))
         (later m.moments bound)
         (push_again m.publishers place lane (publisher_after (publisher_given m.table lane) lane) connection link _ (waiting link order) _ e (push_off connection link.kind lane.port.call off)
         (fresh_take m.links sender place lane.port.routes (words_of lane.port) lane.port.call (publisher_given m.table lane) connection link (w.senders place lane e) found off) was.shape) was
@@ -273,7 +273,7 @@ gone_subscriber m place lane e bound w k = λ connection link order found got. e
     quiet connection link order found got off =
         let was = k connection link order found (sym (added_other m.orders (pops_from lane.port.call) m.moments (pop_acts m lane.port.call) connection off) ∙ got) in
         quiet_kept m.table (after_shared m.table (subscriber_next lane.port.call)) m.moments (successor m.moments) connection link order _ _ _ _
-        (access_elsewhere m.table connection (cells_of link.kind link.limit) (subscriber_next lane.port.call) (seat m connection link found w) (subscriber_elsewhere m.table connection lane.port.call off ((subscribers_stay_within m.table.sizes lane is).2)))
+        (access_elsewhere Submission m.table connection (cells_of link.kind link.limit) (subscriber_next lane.port.call) (seat m connection link found w) (subscriber_elsewhere m.table connection lane.port.call off ((subscribers_stay_within m.table.sizes lane is).2)))
         (later m.moments bound)
         (pop_again m.subscribers place lane (subscriber_after (subscriber_given m.table lane) lane) connection link _ (waiting link order) _ e (pop_off connection link.kind lane.port.call off)
         (subst (λ (c : SubscriberCall). IsFreshPop link.kind (pop_on connection link.kind c)) (sym taken)

@@ -43,8 +43,8 @@ use Rattle.iox_lanes_machine.specs.Uses.{aside_at, given_back, stands_at, Publis
 use Rattle.iox_lanes_machine.specs.Links.{LinkState}
 use Rattle.iox_lanes_machine.proofs.Calls.{set_is}
 use Rattle.iox_lanes_machine.proofs.Ends.{some_is}
+use Rattle.iox_lanes_machine.specs.LanesBase.declared.words.word.ConnectionRing.TheVariants.{Submission, Completion}
 use Rattle.iox_lanes_machine.proofs.InTable.{access_elsewhere}
-use Rattle.iox_lanes_machine.proofs.InBack.{back_stays}
 use Rattle.iox_lanes_machine.proofs.Kept.{seat}
 use Rattle.iox_lanes_machine.proofs.PublisherUses.{order_there, order_after}
 use Rattle.iox_lanes_machine.proofs.Returns.{releases_at, release_here, subscriber_off}
@@ -182,7 +182,7 @@ sent_same m who lane c connection link order order' k p off s =
       arith,
       ap (λ (o : List Placed). count s (waiting link o)) same,
       ap (λ (ws : RingWords). count s (aside ws.read (push_on connection link.kind (sends_at m link))))
-          (access_elsewhere m.table connection (cells_of link.kind link.limit) (subscriber_next c) (seat m connection link p.found k.within) (subscriber_elsewhere m.table connection c off k.access)),
+          (access_elsewhere Submission m.table connection (cells_of link.kind link.limit) (subscriber_next c) (seat m connection link p.found k.within) (subscriber_elsewhere m.table connection c off k.access)),
     )
 
 -- a step that gives back elsewhere leaves what was given back there
@@ -190,7 +190,7 @@ pub returned_same : (m : World) (who : ℕ) (lane : SubscriberLaneState) (c : Su
     → count s (given_back (after_shared m.table (subscriber_next c)) connection) ≡ count s (given_back m.table connection)
 returned_same m who lane c connection link order order' k p off s =
     back_same m.table (subscriber_next c) connection
-    (back_stays m.table connection m.table.sizes.completion_cells (subscriber_next c) (back_seat m connection link p.found k.some k.within) (subscriber_off m.table connection c off k.access)) s
+    (access_elsewhere Completion m.table connection m.table.sizes.completion_cells (subscriber_next c) (back_seat m connection link p.found k.some k.within) (subscriber_off m.table connection c off k.access)) s
 
 -- how often a slot stands at a connection after a step
 abbrev After : World → SubscriberCall → SubscriberLaneState → ℕ → LinkState → List Placed → ℕ → ℕ
@@ -365,9 +365,9 @@ publisher_keeps m who lane after place z ch k e at route link order' here found 
             balanced,
             ap (λ (o : List Placed). count s (waiting link o)) order_is,
             ap (λ (ws : RingWords). count s (aside ws.read (push_on route.connection link.kind z.port.call)))
-                (access_elsewhere m.table route.connection (cells_of link.kind link.limit) (subscriber_next lane.port.call) (seat m route.connection link found k.within) (subscriber_elsewhere m.table route.connection lane.port.call off k.access)),
+                (access_elsewhere Submission m.table route.connection (cells_of link.kind link.limit) (subscriber_next lane.port.call) (seat m route.connection link found k.within) (subscriber_elsewhere m.table route.connection lane.port.call off k.access)),
             back_same m.table (subscriber_next lane.port.call) route.connection
-                (back_stays m.table route.connection m.table.sizes.completion_cells (subscriber_next lane.port.call) (back_seat m route.connection link found k.some k.within) (subscriber_off m.table route.connection lane.port.call off_back k.access)) s,
+                (access_elsewhere Completion m.table route.connection m.table.sizes.completion_cells (subscriber_next lane.port.call) (back_seat m route.connection link found k.some k.within) (subscriber_off m.table route.connection lane.port.call off_back k.access)) s,
             ap (λ (o : Option SubscriberLaneState). one_if (borrows route.connection s o)) (set_other m.subscribers who link.subscriber after other.1),
           )
     ]

@@ -49,7 +49,7 @@ use Rattle.iox_lanes_machine.proofs.Fresh.{returned_is}
 use Rattle.iox_lanes_machine.proofs.Findings.{MayWait, may_wait_is, MayBeBack, may_be_back_is, cell_below}
 use Rattle.iox_lanes_machine.proofs.FoundFresh.{after}
 use Rattle.iox_lanes_machine.proofs.FoundKept.{back_seat, back_count, back_away, back_grows, found_both, waiting_is, given_is, word_there, finds_first}
-use Rattle.iox_lanes_machine.proofs.InBack.{back_stays}
+use Rattle.iox_lanes_machine.proofs.InTable.{access_elsewhere}
 use Rattle.iox_lanes_machine.proofs.Resized.{MayShrink, may_shrink_is}
 use Rattle.iox_lanes_machine.proofs.Shrinking.{NoneFound, all_entries, uncounted, all_unused, none_left, none_uses, never_refers}
 use Rattle.iox_lanes_machine.proofs.Within.{set_same, set_other}
@@ -329,7 +329,7 @@ held_taken : (m : World) (slot : ℕ) (word : SlotWord) (value : ℕ) → IsWord
     → IsTakenIn m (found.Held slot word value) (record m { table = stored_in m.table (Slot slot word) value })
 held_taken m slot word value is w h h' =
     taken_in m f table'.words m.links m.publishers (λ d. refl) (λ other place. refl) h h' (λ d. link_same (slice_get m.links d))
-    (λ d link e. ap between (back_stays m.table d m.table.sizes.completion_cells (Store (Slot slot word) value) (back_seat m d link e w h) (is, tt)) ∙ sym (append-nil (given_back m.table d)))
+    (λ d link e. ap between (access_elsewhere Completion m.table d m.table.sizes.completion_cells (Store (Slot slot word) value) (back_seat m d link e w h) (is, tt)) ∙ sym (append-nil (given_back m.table d)))
     told
     (λ s other there not. word_stays m.table (Slot slot word) value s other is there (λ same. not value (cc same)))
     (λ who was now before behind. subst (PublisherGrows m f who was) (some_is was now (sym before ∙ behind)) (none_grows m f who was (λ d. refl) refl (λ place. refl) refl (record { slots = refl; loans = refl; node = refl; publisher = refl; fails = λ x. refl })))

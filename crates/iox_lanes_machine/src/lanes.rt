@@ -223,6 +223,7 @@ impl Lanes {
         ensures reads { ReadsLie self.now }
         ensures releases { ReleasesFollow self.now }
     {
+        self.follow();
         self.state.finished.as_slice()
     }
 
@@ -232,6 +233,7 @@ impl Lanes {
         ensures value { result.now ≡ self.now.read }
         ensures reads { ReadsLie self.now }
     {
+        self.follow();
         self.state.read.as_slice()
     }
 

@@ -7,9 +7,9 @@ use Rattle.std.proofs.lemmas.List.{get_or-set_same, get_or-set_other, length-set
 use Rattle.std.proofs.lemmas.List.Elements.{All-nil}
 use Rattle.std.proofs.lemmas.Option.{get_or_from_slice_get, slice_get-get_or}
 use Rattle.std.specs.List.{All}
-use Rattle.iox_domain_publisher.specs.DomainSlots.Uses.{Connection, nobody, connection_at}
-use Rattle.iox_domain_publisher.specs.Messages.{Message}
-use Rattle.iox_domain_publisher.specs.MessagesSending.{SenderState, with_uses}
+use Rattle.iox_domain_ports.specs.DomainSlots.Uses.{Connection, nobody, connection_at}
+use Rattle.iox_domain_ports.specs.Messages.{Message}
+use Rattle.iox_domain_ports.specs.MessagesSending.{SenderState, with_uses}
 use Rattle.iox_lanes_machine.specs.LanesBase.Table.{TableWords}
 use Rattle.iox_lanes_machine.specs.World.{World}
 use Rattle.iox_lanes_opening.specs.Clearing.{NoneBorrowed, IsCleared}

@@ -3,10 +3,10 @@ use Rattle.std.proofs.Common.{◌≡◌, ◌-◌, ◌∷◌, [], ◌++◌, ℕ, 
 use Rattle.std.specs.List.{All, list_any}
 use Rattle.std.proofs.Math.Dec.{eqb}
 use Rattle.std.proofs.lemmas.List.Elements.{All-nil, All-cons, All-head, All-tail, All-set, All-drop, All-push}
-use Rattle.iox_domain_publisher.specs.DomainSlots.Waiting.{put, put_over}
-use Rattle.iox_domain_publisher.specs.DomainSlots.Uses.{Uses, Connection, nobody, connection_at, with_connection, offered, newest}
-use Rattle.iox_domain_publisher.specs.Messages.{Message, Loan}
-use Rattle.iox_domain_publisher.specs.MessagesSending.{IsIfInSlot, StandsAlone}
+use Rattle.iox_domain_ports.specs.DomainSlots.Waiting.{put, put_over}
+use Rattle.iox_domain_ports.specs.DomainSlots.Uses.{Uses, Connection, nobody, connection_at, with_connection, offered, newest}
+use Rattle.iox_domain_ports.specs.Messages.{Message, Loan}
+use Rattle.iox_domain_ports.specs.MessagesSending.{IsIfInSlot, StandsAlone}
 use Rattle.iox_lanes_machine.specs.LanesBase.Table.{TableWords}
 use Rattle.iox_lanes_opening.specs.Leaving.{message_in}
 use Rattle.iox_lanes_opening.specs.Restoring.{IsLeft, AreLeft}

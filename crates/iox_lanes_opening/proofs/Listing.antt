@@ -1,7 +1,7 @@
 -- What holds of each port that a list lists, place by place.
 use Rattle.std.proofs.Common.{rules, arith, ℕ, zero, suc, ◌≡◌, ◌+◌, ◌-◌, ◌<◌, ◌≤◌, ◌&&◌, ◌++◌, ◌∷◌, [], Bool, true, false, nat_lt, List, length, get_or, replicate, Option, None, Some, refl, ap, sym, ◌∙◌}
-use Rattle.iox_domain.specs.IndexBase.Places.{padded}
-use Rattle.iox_domain.specs.IndexBase.declared.container.Member.{Member}
+use Rattle.iox_domain.specs.Container.CountedPlaces.{padded}
+use Rattle.iox_domain.specs.Container.declared.container.Member.{Member}
 use Rattle.iox_lanes_opening.specs.Listed.{holds_at, of_each_listed}
 
 each_empty : {V : Type 0} (holds : ℕ → V → Bool) (first count : ℕ) → of_each_listed holds first (replicate count None) ≡ true

@@ -4,8 +4,8 @@ use Rattle.std.proofs.Math.Logic.{⊎_elim}
 use Rattle.std.proofs.lemmas.Bool.{cases_lt}
 use Rattle.std.proofs.lemmas.Bool.Decides.{eqb_tells}
 use Rattle.std.proofs.lemmas.List.{get_or_past, get_or-set_same, get_or-set_other, length-set}
-use Rattle.iox_domain_publisher.specs.DomainSlots.Uses.{Uses, nobody, connection_at, with_connection, emptied}
-use Rattle.iox_domain_publisher.specs.MessagesSending.{SenderState, with_uses}
+use Rattle.iox_domain_ports.specs.DomainSlots.Uses.{Uses, nobody, connection_at, with_connection, emptied}
+use Rattle.iox_domain_ports.specs.MessagesSending.{SenderState, with_uses}
 use Rattle.iox_lanes_opening.specs.Clearing.{NoneBorrowed}
 
 -- where nothing is borrowed of the connections that there are, nothing is of any

@@ -2,11 +2,11 @@
 use Rattle.std.proofs.Common.{rules, arith, ◌≡◌, ◌+◌, ◌-◌, ◌<◌, ◌∷◌, [], ◌++◌, ℕ, zero, suc, Bool, true, false, nat_lt, if◌then◌else◌, List, length, map, take, get_or, slice_get, Some, refl, sym, ap, ◌∙◌}
 use Rattle.std.proofs.lemmas.List.{get_or-set_same, map-append, length-map, length-take-le, take_more}
 use Rattle.std.proofs.lemmas.Option.{get_or_from_slice_get}
-use Rattle.iox_domain_publisher.specs.DomainSlots.Waiting.{put, put_over}
-use Rattle.iox_domain_publisher.specs.DomainSlots.declared.stage.Stage.TheVariants as stage
-use Rattle.iox_domain_publisher.specs.DomainSlots.Uses.{Connection, nobody, connection_at, with_connection, offered}
-use Rattle.iox_domain_publisher.specs.Messages.{Message}
-use Rattle.iox_domain_publisher.specs.MessagesSending.{SenderState, with_uses}
+use Rattle.iox_domain_ports.specs.DomainSlots.Waiting.{put, put_over}
+use Rattle.iox_domain_ports.specs.DomainSlots.declared.stage.Stage.TheVariants as stage
+use Rattle.iox_domain_ports.specs.DomainSlots.Uses.{Connection, nobody, connection_at, with_connection, offered}
+use Rattle.iox_domain_ports.specs.Messages.{Message}
+use Rattle.iox_domain_ports.specs.MessagesSending.{SenderState, with_uses}
 use Rattle.iox_lanes_machine.specs.LanesBase.Table.{TableWords}
 use Rattle.iox_lanes_machine.specs.Resting.{Rests, mail_at}
 use Rattle.iox_lanes_machine.specs.World.{World}

@@ -2,7 +2,7 @@
 use Rattle.std.proofs.Common.{rules, arith, ℕ, ◌≡◌, ◌+◌, ◌==◌, Bool, true, false, not, List, length, Option, None, Some, option_map, slice_get, map, refl, ap, sym, ◌∙◌}
 use Rattle.std.specs.List.{list_any}
 use Rattle.std.proofs.lemmas.Option.{slice_get-map}
-use Rattle.iox_domain.specs.DomainPublisher.Messages.{Message}
+use Rattle.iox_domain.specs.DomainPorts.Messages.{Message}
 use Rattle.iox_lanes_opening.specs.Slices.{is_slice, is_slice_in}
 use Rattle.iox_lanes_opening.proofs.Going.{is_so, NoneGot, some_got, got_more}
 

@@ -2,10 +2,10 @@
 use Rattle.std.proofs.Common.{arith, ◌≡◌, ◌<◌, ◌≤◌, ◌∷◌, [], ℕ, zero, suc, rules, Bool, List, length, get_or, set, refl, sym, subst, ap, inl, inr, ◌∙◌}
 use Rattle.std.proofs.lemmas.Bool.{cases_lt}
 use Rattle.std.proofs.lemmas.List.{get_or-set_same, set-get_or}
-use Rattle.iox_domain_publisher.specs.DomainSlots.declared.stage.Stage.TheVariants as stage
-use Rattle.iox_domain_publisher.specs.DomainSlots.Uses.{Connection, nobody, connection_at, with_connection, offered}
-use Rattle.iox_domain_publisher.specs.Messages.{Message}
-use Rattle.iox_domain_publisher.specs.MessagesSending.{SenderState, with_uses}
+use Rattle.iox_domain_ports.specs.DomainSlots.declared.stage.Stage.TheVariants as stage
+use Rattle.iox_domain_ports.specs.DomainSlots.Uses.{Connection, nobody, connection_at, with_connection, offered}
+use Rattle.iox_domain_ports.specs.Messages.{Message}
+use Rattle.iox_domain_ports.specs.MessagesSending.{SenderState, with_uses}
 use Rattle.iox_lanes_opening.specs.Restoring.{OnlyWaits}
 
 set_twice : {X : Type 0} (xs : List X) (index : ℕ) (a b : X) → set (set xs index a) index b ≡ set xs index b

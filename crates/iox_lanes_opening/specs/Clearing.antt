@@ -1,6 +1,6 @@
 -- A publisher that forgets its messages.
 use Rattle.std.specs.Prelude.{ℕ, ◌≡◌, [], length}
-use Rattle.iox_domain_publisher.specs.DomainSlots.Uses.{Uses, connection_at, emptied}
+use Rattle.iox_domain_ports.specs.DomainSlots.Uses.{Uses, connection_at, emptied}
 
 -- nothing is borrowed of any connection
 abbrev pub NoneBorrowed : {L X : Type 0} → Uses L X → Type 0

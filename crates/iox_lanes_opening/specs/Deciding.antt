@@ -10,7 +10,7 @@ use Rattle.iox_domain.specs.DomainValues.declared.backpressure.BackpressureDecis
 use Rattle.iox_domain.specs.DomainValues.declared.backpressure_handler.BackpressureHandler.{BackpressureHandler}
 use Rattle.iox_domain.specs.DomainValues.declared.degradation_handler.DegradationHandler.{DegradationHandler}
 use Rattle.iox_domain.specs.DomainValues.declared.handlers.Handlers.{Handlers}
-use Rattle.iox_domain.specs.DomainPublisher.declared.publisher_port.PublisherPort.{PublisherPort}
+use Rattle.iox_domain.specs.DomainPorts.declared.publisher_port.PublisherPort.{PublisherPort}
 use Rattle.iox_domain.specs.Kept.{kept_under}
 use Rattle.iox_domain.specs.declared.domain.Domain.{Domain}
 

@@ -1,6 +1,6 @@
 -- The messages that lie in the words of slots.
 use Rattle.std.specs.Prelude.{ℕ, ◌+◌, List, [], ◌∷◌, take, drop}
-use Rattle.iox_domain_publisher.specs.Messages.{Message}
+use Rattle.iox_domain_ports.specs.Messages.{Message}
 use Rattle.iox_lanes_machine.specs.LanesBase.Numbers.{number_of}
 use Rattle.iox_lanes_machine.specs.LanesBase.Table.{TableWords, held_by}
 use Rattle.iox_lanes_machine.specs.LanesBase.declared.words.word.SharedWord.TheVariants.{Slot}

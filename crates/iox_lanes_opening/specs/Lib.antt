@@ -10,4 +10,4 @@ pub mod Leaving
 pub mod Clearing
 pub mod Restoring
 pub mod Restored
-pub use Rattle.iox_domain_publisher.specs as DomainPublisher
+pub use Rattle.iox_domain_ports.specs as DomainPorts

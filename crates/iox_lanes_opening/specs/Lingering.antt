@@ -4,12 +4,12 @@ use Rattle.std.specs.List.{list_any}
 use Rattle.iox_domain.specs.DomainSlots.Uses.{Connection}
 use Rattle.iox_domain.specs.DomainSlots.declared.stage.Stage.{Stage}
 use Rattle.iox_domain.specs.DomainSlots.declared.stage.Stage.TheVariants as stage
-use Rattle.iox_domain.specs.DomainSubscriber.Publishers.{stands_in}
-use Rattle.iox_domain.specs.DomainSubscriber.declared.attached.Attached.{Attached}
-use Rattle.iox_domain.specs.DomainSubscriber.declared.publisher_entry.PublisherEntry.{PublisherEntry}
-use Rattle.iox_domain.specs.DomainSubscriber.declared.subscriber_port.SubscriberPort.{SubscriberPort}
-use Rattle.iox_domain.specs.DomainPublisher.declared.publisher_port.PublisherPort.{PublisherPort}
-use Rattle.iox_domain.specs.DomainPublisher.declared.subscriber_entry.SubscriberEntry.{SubscriberEntry}
+use Rattle.iox_domain.specs.DomainPorts.Publishers.{stands_in}
+use Rattle.iox_domain.specs.DomainPorts.declared.attached.Attached.{Attached}
+use Rattle.iox_domain.specs.DomainPorts.declared.publisher_entry.PublisherEntry.{PublisherEntry}
+use Rattle.iox_domain.specs.DomainPorts.declared.subscriber_port.SubscriberPort.{SubscriberPort}
+use Rattle.iox_domain.specs.DomainPorts.declared.publisher_port.PublisherPort.{PublisherPort}
+use Rattle.iox_domain.specs.DomainPorts.declared.subscriber_entry.SubscriberEntry.{SubscriberEntry}
 use Rattle.iox_domain.specs.Rolls.{RollState}
 use Rattle.iox_domain.specs.declared.ports.service_ports.ServicePorts.{ServicePorts}
 use Rattle.iox_lanes_opening.specs.Listed.{is_member}

@@ -1,6 +1,6 @@
 -- What holds of each port that a list lists.
 use Rattle.std.specs.Prelude.{ℕ, ◌+◌, ◌==◌, ◌&&◌, Bool, true, false, List, [], ◌∷◌, get_or, Option, None, Some}
-use Rattle.iox_domain.specs.IndexBase.declared.container.Member.{Member}
+use Rattle.iox_domain.specs.Container.declared.container.Member.{Member}
 
 -- whether it holds of a place and of who is listed there; of a place that lists nobody everything does
 abbrev pub holds_at : {V : Type 0} → (ℕ → V → Bool) → ℕ → Option (Member V) → Bool

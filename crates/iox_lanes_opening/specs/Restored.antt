@@ -1,8 +1,8 @@
 -- A publisher of a domain that gets all that lanes leave of it.
 use Rattle.std.specs.Prelude.{ℕ, ◌≡◌, ◌+◌, ◌==◌, List, [], length, position, Option, None, Some}
-use Rattle.iox_domain_publisher.specs.DomainSlots.Uses.{Connection, connection_at}
-use Rattle.iox_domain_publisher.specs.Messages.{Message}
-use Rattle.iox_domain_publisher.specs.MessagesSending.{SenderState, with_uses}
+use Rattle.iox_domain_ports.specs.DomainSlots.Uses.{Connection, connection_at}
+use Rattle.iox_domain_ports.specs.Messages.{Message}
+use Rattle.iox_domain_ports.specs.MessagesSending.{SenderState, with_uses}
 use Rattle.iox_lanes_machine.specs.Resting.{mail_at}
 use Rattle.iox_lanes_machine.specs.World.{World}
 use Rattle.iox_lanes_opening.specs.Clearing.{NoneBorrowed}

@@ -1,10 +1,10 @@
 -- A publisher that gets the messages that lanes leave.
 use Rattle.std.specs.Prelude.{ℕ, ◌≡◌, ◌+◌, ◌-◌, ◌<◌, ◌≤◌, List, [], length, map, slice_get, None, Some}
 use Rattle.std.specs.List.{All}
-use Rattle.iox_domain_publisher.specs.DomainSlots.Uses.{Uses, connection_at, with_connection}
-use Rattle.iox_domain_publisher.specs.DomainSlots.declared.stage.Stage.TheVariants as stage
-use Rattle.iox_domain_publisher.specs.Messages.{Message, Loan}
-use Rattle.iox_domain_publisher.specs.MessagesSending.{SenderState, with_uses}
+use Rattle.iox_domain_ports.specs.DomainSlots.Uses.{Uses, connection_at, with_connection}
+use Rattle.iox_domain_ports.specs.DomainSlots.declared.stage.Stage.TheVariants as stage
+use Rattle.iox_domain_ports.specs.Messages.{Message, Loan}
+use Rattle.iox_domain_ports.specs.MessagesSending.{SenderState, with_uses}
 use Rattle.iox_lanes_machine.specs.LanesBase.Numbers.{words_of}
 use Rattle.iox_lanes_machine.specs.LanesBase.Table.{TableWords}
 use Rattle.iox_lanes_machine.specs.Resting.{Rests, mail_at}
@@ -74,3 +74,21 @@ pub record MayStand {T U : Type 0} (slot : ℕ) (sender : SenderState T U) : Typ
   pub first : sender.uses.first ≤ slot
   pub within : slot < sender.uses.first + sender.uses.size
   pub room : 1 ≤ sender.room
+
+-- A message that lies in a slot of the lanes may be sent again, in the same slot of a publisher whose slots begin at `first` there,
+-- by way of a place for so many values: all words are there, one value has a place, and what the publisher has lies in the lanes.
+pub record MayBeSent {T U : Type 0} (value_of : List ℕ → T) (header_of : List ℕ
+    → U) (payload_words header_words : ℕ) (table : TableWords) (first slot places : ℕ) (sender : SenderState T U) : Type 0 where
+  pub room : 0 < places
+  pub whole : IsWhole payload_words header_words table
+  pub there : first + slot < table.sizes.slots
+  pub stands : MayStand slot sender
+  pub left : AreLeft value_of header_of table first sender.uses
+
+-- The messages that lanes leave may come to a publisher of which nothing is out, one by one.
+pub record MayCome {T U : Type 0} (value_of : List ℕ → T) (header_of : List ℕ
+    → U) (payload_words header_words : ℕ) (table : TableWords) (first places : ℕ) (sender : SenderState T U) : Type 0 where
+  pub room : 0 < places
+  pub whole : IsWhole payload_words header_words table
+  pub quiet : IsQuiet sender
+  pub left : AreLeft value_of header_of table first sender.uses

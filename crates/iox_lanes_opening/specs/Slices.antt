@@ -3,9 +3,9 @@ use Rattle.std.specs.Prelude.{◌==◌, ◌||◌, Bool, true, false, not, length
 use Rattle.std.specs.List.{list_any}
 use Rattle.iox_domain.specs.DescribeBase.declared.type_detail.TypeVariant.{TypeVariant}
 use Rattle.iox_domain.specs.DescribeBase.declared.type_detail.TypeVariant.TheVariants as variant
-use Rattle.iox_domain.specs.DomainPublisher.Messages.{Message}
+use Rattle.iox_domain.specs.DomainPorts.Messages.{Message}
 use Rattle.iox_domain.specs.DomainSlots.Uses.{Connection}
-use Rattle.iox_domain.specs.DomainPublisher.declared.publisher_port.PublisherPort.{PublisherPort}
+use Rattle.iox_domain.specs.DomainPorts.declared.publisher_port.PublisherPort.{PublisherPort}
 use Rattle.iox_domain.specs.declared.domain.Domain.{Domain}
 
 -- whether messages of this kind are slices

@@ -6,8 +6,7 @@ use iox_describe_settings::publish_subscribe::StaticConfig;
 use iox_describe_settings::{Description, Settings};
 use iox_domain::ports::{PublisherConfig, SubscriberConfig};
 use iox_domain::{Domain, DomainId};
-use iox_domain_publisher::{Member, Sent, Ties};
-use iox_domain_subscriber::Taken;
+use iox_domain_ports::{Member, Sent, Taken, Ties};
 use iox_domain_values::{
     AllocationStrategy, BackpressureAction, BackpressureFn, BackpressureHandler, BackpressureInfo,
     BackpressureStrategy, ConnectionFailure, DegradationAction, DegradationCause, DegradationFn,

@@ -2,7 +2,7 @@
 use crate::driving::{Asked, PLAIN, Plan, Service, Step};
 use crate::ways::{Case, Then, go_all};
 use iox_describe_base::TypeVariant;
-use iox_domain_publisher::Sent;
+use iox_domain_ports::Sent;
 use iox_domain_values::{AllocationStrategy, BackpressureAction, BackpressureStrategy};
 use iox_lanes::IntoLanesError;
 use std::alloc::{AllocError, Global};

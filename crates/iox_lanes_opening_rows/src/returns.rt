@@ -3,7 +3,7 @@ use crate::driving::Step;
 use crate::lanes::Lane;
 use crate::openings::{FULL, KEPT, OVERFLOWING, PORTS, REFUSING, REMEMBERING};
 use crate::ways::{Case, Next, Then, go_all};
-use iox_domain_publisher::Sent;
+use iox_domain_ports::Sent;
 use iox_lanes::IntoDomainError;
 use iox_lanes_parties::Party;
 use iox_lanes_parties::publisher::LoanAnswer;

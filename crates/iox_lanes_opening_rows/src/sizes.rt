@@ -3,7 +3,7 @@ use crate::driving::{Service, Step};
 use crate::lanes::Lane;
 use crate::ways::{Case, Next, Then, go_all};
 use iox_describe_base::TypeVariant;
-use iox_domain_publisher::Sent;
+use iox_domain_ports::Sent;
 use std::alloc::AllocError;
 
 const SERVICE_1: Service = Service {

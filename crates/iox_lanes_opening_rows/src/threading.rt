@@ -4,7 +4,7 @@ use crate::lanes::Lane;
 use crate::threads::Turn;
 use crate::ways::{Case, Next, Then, go_all};
 use iox_describe_base::TypeVariant;
-use iox_domain_publisher::Sent;
+use iox_domain_ports::Sent;
 use iox_lanes::threads::OpenError;
 use iox_lanes_parties::Party;
 use iox_lanes_parties::publisher::LoanAnswer;

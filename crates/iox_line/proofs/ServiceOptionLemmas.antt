@@ -9,7 +9,7 @@ use Rattle.iox_command.specs.declared.service.EventOptions.{EventOptions}
 use Rattle.iox_command.specs.declared.service.RequestResponseOptions.{RequestResponseOptions}
 use Rattle.iox_line.specs.Words.{same}
 use Rattle.iox_line.specs.Numbers.{IsNumber, IfNumber, number_of}
-use Rattle.iox_line.specs.Options.{AnyOrder, find, named, count, one, option_words}
+use Rattle.iox_line.specs.Options.{AnyOrder, are_apart, find, named, count, one, option_words}
 use Rattle.iox_line.proofs.NumberLemmas.{number_some, number_own}
 use Rattle.iox_line.proofs.ChoiceLemmas.{same_is, choice_some, map_some, named_some, named_own, IfThere}
 use Rattle.iox_line.proofs.OptionLemmas.{Found, options_sound, options_complete}
@@ -99,248 +99,211 @@ number_or_off_own (value.Number n) g =
     ∙ ap (λ x. option_map (λ m. value.Number m) x) own
 number_or_off_own value.Off g = refl
 
--- a publish-subscribe service
+-- ---- parts that are read one after another
 
-publish_subscribe_counted : (o : PublishSubscribeOptions) → publish_subscribe_count o ≡ count (publish_subscribe_values o)
-publish_subscribe_counted o = omega (
-  arith,
-  count_map decimal o.max_subscribers (option_map decimal o.max_publishers ∷ option_map decimal o.max_nodes ∷ option_map decimal o.subscriber_max_buffer_size ∷ option_map decimal o.subscriber_max_borrowed_samples ∷ option_map decimal o.history_size ∷ option_map switch_word o.enable_safe_overflow ∷ []),
-  count_map decimal o.max_publishers (option_map decimal o.max_nodes ∷ option_map decimal o.subscriber_max_buffer_size ∷ option_map decimal o.subscriber_max_borrowed_samples ∷ option_map decimal o.history_size ∷ option_map switch_word o.enable_safe_overflow ∷ []),
-  count_map decimal o.max_nodes (option_map decimal o.subscriber_max_buffer_size ∷ option_map decimal o.subscriber_max_borrowed_samples ∷ option_map decimal o.history_size ∷ option_map switch_word o.enable_safe_overflow ∷ []),
-  count_map decimal o.subscriber_max_buffer_size (option_map decimal o.subscriber_max_borrowed_samples ∷ option_map decimal o.history_size ∷ option_map switch_word o.enable_safe_overflow ∷ []),
-  count_map decimal o.subscriber_max_borrowed_samples (option_map decimal o.history_size ∷ option_map switch_word o.enable_safe_overflow ∷ []),
-  count_map decimal o.history_size (option_map switch_word o.enable_safe_overflow ∷ []),
-  count_map switch_word o.enable_safe_overflow ([]),
-)
+-- how a value is read of what an option is set to, if it is set, and what writes it
+record Value {X : Type 0} (read : List ℕ → Option X) (text : X → List ℕ) (Fit : Option X → Type 0) : Type 0 where
+  some : (word : Option (List ℕ)) (o : Option X) → named read word ≡ Some o → Fit o × (word ≡ option_map text o)
+  own : (o : Option X) → Fit o → named read (option_map text o) ≡ Some o
 
-publish_subscribe_found : (ws : List (List ℕ)) (p : Pair (Option ℕ) (Pair (Option ℕ) (Pair (Option ℕ) (Pair (Option ℕ) (Pair (Option ℕ) (Pair (Option ℕ) (Option Bool))))))) → publish_subscribe_parts ws ≡ Some p
-    → PublishSubscribeFits (publish_subscribe_options p) × Found publish_subscribe_keys ws (publish_subscribe_values (publish_subscribe_options p))
-publish_subscribe_found ws p h =
-    let r0 = pair_some (named number_of (find (codes "subscribers=") ws)) (pair (named number_of (find (codes "publishers=") ws)) (pair (named number_of (find (codes "nodes=") ws)) (pair (named number_of (find (codes "buffer=") ws)) (pair (named number_of (find (codes "borrowed=") ws)) (pair (named number_of (find (codes "history=") ws)) (named switch_of (find (codes "overflow=") ws))))))) p h in
-    let r1 = pair_some (named number_of (find (codes "publishers=") ws)) (pair (named number_of (find (codes "nodes=") ws)) (pair (named number_of (find (codes "buffer=") ws)) (pair (named number_of (find (codes "borrowed=") ws)) (pair (named number_of (find (codes "history=") ws)) (named switch_of (find (codes "overflow=") ws)))))) p.second r0.1 in
-    let r2 = pair_some (named number_of (find (codes "nodes=") ws)) (pair (named number_of (find (codes "buffer=") ws)) (pair (named number_of (find (codes "borrowed=") ws)) (pair (named number_of (find (codes "history=") ws)) (named switch_of (find (codes "overflow=") ws))))) p.second.second r1.1 in
-    let r3 = pair_some (named number_of (find (codes "buffer=") ws)) (pair (named number_of (find (codes "borrowed=") ws)) (pair (named number_of (find (codes "history=") ws)) (named switch_of (find (codes "overflow=") ws)))) p.second.second.second r2.1 in
-    let r4 = pair_some (named number_of (find (codes "borrowed=") ws)) (pair (named number_of (find (codes "history=") ws)) (named switch_of (find (codes "overflow=") ws))) p.second.second.second.second r3.1 in
-    let r5 = pair_some (named number_of (find (codes "history=") ws)) (named switch_of (find (codes "overflow=") ws)) p.second.second.second.second.second r4.1 in
-    let a = named_some number_of decimal IsNumber number_some (find (codes "subscribers=") ws) p.first r0.0 in
-    let b = named_some number_of decimal IsNumber number_some (find (codes "publishers=") ws) p.second.first r1.0 in
-    let c = named_some number_of decimal IsNumber number_some (find (codes "nodes=") ws) p.second.second.first r2.0 in
-    let d = named_some number_of decimal IsNumber number_some (find (codes "buffer=") ws) p.second.second.second.first r3.0 in
-    let e = named_some number_of decimal IsNumber number_some (find (codes "borrowed=") ws) p.second.second.second.second.first r4.0 in
-    let f = named_some number_of decimal IsNumber number_some (find (codes "history=") ws) p.second.second.second.second.second.first r5.0 in
-    let g = named_some switch_of switch_word (λ v. Unit {0}) switch_some (find (codes "overflow=") ws) p.second.second.second.second.second.second r5.1 in
-    ((if_number p.first a.0, if_number p.second.first b.0, if_number p.second.second.first c.0, if_number p.second.second.second.first d.0, if_number p.second.second.second.second.first e.0, if_number p.second.second.second.second.second.first f.0), (a.1, (b.1, (c.1, (d.1, (e.1, (f.1, (g.1, tt))))))))
+number : Value number_of decimal IfNumber
+number = record {
+  some = λ word o h. let r = named_some number_of decimal IsNumber number_some word o h in (if_number o r.0, r.1);
+  own = λ o f. named_own number_of decimal IsNumber number_own o (there_number o f);
+}
 
-publish_subscribe_named : (ws : List (List ℕ)) (o : PublishSubscribeOptions) → option_map publish_subscribe_options (publish_subscribe_parts ws) ≡ Some o → PublishSubscribeFits o × Found publish_subscribe_keys ws (publish_subscribe_values o)
-publish_subscribe_named ws o h =
-    let m = map_some publish_subscribe_options (publish_subscribe_parts ws) o h in
-    subst (λ q. PublishSubscribeFits q × Found publish_subscribe_keys ws (publish_subscribe_values q)) m.2 (publish_subscribe_found ws m.0 m.1)
+number_or_off : Value number_or_off_of number_or_off_word IfNumberOrOff
+number_or_off = record {
+  some = λ word o h.
+      let r = named_some number_or_off_of number_or_off_word IsNumberOrOff number_or_off_some word o h in
+      (if_number_or_off o r.0, r.1);
+  own = λ o f. named_own number_or_off_of number_or_off_word IsNumberOrOff number_or_off_own o (there_number_or_off o f);
+}
+
+switch : Value switch_of switch_word Any
+switch = record {
+  some = λ word o h. (tt, (named_some switch_of switch_word Any switch_some word o h).1);
+  own = λ o f. named_own switch_of switch_word Any switch_own o (there_any o);
+}
+
+-- what is read part by part of words gives the values of the parts to their keys, and is read of words that do
+record Reads {T : Type 0} (keys : List (List ℕ)) (parts : List (List ℕ) → Option T) (values : T → List (Option (List ℕ)))
+    (Fit : T → Type 0) (total : T → ℕ) : Type 0 where
+  some : (ws : List (List ℕ)) (t : T) → parts ws ≡ Some t → Fit t × Found keys ws (values t)
+  own : (ws : List (List ℕ)) (t : T) → Fit t → Found keys ws (values t) → parts ws ≡ Some t
+  counted : (t : T) → count (values t) ≡ total t
+
+-- the last option
+last : {X : Type 0} {read : List ℕ → Option X} {text : X → List ℕ} {Fit : Option X → Type 0} → Value read text Fit → (key : List ℕ)
+    → Reads (key ∷ []) (λ ws. named read (find key ws)) (λ (o : Option X). option_map text o ∷ []) Fit (λ o. one o)
+last {read = read} {text = text} value key = record {
+  some = λ ws o h. let r = value.some (find key ws) o h in (r.0, (r.1, tt));
+  own = λ ws o f r. ap (λ x. named read x) r.0 ∙ value.own o f;
+  counted = λ o. omega (arith, count_map text o []);
+}
+
+-- an option before others
+next : {X T : Type 0} {read : List ℕ → Option X} {text : X → List ℕ} {Good : Option X → Type 0} {keys : List (List ℕ)}
+    {parts : List (List ℕ) → Option T} {values : T → List (Option (List ℕ))} {Fit : T → Type 0} {total : T → ℕ}
+    → Value read text Good → (key : List ℕ) → Reads keys parts values Fit total
+    → Reads (key ∷ keys) (λ ws. pair (named read (find key ws)) (parts ws)) (λ (p : Pair (Option X) T). option_map text p.first ∷ values p.second)
+    (λ (p : Pair (Option X) T). Good p.first × Fit p.second) (λ (p : Pair (Option X) T). one p.first + total p.second)
+next {read = read} {text = text} {parts = parts} {values = values} value key rest = record {
+  some = λ ws p h.
+      let both = pair_some (named read (find key ws)) (parts ws) p h in
+      let r = value.some (find key ws) p.first both.0 in
+      let more = rest.some ws p.second both.1 in
+      ((r.0, more.0), (r.1, more.1));
+  own = λ ws p f r.
+      pair_own (named read (find key ws)) (parts ws) p (ap (λ x. named read x) r.0 ∙ value.own p.first f.0) (rest.own ws p.second f.1 r.1);
+  counted = λ p. count_map text p.first (values p.second) ∙ ap (λ n. one p.first + n) (rest.counted p.second);
+}
+
+-- words that are read as options, as many as there are words, write them
+options_some : {T O : Type 0} (keys : List (List ℕ)) (parts : List (List ℕ) → Option T) (values : O → List (Option (List ℕ)))
+    (Fit : T → Type 0) (sum : T → ℕ) (Fits : O → Type 0) (make : T → O) (total : O → ℕ) → Reads keys parts (λ p. values (make p)) Fit sum
+    → ((p : T) → Fit p → Fits (make p)) → ((p : T) → total (make p) ≡ sum p) → are_apart keys ≡ true → (ws : List (List ℕ)) (o : O)
+    → only_if (λ q. length ws == total q) (option_map make (parts ws)) ≡ Some o → Fits o × AnyOrder ws (option_words keys (values o))
+options_some keys parts values Fit sum Fits make total reads fits same_total apart ws o h =
+    let s = only_some (λ q. length ws == total q) (option_map make (parts ws)) o h in
+    let m = map_some make (parts ws) o s.0 in
+    let r = reads.some ws m.0 m.1 in
+    let whole = subst (λ q. Fits q × Found keys ws (values q) × (total q ≡ count (values q))) m.2
+    (fits m.0 r.0, r.1, same_total m.0 ∙ sym (reads.counted m.0)) in
+    (whole.0, options_sound keys (values o) ws apart whole.1 (eqb-true (length ws) (total o) s.1 ∙ whole.2))
+
+-- options are read from words that write them, in any order
+options_own : {T O : Type 0} (keys : List (List ℕ)) (parts : List (List ℕ) → Option T) (values : O → List (Option (List ℕ)))
+    (Fit : T → Type 0) (sum : T → ℕ) (make : T → O) (total : O → ℕ) → Reads keys parts (λ p. values (make p)) Fit sum
+    → ((p : T) → total (make p) ≡ sum p) → are_apart keys ≡ true → (ws : List (List ℕ)) (p : T) → length keys ≡ length (values (make p))
+    → Fit p → AnyOrder ws (option_words keys (values (make p))) → only_if (λ q. length ws == total q) (option_map make (parts ws)) ≡ Some (make p)
+options_own keys parts values Fit sum make total reads same_total apart ws p same f w =
+    let r = options_complete keys (values (make p)) ws apart same w in
+    only_own (λ q. length ws == total q) (option_map make (parts ws)) (make p) (ap (λ x. option_map make x) (reads.own ws p f r.0))
+    (same_count (length ws) (total (make p)) (r.1 ∙ reads.counted p ∙ sym (same_total p)))
+
+-- two parts
+abbrev both : {X Y : Type 0} → X → Y → Pair X Y
+both x y = record { first = x; second = y }
+
+-- ---- a publish-subscribe service
+
+abbrev PublishSubscribeParts : Type 0
+PublishSubscribeParts = Pair (Option ℕ) (Pair (Option ℕ) (Pair (Option ℕ) (Pair (Option ℕ) (Pair (Option ℕ)
+    (Pair (Option ℕ) (Option Bool))))))
+
+abbrev PublishSubscribeFit : PublishSubscribeParts → Type 0
+PublishSubscribeFit p = IfNumber p.first × (IfNumber p.second.first × (IfNumber p.second.second.first
+    × (IfNumber p.second.second.second.first × (IfNumber p.second.second.second.second.first
+    × (IfNumber p.second.second.second.second.second.first × Any p.second.second.second.second.second.second)))))
+
+abbrev publish_subscribe_sum : PublishSubscribeParts → ℕ
+publish_subscribe_sum p = one p.first + (one p.second.first + (one p.second.second.first + (one p.second.second.second.first
+    + (one p.second.second.second.second.first + (one p.second.second.second.second.second.first
+    + one p.second.second.second.second.second.second)))))
+
+publish_subscribe_same_sum : (p : PublishSubscribeParts) → publish_subscribe_count (publish_subscribe_options p) ≡ publish_subscribe_sum p
+publish_subscribe_same_sum p = omega arith
+
+publish_subscribe_reads : Reads publish_subscribe_keys publish_subscribe_parts (λ p. publish_subscribe_values (publish_subscribe_options p)) PublishSubscribeFit publish_subscribe_sum
+publish_subscribe_reads = next number (codes "subscribers=") (next number (codes "publishers=") (next number (codes "nodes=")
+    (next number (codes "buffer=") (next number (codes "borrowed=") (next number (codes "history=")
+    (last switch (codes "overflow=")))))))
 
 -- words that are read as the options of a publish-subscribe service write them
-pub publish_subscribe_some : (ws : List (List ℕ)) (o : PublishSubscribeOptions) → publish_subscribe_of ws ≡ Some o → PublishSubscribeFits o × AnyOrder ws (option_words publish_subscribe_keys (publish_subscribe_values o))
-publish_subscribe_some ws o h =
-    let s = only_some (λ q. length ws == publish_subscribe_count q) (option_map publish_subscribe_options (publish_subscribe_parts ws)) o h in
-    let r = publish_subscribe_named ws o s.0 in
-    (r.0, options_sound publish_subscribe_keys (publish_subscribe_values o) ws refl r.1 (eqb-true (length ws) (publish_subscribe_count o) s.1 ∙ publish_subscribe_counted o))
-
-publish_subscribe_read : (ws : List (List ℕ)) (o : PublishSubscribeOptions) → PublishSubscribeFits o → Found publish_subscribe_keys ws (publish_subscribe_values o) → option_map publish_subscribe_options (publish_subscribe_parts ws) ≡ Some o
-publish_subscribe_read ws o f r =
-    let a1 : named number_of (find (codes "subscribers=") ws) ≡ Some o.max_subscribers = ap (λ x. named number_of x) r.0 ∙ named_own number_of decimal IsNumber number_own o.max_subscribers (there_number o.max_subscribers f.0) in
-    let b1 : named number_of (find (codes "publishers=") ws) ≡ Some o.max_publishers = ap (λ x. named number_of x) r.1.0 ∙ named_own number_of decimal IsNumber number_own o.max_publishers (there_number o.max_publishers f.1) in
-    let c1 : named number_of (find (codes "nodes=") ws) ≡ Some o.max_nodes = ap (λ x. named number_of x) r.1.1.0 ∙ named_own number_of decimal IsNumber number_own o.max_nodes (there_number o.max_nodes f.2) in
-    let d1 : named number_of (find (codes "buffer=") ws) ≡ Some o.subscriber_max_buffer_size = ap (λ x. named number_of x) r.1.1.1.0 ∙ named_own number_of decimal IsNumber number_own o.subscriber_max_buffer_size (there_number o.subscriber_max_buffer_size f.3) in
-    let e1 : named number_of (find (codes "borrowed=") ws) ≡ Some o.subscriber_max_borrowed_samples = ap (λ x. named number_of x) r.1.1.1.1.0 ∙ named_own number_of decimal IsNumber number_own o.subscriber_max_borrowed_samples (there_number o.subscriber_max_borrowed_samples f.4) in
-    let f1 : named number_of (find (codes "history=") ws) ≡ Some o.history_size = ap (λ x. named number_of x) r.1.1.1.1.1.0 ∙ named_own number_of decimal IsNumber number_own o.history_size (there_number o.history_size f.5) in
-    let g1 : named switch_of (find (codes "overflow=") ws) ≡ Some o.enable_safe_overflow = ap (λ x. named switch_of x) r.1.1.1.1.1.1.0 ∙ named_own switch_of switch_word (λ v. Unit {0}) switch_own o.enable_safe_overflow (there_any o.enable_safe_overflow) in
-    let p5 : Pair (Option ℕ) (Option Bool) = record { first = o.history_size; second = o.enable_safe_overflow } in
-    let p4 : Pair (Option ℕ) (Pair (Option ℕ) (Option Bool)) = record { first = o.subscriber_max_borrowed_samples; second = p5 } in
-    let p3 : Pair (Option ℕ) (Pair (Option ℕ) (Pair (Option ℕ) (Option Bool))) = record { first = o.subscriber_max_buffer_size; second = p4 } in
-    let p2 : Pair (Option ℕ) (Pair (Option ℕ) (Pair (Option ℕ) (Pair (Option ℕ) (Option Bool)))) = record { first = o.max_nodes; second = p3 } in
-    let p1 : Pair (Option ℕ) (Pair (Option ℕ) (Pair (Option ℕ) (Pair (Option ℕ) (Pair (Option ℕ) (Option Bool))))) = record { first = o.max_publishers; second = p2 } in
-    let p0 : Pair (Option ℕ) (Pair (Option ℕ) (Pair (Option ℕ) (Pair (Option ℕ) (Pair (Option ℕ) (Pair (Option ℕ) (Option Bool)))))) = record { first = o.max_subscribers; second = p1 } in
-    let e5 = pair_own (named number_of (find (codes "history=") ws)) (named switch_of (find (codes "overflow=") ws)) p5 f1 g1 in
-    let e4 = pair_own (named number_of (find (codes "borrowed=") ws)) (pair (named number_of (find (codes "history=") ws)) (named switch_of (find (codes "overflow=") ws))) p4 e1 e5 in
-    let e3 = pair_own (named number_of (find (codes "buffer=") ws)) (pair (named number_of (find (codes "borrowed=") ws)) (pair (named number_of (find (codes "history=") ws)) (named switch_of (find (codes "overflow=") ws)))) p3 d1 e4 in
-    let e2 = pair_own (named number_of (find (codes "nodes=") ws)) (pair (named number_of (find (codes "buffer=") ws)) (pair (named number_of (find (codes "borrowed=") ws)) (pair (named number_of (find (codes "history=") ws)) (named switch_of (find (codes "overflow=") ws))))) p2 c1 e3 in
-    let e1 = pair_own (named number_of (find (codes "publishers=") ws)) (pair (named number_of (find (codes "nodes=") ws)) (pair (named number_of (find (codes "buffer=") ws)) (pair (named number_of (find (codes "borrowed=") ws)) (pair (named number_of (find (codes "history=") ws)) (named switch_of (find (codes "overflow=") ws)))))) p1 b1 e2 in
-    let e0 = pair_own (named number_of (find (codes "subscribers=") ws)) (pair (named number_of (find (codes "publishers=") ws)) (pair (named number_of (find (codes "nodes=") ws)) (pair (named number_of (find (codes "buffer=") ws)) (pair (named number_of (find (codes "borrowed=") ws)) (pair (named number_of (find (codes "history=") ws)) (named switch_of (find (codes "overflow=") ws))))))) p0 a1 e1 in
-    ap (λ x. option_map publish_subscribe_options x) e0
+pub publish_subscribe_some : (ws : List (List ℕ)) (o : PublishSubscribeOptions) → publish_subscribe_of ws ≡ Some o
+    → PublishSubscribeFits o × AnyOrder ws (option_words publish_subscribe_keys (publish_subscribe_values o))
+publish_subscribe_some = options_some publish_subscribe_keys publish_subscribe_parts publish_subscribe_values PublishSubscribeFit publish_subscribe_sum PublishSubscribeFits publish_subscribe_options publish_subscribe_count publish_subscribe_reads (λ p f. (f.0, f.1.0, f.1.1.0, f.1.1.1.0, f.1.1.1.1.0, f.1.1.1.1.1.0)) publish_subscribe_same_sum refl
 
 -- the options of a publish-subscribe service are read from words that write them, in any order
-pub publish_subscribe_own : (ws : List (List ℕ)) (o : PublishSubscribeOptions) → PublishSubscribeFits o → AnyOrder ws (option_words publish_subscribe_keys (publish_subscribe_values o)) → publish_subscribe_of ws ≡ Some o
+pub publish_subscribe_own : (ws : List (List ℕ)) (o : PublishSubscribeOptions) → PublishSubscribeFits o → AnyOrder ws (option_words publish_subscribe_keys (publish_subscribe_values o))
+    → publish_subscribe_of ws ≡ Some o
 publish_subscribe_own ws o f w =
-    let r = options_complete publish_subscribe_keys (publish_subscribe_values o) ws refl refl w in
-    only_own (λ q. length ws == publish_subscribe_count q) (option_map publish_subscribe_options (publish_subscribe_parts ws)) o (publish_subscribe_read ws o f r.0)
-    (same_count (length ws) (publish_subscribe_count o) (r.1 ∙ sym (publish_subscribe_counted o)))
+    options_own publish_subscribe_keys publish_subscribe_parts publish_subscribe_values PublishSubscribeFit publish_subscribe_sum publish_subscribe_options publish_subscribe_count publish_subscribe_reads publish_subscribe_same_sum refl ws
+    (both o.max_subscribers (both o.max_publishers (both o.max_nodes (both o.subscriber_max_buffer_size
+    (both o.subscriber_max_borrowed_samples (both o.history_size o.enable_safe_overflow))))))
+    refl (f.0, (f.1, (f.2, (f.3, (f.4, (f.5, tt)))))) w
 
--- an event service
+-- ---- an event service
 
-event_counted : (o : EventOptions) → event_count o ≡ count (event_values o)
-event_counted o = omega (
-  arith,
-  count_map decimal o.max_notifiers (option_map decimal o.max_listeners ∷ option_map decimal o.max_nodes ∷ option_map decimal o.event_id_max_value ∷ option_map number_or_off_word o.deadline ∷ option_map number_or_off_word o.notifier_created_event ∷ option_map number_or_off_word o.notifier_dropped_event ∷ option_map number_or_off_word o.notifier_dead_event ∷ []),
-  count_map decimal o.max_listeners (option_map decimal o.max_nodes ∷ option_map decimal o.event_id_max_value ∷ option_map number_or_off_word o.deadline ∷ option_map number_or_off_word o.notifier_created_event ∷ option_map number_or_off_word o.notifier_dropped_event ∷ option_map number_or_off_word o.notifier_dead_event ∷ []),
-  count_map decimal o.max_nodes (option_map decimal o.event_id_max_value ∷ option_map number_or_off_word o.deadline ∷ option_map number_or_off_word o.notifier_created_event ∷ option_map number_or_off_word o.notifier_dropped_event ∷ option_map number_or_off_word o.notifier_dead_event ∷ []),
-  count_map decimal o.event_id_max_value (option_map number_or_off_word o.deadline ∷ option_map number_or_off_word o.notifier_created_event ∷ option_map number_or_off_word o.notifier_dropped_event ∷ option_map number_or_off_word o.notifier_dead_event ∷ []),
-  count_map number_or_off_word o.deadline (option_map number_or_off_word o.notifier_created_event ∷ option_map number_or_off_word o.notifier_dropped_event ∷ option_map number_or_off_word o.notifier_dead_event ∷ []),
-  count_map number_or_off_word o.notifier_created_event (option_map number_or_off_word o.notifier_dropped_event ∷ option_map number_or_off_word o.notifier_dead_event ∷ []),
-  count_map number_or_off_word o.notifier_dropped_event (option_map number_or_off_word o.notifier_dead_event ∷ []),
-  count_map number_or_off_word o.notifier_dead_event ([]),
-)
+abbrev EventParts : Type 0
+EventParts = Pair (Option ℕ) (Pair (Option ℕ) (Pair (Option ℕ) (Pair (Option ℕ) (Pair (Option NumberOrOff)
+    (Pair (Option NumberOrOff) (Pair (Option NumberOrOff) (Option NumberOrOff)))))))
 
-event_found : (ws : List (List ℕ)) (p : Pair (Option ℕ) (Pair (Option ℕ) (Pair (Option ℕ) (Pair (Option ℕ) (Pair (Option NumberOrOff) (Pair (Option NumberOrOff) (Pair (Option NumberOrOff) (Option NumberOrOff)))))))) → event_parts ws ≡ Some p
-    → EventFits (event_options p) × Found event_keys ws (event_values (event_options p))
-event_found ws p h =
-    let r0 = pair_some (named number_of (find (codes "notifiers=") ws)) (pair (named number_of (find (codes "listeners=") ws)) (pair (named number_of (find (codes "nodes=") ws)) (pair (named number_of (find (codes "maxid=") ws)) (pair (named number_or_off_of (find (codes "deadline=") ws)) (pair (named number_or_off_of (find (codes "created=") ws)) (pair (named number_or_off_of (find (codes "dropped=") ws)) (named number_or_off_of (find (codes "dead=") ws)))))))) p h in
-    let r1 = pair_some (named number_of (find (codes "listeners=") ws)) (pair (named number_of (find (codes "nodes=") ws)) (pair (named number_of (find (codes "maxid=") ws)) (pair (named number_or_off_of (find (codes "deadline=") ws)) (pair (named number_or_off_of (find (codes "created=") ws)) (pair (named number_or_off_of (find (codes "dropped=") ws)) (named number_or_off_of (find (codes "dead=") ws))))))) p.second r0.1 in
-    let r2 = pair_some (named number_of (find (codes "nodes=") ws)) (pair (named number_of (find (codes "maxid=") ws)) (pair (named number_or_off_of (find (codes "deadline=") ws)) (pair (named number_or_off_of (find (codes "created=") ws)) (pair (named number_or_off_of (find (codes "dropped=") ws)) (named number_or_off_of (find (codes "dead=") ws)))))) p.second.second r1.1 in
-    let r3 = pair_some (named number_of (find (codes "maxid=") ws)) (pair (named number_or_off_of (find (codes "deadline=") ws)) (pair (named number_or_off_of (find (codes "created=") ws)) (pair (named number_or_off_of (find (codes "dropped=") ws)) (named number_or_off_of (find (codes "dead=") ws))))) p.second.second.second r2.1 in
-    let r4 = pair_some (named number_or_off_of (find (codes "deadline=") ws)) (pair (named number_or_off_of (find (codes "created=") ws)) (pair (named number_or_off_of (find (codes "dropped=") ws)) (named number_or_off_of (find (codes "dead=") ws)))) p.second.second.second.second r3.1 in
-    let r5 = pair_some (named number_or_off_of (find (codes "created=") ws)) (pair (named number_or_off_of (find (codes "dropped=") ws)) (named number_or_off_of (find (codes "dead=") ws))) p.second.second.second.second.second r4.1 in
-    let r6 = pair_some (named number_or_off_of (find (codes "dropped=") ws)) (named number_or_off_of (find (codes "dead=") ws)) p.second.second.second.second.second.second r5.1 in
-    let a = named_some number_of decimal IsNumber number_some (find (codes "notifiers=") ws) p.first r0.0 in
-    let b = named_some number_of decimal IsNumber number_some (find (codes "listeners=") ws) p.second.first r1.0 in
-    let c = named_some number_of decimal IsNumber number_some (find (codes "nodes=") ws) p.second.second.first r2.0 in
-    let d = named_some number_of decimal IsNumber number_some (find (codes "maxid=") ws) p.second.second.second.first r3.0 in
-    let e = named_some number_or_off_of number_or_off_word IsNumberOrOff number_or_off_some (find (codes "deadline=") ws) p.second.second.second.second.first r4.0 in
-    let f = named_some number_or_off_of number_or_off_word IsNumberOrOff number_or_off_some (find (codes "created=") ws) p.second.second.second.second.second.first r5.0 in
-    let g = named_some number_or_off_of number_or_off_word IsNumberOrOff number_or_off_some (find (codes "dropped=") ws) p.second.second.second.second.second.second.first r6.0 in
-    let h = named_some number_or_off_of number_or_off_word IsNumberOrOff number_or_off_some (find (codes "dead=") ws) p.second.second.second.second.second.second.second r6.1 in
-    ((if_number p.first a.0, if_number p.second.first b.0, if_number p.second.second.first c.0, if_number p.second.second.second.first d.0, if_number_or_off p.second.second.second.second.first e.0, if_number_or_off p.second.second.second.second.second.first f.0, if_number_or_off p.second.second.second.second.second.second.first g.0, if_number_or_off p.second.second.second.second.second.second.second h.0), (a.1, (b.1, (c.1, (d.1, (e.1, (f.1, (g.1, (h.1, tt)))))))))
+abbrev EventFit : EventParts → Type 0
+EventFit p = IfNumber p.first × (IfNumber p.second.first × (IfNumber p.second.second.first × (IfNumber p.second.second.second.first
+    × (IfNumberOrOff p.second.second.second.second.first × (IfNumberOrOff p.second.second.second.second.second.first
+    × (IfNumberOrOff p.second.second.second.second.second.second.first
+    × IfNumberOrOff p.second.second.second.second.second.second.second))))))
 
-event_named : (ws : List (List ℕ)) (o : EventOptions) → option_map event_options (event_parts ws) ≡ Some o → EventFits o × Found event_keys ws (event_values o)
-event_named ws o h =
-    let m = map_some event_options (event_parts ws) o h in
-    subst (λ q. EventFits q × Found event_keys ws (event_values q)) m.2 (event_found ws m.0 m.1)
+abbrev event_sum : EventParts → ℕ
+event_sum p = one p.first + (one p.second.first + (one p.second.second.first + (one p.second.second.second.first
+    + (one p.second.second.second.second.first + (one p.second.second.second.second.second.first
+    + (one p.second.second.second.second.second.second.first + one p.second.second.second.second.second.second.second))))))
+
+event_same_sum : (p : EventParts) → event_count (event_options p) ≡ event_sum p
+event_same_sum p = omega arith
+
+event_reads : Reads event_keys event_parts (λ p. event_values (event_options p)) EventFit event_sum
+event_reads = next number (codes "notifiers=") (next number (codes "listeners=") (next number (codes "nodes=")
+    (next number (codes "maxid=") (next number_or_off (codes "deadline=") (next number_or_off (codes "created=")
+    (next number_or_off (codes "dropped=") (last number_or_off (codes "dead="))))))))
 
 -- words that are read as the options of an event service write them
-pub event_some : (ws : List (List ℕ)) (o : EventOptions) → event_of ws ≡ Some o → EventFits o × AnyOrder ws (option_words event_keys (event_values o))
-event_some ws o h =
-    let s = only_some (λ q. length ws == event_count q) (option_map event_options (event_parts ws)) o h in
-    let r = event_named ws o s.0 in
-    (r.0, options_sound event_keys (event_values o) ws refl r.1 (eqb-true (length ws) (event_count o) s.1 ∙ event_counted o))
-
-event_read : (ws : List (List ℕ)) (o : EventOptions) → EventFits o → Found event_keys ws (event_values o) → option_map event_options (event_parts ws) ≡ Some o
-event_read ws o f r =
-    let a1 : named number_of (find (codes "notifiers=") ws) ≡ Some o.max_notifiers = ap (λ x. named number_of x) r.0 ∙ named_own number_of decimal IsNumber number_own o.max_notifiers (there_number o.max_notifiers f.0) in
-    let b1 : named number_of (find (codes "listeners=") ws) ≡ Some o.max_listeners = ap (λ x. named number_of x) r.1.0 ∙ named_own number_of decimal IsNumber number_own o.max_listeners (there_number o.max_listeners f.1) in
-    let c1 : named number_of (find (codes "nodes=") ws) ≡ Some o.max_nodes = ap (λ x. named number_of x) r.1.1.0 ∙ named_own number_of decimal IsNumber number_own o.max_nodes (there_number o.max_nodes f.2) in
-    let d1 : named number_of (find (codes "maxid=") ws) ≡ Some o.event_id_max_value = ap (λ x. named number_of x) r.1.1.1.0 ∙ named_own number_of decimal IsNumber number_own o.event_id_max_value (there_number o.event_id_max_value f.3) in
-    let e1 : named number_or_off_of (find (codes "deadline=") ws) ≡ Some o.deadline = ap (λ x. named number_or_off_of x) r.1.1.1.1.0 ∙ named_own number_or_off_of number_or_off_word IsNumberOrOff number_or_off_own o.deadline (there_number_or_off o.deadline f.4) in
-    let f1 : named number_or_off_of (find (codes "created=") ws) ≡ Some o.notifier_created_event = ap (λ x. named number_or_off_of x) r.1.1.1.1.1.0 ∙ named_own number_or_off_of number_or_off_word IsNumberOrOff number_or_off_own o.notifier_created_event (there_number_or_off o.notifier_created_event f.5) in
-    let g1 : named number_or_off_of (find (codes "dropped=") ws) ≡ Some o.notifier_dropped_event = ap (λ x. named number_or_off_of x) r.1.1.1.1.1.1.0 ∙ named_own number_or_off_of number_or_off_word IsNumberOrOff number_or_off_own o.notifier_dropped_event (there_number_or_off o.notifier_dropped_event f.6) in
-    let h1 : named number_or_off_of (find (codes "dead=") ws) ≡ Some o.notifier_dead_event = ap (λ x. named number_or_off_of x) r.1.1.1.1.1.1.1.0 ∙ named_own number_or_off_of number_or_off_word IsNumberOrOff number_or_off_own o.notifier_dead_event (there_number_or_off o.notifier_dead_event f.7) in
-    let p6 : Pair (Option NumberOrOff) (Option NumberOrOff) = record { first = o.notifier_dropped_event; second = o.notifier_dead_event } in
-    let p5 : Pair (Option NumberOrOff) (Pair (Option NumberOrOff) (Option NumberOrOff)) = record { first = o.notifier_created_event; second = p6 } in
-    let p4 : Pair (Option NumberOrOff) (Pair (Option NumberOrOff) (Pair (Option NumberOrOff) (Option NumberOrOff))) = record { first = o.deadline; second = p5 } in
-    let p3 : Pair (Option ℕ) (Pair (Option NumberOrOff) (Pair (Option NumberOrOff) (Pair (Option NumberOrOff) (Option NumberOrOff)))) = record { first = o.event_id_max_value; second = p4 } in
-    let p2 : Pair (Option ℕ) (Pair (Option ℕ) (Pair (Option NumberOrOff) (Pair (Option NumberOrOff) (Pair (Option NumberOrOff) (Option NumberOrOff))))) = record { first = o.max_nodes; second = p3 } in
-    let p1 : Pair (Option ℕ) (Pair (Option ℕ) (Pair (Option ℕ) (Pair (Option NumberOrOff) (Pair (Option NumberOrOff) (Pair (Option NumberOrOff) (Option NumberOrOff)))))) = record { first = o.max_listeners; second = p2 } in
-    let p0 : Pair (Option ℕ) (Pair (Option ℕ) (Pair (Option ℕ) (Pair (Option ℕ) (Pair (Option NumberOrOff) (Pair (Option NumberOrOff) (Pair (Option NumberOrOff) (Option NumberOrOff))))))) = record { first = o.max_notifiers; second = p1 } in
-    let e6 = pair_own (named number_or_off_of (find (codes "dropped=") ws)) (named number_or_off_of (find (codes "dead=") ws)) p6 g1 h1 in
-    let e5 = pair_own (named number_or_off_of (find (codes "created=") ws)) (pair (named number_or_off_of (find (codes "dropped=") ws)) (named number_or_off_of (find (codes "dead=") ws))) p5 f1 e6 in
-    let e4 = pair_own (named number_or_off_of (find (codes "deadline=") ws)) (pair (named number_or_off_of (find (codes "created=") ws)) (pair (named number_or_off_of (find (codes "dropped=") ws)) (named number_or_off_of (find (codes "dead=") ws)))) p4 e1 e5 in
-    let e3 = pair_own (named number_of (find (codes "maxid=") ws)) (pair (named number_or_off_of (find (codes "deadline=") ws)) (pair (named number_or_off_of (find (codes "created=") ws)) (pair (named number_or_off_of (find (codes "dropped=") ws)) (named number_or_off_of (find (codes "dead=") ws))))) p3 d1 e4 in
-    let e2 = pair_own (named number_of (find (codes "nodes=") ws)) (pair (named number_of (find (codes "maxid=") ws)) (pair (named number_or_off_of (find (codes "deadline=") ws)) (pair (named number_or_off_of (find (codes "created=") ws)) (pair (named number_or_off_of (find (codes "dropped=") ws)) (named number_or_off_of (find (codes "dead=") ws)))))) p2 c1 e3 in
-    let e1 = pair_own (named number_of (find (codes "listeners=") ws)) (pair (named number_of (find (codes "nodes=") ws)) (pair (named number_of (find (codes "maxid=") ws)) (pair (named number_or_off_of (find (codes "deadline=") ws)) (pair (named number_or_off_of (find (codes "created=") ws)) (pair (named number_or_off_of (find (codes "dropped=") ws)) (named number_or_off_of (find (codes "dead=") ws))))))) p1 b1 e2 in
-    let e0 = pair_own (named number_of (find (codes "notifiers=") ws)) (pair (named number_of (find (codes "listeners=") ws)) (pair (named number_of (find (codes "nodes=") ws)) (pair (named number_of (find (codes "maxid=") ws)) (pair (named number_or_off_of (find (codes "deadline=") ws)) (pair (named number_or_off_of (find (codes "created=") ws)) (pair (named number_or_off_of (find (codes "dropped=") ws)) (named number_or_off_of (find (codes "dead=") ws)))))))) p0 a1 e1 in
-    ap (λ x. option_map event_options x) e0
+pub event_some : (ws : List (List ℕ)) (o : EventOptions) → event_of ws ≡ Some o
+    → EventFits o × AnyOrder ws (option_words event_keys (event_values o))
+event_some = options_some event_keys event_parts event_values EventFit event_sum EventFits event_options event_count event_reads
+    (λ p f. (f.0, f.1.0, f.1.1.0, f.1.1.1.0, f.1.1.1.1.0, f.1.1.1.1.1.0, f.1.1.1.1.1.1.0, f.1.1.1.1.1.1.1)) event_same_sum refl
 
 -- the options of an event service are read from words that write them, in any order
-pub event_own : (ws : List (List ℕ)) (o : EventOptions) → EventFits o → AnyOrder ws (option_words event_keys (event_values o)) → event_of ws ≡ Some o
+pub event_own : (ws : List (List ℕ)) (o : EventOptions) → EventFits o → AnyOrder ws (option_words event_keys (event_values o))
+    → event_of ws ≡ Some o
 event_own ws o f w =
-    let r = options_complete event_keys (event_values o) ws refl refl w in
-    only_own (λ q. length ws == event_count q) (option_map event_options (event_parts ws)) o (event_read ws o f r.0)
-    (same_count (length ws) (event_count o) (r.1 ∙ sym (event_counted o)))
+    options_own event_keys event_parts event_values EventFit event_sum event_options event_count event_reads event_same_sum refl ws
+    (both o.max_notifiers (both o.max_listeners (both o.max_nodes (both o.event_id_max_value (both o.deadline
+    (both o.notifier_created_event (both o.notifier_dropped_event o.notifier_dead_event)))))))
+    refl (f.0, (f.1, (f.2, (f.3, (f.4, (f.5, (f.6, f.7))))))) w
 
--- a request-response service
+-- ---- a request-response service
 
-request_response_counted : (o : RequestResponseOptions) → request_response_count o ≡ count (request_response_values o)
-request_response_counted o = omega (
-  arith,
-  count_map decimal o.max_servers (option_map decimal o.max_clients ∷ option_map decimal o.max_nodes ∷ option_map decimal o.max_response_buffer_size ∷ option_map decimal o.max_borrowed_responses_per_pending_response ∷ option_map decimal o.max_active_requests_per_client ∷ option_map decimal o.max_loaned_requests ∷ option_map switch_word o.enable_safe_overflow_for_requests ∷ option_map switch_word o.enable_safe_overflow_for_responses ∷ option_map switch_word o.enable_fire_and_forget_requests ∷ []),
-  count_map decimal o.max_clients (option_map decimal o.max_nodes ∷ option_map decimal o.max_response_buffer_size ∷ option_map decimal o.max_borrowed_responses_per_pending_response ∷ option_map decimal o.max_active_requests_per_client ∷ option_map decimal o.max_loaned_requests ∷ option_map switch_word o.enable_safe_overflow_for_requests ∷ option_map switch_word o.enable_safe_overflow_for_responses ∷ option_map switch_word o.enable_fire_and_forget_requests ∷ []),
-  count_map decimal o.max_nodes (option_map decimal o.max_response_buffer_size ∷ option_map decimal o.max_borrowed_responses_per_pending_response ∷ option_map decimal o.max_active_requests_per_client ∷ option_map decimal o.max_loaned_requests ∷ option_map switch_word o.enable_safe_overflow_for_requests ∷ option_map switch_word o.enable_safe_overflow_for_responses ∷ option_map switch_word o.enable_fire_and_forget_requests ∷ []),
-  count_map decimal o.max_response_buffer_size (option_map decimal o.max_borrowed_responses_per_pending_response ∷ option_map decimal o.max_active_requests_per_client ∷ option_map decimal o.max_loaned_requests ∷ option_map switch_word o.enable_safe_overflow_for_requests ∷ option_map switch_word o.enable_safe_overflow_for_responses ∷ option_map switch_word o.enable_fire_and_forget_requests ∷ []),
-  count_map decimal o.max_borrowed_responses_per_pending_response (option_map decimal o.max_active_requests_per_client ∷ option_map decimal o.max_loaned_requests ∷ option_map switch_word o.enable_safe_overflow_for_requests ∷ option_map switch_word o.enable_safe_overflow_for_responses ∷ option_map switch_word o.enable_fire_and_forget_requests ∷ []),
-  count_map decimal o.max_active_requests_per_client (option_map decimal o.max_loaned_requests ∷ option_map switch_word o.enable_safe_overflow_for_requests ∷ option_map switch_word o.enable_safe_overflow_for_responses ∷ option_map switch_word o.enable_fire_and_forget_requests ∷ []),
-  count_map decimal o.max_loaned_requests (option_map switch_word o.enable_safe_overflow_for_requests ∷ option_map switch_word o.enable_safe_overflow_for_responses ∷ option_map switch_word o.enable_fire_and_forget_requests ∷ []),
-  count_map switch_word o.enable_safe_overflow_for_requests (option_map switch_word o.enable_safe_overflow_for_responses ∷ option_map switch_word o.enable_fire_and_forget_requests ∷ []),
-  count_map switch_word o.enable_safe_overflow_for_responses (option_map switch_word o.enable_fire_and_forget_requests ∷ []),
-  count_map switch_word o.enable_fire_and_forget_requests ([]),
-)
+abbrev RequestResponseParts : Type 0
+RequestResponseParts = Pair (Option ℕ) (Pair (Option ℕ) (Pair (Option ℕ) (Pair (Option ℕ) (Pair (Option ℕ) (Pair (Option ℕ)
+    (Pair (Option ℕ) (Pair (Option Bool) (Pair (Option Bool) (Option Bool)))))))))
 
-request_response_found : (ws : List (List ℕ)) (p : Pair (Option ℕ) (Pair (Option ℕ) (Pair (Option ℕ) (Pair (Option ℕ) (Pair (Option ℕ) (Pair (Option ℕ) (Pair (Option ℕ) (Pair (Option Bool) (Pair (Option Bool) (Option Bool)))))))))) → request_response_parts ws ≡ Some p
-    → RequestResponseFits (request_response_options p) × Found request_response_keys ws (request_response_values (request_response_options p))
-request_response_found ws p h =
-    let r0 = pair_some (named number_of (find (codes "servers=") ws)) (pair (named number_of (find (codes "clients=") ws)) (pair (named number_of (find (codes "nodes=") ws)) (pair (named number_of (find (codes "buffer=") ws)) (pair (named number_of (find (codes "borrowed=") ws)) (pair (named number_of (find (codes "active=") ws)) (pair (named number_of (find (codes "loans=") ws)) (pair (named switch_of (find (codes "overflow_requests=") ws)) (pair (named switch_of (find (codes "overflow_responses=") ws)) (named switch_of (find (codes "fire=") ws)))))))))) p h in
-    let r1 = pair_some (named number_of (find (codes "clients=") ws)) (pair (named number_of (find (codes "nodes=") ws)) (pair (named number_of (find (codes "buffer=") ws)) (pair (named number_of (find (codes "borrowed=") ws)) (pair (named number_of (find (codes "active=") ws)) (pair (named number_of (find (codes "loans=") ws)) (pair (named switch_of (find (codes "overflow_requests=") ws)) (pair (named switch_of (find (codes "overflow_responses=") ws)) (named switch_of (find (codes "fire=") ws))))))))) p.second r0.1 in
-    let r2 = pair_some (named number_of (find (codes "nodes=") ws)) (pair (named number_of (find (codes "buffer=") ws)) (pair (named number_of (find (codes "borrowed=") ws)) (pair (named number_of (find (codes "active=") ws)) (pair (named number_of (find (codes "loans=") ws)) (pair (named switch_of (find (codes "overflow_requests=") ws)) (pair (named switch_of (find (codes "overflow_responses=") ws)) (named switch_of (find (codes "fire=") ws)))))))) p.second.second r1.1 in
-    let r3 = pair_some (named number_of (find (codes "buffer=") ws)) (pair (named number_of (find (codes "borrowed=") ws)) (pair (named number_of (find (codes "active=") ws)) (pair (named number_of (find (codes "loans=") ws)) (pair (named switch_of (find (codes "overflow_requests=") ws)) (pair (named switch_of (find (codes "overflow_responses=") ws)) (named switch_of (find (codes "fire=") ws))))))) p.second.second.second r2.1 in
-    let r4 = pair_some (named number_of (find (codes "borrowed=") ws)) (pair (named number_of (find (codes "active=") ws)) (pair (named number_of (find (codes "loans=") ws)) (pair (named switch_of (find (codes "overflow_requests=") ws)) (pair (named switch_of (find (codes "overflow_responses=") ws)) (named switch_of (find (codes "fire=") ws)))))) p.second.second.second.second r3.1 in
-    let r5 = pair_some (named number_of (find (codes "active=") ws)) (pair (named number_of (find (codes "loans=") ws)) (pair (named switch_of (find (codes "overflow_requests=") ws)) (pair (named switch_of (find (codes "overflow_responses=") ws)) (named switch_of (find (codes "fire=") ws))))) p.second.second.second.second.second r4.1 in
-    let r6 = pair_some (named number_of (find (codes "loans=") ws)) (pair (named switch_of (find (codes "overflow_requests=") ws)) (pair (named switch_of (find (codes "overflow_responses=") ws)) (named switch_of (find (codes "fire=") ws)))) p.second.second.second.second.second.second r5.1 in
-    let r7 = pair_some (named switch_of (find (codes "overflow_requests=") ws)) (pair (named switch_of (find (codes "overflow_responses=") ws)) (named switch_of (find (codes "fire=") ws))) p.second.second.second.second.second.second.second r6.1 in
-    let r8 = pair_some (named switch_of (find (codes "overflow_responses=") ws)) (named switch_of (find (codes "fire=") ws)) p.second.second.second.second.second.second.second.second r7.1 in
-    let a = named_some number_of decimal IsNumber number_some (find (codes "servers=") ws) p.first r0.0 in
-    let b = named_some number_of decimal IsNumber number_some (find (codes "clients=") ws) p.second.first r1.0 in
-    let c = named_some number_of decimal IsNumber number_some (find (codes "nodes=") ws) p.second.second.first r2.0 in
-    let d = named_some number_of decimal IsNumber number_some (find (codes "buffer=") ws) p.second.second.second.first r3.0 in
-    let e = named_some number_of decimal IsNumber number_some (find (codes "borrowed=") ws) p.second.second.second.second.first r4.0 in
-    let f = named_some number_of decimal IsNumber number_some (find (codes "active=") ws) p.second.second.second.second.second.first r5.0 in
-    let g = named_some number_of decimal IsNumber number_some (find (codes "loans=") ws) p.second.second.second.second.second.second.first r6.0 in
-    let h = named_some switch_of switch_word (λ v. Unit {0}) switch_some (find (codes "overflow_requests=") ws) p.second.second.second.second.second.second.second.first r7.0 in
-    let i = named_some switch_of switch_word (λ v. Unit {0}) switch_some (find (codes "overflow_responses=") ws) p.second.second.second.second.second.second.second.second.first r8.0 in
-    let j = named_some switch_of switch_word (λ v. Unit {0}) switch_some (find (codes "fire=") ws) p.second.second.second.second.second.second.second.second.second r8.1 in
-    ((if_number p.first a.0, if_number p.second.first b.0, if_number p.second.second.first c.0, if_number p.second.second.second.first d.0, if_number p.second.second.second.second.first e.0, if_number p.second.second.second.second.second.first f.0, if_number p.second.second.second.second.second.second.first g.0), (a.1, (b.1, (c.1, (d.1, (e.1, (f.1, (g.1, (h.1, (i.1, (j.1, tt)))))))))))
+abbrev RequestResponseFit : RequestResponseParts → Type 0
+RequestResponseFit p = IfNumber p.first × (IfNumber p.second.first × (IfNumber p.second.second.first
+    × (IfNumber p.second.second.second.first × (IfNumber p.second.second.second.second.first
+    × (IfNumber p.second.second.second.second.second.first × (IfNumber p.second.second.second.second.second.second.first
+    × (Any p.second.second.second.second.second.second.second.first
+    × (Any p.second.second.second.second.second.second.second.second.first
+    × Any p.second.second.second.second.second.second.second.second.second))))))))
 
-request_response_named : (ws : List (List ℕ)) (o : RequestResponseOptions) → option_map request_response_options (request_response_parts ws) ≡ Some o → RequestResponseFits o × Found request_response_keys ws (request_response_values o)
-request_response_named ws o h =
-    let m = map_some request_response_options (request_response_parts ws) o h in
-    subst (λ q. RequestResponseFits q × Found request_response_keys ws (request_response_values q)) m.2 (request_response_found ws m.0 m.1)
+abbrev request_response_sum : RequestResponseParts → ℕ
+request_response_sum p = one p.first + (one p.second.first + (one p.second.second.first + (one p.second.second.second.first
+    + (one p.second.second.second.second.first + (one p.second.second.second.second.second.first
+    + (one p.second.second.second.second.second.second.first + (one p.second.second.second.second.second.second.second.first
+    + (one p.second.second.second.second.second.second.second.second.first
+    + one p.second.second.second.second.second.second.second.second.second))))))))
+
+request_response_same_sum : (p : RequestResponseParts) → request_response_count (request_response_options p) ≡ request_response_sum p
+request_response_same_sum p = omega arith
+
+request_response_reads : Reads request_response_keys request_response_parts (λ p. request_response_values (request_response_options p)) RequestResponseFit request_response_sum
+request_response_reads = next number (codes "servers=") (next number (codes "clients=") (next number (codes "nodes=")
+    (next number (codes "buffer=") (next number (codes "borrowed=") (next number (codes "active=") (next number (codes "loans=")
+    (next switch (codes "overflow_requests=") (next switch (codes "overflow_responses=") (last switch (codes "fire="))))))))))
 
 -- words that are read as the options of a request-response service write them
-pub request_response_some : (ws : List (List ℕ)) (o : RequestResponseOptions) → request_response_of ws ≡ Some o → RequestResponseFits o × AnyOrder ws (option_words request_response_keys (request_response_values o))
-request_response_some ws o h =
-    let s = only_some (λ q. length ws == request_response_count q) (option_map request_response_options (request_response_parts ws)) o h in
-    let r = request_response_named ws o s.0 in
-    (r.0, options_sound request_response_keys (request_response_values o) ws refl r.1 (eqb-true (length ws) (request_response_count o) s.1 ∙ request_response_counted o))
-
-request_response_read : (ws : List (List ℕ)) (o : RequestResponseOptions) → RequestResponseFits o → Found request_response_keys ws (request_response_values o) → option_map request_response_options (request_response_parts ws) ≡ Some o
-request_response_read ws o f r =
-    let a1 : named number_of (find (codes "servers=") ws) ≡ Some o.max_servers = ap (λ x. named number_of x) r.0 ∙ named_own number_of decimal IsNumber number_own o.max_servers (there_number o.max_servers f.0) in
-    let b1 : named number_of (find (codes "clients=") ws) ≡ Some o.max_clients = ap (λ x. named number_of x) r.1.0 ∙ named_own number_of decimal IsNumber number_own o.max_clients (there_number o.max_clients f.1) in
-    let c1 : named number_of (find (codes "nodes=") ws) ≡ Some o.max_nodes = ap (λ x. named number_of x) r.1.1.0 ∙ named_own number_of decimal IsNumber number_own o.max_nodes (there_number o.max_nodes f.2) in
-    let d1 : named number_of (find (codes "buffer=") ws) ≡ Some o.max_response_buffer_size = ap (λ x. named number_of x) r.1.1.1.0 ∙ named_own number_of decimal IsNumber number_own o.max_response_buffer_size (there_number o.max_response_buffer_size f.3) in
-    let e1 : named number_of (find (codes "borrowed=") ws) ≡ Some o.max_borrowed_responses_per_pending_response = ap (λ x. named number_of x) r.1.1.1.1.0 ∙ named_own number_of decimal IsNumber number_own o.max_borrowed_responses_per_pending_response (there_number o.max_borrowed_responses_per_pending_response f.4) in
-    let f1 : named number_of (find (codes "active=") ws) ≡ Some o.max_active_requests_per_client = ap (λ x. named number_of x) r.1.1.1.1.1.0 ∙ named_own number_of decimal IsNumber number_own o.max_active_requests_per_client (there_number o.max_active_requests_per_client f.5) in
-    let g1 : named number_of (find (codes "loans=") ws) ≡ Some o.max_loaned_requests = ap (λ x. named number_of x) r.1.1.1.1.1.1.0 ∙ named_own number_of decimal IsNumber number_own o.max_loaned_requests (there_number o.max_loaned_requests f.6) in
-    let h1 : named switch_of (find (codes "overflow_requests=") ws) ≡ Some o.enable_safe_overflow_for_requests = ap (λ x. named switch_of x) r.1.1.1.1.1.1.1.0 ∙ named_own switch_of switch_word (λ v. Unit {0}) switch_own o.enable_safe_overflow_for_requests (there_any o.enable_safe_overflow_for_requests) in
-    let i1 : named switch_of (find (codes "overflow_responses=") ws) ≡ Some o.enable_safe_overflow_for_responses = ap (λ x. named switch_of x) r.1.1.1.1.1.1.1.1.0 ∙ named_own switch_of switch_word (λ v. Unit {0}) switch_own o.enable_safe_overflow_for_responses (there_any o.enable_safe_overflow_for_responses) in
-    let j1 : named switch_of (find (codes "fire=") ws) ≡ Some o.enable_fire_and_forget_requests = ap (λ x. named switch_of x) r.1.1.1.1.1.1.1.1.1.0 ∙ named_own switch_of switch_word (λ v. Unit {0}) switch_own o.enable_fire_and_forget_requests (there_any o.enable_fire_and_forget_requests) in
-    let p8 : Pair (Option Bool) (Option Bool) = record { first = o.enable_safe_overflow_for_responses; second = o.enable_fire_and_forget_requests } in
-    let p7 : Pair (Option Bool) (Pair (Option Bool) (Option Bool)) = record { first = o.enable_safe_overflow_for_requests; second = p8 } in
-    let p6 : Pair (Option ℕ) (Pair (Option Bool) (Pair (Option Bool) (Option Bool))) = record { first = o.max_loaned_requests; second = p7 } in
-    let p5 : Pair (Option ℕ) (Pair (Option ℕ) (Pair (Option Bool) (Pair (Option Bool) (Option Bool)))) = record { first = o.max_active_requests_per_client; second = p6 } in
-    let p4 : Pair (Option ℕ) (Pair (Option ℕ) (Pair (Option ℕ) (Pair (Option Bool) (Pair (Option Bool) (Option Bool))))) = record { first = o.max_borrowed_responses_per_pending_response; second = p5 } in
-    let p3 : Pair (Option ℕ) (Pair (Option ℕ) (Pair (Option ℕ) (Pair (Option ℕ) (Pair (Option Bool) (Pair (Option Bool) (Option Bool)))))) = record { first = o.max_response_buffer_size; second = p4 } in
-    let p2 : Pair (Option ℕ) (Pair (Option ℕ) (Pair (Option ℕ) (Pair (Option ℕ) (Pair (Option ℕ) (Pair (Option Bool) (Pair (Option Bool) (Option Bool))))))) = record { first = o.max_nodes; second = p3 } in
-    let p1 : Pair (Option ℕ) (Pair (Option ℕ) (Pair (Option ℕ) (Pair (Option ℕ) (Pair (Option ℕ) (Pair (Option ℕ) (Pair (Option Bool) (Pair (Option Bool) (Option Bool)))))))) = record { first = o.max_clients; second = p2 } in
-    let p0 : Pair (Option ℕ) (Pair (Option ℕ) (Pair (Option ℕ) (Pair (Option ℕ) (Pair (Option ℕ) (Pair (Option ℕ) (Pair (Option ℕ) (Pair (Option Bool) (Pair (Option Bool) (Option Bool))))))))) = record { first = o.max_servers; second = p1 } in
-    let e8 = pair_own (named switch_of (find (codes "overflow_responses=") ws)) (named switch_of (find (codes "fire=") ws)) p8 i1 j1 in
-    let e7 = pair_own (named switch_of (find (codes "overflow_requests=") ws)) (pair (named switch_of (find (codes "overflow_responses=") ws)) (named switch_of (find (codes "fire=") ws))) p7 h1 e8 in
-    let e6 = pair_own (named number_of (find (codes "loans=") ws)) (pair (named switch_of (find (codes "overflow_requests=") ws)) (pair (named switch_of (find (codes "overflow_responses=") ws)) (named switch_of (find (codes "fire=") ws)))) p6 g1 e7 in
-    let e5 = pair_own (named number_of (find (codes "active=") ws)) (pair (named number_of (find (codes "loans=") ws)) (pair (named switch_of (find (codes "overflow_requests=") ws)) (pair (named switch_of (find (codes "overflow_responses=") ws)) (named switch_of (find (codes "fire=") ws))))) p5 f1 e6 in
-    let e4 = pair_own (named number_of (find (codes "borrowed=") ws)) (pair (named number_of (find (codes "active=") ws)) (pair (named number_of (find (codes "loans=") ws)) (pair (named switch_of (find (codes "overflow_requests=") ws)) (pair (named switch_of (find (codes "overflow_responses=") ws)) (named switch_of (find (codes "fire=") ws)))))) p4 e1 e5 in
-    let e3 = pair_own (named number_of (find (codes "buffer=") ws)) (pair (named number_of (find (codes "borrowed=") ws)) (pair (named number_of (find (codes "active=") ws)) (pair (named number_of (find (codes "loans=") ws)) (pair (named switch_of (find (codes "overflow_requests=") ws)) (pair (named switch_of (find (codes "overflow_responses=") ws)) (named switch_of (find (codes "fire=") ws))))))) p3 d1 e4 in
-    let e2 = pair_own (named number_of (find (codes "nodes=") ws)) (pair (named number_of (find (codes "buffer=") ws)) (pair (named number_of (find (codes "borrowed=") ws)) (pair (named number_of (find (codes "active=") ws)) (pair (named number_of (find (codes "loans=") ws)) (pair (named switch_of (find (codes "overflow_requests=") ws)) (pair (named switch_of (find (codes "overflow_responses=") ws)) (named switch_of (find (codes "fire=") ws)))))))) p2 c1 e3 in
-    let e1 = pair_own (named number_of (find (codes "clients=") ws)) (pair (named number_of (find (codes "nodes=") ws)) (pair (named number_of (find (codes "buffer=") ws)) (pair (named number_of (find (codes "borrowed=") ws)) (pair (named number_of (find (codes "active=") ws)) (pair (named number_of (find (codes "loans=") ws)) (pair (named switch_of (find (codes "overflow_requests=") ws)) (pair (named switch_of (find (codes "overflow_responses=") ws)) (named switch_of (find (codes "fire=") ws))))))))) p1 b1 e2 in
-    let e0 = pair_own (named number_of (find (codes "servers=") ws)) (pair (named number_of (find (codes "clients=") ws)) (pair (named number_of (find (codes "nodes=") ws)) (pair (named number_of (find (codes "buffer=") ws)) (pair (named number_of (find (codes "borrowed=") ws)) (pair (named number_of (find (codes "active=") ws)) (pair (named number_of (find (codes "loans=") ws)) (pair (named switch_of (find (codes "overflow_requests=") ws)) (pair (named switch_of (find (codes "overflow_responses=") ws)) (named switch_of (find (codes "fire=") ws)))))))))) p0 a1 e1 in
-    ap (λ x. option_map request_response_options x) e0
+pub request_response_some : (ws : List (List ℕ)) (o : RequestResponseOptions) → request_response_of ws ≡ Some o
+    → RequestResponseFits o × AnyOrder ws (option_words request_response_keys (request_response_values o))
+request_response_some = options_some request_response_keys request_response_parts request_response_values RequestResponseFit request_response_sum RequestResponseFits request_response_options request_response_count request_response_reads (λ p f. (f.0, f.1.0, f.1.1.0, f.1.1.1.0, f.1.1.1.1.0, f.1.1.1.1.1.0, f.1.1.1.1.1.1.0)) request_response_same_sum refl
 
 -- the options of a request-response service are read from words that write them, in any order
-pub request_response_own : (ws : List (List ℕ)) (o : RequestResponseOptions) → RequestResponseFits o → AnyOrder ws (option_words request_response_keys (request_response_values o)) → request_response_of ws ≡ Some o
+pub request_response_own : (ws : List (List ℕ)) (o : RequestResponseOptions) → RequestResponseFits o → AnyOrder ws (option_words request_response_keys (request_response_values o))
+    → request_response_of ws ≡ Some o
 request_response_own ws o f w =
-    let r = options_complete request_response_keys (request_response_values o) ws refl refl w in
-    only_own (λ q. length ws == request_response_count q) (option_map request_response_options (request_response_parts ws)) o (request_response_read ws o f r.0)
-    (same_count (length ws) (request_response_count o) (r.1 ∙ sym (request_response_counted o)))
+    options_own request_response_keys request_response_parts request_response_values RequestResponseFit request_response_sum request_response_options request_response_count request_response_reads request_response_same_sum refl ws
+    (both o.max_servers (both o.max_clients (both o.max_nodes (both o.max_response_buffer_size
+    (both o.max_borrowed_responses_per_pending_response (both o.max_active_requests_per_client (both o.max_loaned_requests
+    (both o.enable_safe_overflow_for_requests (both o.enable_safe_overflow_for_responses o.enable_fire_and_forget_requests)))))))))
+    refl (f.0, (f.1, (f.2, (f.3, (f.4, (f.5, (f.6, (tt, (tt, tt))))))))) w

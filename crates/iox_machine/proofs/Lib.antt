@@ -48,3 +48,14 @@ mod Nodes
 mod Places
 mod Taken
 mod RefusedCalls
+mod Walks
+mod WalkSteps
+mod Linking
+mod Listed
+mod Connected
+mod Through
+mod RefusedPorts
+mod Undelivered
+mod Opened
+mod Unmoved
+mod Meanwhile

@@ -2,20 +2,23 @@
 use Rattle.std.proofs.Common.{◌≡◌, ◌⊎◌, ◌≤◌, ◌+◌, ℕ, Bool, true, false, cond, List, [], ◌∷◌, ◌++◌, Option, None, Some, refl, sym, ap, subst, inl, inr, arith, ◌∙◌, append_assoc, append-nil}
 use Rattle.std.proofs.lemmas.Bool.{ne_eqb}
 use Rattle.std.specs.List.{AllByRecursion}
-use Rattle.std.specs.Prelude.{⊤, ◌==◌, is_some, find, slice_get, option_map}
+use Rattle.std.specs.Prelude.{⊤, ◌==◌, is_some, find, slice_get, option_map, MatchOption}
 use Rattle.iox_machine.specs.Message.{Message, Sample}
 use Rattle.iox_machine.specs.MessageLaws.{IsPartOf, with_one, begun_by, received_by, sent_by, received_from, IsOfService, StaysOfService, BeganIn, ReceivedInOrder}
+use Rattle.iox_machine.specs.PortList.{those}
 use Rattle.iox_machine.specs.Ports.{subscriber_in}
 use Rattle.iox_machine.specs.Run.{Runs}
 use Rattle.iox_machine.specs.RunLaws.{BeginsToSend}
-use Rattle.iox_machine.specs.Service.{Service, Publisher}
+use Rattle.iox_machine.specs.Service.{Service, Publisher, Send}
 use Rattle.iox_machine.specs.State.{State, new_state}
 use Rattle.iox_machine.specs.Table.{at}
 use Rattle.iox_machine.proofs.Cases.{same-some, never-some}
 use Rattle.iox_machine.proofs.Frames.{waiting_in}
 use Rattle.iox_machine.proofs.Lists.{all-weaker}
+use Rattle.iox_machine.proofs.Order.{IsUnder, MayCome}
 use Rattle.iox_machine.proofs.OrderCommands.{step-ordered}
 use Rattle.iox_machine.proofs.OrderSteps.{noted, Lacks, Fits, IsOfOne, IsOrdered, has_it}
+use Rattle.iox_machine.proofs.Parts.{Once}
 use Rattle.iox_machine.proofs.Runs.{AnyMessage, AreSound, Numbered, all-found, runs-numbered}
 use Rattle.iox_machine.proofs.Sound.{Sound, SampleFits}
 use Rattle.iox_command.specs.NegotiateBase.DescribeBase.declared.message_type.MessageTypeDetails.{MessageTypeDetails}
@@ -227,3 +230,41 @@ module _ {T : Type 0} (IsDefault : T → Type 0) (types : MessageTypeDetails) (b
           → BeganIn types IsDefault buffer publisher service.name service.settings message.values asked new_state answers old run
       began service message (inl w) = absurd w.0
       began service message (inr it) = it
+
+  -- A subscriber is listed once at most, and a publisher is connected to it once at most.
+  pub connects-once : (subscriber publisher : ℕ) (has : Service T → Bool) (service : Service T) (one : Publisher T)
+      → find has old.services ≡ Some service → at publisher service.publishers ≡ Some one
+      → Once subscriber (those service.subscriber_list.places) × Once subscriber (those one.connected)
+  connects-once subscriber publisher has service one first found =
+      let Good : List ℕ → StaticConfig → Message T → Type 0 =
+      After publisher subscriber types IsDefault buffer Never asked new_state answers old run in
+      let sent : List (Message T) = sent_by types IsDefault buffer publisher asked new_state answers old run in
+      let received : List (Message T) = received_from types IsDefault buffer publisher subscriber asked new_state answers old run in
+      elim (one-found publisher subscriber Good old sent received has service old.services first
+      (new-ordered publisher subscriber types IsDefault buffer Never asked answers old run).0) [
+        | inl lacks ↦ never-some one (sym lacks.0 ∙ found)
+        | inr fits ↦ (
+          fits.0.0.2.listed_once,
+          subst (λ (it : Publisher T). Once subscriber (those it.connected)) (same-some fits.0.0.0 one (sym fits.0.0.1 ∙ found))
+              fits.0.0.2.connected_once,
+        )
+      ]
+
+  -- So it is of those that are left to a send that is blocked.
+  pub waits-once : (subscriber publisher : ℕ) (has : Service T → Bool) (service : Service T) (one : Publisher T) (send : Send T)
+      → find has old.services ≡ Some service → at publisher service.publishers ≡ Some one → one.blocked ≡ Some send
+      → Once subscriber send.left
+  waits-once subscriber publisher has service one send first found waits =
+      let Good : List ℕ → StaticConfig → Message T → Type 0 =
+      After publisher subscriber types IsDefault buffer Never asked new_state answers old run in
+      let sent : List (Message T) = sent_by types IsDefault buffer publisher asked new_state answers old run in
+      let received : List (Message T) = received_from types IsDefault buffer publisher subscriber asked new_state answers old run in
+      elim (one-found publisher subscriber Good old sent received has service old.services first
+      (new-ordered publisher subscriber types IsDefault buffer Never asked answers old run).0) [
+        | inl lacks ↦ never-some one (sym lacks.0 ∙ found)
+        | inr fits ↦ (subst (λ (o : Option (Send T)). MatchOption o ⊤ (IsUnder T subscriber
+            (MayCome subscriber old.made.subscribers service.subscriber_list.places) sent received fits.0.0.0.connected
+            (service.mailboxes publisher subscriber)))
+            (ap (λ (it : Publisher T). it.blocked) (same-some fits.0.0.0 one (sym fits.0.0.1 ∙ found)) ∙ waits)
+            fits.0.0.2.under).2.once
+      ]

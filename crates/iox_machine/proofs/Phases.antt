@@ -135,17 +135,17 @@ each-all P on (x ∷ xs) = (on x, each-all P on xs)
 -- ---- lives
 
 -- What was agreed on in the life of a phase is what may be so in that life.
-abbrev Same : Option Agreement → Phase → Type 0
+abbrev pub Same : Option Agreement → Phase → Type 0
 Same None phase = ⊤
 Same (Some one) (Absent lives) = ⊤
 Same (Some one) (BeingMade life by) = ⊥
 Same (Some one) (Published life agreed nodes) = agreed ≡ one
 Same (Some one) (Emptied life agreed by) = agreed ≡ one
 
-abbrev Since : Phase → Phase → Type 0
+abbrev pub Since : Phase → Phase → Type 0
 Since from phase = (life_of from < life_of phase) ⊎ ((life_of phase ≡ life_of from) × Same (agreed_in from) phase)
 
-since-itself : (phase : Phase) → Since phase phase
+pub since-itself : (phase : Phase) → Since phase phase
 since-itself (Absent lives) = inr (refl, tt)
 since-itself (BeingMade life by) = inr (refl, tt)
 since-itself (Published life agreed nodes) = inr (refl, refl)
@@ -246,7 +246,7 @@ closing-stays : (node : ℕ) (phase : Phase) → Stays phase (closed_by node pha
 closing-stays node phase = stays-on phase (left_by (Own node) phase) (closed_by node phase) (left-stays (Own node) phase)
     (removing-stays (Own node) (left_by (Own node) phase))
 
-since-acted : (types : MessageTypeDetails) (pattern : MessagingPattern) (from phase : Phase) (one : ForeignStep) → Since from phase
+pub since-acted : (types : MessageTypeDetails) (pattern : MessagingPattern) (from phase : Phase) (one : ForeignStep) → Since from phase
     → Since from (acted types pattern phase one)
 since-acted types pattern from (Absent lives) (step.Lock node) since =
     risen from (Absent lives) (BeingMade (lives + 1) (Foreign node)) refl since
@@ -336,7 +336,7 @@ module _ {T : Type 0} (types : MessageTypeDetails) (IsDefault : T → Type 0) (b
       (λ pattern name node phase since. since-closed (start.phases pattern name) node phase since)
       IsDefault buffer one old run.0 run.1 (begins-since one) run.3 all)
 
-stays-told : (from phase : Phase) → Since from phase → (life_of from ≤ life_of phase)
+pub stays-told : (from phase : Phase) → Since from phase → (life_of from ≤ life_of phase)
     × ((one other : Agreement) → life_of phase ≡ life_of from → agreed_in from ≡ Some one → agreed_in phase ≡ Some other → other ≡ one)
 stays-told from phase (inl above) = (omega (arith, above), λ one other life is was. absurd (never life))
   where

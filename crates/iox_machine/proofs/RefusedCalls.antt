@@ -3,7 +3,7 @@ use Rattle.std.proofs.Common.{◌≡◌, ◌⊎◌, ◌+◌, ℕ, Bool, true, fa
 use Rattle.std.specs.Prelude.{fold, take}
 use Rattle.iox_machine.specs.Phase.{Phase, acted}
 use Rattle.iox_machine.specs.Run.{factory_of}
-use Rattle.iox_machine.specs.RunLaws.{IsCallFor, RefusedCallsLeaveServices}
+use Rattle.iox_machine.specs.RunLaws.{RefusedCallsLeaveServices}
 use Rattle.iox_machine.specs.State.{Factory, State, with_phase}
 use Rattle.iox_machine.proofs.Moving.{IsNegotiated, creates, opens, opens-or-creates}
 use Rattle.iox_command.specs.NegotiateBase.DescribeBase.declared.pattern.MessagingPattern.{MessagingPattern}

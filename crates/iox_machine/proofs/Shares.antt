@@ -31,7 +31,7 @@ Counts f (BeingMade life by) = (m : ℕ) → f m ≡ 0
 Counts f (Published life agreed nodes) = Full nodes × ((m : ℕ) → share (Own m) nodes ≡ f m)
 Counts f (Emptied life agreed by) = (m : ℕ) → f m ≡ 0
 
-node-is : (one other : Node) → same_node one other ≡ true → one ≡ other
+pub node-is : (one other : Node) → same_node one other ≡ true → one ≡ other
 node-is (Own one) (Own other) e = ap Own (eqb-true one other e)
 node-is (Foreign one) (Foreign other) e = ap Foreign (eqb-true one other e)
 node-is (Own one) (Foreign other) e = absurd (true≢false (sym e))
@@ -77,7 +77,7 @@ share-entered node other (entry ∷ more) = here (same_node entry.0 node) refl (
         behind (cond (same_node entry.0 other) entry.1 0) (share other (entered node more)) (share other more)
         (one_if (same_node node other)) on
 
-full-entered : (node : Node) (nodes : List (Node × ℕ)) → Full nodes → Full (entered node nodes)
+pub full-entered : (node : Node) (nodes : List (Node × ℕ)) → Full nodes → Full (entered node nodes)
 full-entered node [] full = (omega arith, tt)
 full-entered node (entry ∷ more) full = here (same_node entry.0 node) (full-entered node more full.1)
   where
@@ -113,7 +113,7 @@ share-left node other (entry ∷ more) full is = here (same_node entry.0 node) r
         behind (cond (same_node entry.0 other) entry.1 0) (share other more) (share other (left node more))
         (one_if (same_node node other)) (on found)
 
-full-left : (node : Node) (nodes : List (Node × ℕ)) → Full nodes → Full (left node nodes)
+pub full-left : (node : Node) (nodes : List (Node × ℕ)) → Full nodes → Full (left node nodes)
 full-left node [] full = tt
 full-left node (entry ∷ more) full = here (same_node entry.0 node) (full-left node more full.1)
   where

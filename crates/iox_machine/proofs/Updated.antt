@@ -169,7 +169,7 @@ module _ {T : Type 0} where
   never other same silent = absurd (true≢false (ap is_done same ∙ silent))
 
   -- what is left when nothing changes
-  unmoved : (has : Service T → Bool) (service after : Service T) (old new : State T) → find has old.services ≡ Some service
+  pub unmoved : (has : Service T → Bool) (service after : Service T) (old new : State T) → find has old.services ≡ Some service
       → after ≡ service → new ≡ record old { services = replaced has after old.services } → new ≡ old
   unmoved has service after old new first same came =
       came ∙ (ap (λ (it : Service T). record old { services = replaced has it old.services }) same
@@ -233,7 +233,7 @@ module _ {T : Type 0} where
       here true = refl
       here false = box-off publisher subscriber (record { limit = limit; waiting = []; borrowed = [] }) service one other off
 
-  welcome-off : (number : ℕ) (history : List (Message T)) (service : Service T) (subscriber other : ℕ) → (other == subscriber) ≡ false
+  pub welcome-off : (number : ℕ) (history : List (Message T)) (service : Service T) (subscriber other : ℕ) → (other == subscriber) ≡ false
       → (publishing.welcome number history service subscriber).mailboxes number other ≡ service.mailboxes number other
   welcome-off number history service subscriber other off =
       let limit : ℕ = option_map_or (λ (one : Subscriber). one.buffer_size) (at subscriber service.subscribers) 0 in
@@ -243,7 +243,7 @@ module _ {T : Type 0} where
       }) met number other (and-false (number == number) (other == subscriber) off)
       ∙ connect-off limit number subscriber service number other (and-false (number == number) (other == subscriber) off)
 
-  fold-off : (number : ℕ) (history : List (Message T)) (other : ℕ) (subscribers : List ℕ) (service : Service T)
+  pub fold-off : (number : ℕ) (history : List (Message T)) (other : ℕ) (subscribers : List ℕ) (service : Service T)
       → contains subscribers other ≡ false
       → (fold (publishing.welcome number history) service subscribers).mailboxes number other ≡ service.mailboxes number other
   fold-off number history other [] service off = refl

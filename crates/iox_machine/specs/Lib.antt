@@ -25,6 +25,9 @@ pub mod RunLaws
 pub mod MessageLaws
 pub mod AgreementLaws
 pub mod UpdateLaws
+pub mod ConnectionLaws
+pub mod OpeningLaws
+pub mod RefusalLaws
 pub mod IndependenceLaws
 pub mod NumberLaws
 pub mod OnceLaws

@@ -1,12 +1,16 @@
--- Laws of updates: who is connected once a port followed the list of the other kind.
-use Rattle.std.specs.Prelude.{ℕ, ◌≡◌, ◌⊎◌, Bool, false, Option, None, Some, find, zip, is_some, MatchOption, Ok, length}
+-- Laws of updates: who is connected once a port followed the list of the other kind, and what waits then.
+use Rattle.std.specs.Prelude.{ℕ, ◌≡◌, ◌⊎◌, ◌==◌, Bool, false, not, List, [], Option, None, Some, find, zip, is_some, MatchOption, Ok, length, if◌then◌else◌}
 use Rattle.std.specs.List.{AllByRecursion}
+use Rattle.iox_machine.specs.Mailbox.{Mailbox, newest}
+use Rattle.iox_machine.specs.Message.{Message}
+use Rattle.iox_machine.specs.PortList.{those}
 use Rattle.iox_machine.specs.Ports.{publisher_in, subscriber_in}
 use Rattle.iox_machine.specs.PublisherUpdate.{update_answer}
 use Rattle.iox_machine.specs.Run.{Step}
 use Rattle.iox_machine.specs.Service.{Service, Publisher, Subscriber}
 use Rattle.iox_machine.specs.State.{State}
 use Rattle.iox_machine.specs.SubscriberUpdate.{is_unborrowed}
+use Rattle.iox_machine.specs.Table.{contains}
 use Rattle.iox_command.specs.NegotiateBase.DescribeBase.declared.message_type.MessageTypeDetails.{MessageTypeDetails}
 use Rattle.iox_command.specs.declared.command.Command.TheVariants as command
 use Rattle.iox_command.specs.declared.port.PortNumber.TheVariants as port
@@ -23,6 +27,19 @@ IsFollowed has_box place =
 abbrev pub IsFollowedOrStays : (ℕ → Bool) → (ℕ → Bool) → Option ℕ × Option ℕ → Type 0
 IsFollowedOrStays has_box is_free place =
     IsFollowed has_box place ⊎ ((other : ℕ) × (place.1 ≡ Some other) × (is_free other ≡ false))
+
+module _ {T : Type 0} where
+  -- What waits in a mailbox that was there, once its publisher followed the list of subscribers: nothing, where the subscriber left; what
+  -- waited before, where the two were connected; else as much of the history as may wait.
+  abbrev pub waits_then : Publisher T → Service T → ℕ → Mailbox T → List (Message T)
+  waits_then was service subscriber box =
+      if not (contains (those service.subscriber_list.places) subscriber) then []
+      else (if contains (those was.connected) subscriber then box.waiting else newest box.limit was.history)
+
+  -- the same mailbox, if it is one of this publisher, and as it was else
+  abbrev pub box_then : ℕ → Publisher T → Service T → ℕ → ℕ → Mailbox T → Mailbox T
+  box_then number was service publisher subscriber box =
+      if publisher == number then record box { waiting = waits_then was service subscriber box } else box
 
 module _ {T : Type 0} (IsDefault : T → Type 0) where
   -- After an update of a publisher that went well: it has seen all changes of the list of subscribers, and if there were new ones each
@@ -52,3 +69,26 @@ module _ {T : Type 0} (IsDefault : T → Type 0) where
       (is_unborrowed buffer number service))
       (zip service.publisher_list.places one.connected)
       × (update_answer one.degradation service.publisher_list.places one.connected ≡ Ok tt)))
+
+  -- After an update of a publisher that went well each mailbox that was there is there still, with all that is borrowed. What waits in one
+  -- of the publisher itself is what waited, if it was connected to the subscriber and that is listed still.
+  abbrev pub PublisherKeepsMailboxes : Type 0
+  PublisherKeepsMailboxes = (types : MessageTypeDetails) (buffer number : ℕ) (old new : State T)
+      → Step types IsDefault buffer (command.Update (port.Publisher number)) old reply.Done new
+      → (new ≡ old)
+      ⊎ ((service : Service T) × (after : Service T) × (was : Publisher T)
+      × (find (λ other. is_some (publisher_in number other)) old.services ≡ Some service) × (publisher_in number service ≡ Some was)
+      × (find (λ other. is_some (publisher_in number other)) new.services ≡ Some after)
+      × ((publisher subscriber : ℕ) (box : Mailbox T) → service.mailboxes publisher subscriber ≡ Some box
+      → after.mailboxes publisher subscriber ≡ Some (box_then number was service publisher subscriber box)))
+
+  -- After an update of a subscriber that went well each mailbox that was there is as it was.
+  abbrev pub SubscriberKeepsMailboxes : Type 0
+  SubscriberKeepsMailboxes = (types : MessageTypeDetails) (buffer number : ℕ) (old new : State T)
+      → Step types IsDefault buffer (command.Update (port.Subscriber number)) old reply.Done new
+      → (new ≡ old)
+      ⊎ ((service : Service T) × (after : Service T)
+      × (find (λ other. is_some (subscriber_in number other)) old.services ≡ Some service)
+      × (find (λ other. is_some (subscriber_in number other)) new.services ≡ Some after)
+      × ((publisher subscriber : ℕ) (box : Mailbox T) → service.mailboxes publisher subscriber ≡ Some box
+      → after.mailboxes publisher subscriber ≡ Some box))

@@ -11,15 +11,18 @@
 
 ghost use Rattle.iox_machine.specs.AgreementLaws.{AgreementIsDescribed, AgreementStays, CreatesAsDescribed, LivesStartAnew};
 ghost use Rattle.iox_machine.specs.AgreementLaws.{NodesAreAgreed, OneAgreement, ServicesStartEmpty};
+ghost use Rattle.iox_machine.specs.ConnectionLaws.{ConnectedAreJoined, PairsConnectOnce, StandingAreListed};
 ghost use Rattle.iox_machine.specs.GoingLaws.{EachIsAnswered};
 ghost use Rattle.iox_machine.specs.IndependenceLaws.{OthersAreLeft, ServicesAreAsIfAlone};
 ghost use Rattle.iox_machine.specs.Laws.{PutAtUnknownIsSkipped, OverflowDropsTheOldest};
 ghost use Rattle.iox_machine.specs.MessageLaws.{HeldIsRead, OrderIsOfSends, ReceivedInOrder, ReceivedWasSent};
 ghost use Rattle.iox_machine.specs.NumberLaws.{NumbersGoUp, NumbersNameOne};
+ghost use Rattle.iox_machine.specs.OpeningLaws.{EitherMeetsAsked, OpenedMeetsAsked};
+ghost use Rattle.iox_machine.specs.RefusalLaws.{RefusedCallsLeaveNodes, RefusedCallsLeaveSteps, RefusedPortsLeave, RetriesLeave, UndeliveredLeaves};
 ghost use Rattle.iox_machine.specs.OnceLaws.{LoansAreSpentOnce, MessagesGoOnce};
 ghost use Rattle.iox_machine.specs.RunLaws.{MessagesWereSent, RefusedCallsLeaveServices, RefusedChangesNothing};
 ghost use Rattle.iox_machine.specs.RunLaws.{SamplesReadTheSame, SizesAreAgreed, SkippedChangesNothing};
-ghost use Rattle.iox_machine.specs.UpdateLaws.{PublisherIsUpdated, SubscriberIsUpdated};
+ghost use Rattle.iox_machine.specs.UpdateLaws.{PublisherIsUpdated, PublisherKeepsMailboxes, SubscriberIsUpdated, SubscriberKeepsMailboxes};
 
 /// A new machine answers a put at any publisher by skipping it, and in no other way.
 pub fn put_at_unknown_is_skipped()
@@ -63,6 +66,43 @@ pub fn refused_changes_nothing<T: Default>()
 /// factories, services and numbers stay.
 pub fn refused_calls_leave_services<T: Default>()
     ensures { RefusedCallsLeaveServices T.is_default }
+{}
+
+/// In every run of a new machine: a creation or an opening that is refused, while no node outside the hub does anything, leaves what is
+/// agreed on and the nodes that are in, each with its factories. Where nothing stood nothing stands, though a life may have begun and
+/// ended.
+pub fn refused_calls_leave_nodes<T: Default>()
+    ensures { RefusedCallsLeaveNodes T.is_default }
+{}
+
+/// In every run of a new machine: a creation or an opening that is refused leaves its phase as the steps of nodes outside the hub alone
+/// make it, which were done meanwhile: all before so many accesses, in this order, and so many of those before the next one. Where nothing
+/// stood then, a life may have begun and ended.
+pub fn refused_calls_leave_foreign_steps<T: Default>()
+    ensures { RefusedCallsLeaveSteps T.is_default }
+{}
+
+/// A send, a put, a receive, an update or a look for data that is refused changes one service at most, and of that only the connections
+/// that a port brought up to date: agreements, nodes, factories, lists, histories, samples and all that is borrowed stay, and so do loans,
+/// but that a send has spent its own. What waits stays where the publisher is connected to a subscriber that is listed. A send that
+/// couldn't deliver isn't meant: it did all else that a send does.
+pub fn a_refused_port_leaves_the_rest<T: Default>()
+    ensures { RefusedPortsLeave T.is_default }
+{}
+
+/// In every run of a new machine: a send or a put that couldn't deliver has brought its publisher's connections up to date, and has sent
+/// its message to all that it is connected to. There is no safe overflow then. The message waits where fewer messages waited than may,
+/// behind them; where a mailbox was full it isn't, and what waited there stays. At least one such subscriber stands, and is connected
+/// itself. The message is the newest of the history, a loan is spent, and all else stays.
+pub fn an_undelivered_send_went_to_all_others<T: Default>()
+    ensures { UndeliveredLeaves T.is_default }
+{}
+
+/// In every run of a new machine: a retry that couldn't deliver has sent its message to all that were left. A mailbox has it where it took
+/// it; where that was full it stays as it was. At least one subscriber lacks it now or did so before the send was blocked, the send is over,
+/// and all else stays.
+pub fn an_undelivered_retry_went_to_all_left<T: Default>()
+    ensures { RetriesLeave T.is_default }
 {}
 
 /// Whatever stands, each command has an answer: the machine never stands still. Of a loan that is written there must be a default value,
@@ -150,6 +190,17 @@ pub fn a_service_is_created_as_described<T: Default>()
     ensures { CreatesAsDescribed T.is_default }
 {}
 
+/// A service that is opened meets each clause that is asked. One that isn't opened for a clause is agreed on, and that clause is the first
+/// that it doesn't meet.
+pub fn what_is_opened_is_as_asked<T: Default>()
+    ensures { OpenedMeetsAsked T.is_default }
+{}
+
+/// So it is of a service that is opened or created; what is created is just as it was asked for.
+pub fn what_is_opened_or_created_is_as_asked<T: Default>()
+    ensures { EitherMeetsAsked T.is_default }
+{}
+
 /// A service that stands after a command, and none of its name before, has no port, no mailbox, no history and no message.
 pub fn a_service_starts_empty<T: Default>()
     ensures { ServicesStartEmpty T.is_default }
@@ -173,6 +224,36 @@ pub fn an_update_connects_a_publisher<T: Default>()
 /// is connected there still, of which something is borrowed. Nothing failed so where the subscriber is to fail then. Else nothing changes.
 pub fn an_update_connects_a_subscriber<T: Default>()
     ensures { SubscriberIsUpdated T.is_default }
+{}
+
+/// After an update of a publisher that went well each mailbox that was there is there still, with all that is borrowed. What waited in one
+/// of its own waits still, if it was connected to the subscriber and that is listed. Nothing does, if the subscriber left. Else as much of
+/// the history waits as may.
+pub fn an_update_of_a_publisher_keeps_mailboxes<T: Default>()
+    ensures { PublisherKeepsMailboxes T.is_default }
+{}
+
+/// After an update of a subscriber that went well each mailbox that was there is as it was.
+pub fn an_update_of_a_subscriber_keeps_mailboxes<T: Default>()
+    ensures { SubscriberKeepsMailboxes T.is_default }
+{}
+
+/// In every run of a new machine the list of publishers of a service has just those that stand, and so has the list of subscribers. Each
+/// stands at one place of it.
+pub fn who_stands_is_listed<T: Default>()
+    ensures { StandingAreListed T.is_default }
+{}
+
+/// In every run of a new machine a publisher that is connected to a subscriber has a mailbox with it, and both are of one service. So it is
+/// of a subscriber that is connected to a publisher, whether that left or not.
+pub fn who_is_connected_has_a_mailbox<T: Default>()
+    ensures { ConnectedAreJoined T.is_default }
+{}
+
+/// In every run of a new machine a publisher comes to be connected to a subscriber once at most, and so does a subscriber to a publisher:
+/// a connection that ended is never made again.
+pub fn a_pair_connects_once<T: Default>()
+    ensures { PairsConnectOnce T.is_default }
 {}
 
 /// As long as nothing is asked of a service in a run of a new machine all of it stays as it was, whatever is asked of others and answered:

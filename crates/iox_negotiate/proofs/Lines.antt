@@ -1,7 +1,7 @@
 -- Two agreements with one line, and of one hash, are the same.
-use Rattle.std.proofs.Common.{◌≡◌, ◌∙◌, ℕ, Bool, List, [], ◌∷◌, map, Option, None, Some, refl, sym, ap}
+use Rattle.std.proofs.Common.{◌≡◌, ◌∙◌, ℕ, Bool, false, List, [], ◌∷◌, map, Option, None, Some, refl, sym, ap}
 use Rattle.std.specs.Prelude.{codes}
-use Rattle.serde_json.specs.Data.{Data, Items, boolean, string, array}
+use Rattle.serde_json.specs.Data.{Items, boolean, string, array, object}
 use Rattle.serde_json.specs.Find.{get}
 use Rattle.serde_json.specs.Read.{read}
 use Rattle.serde_json.specs.View.{items_of}
@@ -11,6 +11,10 @@ use Rattle.iox_negotiate_table.specs.DescribeBase.declared.type_detail.TypeVaria
 use Rattle.iox_negotiate_table.specs.DescribeBase.declared.type_detail.TypeVariant.TheVariants.{FixedSize, Dynamic}
 use Rattle.iox_negotiate_table.specs.DescribeBase.Detail.{Detail}
 use Rattle.iox_negotiate_table.specs.DescribeSettings.Agreement.{Agreement, pattern_of}
+use Rattle.iox_negotiate_table.specs.DescribeSettings.Setting.{filled, number, optional_number, switch, types}
+use Rattle.iox_negotiate_table.specs.DescribeSettings.declared.setting.Rule.{Rule}
+use Rattle.iox_negotiate_table.specs.DescribeSettings.declared.setting.SettingValue.{SettingValue}
+use Rattle.iox_negotiate_table.specs.DescribeSettings.declared.setting.SettingValue.TheVariants.{Switch, Number, OptionalNumber, Types}
 use Rattle.iox_negotiate_table.specs.DescribeSettings.declared.static_config.Settings.{Settings}
 use Rattle.iox_negotiate_table.specs.DescribeSettings.declared.static_config.Settings.TheVariants.{RequestResponse, PublishSubscribe, Event}
 use Rattle.iox_negotiate_table.specs.DescribeSettings.declared.static_config.publish_subscribe.StaticConfig.{StaticConfig as PublishSubscribeConfig}
@@ -25,7 +29,7 @@ use Rattle.iox_negotiate_table.specs.DescribeSettings.declared.static_config.req
 use Rattle.iox_negotiate_table.specs.DescribeSettings.PublishSubscribeSettings as publish_subscribe
 use Rattle.iox_negotiate_table.specs.DescribeSettings.EventSettings as event
 use Rattle.iox_negotiate_table.specs.DescribeSettings.RequestResponseSettings as request_response
-use Rattle.iox_negotiate_table.specs.Describe.Line.{line, tree, settings_tree, types_tree, detail_tree, value_tree, option_tree, variant_word, pattern_word, attribute_tree}
+use Rattle.iox_negotiate_table.specs.Describe.Line.{line, tree, settings_members, settings_tree, types_tree, detail_tree, value_tree, option_tree, variant_word, pattern_word, attribute_tree}
 use Rattle.iox_negotiate_table.specs.Describe.Within.{IsWithinLimits}
 use Rattle.iox_negotiate_table.proofs.Describe.Plain.{line-read}
 use Rattle.iox_negotiate_table.proofs.Describe.Trees.{same_items}
@@ -66,104 +70,75 @@ same-types one other e =
     let user_header = same-detail one.user_header other.user_header (ap (λ d. get (codes "user_header") d) trees) in
     λ i. record { header = header i; user_header = user_header i; payload = payload i }
 
--- ---- settings of a publish-subscribe service
+-- ---- settings
 
-publish_subscribe_told : (setting : PublishSubscribeSetting) (config : PublishSubscribeConfig) → get (publish_subscribe.key setting) (settings_tree (PublishSubscribe config)) ≡ Some (value_tree (publish_subscribe.value setting config))
-publish_subscribe_told publish_subscribe_setting.EnableSafeOverflow config = refl
-publish_subscribe_told publish_subscribe_setting.HistorySize config = refl
-publish_subscribe_told publish_subscribe_setting.MaxNodes config = refl
-publish_subscribe_told publish_subscribe_setting.MaxPublishers config = refl
-publish_subscribe_told publish_subscribe_setting.MaxSubscribers config = refl
-publish_subscribe_told publish_subscribe_setting.SubscriberMaxBorrowedSamples config = refl
-publish_subscribe_told publish_subscribe_setting.SubscriberMaxBufferSize config = refl
-publish_subscribe_told publish_subscribe_setting.Types config = refl
+-- a rule that is for values of this kind
+abbrev kind : SettingValue → Rule
+kind (Switch b) = switch false
+kind (Number n) = number 0 0 None
+kind (OptionalNumber o) = optional_number None
+kind (Types t) = types
 
-same_publish_subscribe : (one other : PublishSubscribeConfig) → settings_tree (PublishSubscribe one) ≡ settings_tree (PublishSubscribe other) → one ≡ other
-same_publish_subscribe one other trees =
-    let told : (setting : PublishSubscribeSetting) → Some (value_tree (publish_subscribe.value setting one)) ≡ Some (value_tree (publish_subscribe.value setting other)) =
-    λ setting. sym (publish_subscribe_told setting one) ∙ ap (λ d. get (publish_subscribe.key setting) d) trees ∙ publish_subscribe_told setting other in
-    let enable_safe_overflow = same-boolean one.enable_safe_overflow other.enable_safe_overflow (told publish_subscribe_setting.EnableSafeOverflow) in
-    let history_size = same-natural one.history_size other.history_size (told publish_subscribe_setting.HistorySize) in
-    let max_nodes = same-natural one.max_nodes other.max_nodes (told publish_subscribe_setting.MaxNodes) in
-    let max_publishers = same-natural one.max_publishers other.max_publishers (told publish_subscribe_setting.MaxPublishers) in
-    let max_subscribers = same-natural one.max_subscribers other.max_subscribers (told publish_subscribe_setting.MaxSubscribers) in
-    let subscriber_max_borrowed_samples = same-natural one.subscriber_max_borrowed_samples other.subscriber_max_borrowed_samples (told publish_subscribe_setting.SubscriberMaxBorrowedSamples) in
-    let subscriber_max_buffer_size = same-natural one.subscriber_max_buffer_size other.subscriber_max_buffer_size (told publish_subscribe_setting.SubscriberMaxBufferSize) in
-    let types = same-types one.types other.types (told publish_subscribe_setting.Types) in
-    λ i. record { enable_safe_overflow = enable_safe_overflow i; history_size = history_size i; max_nodes = max_nodes i; max_publishers = max_publishers i; max_subscribers = max_subscribers i; subscriber_max_borrowed_samples = subscriber_max_borrowed_samples i; subscriber_max_buffer_size = subscriber_max_buffer_size i; types = types i }
+same-value : (one other : SettingValue) → kind one ≡ kind other → value_tree one ≡ value_tree other → one ≡ other
+same-value (Switch a) (Switch b) k e = ap (λ x. Switch x) (same-boolean a b (ap (λ t. Some t) e))
+same-value (Switch a) (Number b) k e = absurd cc
+same-value (Switch a) (OptionalNumber b) k e = absurd cc
+same-value (Switch a) (Types b) k e = absurd cc
+same-value (Number a) (Switch b) k e = absurd cc
+same-value (Number a) (Number b) k e = ap (λ x. Number x) (same-natural a b (ap (λ t. Some t) e))
+same-value (Number a) (OptionalNumber b) k e = absurd cc
+same-value (Number a) (Types b) k e = absurd cc
+same-value (OptionalNumber a) (Switch b) k e = absurd cc
+same-value (OptionalNumber a) (Number b) k e = absurd cc
+same-value (OptionalNumber a) (OptionalNumber b) k e = ap (λ x. OptionalNumber x) (same-option a b (ap (λ t. Some t) e))
+same-value (OptionalNumber a) (Types b) k e = absurd cc
+same-value (Types a) (Switch b) k e = absurd cc
+same-value (Types a) (Number b) k e = absurd cc
+same-value (Types a) (OptionalNumber b) k e = absurd cc
+same-value (Types a) (Types b) k e = ap (λ x. Types x) (same-types a b (ap (λ t. Some t) e))
 
--- ---- settings of a event service
+-- what is filled in from settings that are told alike is alike
+same-filled : {S C : Type 0} (key : S → List ℕ) (value : S → C → SettingValue) (changed : S → SettingValue → C → C)
+    → ((setting : S) (one other : C) → kind (value setting one) ≡ kind (value setting other)) → (settings : List S) (one other config : C)
+    → settings_members key value settings one ≡ settings_members key value settings other
+    → filled value changed settings one config ≡ filled value changed settings other config
+same-filled key value changed kinds [] one other config e = refl
+same-filled key value changed kinds (setting ∷ more) one other config e =
+    let first : value_tree (value setting one) ≡ value_tree (value setting other) = cc in
+    let rest : settings_members key value more one ≡ settings_members key value more other = cc in
+    ap (λ v. filled value changed more one (changed setting v config)) (same-value (value setting one) (value setting other) (kinds setting one other) first)
+    ∙ same-filled key value changed kinds more one other (changed setting (value setting other) config) rest
 
-event_told : (setting : EventSetting) (config : EventConfig) → get (event.key setting) (settings_tree (Event config)) ≡ Some (value_tree (event.value setting config))
-event_told event_setting.Deadline config = refl
-event_told event_setting.EventIdMaxValue config = refl
-event_told event_setting.MaxListeners config = refl
-event_told event_setting.MaxNodes config = refl
-event_told event_setting.MaxNotifiers config = refl
-event_told event_setting.NotifierCreatedEvent config = refl
-event_told event_setting.NotifierDeadEvent config = refl
-event_told event_setting.NotifierDroppedEvent config = refl
+-- settings of a pattern that are told alike are the same, where all are told and each keeps its kind
+same-config : {S C : Type 0} (key : S → List ℕ) (value : S → C → SettingValue) (changed : S → SettingValue → C → C) (all : List S)
+    → ((setting : S) (one other : C) → kind (value setting one) ≡ kind (value setting other)) → ((target config : C) → filled value changed all target config ≡ target)
+    → (one other : C) → object (settings_members key value all one) ≡ object (settings_members key value all other) → one ≡ other
+same-config key value changed all kinds whole one other trees =
+    let members : settings_members key value all one ≡ settings_members key value all other = cc in
+    sym (whole one one) ∙ same-filled key value changed kinds all one other one members ∙ whole other one
 
-same_event : (one other : EventConfig) → settings_tree (Event one) ≡ settings_tree (Event other) → one ≡ other
-same_event one other trees =
-    let told : (setting : EventSetting) → Some (value_tree (event.value setting one)) ≡ Some (value_tree (event.value setting other)) =
-    λ setting. sym (event_told setting one) ∙ ap (λ d. get (event.key setting) d) trees ∙ event_told setting other in
-    let deadline = same-option one.deadline other.deadline (told event_setting.Deadline) in
-    let event_id_max_value = same-natural one.event_id_max_value other.event_id_max_value (told event_setting.EventIdMaxValue) in
-    let max_listeners = same-natural one.max_listeners other.max_listeners (told event_setting.MaxListeners) in
-    let max_nodes = same-natural one.max_nodes other.max_nodes (told event_setting.MaxNodes) in
-    let max_notifiers = same-natural one.max_notifiers other.max_notifiers (told event_setting.MaxNotifiers) in
-    let notifier_created_event = same-option one.notifier_created_event other.notifier_created_event (told event_setting.NotifierCreatedEvent) in
-    let notifier_dead_event = same-option one.notifier_dead_event other.notifier_dead_event (told event_setting.NotifierDeadEvent) in
-    let notifier_dropped_event = same-option one.notifier_dropped_event other.notifier_dropped_event (told event_setting.NotifierDroppedEvent) in
-    λ i. record { deadline = deadline i; event_id_max_value = event_id_max_value i; max_listeners = max_listeners i; max_nodes = max_nodes i; max_notifiers = max_notifiers i; notifier_created_event = notifier_created_event i; notifier_dead_event = notifier_dead_event i; notifier_dropped_event = notifier_dropped_event i }
+publish_subscribe_kinds : (setting : PublishSubscribeSetting) (one other : PublishSubscribeConfig) → kind (publish_subscribe.value setting one) ≡ kind (publish_subscribe.value setting other)
+publish_subscribe_kinds = elim [ publish_subscribe_setting.EnableSafeOverflow ↦ λ one other. refl | publish_subscribe_setting.HistorySize ↦ λ one other. refl | publish_subscribe_setting.MaxNodes ↦ λ one other. refl | publish_subscribe_setting.MaxPublishers ↦ λ one other. refl | publish_subscribe_setting.MaxSubscribers ↦ λ one other. refl | publish_subscribe_setting.SubscriberMaxBorrowedSamples ↦ λ one other. refl | publish_subscribe_setting.SubscriberMaxBufferSize ↦ λ one other. refl | publish_subscribe_setting.Types ↦ λ one other. refl ]
 
--- ---- settings of a request-response service
+event_kinds : (setting : EventSetting) (one other : EventConfig) → kind (event.value setting one) ≡ kind (event.value setting other)
+event_kinds = elim [ event_setting.Deadline ↦ λ one other. refl | event_setting.EventIdMaxValue ↦ λ one other. refl | event_setting.MaxListeners ↦ λ one other. refl | event_setting.MaxNodes ↦ λ one other. refl | event_setting.MaxNotifiers ↦ λ one other. refl | event_setting.NotifierCreatedEvent ↦ λ one other. refl | event_setting.NotifierDeadEvent ↦ λ one other. refl | event_setting.NotifierDroppedEvent ↦ λ one other. refl ]
 
-request_response_told : (setting : RequestResponseSetting) (config : RequestResponseConfig) → get (request_response.key setting) (settings_tree (RequestResponse config)) ≡ Some (value_tree (request_response.value setting config))
-request_response_told request_response_setting.EnableFireAndForgetRequests config = refl
-request_response_told request_response_setting.EnableSafeOverflowForRequests config = refl
-request_response_told request_response_setting.EnableSafeOverflowForResponses config = refl
-request_response_told request_response_setting.MaxActiveRequestsPerClient config = refl
-request_response_told request_response_setting.MaxBorrowedResponsesPerPendingResponse config = refl
-request_response_told request_response_setting.MaxClients config = refl
-request_response_told request_response_setting.MaxLoanedRequests config = refl
-request_response_told request_response_setting.MaxNodes config = refl
-request_response_told request_response_setting.MaxResponseBufferSize config = refl
-request_response_told request_response_setting.MaxServers config = refl
-request_response_told request_response_setting.RequestTypes config = refl
-request_response_told request_response_setting.ResponseTypes config = refl
-
-same_request_response : (one other : RequestResponseConfig) → settings_tree (RequestResponse one) ≡ settings_tree (RequestResponse other) → one ≡ other
-same_request_response one other trees =
-    let told : (setting : RequestResponseSetting) → Some (value_tree (request_response.value setting one)) ≡ Some (value_tree (request_response.value setting other)) =
-    λ setting. sym (request_response_told setting one) ∙ ap (λ d. get (request_response.key setting) d) trees ∙ request_response_told setting other in
-    let enable_fire_and_forget_requests = same-boolean one.enable_fire_and_forget_requests other.enable_fire_and_forget_requests (told request_response_setting.EnableFireAndForgetRequests) in
-    let enable_safe_overflow_for_requests = same-boolean one.enable_safe_overflow_for_requests other.enable_safe_overflow_for_requests (told request_response_setting.EnableSafeOverflowForRequests) in
-    let enable_safe_overflow_for_responses = same-boolean one.enable_safe_overflow_for_responses other.enable_safe_overflow_for_responses (told request_response_setting.EnableSafeOverflowForResponses) in
-    let max_active_requests_per_client = same-natural one.max_active_requests_per_client other.max_active_requests_per_client (told request_response_setting.MaxActiveRequestsPerClient) in
-    let max_borrowed_responses_per_pending_response = same-natural one.max_borrowed_responses_per_pending_response other.max_borrowed_responses_per_pending_response (told request_response_setting.MaxBorrowedResponsesPerPendingResponse) in
-    let max_clients = same-natural one.max_clients other.max_clients (told request_response_setting.MaxClients) in
-    let max_loaned_requests = same-natural one.max_loaned_requests other.max_loaned_requests (told request_response_setting.MaxLoanedRequests) in
-    let max_nodes = same-natural one.max_nodes other.max_nodes (told request_response_setting.MaxNodes) in
-    let max_response_buffer_size = same-natural one.max_response_buffer_size other.max_response_buffer_size (told request_response_setting.MaxResponseBufferSize) in
-    let max_servers = same-natural one.max_servers other.max_servers (told request_response_setting.MaxServers) in
-    let request_types = same-types one.request_types other.request_types (told request_response_setting.RequestTypes) in
-    let response_types = same-types one.response_types other.response_types (told request_response_setting.ResponseTypes) in
-    λ i. record { enable_fire_and_forget_requests = enable_fire_and_forget_requests i; enable_safe_overflow_for_requests = enable_safe_overflow_for_requests i; enable_safe_overflow_for_responses = enable_safe_overflow_for_responses i; max_active_requests_per_client = max_active_requests_per_client i; max_borrowed_responses_per_pending_response = max_borrowed_responses_per_pending_response i; max_clients = max_clients i; max_loaned_requests = max_loaned_requests i; max_nodes = max_nodes i; max_response_buffer_size = max_response_buffer_size i; max_servers = max_servers i; request_types = request_types i; response_types = response_types i }
-
--- ---- settings of any pattern
+request_response_kinds : (setting : RequestResponseSetting) (one other : RequestResponseConfig) → kind (request_response.value setting one) ≡ kind (request_response.value setting other)
+request_response_kinds = elim [ request_response_setting.EnableFireAndForgetRequests ↦ λ one other. refl | request_response_setting.EnableSafeOverflowForRequests ↦ λ one other. refl | request_response_setting.EnableSafeOverflowForResponses ↦ λ one other. refl | request_response_setting.MaxActiveRequestsPerClient ↦ λ one other. refl | request_response_setting.MaxBorrowedResponsesPerPendingResponse ↦ λ one other. refl | request_response_setting.MaxClients ↦ λ one other. refl | request_response_setting.MaxLoanedRequests ↦ λ one other. refl | request_response_setting.MaxNodes ↦ λ one other. refl | request_response_setting.MaxResponseBufferSize ↦ λ one other. refl | request_response_setting.MaxServers ↦ λ one other. refl | request_response_setting.RequestTypes ↦ λ one other. refl | request_response_setting.ResponseTypes ↦ λ one other. refl ]
 
 same-settings : (one other : Settings) → settings_tree one ≡ settings_tree other → pattern_word (pattern_of one) ≡ pattern_word (pattern_of other) → one ≡ other
-same-settings (PublishSubscribe one) (PublishSubscribe other) trees words = ap (λ config. PublishSubscribe config) (same_publish_subscribe one other trees)
+same-settings (PublishSubscribe one) (PublishSubscribe other) trees words =
+    ap (λ config. PublishSubscribe config) (same-config publish_subscribe.key publish_subscribe.value publish_subscribe.changed publish_subscribe.all publish_subscribe_kinds (λ target config. refl) one other trees)
 same-settings (PublishSubscribe one) (Event other) trees words = absurd cc
 same-settings (PublishSubscribe one) (RequestResponse other) trees words = absurd cc
 same-settings (Event one) (PublishSubscribe other) trees words = absurd cc
-same-settings (Event one) (Event other) trees words = ap (λ config. Event config) (same_event one other trees)
+same-settings (Event one) (Event other) trees words =
+    ap (λ config. Event config) (same-config event.key event.value event.changed event.all event_kinds (λ target config. refl) one other trees)
 same-settings (Event one) (RequestResponse other) trees words = absurd cc
 same-settings (RequestResponse one) (PublishSubscribe other) trees words = absurd cc
 same-settings (RequestResponse one) (Event other) trees words = absurd cc
-same-settings (RequestResponse one) (RequestResponse other) trees words = ap (λ config. RequestResponse config) (same_request_response one other trees)
+same-settings (RequestResponse one) (RequestResponse other) trees words =
+    ap (λ config. RequestResponse config) (same-config request_response.key request_response.value request_response.changed request_response.all request_response_kinds (λ target config. refl) one other trees)
 
 -- ---- attributes
 

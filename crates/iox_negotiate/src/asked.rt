@@ -2,13 +2,12 @@
 ghost use Rattle.std.specs.Prelude.{◌≡◌, None};
 ghost use Rattle.iox_negotiate_base.specs.DescribeBase.Hash.{service_hash_of};
 ghost use Rattle.iox_negotiate_base.specs.DescribeSettings.Agreement.{agreement};
-ghost use Rattle.iox_negotiate_base.specs.Describe.Within.{HasForm, IsWithinLimits};
+ghost use Rattle.iox_negotiate_base.specs.Describe.Within.{IsWithinLimits};
 ghost use Rattle.iox_negotiate.specs.Asked.{IsRefusal};
 
+use crate::laws::parts_have_form;
 use iox_describe::pattern::{Pattern, describe};
-use iox_describe::{
-    AttributeSpecifier, Description, ServiceHash, ServiceName, Settings, service_hash,
-};
+use iox_describe::{AttributeSpecifier, Description, ServiceHash, ServiceName, service_hash};
 use iox_negotiate_base::{CreateFailure, Request};
 use std::alloc::{AllocError, Global};
 
@@ -49,7 +48,7 @@ impl<'a, P: Pattern> Asked<'a, P> {
     {
         let config = P::adjusted(P::asked(requirement));
         let hash = service_hash(P::pattern(), &name);
-        have_form(&name, hash, P::settings(config), attributes);
+        parts_have_form(name, hash, P::settings(config), attributes);
         Asked {
             name,
             hash,
@@ -62,19 +61,15 @@ impl<'a, P: Pattern> Asked<'a, P> {
     }
 }
 
-/// What a description is made of has the form of one. It does nothing: a proof cites by it what holds of these parts.
-fn have_form(
-    name: &ServiceName,
-    hash: ServiceHash,
-    settings: Settings,
-    attributes: &AttributeSpecifier,
-)
-    ensures { HasForm (agreement name.now hash settings attributes.now) }
+/// Why no service is created with the settings of a requirement, if that is so. It is told of the requirement alone, and takes no memory.
+///
+/// This port's own.
+/// Example: `let failure = settings_refusal::<PublishSubscribe>(&requirement);`
+pub fn settings_refusal<P: Pattern>(requirement: &P::Requirement) -> Option<CreateFailure>
+    ensures { let config = P.adjusted (P.asked requirement.now) in IsRefusal (P.IsWithinLimits config) (P.IsHistoryTooLong config)
+        result }
 {
-    let _name = name.as_bytes();
-    let _attributes = attributes.as_slice();
-    let _settings = settings;
-    let _hash = hash;
+    refusal_of::<P>(&P::adjusted(P::asked(requirement)))
 }
 
 /// Why no service is created with these settings.

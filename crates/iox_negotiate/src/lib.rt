@@ -29,7 +29,7 @@ pub mod patterns;
 pub mod payload;
 pub mod whole_calls;
 
-pub use asked::Asked;
+pub use asked::{Asked, settings_refusal};
 pub use builder::{Builder, ServiceBuilder};
 pub use factory::{Membership, NotClosed, PortFactory};
 pub use patterns::Negotiated;

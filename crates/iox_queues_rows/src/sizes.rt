@@ -83,24 +83,27 @@ const POP: [Move; 6] = [
     Move::GoOn(Party::Consumer),
 ];
 
-/// How many pops end, of as many as are begun.
-fn popped(machine: &mut RingMachine, size: usize) -> usize {
-    for _ in 0..size {
+/// How many pops end, of as many as are begun; one that doesn't end found no memory.
+fn popped(machine: &mut RingMachine, size: usize) -> Result<usize, AllocError> {
+    for count in 0..size {
         if machine.moments() < 1 << 40 {
             let _ = machine.run(&POP);
         }
+        if machine.pops().len() == count {
+            return Err(AllocError);
+        }
     }
-    machine.pops().len()
+    Ok(machine.pops().len())
 }
 
 /// The pops of a ring in which as many numbers wait as there is room for.
 fn refusing_ring(alloc: Global, size: usize) -> Result<usize, AllocError> {
     let waiting = vec![in alloc; 7u64; size]?;
     let limit = waiting.len() as u64;
-    Ok(popped(
+    popped(
         &mut RingMachine::refusing(alloc, limit, waiting.as_slice())?,
         size,
-    ))
+    )
 }
 
 fn overflowing_ring(alloc: Global, size: usize) -> Result<usize, AllocError> {
@@ -109,13 +112,13 @@ fn overflowing_ring(alloc: Global, size: usize) -> Result<usize, AllocError> {
     if limit == 0 {
         return Ok(size);
     }
-    Ok(popped(
+    popped(
         &mut RingMachine::overflowing(alloc, limit, waiting.as_slice())?,
         size,
-    ))
+    )
 }
 
-/// How many calls end in a set of as many places as parties, each of which sets its own.
+/// How many calls end in a set of as many places as parties, each of which sets its own; one that doesn't end found no memory.
 fn set_machine(alloc: Global, size: usize) -> Result<usize, AllocError> {
     if size == 0 {
         return Ok(size);
@@ -125,6 +128,9 @@ fn set_machine(alloc: Global, size: usize) -> Result<usize, AllocError> {
         let go_on = sets::Move::GoOn(party);
         let set = sets::Move::Begin(party, sets::Call::Set(party as u64));
         let _ = machine.run(&[set, go_on, go_on, go_on]);
+        if machine.finished().len() == party {
+            return Err(AllocError);
+        }
     }
     Ok(machine.finished().len())
 }

@@ -1,20 +1,20 @@
 -- What a script is answered, line by line.
 use Rattle.std.specs.Prelude.{◌≡◌, ◌++◌, ℕ, Bool, List, [], Option, Result, Ok, Err, codes}
 use Rattle.std.specs.declared.alloc.AllocError.{AllocError}
-use Rattle.iox_hub_run.specs.Command.declared.command.Command.{Command}
-use Rattle.iox_hub_run.specs.Command.declared.reply.Reply.{Reply}
+use Rattle.iox_hub_commands.specs.Command.declared.command.Command.{Command}
+use Rattle.iox_hub_commands.specs.Command.declared.reply.Reply.{Reply}
 use Rattle.iox_conversation.specs.Conversation.{BreaksOff, WritesABeginning}
 use Rattle.iox_conversation.specs.declared.error.ServeError.{ServeError}
 use Rattle.iox_line.specs.DescribeBase.Detail.{Detail, detail}
 use Rattle.iox_line.specs.DescribeBase.declared.type_detail.TypeVariant.TheVariants.{FixedSize}
 use Rattle.iox_line.specs.DomainValues.Actions.{decision_of}
-use Rattle.iox_hub_run.specs.HubBase.declared.hub.HubConfig.{HubConfig}
-use Rattle.iox_hub_run.specs.HubCommands.declared.handlers.FixedDegradation.{FixedDegradation}
-use Rattle.iox_hub_run.specs.HubCommands.declared.handlers.FixedHandlers.{FixedHandlers}
-use Rattle.iox_hub_run.specs.HubCommands.Asked.{types_of}
-use Rattle.iox_hub_run.specs.Numbers.{IsNew, numbers_used}
-use Rattle.iox_hub_run.specs.Steps.{Step}
-use Rattle.iox_hub_run.specs.declared.numbered_hub.NumberedHub.{NumberedHub}
+use Rattle.iox_hub_commands.specs.HubBase.declared.hub.HubConfig.{HubConfig}
+use Rattle.iox_hub_commands.specs.declared.handlers.FixedDegradation.{FixedDegradation}
+use Rattle.iox_hub_commands.specs.declared.handlers.FixedHandlers.{FixedHandlers}
+use Rattle.iox_hub_commands.specs.Asked.{types_of}
+use Rattle.iox_hub_commands.specs.Numbers.{IsNew, numbers_used}
+use Rattle.iox_hub_commands.specs.CommandSteps.{Step}
+use Rattle.iox_hub_commands.specs.declared.numbered_hub.NumberedHub.{NumberedHub}
 use Rattle.iox_line.specs.LineFault.{fault_text}
 use Rattle.iox_line.specs.Outcome.{Answers}
 use Rattle.iox_line.specs.ReplyText.{reply_text}

@@ -3,7 +3,7 @@
 //! The contract of `serve` says that, for any reader and writer that tell their bytes, what was written are the reply
 //! lines, in order, of the lines read, and that those of commands are a run of the hub's machine:
 //! `specs/Conversation.antt`. How lines are read and answered is `iox_conversation`'s; which bytes spell a command, and the
-//! bytes of each reply, are `iox_line`'s; what a command does is `iox_hub_run`'s.
+//! bytes of each reply, are `iox_line`'s; what a command does is `iox_hub_commands`'s.
 //!
 //! | Module | What it has |
 //! |---|---|
@@ -22,6 +22,6 @@
 pub mod script;
 
 pub use iox_conversation::{Input, Output, READ_CALLS, ServeError, status};
-pub use iox_hub_run::HubConfig;
+pub use iox_hub_commands::HubConfig;
 pub use iox_line::{LineError, Scratch, print_reply, read_command};
 pub use script::{Script, serve};

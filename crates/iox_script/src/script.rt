@@ -4,13 +4,13 @@ ghost use Rattle.std.specs.Io.{StartsWith};
 ghost use Rattle.std.specs.Io.KnownBytes.{Appends};
 ghost use Rattle.iox_conversation.specs.Conversation.{IsConversation};
 ghost use Rattle.iox_conversation.specs.declared.error.ServeError.TheVariants as failed;
-ghost use Rattle.iox_hub_run.specs.Numbers.{numbers_used};
+ghost use Rattle.iox_hub_commands.specs.Numbers.{numbers_used};
 ghost use Rattle.iox_line.specs.LineFault.{fault_text};
 ghost use Rattle.iox_script.specs.Conversation.{AnswersLine, IsNewScript, BreaksOffAnew, WritesABeginningAnew};
 ghost use Rattle.iox_script.specs.declared.script.Script.{Script};
 
 use iox_conversation::{AnswersLines, Input, Output, ServeError};
-use iox_hub_run::{FixedDegradation, FixedHandlers, HubConfig, NumberedHub};
+use iox_hub_commands::{FixedDegradation, FixedHandlers, HubConfig, NumberedHub};
 use iox_line::{LineError, Scratch, print_reply, read_command, read_port_command};
 use std::alloc::{AllocError, Global};
 use std::io::{Read, Write};

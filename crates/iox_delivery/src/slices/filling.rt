@@ -9,7 +9,7 @@ ghost use Rattle.iox_delivery.specs.Slices.{each_written, WritesAll, WritesEach,
 
 use crate::{PortId, publishing};
 use iox_domain::{Home, calls};
-use iox_domain_publisher::PublisherPort;
+use iox_domain_ports::PublisherPort;
 use iox_domain_values::LoanError;
 use std::alloc::Global;
 

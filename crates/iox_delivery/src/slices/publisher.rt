@@ -1,107 +1,35 @@
 //! A publisher of slices.
 ghost use Rattle.iox_domain.specs.Homes as homes;
-ghost use Rattle.std.specs.Prelude.{◌≡◌, ◌&&◌, true, false, not, replicate, IfOk, is_ok};
-ghost use Rattle.iox_domain.specs.Steps.{UpdatesBy};
+ghost use Rattle.std.specs.Prelude.{◌≡◌, true, false, replicate, IfOk};
 ghost use Rattle.iox_delivery.specs.Lent.{IsReady};
-ghost use Rattle.iox_delivery.specs.Holding.{publisher_stands, publisher_blocked, left_or_given_back};
-ghost use Rattle.iox_delivery.specs.Publishing.{PublisherGoes, EndsPublisher};
+ghost use Rattle.iox_delivery.specs.Holding.{publisher_stands, publisher_blocked};
 ghost use Rattle.iox_delivery.specs.Custom.{LendsElements, values_of};
 ghost use Rattle.iox_delivery.specs.Slices.{LendsSlice, LendsDefaults, SendsSlice};
 
+use crate::kind::Slice;
 use crate::slices::filling;
 use crate::slices::sample_mut::SampleMut;
 use crate::slices::sample_mut_uninit::SampleMutUninit;
-use crate::{PortId, Sent, UpdateConnections, lending, publishing};
+use crate::{PortId, Sent, lending, publisher, publishing};
 use iox_domain::settings::CustomPayloadMarker;
-use iox_domain::{DomainId, Home, calls};
-use iox_domain_values::{BackpressureStrategy, ConnectionFailure, LoanError, SendError};
+use iox_domain::{Home, calls};
+use iox_domain_values::{LoanError, SendError};
 use std::alloc::Global;
-use std::marker::PhantomData;
 
 /// A publisher of slices. It stands until it leaves.
 ///
 /// Ported from `iceoryx2::port::publisher::Publisher`.
-pub struct Publisher<T, U> {
-    port: PortId,
-    strategy: BackpressureStrategy,
-    initial_max_slice_len: usize,
-    of: PhantomData<(T, U)>,
-}
+pub type Publisher<T, U> = publisher::Publisher<T, U, Slice>;
 
 impl<T: Copy, U: Copy> Publisher<T, U> {
-    /// The publisher that was made under a number, as a value. It is to be had once.
-    ///
-    /// This port's own: what makes ports by number hands them out so.
-    /// Example: `let publisher = Publisher::of_port(port, BackpressureStrategy::DiscardData, 8);`
-    pub fn of_port(
-        port: PortId,
-        strategy: BackpressureStrategy,
-        initial_max_slice_len: usize,
-    ) -> Self
-        ensures port { result.port ≡ port }
-        ensures strategy { result.strategy ≡ strategy }
-        ensures initial_max_slice_len { result.initial_max_slice_len ≡ initial_max_slice_len }
-    {
-        Publisher {
-            port,
-            strategy,
-            initial_max_slice_len,
-            of: PhantomData,
-        }
-    }
-
-    /// Its number in its domain.
-    ///
-    /// Ported from `iceoryx2::port::publisher::Publisher::id`, with a number of 64 bits.
-    /// Example: `let number = publisher.id();`
-    pub fn id(&self) -> u64
-        ensures { result ≡ self.now.port.number }
-    {
-        self.port.number
-    }
-
-    /// The id of its domain.
-    /// Example: `let domain = publisher.domain();`
-    pub fn domain(&self) -> DomainId
-        ensures { result ≡ self.now.port.domain }
-    {
-        self.port.domain
-    }
-
-    /// What it does at a full mailbox where no handler decides.
-    ///
-    /// Ported from `iceoryx2::port::publisher::Publisher::backpressure_strategy`.
-    /// Example: `let strategy = publisher.backpressure_strategy();`
-    pub fn backpressure_strategy(&self) -> BackpressureStrategy
-        ensures { result ≡ self.now.strategy }
-    {
-        self.strategy
-    }
-
     /// How many values a loan might have at first.
     ///
     /// Ported from `iceoryx2::port::publisher::Publisher::initial_max_slice_len`.
     /// Example: `let values = publisher.initial_max_slice_len();`
     pub fn initial_max_slice_len(&self) -> usize
-        ensures { result ≡ self.now.initial_max_slice_len }
+        ensures { result ≡ self.now.side.initial_max_slice_len }
     {
-        self.initial_max_slice_len
-    }
-
-    /// Whether it stands in this home: the condition of its calls.
-    /// Example: `let is_there = publisher.holds(home);`
-    pub fn holds<H: Home<T, U>>(&self, home: &H) -> bool
-        ensures { result ≡ publisher_stands self.now.port.number (homes.ports_of H.domain_of self.now.port.domain home.now) }
-    {
-        publishing::holds(self.port, home)
-    }
-
-    /// Whether a send of it waits: that it doesn't is the condition of its calls.
-    /// Example: `let waits = publisher.is_blocked(home);`
-    pub fn is_blocked<H: Home<T, U>>(&self, home: &H) -> bool
-        ensures { result ≡ publisher_blocked self.now.port.number (homes.ports_of H.domain_of self.now.port.domain home.now) }
-    {
-        publishing::is_blocked(self.port, home)
+        self.side.initial_max_slice_len
     }
 
     /// Lends so many values to be written. It is refused as `ServicePorts::loan` says: with `ExceedsMaxLoanSize` where that is
@@ -171,55 +99,6 @@ impl<T: Copy, U: Copy> Publisher<T, U> {
         filling::write_all(self.port, slot, home, values);
         lending::send(self.port, slot, alloc, home)
     }
-
-    /// Its port, of which `of_port` makes a value again. The publisher stays.
-    ///
-    /// This port's own.
-    /// Example: `let port = publisher.into_port();`
-    pub fn into_port(self) -> PortId
-        ensures { result ≡ self.port }
-    {
-        let Publisher {
-            port,
-            strategy: _,
-            initial_max_slice_len: _,
-            of: _,
-        } = self;
-        port
-    }
-
-    /// Lets it go: it leaves as by `leave`, if it exists and no send of it waits. Else nothing happens, and it is given back: it can leave
-    /// its own home once that send has ended.
-    ///
-    /// Ported from dropping an `iceoryx2::port::publisher::Publisher`.
-    /// Example: `let stays = publisher.drop_with(home).err();`
-    pub fn drop_with<H: Home<T, U>>(self, home: &mut H) -> Result<(), Self>
-        ensures ends { EndsPublisher (homes.ports_of H.domain_of) (homes.with_ports H.changed) (homes.without_publisher H.changed)
-            self.port home.old (is_ok result) home.new }
-        ensures left { result ≡ left_or_given_back
-            (publisher_stands self.port.number (homes.ports_of H.domain_of self.port.domain home.old)
-            && not (publisher_blocked self.port.number (homes.ports_of H.domain_of self.port.domain home.old))) self }
-    {
-        if publishing::drop_port(self.port, home) {
-            let _ = self.into_port();
-            Ok(())
-        } else {
-            Err(self)
-        }
-    }
-
-    /// Leaves: what was sent stays to be read, and what is lent can't be sent any longer. Its handlers are dropped.
-    ///
-    /// Ported from dropping an `iceoryx2::port::publisher::Publisher`.
-    /// Example: `publisher.leave(home);`
-    pub fn leave<H: Home<T, U>>(self, home: &mut H)
-        requires holds { publisher_stands self.port.number (homes.ports_of H.domain_of self.port.domain home.old) ≡ true }
-        requires free { publisher_blocked self.port.number (homes.ports_of H.domain_of self.port.domain home.old) ≡ false }
-        ensures { PublisherGoes (homes.ports_of H.domain_of) (homes.with_ports H.changed) (homes.without_publisher H.changed) self.port
-            home.old home.new }
-    {
-        publishing::leave(self.into_port(), home);
-    }
 }
 
 impl<U: Copy> Publisher<CustomPayloadMarker, U> {
@@ -255,21 +134,5 @@ fn values_of<T: Copy, U: Copy, H: Home<T, U>>(port: PortId, elements: usize, hom
     match ports.publishers.get(port.number) {
         Some(publisher) => elements.saturating_mul(publisher.unit),
         None => 0,
-    }
-}
-
-impl<T: Copy, U: Copy> UpdateConnections<T, U> for Publisher<T, U> {
-    ghost port_of = { λ publisher. publisher.port };
-
-    ghost may_follow = { λ number ports. publisher_stands number ports && not (publisher_blocked number ports) };
-
-    ghost follows = { λ publishers subscribers number. UpdatesBy publishers number };
-
-    fn update_connections<H: Home<T, U>>(
-        &self,
-        alloc: Global,
-        home: &mut H,
-    ) -> Result<(), ConnectionFailure> {
-        publishing::update(self.port, alloc, home)
     }
 }

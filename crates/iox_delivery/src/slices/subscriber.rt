@@ -1,161 +1,21 @@
 //! A subscriber of slices.
 ghost use Rattle.iox_domain.specs.Homes as homes;
-ghost use Rattle.std.specs.Prelude.{◌≡◌, true, is_ok};
-ghost use Rattle.iox_domain.specs.Steps.{FollowsBy};
-ghost use Rattle.iox_delivery.specs.Holding.{subscriber_stands, left_or_given_back};
-ghost use Rattle.iox_delivery.specs.Subscribing.{TellsSamples, SubscriberGoes, EndsSubscriber};
-ghost use Rattle.iox_delivery.specs.Slices.{ReceivesSlice};
+ghost use Rattle.std.specs.Prelude.{◌≡◌, true};
+ghost use Rattle.iox_delivery.specs.Holding.{subscriber_stands};
+ghost use Rattle.iox_delivery.specs.Subscribing.{ReceivesSample};
 
+use crate::kind::Slice;
 use crate::slices::sample::Sample;
-use crate::{PortId, UpdateConnections, subscribing};
+use crate::subscriber;
+use iox_domain::Home;
 use iox_domain::settings::CustomPayloadMarker;
-use iox_domain::{DomainId, Home};
-use iox_domain_values::{ConnectionFailure, ReceiveError};
+use iox_domain_values::ReceiveError;
 use std::alloc::Global;
-use std::marker::PhantomData;
 
 /// A subscriber of slices. It stands until it leaves.
 ///
 /// Ported from `iceoryx2::port::subscriber::Subscriber`.
-pub struct Subscriber<T, U> {
-    port: PortId,
-    buffer_size: usize,
-    of: PhantomData<(T, U)>,
-}
-
-impl<T: Copy, U: Copy> Subscriber<T, U> {
-    /// The subscriber that was made under a number, as a value. It is to be had once.
-    ///
-    /// This port's own: what makes ports by number hands them out so.
-    /// Example: `let subscriber = Subscriber::of_port(port, 4);`
-    pub fn of_port(port: PortId, buffer_size: usize) -> Self
-        ensures port { result.port ≡ port }
-        ensures buffer_size { result.buffer_size ≡ buffer_size }
-    {
-        Subscriber {
-            port,
-            buffer_size,
-            of: PhantomData,
-        }
-    }
-
-    /// Its number in its domain.
-    ///
-    /// Ported from `iceoryx2::port::subscriber::Subscriber::id`, with a number of 64 bits.
-    /// Example: `let number = subscriber.id();`
-    pub fn id(&self) -> u64
-        ensures { result ≡ self.now.port.number }
-    {
-        self.port.number
-    }
-
-    /// The id of its domain.
-    /// Example: `let domain = subscriber.domain();`
-    pub fn domain(&self) -> DomainId
-        ensures { result ≡ self.now.port.domain }
-    {
-        self.port.domain
-    }
-
-    /// How many messages of one publisher may wait for it.
-    ///
-    /// Ported from `iceoryx2::port::subscriber::Subscriber::buffer_size`.
-    /// Example: `let most = subscriber.buffer_size();`
-    pub fn buffer_size(&self) -> usize
-        ensures { result ≡ self.now.buffer_size }
-    {
-        self.buffer_size
-    }
-
-    /// Whether it stands in this home: the condition of its calls.
-    /// Example: `let is_there = subscriber.holds(home);`
-    pub fn holds<H: Home<T, U>>(&self, home: &H) -> bool
-        ensures { result ≡ subscriber_stands self.now.port.number (homes.ports_of H.domain_of self.now.port.domain home.now) }
-    {
-        subscribing::holds(self.port, home)
-    }
-
-    /// Whether some connection of it has data, after it followed the publishers: it fails where that does.
-    ///
-    /// Ported from `iceoryx2::port::subscriber::Subscriber::has_samples`.
-    /// Example: `let has = subscriber.has_samples(alloc, home)?;`
-    pub fn has_samples<H: Home<T, U>>(
-        &self,
-        alloc: Global,
-        home: &mut H,
-    ) -> Result<bool, ConnectionFailure>
-        requires { subscriber_stands self.now.port.number (homes.ports_of H.domain_of self.now.port.domain home.old) ≡ true }
-        ensures { TellsSamples (homes.ports_of H.domain_of) (homes.with_ports H.changed)
-            (homes.subscriber_degrades (λ kept. H.ForSubscribers.degrades kept) H.domain_of) self.now.port home.old result home.new }
-    {
-        subscribing::has_samples(self.port, alloc, home)
-    }
-
-    /// Receives the next message, if one waits: `ServicePorts::receive` says which, and when it is refused. It is held until it
-    /// is released.
-    ///
-    /// Ported from `iceoryx2::port::subscriber::Subscriber::receive`.
-    /// Example: `let sample = subscriber.receive(alloc, home)?;`
-    pub fn receive<H: Home<T, U>>(
-        &self,
-        alloc: Global,
-        home: &mut H,
-    ) -> Result<Option<Sample<T, U>>, ReceiveError>
-        requires { subscriber_stands self.now.port.number (homes.ports_of H.domain_of self.now.port.domain home.old) ≡ true }
-        ensures { ReceivesSlice (homes.ports_of H.domain_of) (homes.with_ports H.changed)
-            (homes.subscriber_degrades (λ kept. H.ForSubscribers.degrades kept) H.domain_of) self.now.port home.old result home.new }
-    {
-        match subscribing::take(self.port, alloc, home)? {
-            Some(taken) => Ok(Some(Sample::of_taken(self.port, taken))),
-            None => Ok(None),
-        }
-    }
-
-    /// Its port, of which `of_port` makes a value again. The subscriber stays.
-    ///
-    /// This port's own.
-    /// Example: `let port = subscriber.into_port();`
-    pub fn into_port(self) -> PortId
-        ensures { result ≡ self.port }
-    {
-        let Subscriber {
-            port,
-            buffer_size: _,
-            of: _,
-        } = self;
-        port
-    }
-
-    /// Lets it go: it leaves as by `leave`, if it exists. Else nothing happens, and it is given back: it can leave its own home.
-    ///
-    /// Ported from dropping an `iceoryx2::port::subscriber::Subscriber`.
-    /// Example: `let stays = subscriber.drop_with(home).err();`
-    pub fn drop_with<H: Home<T, U>>(self, home: &mut H) -> Result<(), Self>
-        ensures ends { EndsSubscriber (homes.ports_of H.domain_of) (homes.with_ports H.changed) (homes.without_subscriber H.changed)
-            self.port home.old (is_ok result) home.new }
-        ensures left { result ≡ left_or_given_back
-            (subscriber_stands self.port.number (homes.ports_of H.domain_of self.port.domain home.old)) self }
-    {
-        if subscribing::drop_port(self.port, home) {
-            let _ = self.into_port();
-            Ok(())
-        } else {
-            Err(self)
-        }
-    }
-
-    /// Leaves: the samples that it holds stay to be read and released. Its handler is dropped.
-    ///
-    /// Ported from dropping an `iceoryx2::port::subscriber::Subscriber`.
-    /// Example: `subscriber.leave(home);`
-    pub fn leave<H: Home<T, U>>(self, home: &mut H)
-        requires { subscriber_stands self.port.number (homes.ports_of H.domain_of self.port.domain home.old) ≡ true }
-        ensures { SubscriberGoes (homes.ports_of H.domain_of) (homes.with_ports H.changed) (homes.without_subscriber H.changed)
-            self.port home.old home.new }
-    {
-        subscribing::leave(self.into_port(), home);
-    }
-}
+pub type Subscriber<T, U> = subscriber::Subscriber<T, U, Slice>;
 
 impl<U: Copy> Subscriber<CustomPayloadMarker, U> {
     /// Receives the next message of a payload that only the description says, as `receive` does: all bytes of its elements.
@@ -168,25 +28,9 @@ impl<U: Copy> Subscriber<CustomPayloadMarker, U> {
         home: &mut H,
     ) -> Result<Option<Sample<CustomPayloadMarker, U>>, ReceiveError>
         requires { subscriber_stands self.now.port.number (homes.ports_of H.domain_of self.now.port.domain home.old) ≡ true }
-        ensures { ReceivesSlice (homes.ports_of H.domain_of) (homes.with_ports H.changed)
+        ensures { ReceivesSample (homes.ports_of H.domain_of) (homes.with_ports H.changed)
             (homes.subscriber_degrades (λ kept. H.ForSubscribers.degrades kept) H.domain_of) self.now.port home.old result home.new }
     {
         self.receive(alloc, home)
-    }
-}
-
-impl<T: Copy, U: Copy> UpdateConnections<T, U> for Subscriber<T, U> {
-    ghost port_of = { λ subscriber. subscriber.port };
-
-    ghost may_follow = { λ number ports. subscriber_stands number ports };
-
-    ghost follows = { λ publishers subscribers number. FollowsBy subscribers number };
-
-    fn update_connections<H: Home<T, U>>(
-        &self,
-        alloc: Global,
-        home: &mut H,
-    ) -> Result<(), ConnectionFailure> {
-        subscribing::update(self.port, alloc, home)
     }
 }

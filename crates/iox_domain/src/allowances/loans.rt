@@ -4,8 +4,8 @@ ghost use Rattle.iox_domain.specs.DomainValues.declared.degradation.DegradationC
 ghost use Rattle.iox_domain.specs.Loans.{spare_loans, loans_left, LoansLeft};
 
 use crate::ports::ServicePorts;
-use iox_domain_publisher::PublisherPort;
-use iox_domain_subscriber::living::add;
+use iox_domain_ports::PublisherPort;
+use iox_domain_ports::living::add;
 use iox_domain_values::{Decides, Degrades, Overrides};
 
 /// How many loans the publishers of a service may still make: each that didn't leave as many as it was made for, less those that are out.

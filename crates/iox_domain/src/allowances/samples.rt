@@ -11,8 +11,8 @@ ghost use Rattle.iox_domain.specs.SampleLaws.{SamplesLeft};
 ghost use Rattle.iox_domain.specs.Samples.{samples_left, samples_at_most, most_held, held_by_one};
 
 use crate::ports::ServicePorts;
-use iox_domain_subscriber::SubscriberPort;
-use iox_domain_subscriber::living::add;
+use iox_domain_ports::SubscriberPort;
+use iox_domain_ports::living::add;
 use iox_domain_values::{Decides, Degrades, Overrides, ServiceSizes};
 
 /// How many samples the subscribers of a service may hold at once: each that didn't leave as many as may be borrowed of a

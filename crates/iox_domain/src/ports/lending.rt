@@ -2,16 +2,16 @@
 ghost use Rattle.std.specs.Prelude.{◌≡◌, ℕ, length, is_some, None, option_copied, option_map};
 ghost use Rattle.std.specs.Borrow.{sem};
 ghost use Rattle.std.specs.Option.{option_copied_mut};
-ghost use Rattle.iox_domain_subscriber.specs.DomainPublisher.Messages.{write_value, write_all, write_user_header};
-ghost use Rattle.iox_domain_subscriber.specs.DomainPublisher.MessagesSending.{has_loan, has_place, has_length, is_written_loan};
-ghost use Rattle.iox_domain_subscriber.specs.DomainPublisher.Writing.{place_of, changed_if, value_at, values_at, given_up};
-ghost use Rattle.iox_domain_subscriber.specs.Publishers.{port_of, changed, settled};
+ghost use Rattle.iox_domain_ports.specs.Messages.{write_value, write_all, write_user_header};
+ghost use Rattle.iox_domain_ports.specs.MessagesSending.{has_loan, has_place, has_length, is_written_loan};
+ghost use Rattle.iox_domain_ports.specs.Writing.{place_of, changed_if, value_at, values_at, given_up};
+ghost use Rattle.iox_domain_ports.specs.Publishers.{port_of, changed, settled};
 ghost use Rattle.iox_domain.specs.Lending.{LoansOne, passes, written_in, loan_in, loan_header_in, gave_up_in};
 ghost use Rattle.iox_domain.specs.Ports.{AtPublisher};
 
 use crate::ports::service_ports::ServicePorts;
 use iox_describe_base::Header;
-use iox_domain_subscriber::PublisherPort;
+use iox_domain_ports::PublisherPort;
 use iox_domain_values::LoanError;
 use std::alloc::Global;
 

@@ -3,7 +3,7 @@ ghost use Rattle.std.specs.Prelude.{◌≡◌, ◌-◌, ◌^◌, min, None, Some
 ghost use Rattle.iox_domain.specs.Living.{living};
 
 use crate::ports::service_ports::ServicePorts;
-use iox_domain_subscriber::living::add;
+use iox_domain_ports::living::add;
 
 impl<T: Copy, U: Copy> ServicePorts<T, U> {
     /// How much of an owner lives: each of its ports until it leaves, each loan of its publishers until it is given up or sent, also of

@@ -1,12 +1,12 @@
 //! A publisher and a subscriber come.
 ghost use Rattle.std.specs.Prelude.{◌≡◌, ◌+◌, ◌<◌, ◌^◌, Some, IfSome};
-ghost use Rattle.iox_domain_subscriber.specs.DomainValues.declared.degradation.DegradationCause.TheVariants as cause;
-ghost use Rattle.iox_domain_subscriber.specs.DomainValues.Sizes.{buffer_of};
+ghost use Rattle.iox_domain_ports.specs.DomainValues.declared.degradation.DegradationCause.TheVariants as cause;
+ghost use Rattle.iox_domain_ports.specs.DomainValues.Sizes.{buffer_of};
 ghost use Rattle.iox_domain.specs.Subscribers.{subscriber_of};
 ghost use Rattle.iox_domain.specs.Making.{slots_needed, publisher_place, subscriber_place, publisher_refusal, subscriber_refusal, segments_of, sender_config, identity_of, AddsPublisher, CreatesPublisher, FollowsFirst, AddsSubscriber, CreatesSubscriber};
 
 use crate::ports::service_ports::ServicePorts;
-use iox_domain_subscriber::{
+use iox_domain_ports::{
     PublisherEntry, PublisherPort, SenderConfig, SubscriberEntry, SubscriberPort,
 };
 use iox_domain_values::{

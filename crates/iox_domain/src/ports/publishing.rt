@@ -1,13 +1,13 @@
 //! A publisher follows the subscribers, sends and leaves.
 ghost use Rattle.std.specs.Prelude.{◌≡◌, None};
-ghost use Rattle.iox_domain_subscriber.specs.DomainValues.declared.degradation.DegradationCause.TheVariants as cause;
-ghost use Rattle.iox_domain_subscriber.specs.Publishers.{port_of};
+ghost use Rattle.iox_domain_ports.specs.DomainValues.declared.degradation.DegradationCause.TheVariants as cause;
+ghost use Rattle.iox_domain_ports.specs.Publishers.{port_of};
 ghost use Rattle.iox_domain.specs.Ports.{AtPublisher};
 ghost use Rattle.iox_domain.specs.PortsPublishing.{UpdatesOne, SendsOne, RetriesOne, GivesUpOne, LeavesOne, LeavesAt};
 
 use crate::ports::roll::Roll;
 use crate::ports::service_ports::ServicePorts;
-use iox_domain_subscriber::{PublisherPort, Sent, SubscriberEntry};
+use iox_domain_ports::{PublisherPort, Sent, SubscriberEntry};
 use iox_domain_values::{ConnectionFailure, Decides, Degrades, SendError};
 use std::alloc::Global;
 

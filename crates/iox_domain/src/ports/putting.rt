@@ -1,8 +1,8 @@
 //! A publisher lends as many values as it is handed, writes them and sends them, at once.
 ghost use Rattle.std.specs.Prelude.{◌≡◌, true, false, None, Some, IsSome};
-ghost use Rattle.iox_domain_subscriber.specs.DomainValues.declared.degradation.DegradationCause.TheVariants as cause;
-ghost use Rattle.iox_domain_subscriber.specs.DomainPublisher.Loaning.{Loans};
-ghost use Rattle.iox_domain_subscriber.specs.Publishers.{port_of};
+ghost use Rattle.iox_domain_ports.specs.DomainValues.declared.degradation.DegradationCause.TheVariants as cause;
+ghost use Rattle.iox_domain_ports.specs.Loaning.{Loans};
+ghost use Rattle.iox_domain_ports.specs.Publishers.{port_of};
 ghost use Rattle.iox_domain.specs.Ports.{AtPublisher};
 ghost use Rattle.iox_domain.specs.PortsPublishing.{is_blocked};
 ghost use Rattle.iox_domain.specs.Putting.{PutsOne, PutsValues};
@@ -10,7 +10,7 @@ ghost use Rattle.iox_domain.specs.Putting.{PutsOne, PutsValues};
 use crate::ports::publishing::send_one;
 use crate::ports::roll::Roll;
 use crate::ports::service_ports::ServicePorts;
-use iox_domain_subscriber::{PublisherPort, Sent, SubscriberEntry};
+use iox_domain_ports::{PublisherPort, Sent, SubscriberEntry};
 use iox_domain_values::{Decides, Degrades, LoanError, SendError};
 use std::alloc::Global;
 

@@ -4,8 +4,8 @@ ghost use Rattle.iox_domain.specs.Reading.{sample_in, header_in};
 
 use crate::ports::service_ports::ServicePorts;
 use iox_describe_base::Header;
-use iox_domain_subscriber::Taken;
-use iox_domain_subscriber::reading::{elements_at, payload_at, user_header_at};
+use iox_domain_ports::Taken;
+use iox_domain_ports::reading::{elements_at, payload_at, user_header_at};
 
 impl<T: Copy, U: Copy> ServicePorts<T, U> {
     /// The values of a sample that is held, as they were when it was sent. None where no such sample is held.

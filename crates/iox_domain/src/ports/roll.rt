@@ -1,9 +1,9 @@
 //! The list of the ports of one kind.
 ghost use Rattle.std.specs.Prelude.{◌≡◌, ◌≤◌, length, replicate, IfOk, IfSome, IfNone};
-ghost use Rattle.iox_domain_subscriber.specs.IndexBase.Places.{padded};
+ghost use Rattle.iox_domain_ports.specs.Container.CountedPlaces.{padded};
 ghost use Rattle.iox_domain.specs.Rolls.{new_roll, free_place, entered, left};
 
-use iox_index_base::{Container, Member, OwnerId, ReleaseMode};
+use iox_container::{Container, Member, OwnerId, ReleaseMode};
 use std::alloc::{AllocError, Global};
 use std::marker::Model;
 

@@ -4,7 +4,7 @@ ghost use Rattle.iox_domain.specs.Ports.{no_ports};
 
 use crate::ports::roll::Roll;
 use crate::ports::subscribers::Subscribers;
-use iox_domain_subscriber::{PublisherEntry, Publishers, SubscriberEntry};
+use iox_domain_ports::{PublisherEntry, Publishers, SubscriberEntry};
 use iox_domain_values::ServiceSizes;
 use std::alloc::{AllocError, Global};
 

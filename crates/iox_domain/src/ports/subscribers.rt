@@ -6,8 +6,8 @@ ghost use Rattle.std.specs.Option.{option_copied_mut};
 ghost use Rattle.iox_domain.specs.Living.{living_subscribers};
 ghost use Rattle.iox_domain.specs.Subscribers.{subscriber_of, with_subscriber, subscriber_added, is_over_in, settled};
 
-use iox_domain_subscriber::SubscriberPort;
-use iox_domain_subscriber::living::{add, counted, living_of_subscriber};
+use iox_domain_ports::SubscriberPort;
+use iox_domain_ports::living::{add, counted, living_of_subscriber};
 use std::alloc::{AllocError, Global};
 use std::collections::BTreeMap;
 use std::collections::btree_map::Iter;
@@ -23,7 +23,7 @@ pub struct Subscribers {
 
 impl Model for Subscribers {
     ghost use Rattle.std.specs.Prelude.{ℕ, List};
-    ghost use Rattle.iox_domain_subscriber.specs.declared.subscriber_port.SubscriberPort.{SubscriberPort};
+    ghost use Rattle.iox_domain_ports.specs.declared.subscriber_port.SubscriberPort.{SubscriberPort};
 
     ghost Value = { List (ℕ × SubscriberPort) };
 
@@ -32,7 +32,7 @@ impl Model for Subscribers {
 
 impl Subscribers {
     ghost use Rattle.std.specs.Prelude.{ℕ};
-    ghost use Rattle.iox_domain_subscriber.specs.declared.subscriber_port.SubscriberPort.{SubscriberPort};
+    ghost use Rattle.iox_domain_ports.specs.declared.subscriber_port.SubscriberPort.{SubscriberPort};
     ghost use Rattle.iox_domain.specs.SubscribersLends.{LendsSubscriber};
 
     /// No subscribers.

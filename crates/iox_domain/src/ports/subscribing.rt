@@ -1,13 +1,13 @@
 //! A subscriber follows the publishers, receives, releases and leaves.
 ghost use Rattle.std.specs.Prelude.{◌≡◌, None};
-ghost use Rattle.iox_domain_subscriber.specs.DomainValues.declared.degradation.DegradationCause.TheVariants as cause;
+ghost use Rattle.iox_domain_ports.specs.DomainValues.declared.degradation.DegradationCause.TheVariants as cause;
 ghost use Rattle.iox_domain.specs.Ports.{AtSubscriber};
 ghost use Rattle.iox_domain.specs.Subscribers.{subscriber_of};
 ghost use Rattle.iox_domain.specs.PortsSubscribing.{UpdatesOne, HasSamplesOne, ReceivesOne, LeavesOne, LeavesAt, counted_by, let_go, Releases};
 
 use crate::ports::roll::Roll;
 use crate::ports::service_ports::ServicePorts;
-use iox_domain_subscriber::{PublisherEntry, Publishers, SubscriberPort, Taken};
+use iox_domain_ports::{PublisherEntry, Publishers, SubscriberPort, Taken};
 use iox_domain_values::{ConnectionFailure, Degrades, ReceiveError};
 use std::alloc::Global;
 

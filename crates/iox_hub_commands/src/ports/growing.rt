@@ -1,16 +1,16 @@
 //! Loans and samples that come where there may be no room for one more.
 ghost use Rattle.iox_domain.specs.Homes as homes;
 ghost use Rattle.std.specs.Prelude.{◌≡◌, ◌<◌, ◌+◌, ◌^◌, length, OnOk, OnErr, None, Ok};
-ghost use Rattle.iox_maps.specs.NumberTable.{value_at};
+ghost use Rattle.iox_container.specs.NumberTable.{value_at};
 ghost use Rattle.iox_hub_commands.specs.Calls.{ready};
 ghost use Rattle.iox_hub_commands.specs.Growing.{GrowsFirst};
 ghost use Rattle.iox_hub_commands.specs.Numbering.{LendsNumbered, LendsWrittenNumbered, ReceivesNumbered};
 ghost use Rattle.iox_hub_commands.specs.Tables.{SameNumbers, IsFull, lender};
 
 use crate::ports::made::Made;
+use iox_container::by_number::Numbered;
 use iox_domain::Home;
 use iox_domain_values::{LoanError, ReceiveError};
-use iox_maps::by_number::Numbered;
 use std::alloc::{AllocError, Global};
 
 impl Made {

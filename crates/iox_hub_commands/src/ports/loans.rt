@@ -2,7 +2,7 @@
 ghost use Rattle.iox_domain.specs.Homes as homes;
 ghost use Rattle.std.specs.Prelude.{◌≡◌, is_some, if◌then◌else◌};
 ghost use Rattle.iox_delivery.specs.Domain.Lending.{gave_up_in};
-ghost use Rattle.iox_maps.specs.NumberTable.{value_at};
+ghost use Rattle.iox_container.specs.NumberTable.{value_at};
 ghost use Rattle.iox_hub_commands.specs.Loans.{loan_under, changed_under, is_set, set_in, is_filled, filled_in, SendsUnder};
 ghost use Rattle.iox_hub_commands.specs.Numbering.{removed_if};
 ghost use Rattle.iox_hub_commands.specs.Tables.{without_loan};
@@ -10,7 +10,7 @@ ghost use Rattle.iox_hub_commands.specs.Tables.{without_loan};
 use crate::ports::made::Made;
 use iox_delivery::lending;
 use iox_domain::{Home, calls};
-use iox_domain_publisher::Sent;
+use iox_domain_ports::Sent;
 use iox_domain_values::SendError;
 use std::alloc::Global;
 

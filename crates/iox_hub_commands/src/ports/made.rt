@@ -2,14 +2,14 @@
 ghost use Rattle.iox_domain.specs.Homes as homes;
 ghost use Rattle.std.specs.Prelude.{◌≡◌, true, false, IfSome};
 ghost use Rattle.iox_delivery.specs.Holding.{publisher_stands, publisher_blocked};
-ghost use Rattle.iox_maps.specs.NumberTable.{value_at};
+ghost use Rattle.iox_container.specs.NumberTable.{value_at};
 ghost use Rattle.iox_hub_commands.specs.Calls.{ready};
 ghost use Rattle.iox_hub_commands.specs.Tables.{IsEmpty, port_under, lender};
 
+use iox_container::by_number::Numbered;
 use iox_delivery::{PortId, publishing};
 use iox_domain::Home;
-use iox_domain_subscriber::Taken;
-use iox_maps::by_number::Numbered;
+use iox_domain_ports::Taken;
 use std::alloc::Global;
 
 /// A publisher, and whether its messages are slices.

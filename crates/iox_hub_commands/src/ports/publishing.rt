@@ -1,7 +1,7 @@
 //! Publishers lend, put, wait, and leave.
 ghost use Rattle.iox_domain.specs.Homes as homes;
 ghost use Rattle.std.specs.Prelude.{◌≡◌, ◌<◌, ◌+◌, ◌^◌, length};
-ghost use Rattle.iox_maps.specs.NumberTable.{value_at};
+ghost use Rattle.iox_container.specs.NumberTable.{value_at};
 ghost use Rattle.iox_hub_commands.specs.Calls.{AtPort, AtPortIf, ready, Lends, Puts, Follows, Retries, GivesUp, PublisherGoes};
 ghost use Rattle.iox_hub_commands.specs.Numbering.{LendsNumbered, LendsWrittenNumbered, removed_if};
 ghost use Rattle.iox_hub_commands.specs.Tables.{port_under, lender, without_publisher};
@@ -9,7 +9,7 @@ ghost use Rattle.iox_hub_commands.specs.Tables.{port_under, lender, without_publ
 use crate::ports::made::{Made, MadeLoan};
 use iox_delivery::slices::filling;
 use iox_domain::{Home, calls};
-use iox_domain_publisher::Sent;
+use iox_domain_ports::Sent;
 use iox_domain_values::{ConnectionFailure, LoanError, SendError};
 use std::alloc::Global;
 

@@ -1,7 +1,7 @@
 //! A sample is read, and released.
 ghost use Rattle.iox_domain.specs.Homes as homes;
 ghost use Rattle.std.specs.Prelude.{◌≡◌, option_copied};
-ghost use Rattle.iox_maps.specs.NumberTable.{value_at};
+ghost use Rattle.iox_container.specs.NumberTable.{value_at};
 ghost use Rattle.iox_hub_commands.specs.Numbering.{removed_if};
 ghost use Rattle.iox_hub_commands.specs.Reading.{values_under, is_held, ReleasesUnder};
 ghost use Rattle.iox_hub_commands.specs.Tables.{without_sample};

@@ -1,7 +1,7 @@
 //! Subscribers follow, receive, and leave.
 ghost use Rattle.iox_domain.specs.Homes as homes;
 ghost use Rattle.std.specs.Prelude.{◌≡◌, ◌<◌, ◌+◌, ◌^◌, length};
-ghost use Rattle.iox_maps.specs.NumberTable.{value_at};
+ghost use Rattle.iox_container.specs.NumberTable.{value_at};
 ghost use Rattle.iox_hub_commands.specs.Calls.{AtPort, AtPortIf, FollowsPublishers, Tells, SubscriberGoes};
 ghost use Rattle.iox_hub_commands.specs.Numbering.{ReceivesNumbered, removed_if};
 ghost use Rattle.iox_hub_commands.specs.Tables.{without_subscriber};

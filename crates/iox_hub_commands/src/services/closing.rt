@@ -1,5 +1,5 @@
 //! Factories are closed.
-ghost use Rattle.iox_maps.specs.NumberTable.{value_at};
+ghost use Rattle.iox_container.specs.NumberTable.{value_at};
 ghost use Rattle.iox_hub_commands.specs.Closing.{ClosesNumbered};
 
 use crate::services::factories::Factories;

@@ -1,13 +1,13 @@
 //! Services are created.
 ghost use Rattle.std.specs.Prelude.{◌≡◌, ◌<◌, ◌+◌, ◌^◌, length, true, Some, Err};
-ghost use Rattle.iox_hub_commands.specs.Command.declared.service.ServiceOptions.TheVariants as service;
+ghost use Rattle.iox_command.specs.declared.service.ServiceOptions.TheVariants as service;
 ghost use Rattle.iox_hub_base.specs.DescribeBase.Detail.{detail};
 ghost use Rattle.iox_hub_base.specs.DescribeBase.declared.type_detail.TypeVariant.TheVariants.{FixedSize};
 ghost use Rattle.iox_hub_base.specs.Hubs.{is_node};
 ghost use Rattle.iox_hub_commands.specs.Asked.{types_of};
 ghost use Rattle.iox_hub_commands.specs.Creating.{CreatesAs, CreatesNumbered, create_lacking};
 ghost use Rattle.iox_hub_commands.specs.Described.{settings_of};
-ghost use Rattle.iox_hub_commands.specs.NegotiateBase.declared.failure.CreateFailure.{CreateFailure};
+ghost use Rattle.iox_command.specs.NegotiateBase.declared.failure.CreateFailure.{CreateFailure};
 ghost use Rattle.iox_hub_commands.specs.Refusing.{IsUncreated, create_refused};
 
 use crate::services::asked::ServiceAsked;

@@ -1,6 +1,6 @@
 //! Services are opened, or created.
 ghost use Rattle.std.specs.Prelude.{◌≡◌, ◌<◌, ◌+◌, ◌^◌, length};
-ghost use Rattle.iox_hub_commands.specs.Command.declared.service.ServiceOptions.TheVariants as service;
+ghost use Rattle.iox_command.specs.declared.service.ServiceOptions.TheVariants as service;
 ghost use Rattle.iox_hub_base.specs.DescribeBase.Detail.{detail};
 ghost use Rattle.iox_hub_base.specs.DescribeBase.declared.type_detail.TypeVariant.TheVariants.{FixedSize};
 ghost use Rattle.iox_hub_base.specs.Hubs.{is_node};

@@ -1,18 +1,18 @@
 //! The table: which factory goes by a number.
 ghost use Rattle.std.specs.Prelude.{◌≡◌, ◌+◌, ◌<◌, ◌^◌, length, option_map, OnOk};
 ghost use Rattle.std.specs.Result.{result_map_both};
-ghost use Rattle.iox_hub_commands.specs.Describe.Within.{HasForm};
-ghost use Rattle.iox_maps.specs.NumberTable.{value_at, inserted};
+ghost use Rattle.iox_negotiate_table.specs.Describe.Within.{HasForm};
+ghost use Rattle.iox_container.specs.NumberTable.{value_at, inserted};
 ghost use Rattle.iox_hub_commands.specs.ServicesNumbering.{MakesRoom, Prepares};
 ghost use Rattle.iox_hub_commands.specs.ServicesTables.{no_factories, parts_of, publish_subscribe_in};
 
 use crate::services::made::MadeFactory;
 use crate::services::requests::step_lists;
 use iox_command::StepBefore;
+use iox_container::by_number::Numbered;
 use iox_describe::pattern::PublishSubscribe;
 use iox_describe_base::{MessageTypeDetails, ServiceName};
 use iox_hub_base::PortFactory;
-use iox_maps::by_number::Numbered;
 use iox_negotiate_table::StepList;
 use std::alloc::{AllocError, Global};
 

@@ -1,7 +1,7 @@
 //! A service that is open, whatever its pattern.
 ghost use Rattle.std.specs.Prelude.{◌≡◌, false, nat_eq};
 ghost use Rattle.std.specs.Option.{option_map};
-ghost use Rattle.iox_hub_commands.specs.Describe.Within.{HasForm};
+ghost use Rattle.iox_negotiate_table.specs.Describe.Within.{HasForm};
 ghost use Rattle.iox_hub_base.specs.Closing.{in_use};
 ghost use Rattle.iox_hub_commands.specs.Closing.{Leaves};
 ghost use Rattle.iox_hub_commands.specs.ServicesTables.{parts_of};

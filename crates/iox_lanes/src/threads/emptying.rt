@@ -1,10 +1,9 @@
 //! Publishers of a domain without messages.
 ghost use Rattle.std.specs.Prelude.{◌≡◌};
-ghost use Rattle.iox_domain_subscriber.specs.Publishers.{changed};
+ghost use Rattle.iox_domain_ports.specs.Publishers.{changed};
 ghost use Rattle.iox_lanes.specs.Emptied.{without_messages, AreWithout};
 
-use iox_domain_publisher::PublisherPort;
-use iox_domain_subscriber::Publishers;
+use iox_domain_ports::{PublisherPort, Publishers};
 use iox_lanes_opening::leaving::forget_messages;
 
 // A publisher forgets its messages.

@@ -1,13 +1,13 @@
 //! A publisher of a domain forgets its messages.
 ghost use Rattle.std.specs.Prelude.{◌≡◌, ℕ, [], length, false};
 ghost use Rattle.std.specs.Bool.{OnTrue};
-ghost use Rattle.iox_domain_publisher.specs.MessagesSending.{with_uses};
-ghost use Rattle.iox_domain_publisher.specs.DomainSlots.Uses.{connection_at, with_connection, emptied};
+ghost use Rattle.iox_domain_ports.specs.MessagesSending.{with_uses};
+ghost use Rattle.iox_domain_ports.specs.DomainSlots.Uses.{connection_at, with_connection, emptied};
 ghost use Rattle.iox_lanes_opening.specs.Clearing.{NoneBorrowed, IsCleared};
 ghost use Rattle.iox_lanes_opening.specs.Restored.{IsRested};
 ghost use Rattle.iox_lanes_opening.specs.Restoring.{IsQuiet};
 
-use iox_domain_publisher::messages::Sender;
+use iox_domain_ports::messages::Sender;
 use iox_domain_slots::Stage;
 
 /// Whether nothing of a publisher is out: it sends nothing, lends nothing, and nothing is borrowed of its connections; and

@@ -1,14 +1,14 @@
 //! A publisher of a domain gets all that lanes leave of it.
 ghost use Rattle.std.specs.Prelude.{◌≡◌, ◌+◌, ◌<◌, ◌≤◌, [], ℕ, length, false, vec_capacity, IfSome};
 ghost use Rattle.std.specs.Bool.{OnTrue};
-ghost use Rattle.iox_domain_publisher.specs.MessagesSending.{with_uses};
-ghost use Rattle.iox_domain_publisher.specs.DomainSlots.Uses.{connection_at};
+ghost use Rattle.iox_domain_ports.specs.MessagesSending.{with_uses};
+ghost use Rattle.iox_domain_ports.specs.DomainSlots.Uses.{connection_at};
 ghost use Rattle.iox_lanes_opening.specs.Restoring.{IsWhole, IsQuiet, AreLeft, OnlyWaits};
 ghost use Rattle.iox_lanes_opening.specs.Restored.{IsRested, IsRestored, MayWaitAt, left_at, place_of, with_waiting};
 
 use crate::leaving::clearing::{forget_messages, is_rested};
 use crate::leaving::restoring::{restore_history, restore_waiting};
-use iox_domain_publisher::messages::Sender;
+use iox_domain_ports::messages::Sender;
 use iox_lanes_machine::Lanes;
 use iox_queues_base::Words;
 

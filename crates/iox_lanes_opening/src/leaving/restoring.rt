@@ -1,15 +1,15 @@
 //! A publisher of a domain gets the messages that lanes leave.
 ghost use Rattle.std.specs.Prelude.{◌≡◌, ◌+◌, ◌-◌, ◌<◌, ◌≤◌, ◌++◌, ◌∷◌, [], length, map, None, Some, vec_capacity, IfSome};
-ghost use Rattle.iox_domain_publisher.specs.MessagesSending.{with_uses};
-ghost use Rattle.iox_domain_publisher.specs.DomainSlots.declared.stage.Stage.TheVariants as stage;
-ghost use Rattle.iox_domain_publisher.specs.DomainSlots.Uses.{connection_at, with_connection, offered, newest};
+ghost use Rattle.iox_domain_ports.specs.MessagesSending.{with_uses};
+ghost use Rattle.iox_domain_ports.specs.DomainSlots.declared.stage.Stage.TheVariants as stage;
+ghost use Rattle.iox_domain_ports.specs.DomainSlots.Uses.{connection_at, with_connection, offered, newest};
 ghost use Rattle.iox_lanes_machine.specs.LanesBase.Numbers.{words_of};
 ghost use Rattle.iox_lanes_opening.specs.Leaving.{message_in};
-ghost use Rattle.iox_lanes_opening.specs.Restoring.{IsWhole, IsQuiet, IsOwn, AreLeft, MayStand, OnlyWaits, OnlyRemembers, MayWaitAll, MayRememberAll, messages_in};
+ghost use Rattle.iox_lanes_opening.specs.Restoring.{IsOwn, AreLeft, MayBeSent, MayCome, OnlyWaits, OnlyRemembers, MayWaitAll, MayRememberAll, messages_in};
 ghost use Rattle.iox_lanes_machine.specs.Resting.{mail_at};
 
 use crate::leaving::words::{elements, payload, user_header};
-use iox_domain_publisher::messages::Sender;
+use iox_domain_ports::messages::Sender;
 use iox_domain_slots::Stage;
 use iox_lanes_base::words::WordTable;
 use iox_lanes_machine::Lanes;
@@ -24,11 +24,7 @@ fn begin<T: Words, U: Words>(
     sender: &mut Sender<T, U>,
     one: &mut Vec<T>,
 )
-    requires room { 0 < vec_capacity one.old }
-    requires whole { IsWhole T.WORDS U.WORDS table.now }
-    requires there { first + slot < table.now.sizes.slots }
-    requires stands { MayStand slot sender.old }
-    requires left { AreLeft T.of_parts U.of_parts table.now first sender.old.uses }
+    requires { MayBeSent T.of_parts U.of_parts T.WORDS U.WORDS table.now first slot (vec_capacity one.old) sender.old }
     ensures sent { sender.new ≡ with_uses
         (record sender.old.uses { sending = Some (message_in T.of_parts U.of_parts table.now first slot) }) sender.old }
     ensures room { vec_capacity one.new ≡ vec_capacity one.old }
@@ -51,11 +47,7 @@ fn put<T: Words, U: Words>(
     sender: &mut Sender<T, U>,
     one: &mut Vec<T>,
 )
-    requires room { 0 < vec_capacity one.old }
-    requires whole { IsWhole T.WORDS U.WORDS table.now }
-    requires there { first + slot < table.now.sizes.slots }
-    requires stands { MayStand slot sender.old }
-    requires left { AreLeft T.of_parts U.of_parts table.now first sender.old.uses }
+    requires sent { MayBeSent T.of_parts U.of_parts T.WORDS U.WORDS table.now first slot (vec_capacity one.old) sender.old }
     requires live { (connection_at index sender.old.uses).stage ≡ stage.Live }
     ensures put { sender.new ≡ with_uses
         (with_connection index (offered sender.old.uses.overflows (message_in T.of_parts U.of_parts table.now first slot)
@@ -76,11 +68,7 @@ fn remember<T: Words, U: Words>(
     sender: &mut Sender<T, U>,
     one: &mut Vec<T>,
 )
-    requires room { 0 < vec_capacity one.old }
-    requires whole { IsWhole T.WORDS U.WORDS table.now }
-    requires there { first + slot < table.now.sizes.slots }
-    requires stands { MayStand slot sender.old }
-    requires left { AreLeft T.of_parts U.of_parts table.now first sender.old.uses }
+    requires { MayBeSent T.of_parts U.of_parts T.WORDS U.WORDS table.now first slot (vec_capacity one.old) sender.old }
     ensures remembered { sender.new ≡ with_uses (record sender.old.uses { history = newest sender.old.uses.kept (sender.old.uses.history ++ message_in T.of_parts U.of_parts table.now first slot ∷ []) }) sender.old }
     ensures left { AreLeft T.of_parts U.of_parts table.now first sender.new.uses }
     ensures room { vec_capacity one.new ≡ vec_capacity one.old }
@@ -119,10 +107,7 @@ fn put_own<T: Words, U: Words>(
     sender: &mut Sender<T, U>,
     one: &mut Vec<T>,
 )
-    requires room { 0 < vec_capacity one.old }
-    requires whole { IsWhole T.WORDS U.WORDS table.now }
-    requires quiet { IsQuiet sender.old }
-    requires left { AreLeft T.of_parts U.of_parts table.now first sender.old.uses }
+    requires { MayCome T.of_parts U.of_parts T.WORDS U.WORDS table.now first (vec_capacity one.old) sender.old }
     ensures put { IsOwn first slot table.now.sizes.slots sender.old.uses → (connection_at index sender.old.uses).stage ≡ stage.Live
         → sender.new ≡ with_uses (with_connection index (offered sender.old.uses.overflows (message_in T.of_parts U.of_parts table.now first (slot - first)) (connection_at index sender.old.uses)) sender.old.uses) sender.old }
     ensures rest { OnlyWaits index sender.old sender.new }
@@ -149,11 +134,8 @@ pub fn restore_waiting<T: Words, U: Words>(
     sender: &mut Sender<T, U>,
     one: &mut Vec<T>,
 )
-    requires room { 0 < vec_capacity one.old }
     requires connection { connection < length lanes.now.links }
-    requires whole { IsWhole T.WORDS U.WORDS lanes.now.table }
-    requires quiet { IsQuiet sender.old }
-    requires left { AreLeft T.of_parts U.of_parts lanes.now.table first sender.old.uses }
+    requires come { MayCome T.of_parts U.of_parts T.WORDS U.WORDS lanes.now.table first (vec_capacity one.old) sender.old }
     requires empty { (connection_at index sender.old.uses).waiting ≡ [] }
     ensures waits { MayWaitAll lanes.now connection first index sender.old
         → (connection_at index sender.new.uses).waiting
@@ -176,10 +158,7 @@ fn remember_own<T: Words, U: Words>(
     sender: &mut Sender<T, U>,
     one: &mut Vec<T>,
 )
-    requires room { 0 < vec_capacity one.old }
-    requires whole { IsWhole T.WORDS U.WORDS table.now }
-    requires quiet { IsQuiet sender.old }
-    requires left { AreLeft T.of_parts U.of_parts table.now first sender.old.uses }
+    requires { MayCome T.of_parts U.of_parts T.WORDS U.WORDS table.now first (vec_capacity one.old) sender.old }
     ensures remembered { IsOwn first slot table.now.sizes.slots sender.old.uses
         → sender.new ≡ with_uses (record sender.old.uses { history = newest sender.old.uses.kept (sender.old.uses.history ++ message_in T.of_parts U.of_parts table.now first (slot - first) ∷ []) }) sender.old }
     ensures rest { OnlyRemembers sender.old sender.new }
@@ -200,10 +179,7 @@ pub fn restore_history<T: Words, U: Words>(
     sender: &mut Sender<T, U>,
     one: &mut Vec<T>,
 )
-    requires room { 0 < vec_capacity one.old }
-    requires whole { IsWhole T.WORDS U.WORDS table.now }
-    requires quiet { IsQuiet sender.old }
-    requires left { AreLeft T.of_parts U.of_parts table.now first sender.old.uses }
+    requires come { MayCome T.of_parts U.of_parts T.WORDS U.WORDS table.now first (vec_capacity one.old) sender.old }
     requires empty { sender.old.uses.history ≡ [] }
     ensures remembers { MayRememberAll table.now history.now first sender.old
         → sender.new.uses.history ≡ messages_in T.of_parts U.of_parts table.now first history.now }

@@ -5,7 +5,7 @@ ghost use Rattle.iox_domain.specs.Kept.{kept_under};
 ghost use Rattle.iox_lanes_opening.specs.Deciding.{asks_object, is_object, has_object, is_kept_object, has_handlers, is_failure, is_retry, fixed_answer, would_fail, would_wait, retries, is_retrying};
 
 use iox_domain::{Domain, Kept};
-use iox_domain_publisher::PublisherPort;
+use iox_domain_ports::PublisherPort;
 use iox_domain_values::backpressure::decision;
 use iox_domain_values::{
     BackpressureAction, BackpressureDecision, BackpressureHandler, DegradationHandler, Handlers,

@@ -1,13 +1,12 @@
 //! What is still out, and who left and isn't gone.
 ghost use Rattle.std.specs.Prelude.{◌≡◌};
 ghost use Rattle.std.specs.List.{list_any};
-ghost use Rattle.iox_domain.specs.DomainPublisher.Ports.{connection_of};
-ghost use Rattle.iox_domain.specs.DomainSubscriber.Subscribing.{attached_at};
+ghost use Rattle.iox_domain.specs.DomainPorts.Ports.{connection_of};
+ghost use Rattle.iox_domain.specs.DomainPorts.Subscribing.{attached_at};
 ghost use Rattle.iox_lanes_opening.specs.Lingering.{connection_lingers, has_out, is_listed_publisher, publisher_lingers, leads_nowhere, has_left_over, is_listed_subscriber, subscriber_lingers, is_lingering};
 
 use iox_domain::ports::ServicePorts;
-use iox_domain_publisher::{PublisherPort, Stage};
-use iox_domain_subscriber::{Publishers, SubscriberPort};
+use iox_domain_ports::{PublisherPort, Publishers, Stage, SubscriberPort};
 
 /// Whether a loan or a sample is out, a connection whose publisher left still stands, expired or at its place, or a port that left isn't
 /// gone.

@@ -2,12 +2,12 @@
 ghost use Rattle.std.specs.Prelude.{◌≡◌, ◌<◌, true, length, slice_get};
 ghost use Rattle.std.specs.List.{list_any};
 ghost use Rattle.iox_domain.specs.DomainSlots.Uses.{is_there};
-ghost use Rattle.iox_domain.specs.DomainPublisher.Ports.{connection_of};
+ghost use Rattle.iox_domain.specs.DomainPorts.Ports.{connection_of};
 ghost use Rattle.iox_lanes_opening.specs.Slices.{is_dynamic, is_slice, is_slice_in, slice_waits, keeps_slice, deals_in_slices, has_slices};
 
 use iox_describe_base::TypeVariant;
 use iox_domain::Domain;
-use iox_domain_publisher::{PublisherPort, Stage};
+use iox_domain_ports::{PublisherPort, Stage};
 
 /// Whether the messages of a domain are slices, or some publisher deals in slices: an element of it has another number of values than one,
 /// its slots have room for another, or a message that waits or is kept has another.

@@ -1,12 +1,13 @@
 //! Whether each port follows the others as they are, and is connected to them.
 ghost use Rattle.std.specs.Prelude.{◌≡◌, get_or, None};
-ghost use Rattle.iox_domain.specs.DomainPublisher.Ports.{is_live};
+ghost use Rattle.iox_domain.specs.DomainPorts.Ports.{is_live};
 ghost use Rattle.iox_lanes_opening.specs.Listed.{holds_at, of_each_listed};
 ghost use Rattle.iox_lanes_opening.specs.UpToDate.{is_reader, is_read_by, reads_from, is_joined_to, is_connected, is_current_publisher, is_current_subscriber, is_up_to_date};
 
 use iox_domain::ports::ServicePorts;
-use iox_domain_publisher::{Member, PublisherPort, Stage};
-use iox_domain_subscriber::{PublisherEntry, SubscriberEntry, SubscriberPort};
+use iox_domain_ports::{
+    Member, PublisherEntry, PublisherPort, Stage, SubscriberEntry, SubscriberPort,
+};
 
 /// Whether each listed port followed the list of the others as it is, and each listed publisher is connected to each listed subscriber: a
 /// place is tied to a connection that goes on, and the subscriber reads there by the key that it has for the publisher's place.

@@ -2,7 +2,7 @@ use Rattle.std.proofs.Common.{◌∷◌, [], length, refl}
 use Rattle.iox_domain.specs.Homes as homes
 use Rattle.iox_domain.proofs.Homely.{put_is_there}
 use Rattle.std.proofs.Math.Dec.{eqb}
-use Rattle.iox_domain.specs.DomainPublisher.Messages.{write_value}
+use Rattle.iox_domain.specs.DomainPorts.Messages.{write_value}
 use Rattle.iox_delivery.proofs.Lent.{ready_there}
 use Rattle.iox_delivery.proofs.publishing.loan_value.Goals as goal
 

@@ -1,6 +1,6 @@
-use Rattle.iox_hub_run.specs.HubCommands.DescribeBase.Detail.{detail}
-use Rattle.iox_hub_run.specs.HubCommands.DescribeBase.declared.type_detail.TypeVariant.TheVariants.{FixedSize}
-use Rattle.iox_hub_run.specs.HubCommands.Asked.{types_of}
+use Rattle.iox_hub_commands.specs.DescribeBase.Detail.{detail}
+use Rattle.iox_hub_commands.specs.DescribeBase.declared.type_detail.TypeVariant.TheVariants.{FixedSize}
+use Rattle.iox_hub_commands.specs.Asked.{types_of}
 use Rattle.iox_hub.proofs.PlainRuns.{plain_runs}
 use Rattle.iox_hub.proofs.laws.plain_commands_take_nothing.Goals as goal
 

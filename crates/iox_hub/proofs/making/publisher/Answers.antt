@@ -1,6 +1,6 @@
 use Rattle.std.proofs.Common.{◌∙◌, sym, ap}
 use Rattle.std.specs.Prelude.{is_some}
-use Rattle.iox_hub_run.proofs.Coming.{publisher_comes}
+use Rattle.iox_hub_commands.proofs.Coming.{publisher_comes}
 use Rattle.iox_hub.specs.Places.{named, degradation_of, emptied_if}
 use Rattle.iox_hub.proofs.Coming.{publisher_taken}
 use Rattle.iox_hub.proofs.PlaceLemmas.{other_kind_stays}

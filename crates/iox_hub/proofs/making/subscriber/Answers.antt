@@ -1,5 +1,5 @@
 use Rattle.std.proofs.Common.{sym}
-use Rattle.iox_hub_run.proofs.Coming.{subscriber_comes}
+use Rattle.iox_hub_commands.proofs.Coming.{subscriber_comes}
 use Rattle.iox_hub.proofs.Coming.{subscriber_taken, one_named}
 use Rattle.iox_hub.proofs.making.subscriber.Goals as goal
 

@@ -1,12 +1,12 @@
 use Rattle.std.proofs.Common.{arith, rules, ◌+◌, ◌≡◌, [], ◌∷◌, ◌++◌, length, ap, sym, inr, ◌∙◌, append_assoc}
 use Rattle.std.specs.Vec.Iter.{into_iter_items}
 use Rattle.std.proofs.lemmas.List.{length-append}
-use Rattle.iox_hub_run.specs.HubCommands.DescribeBase.Detail.{detail}
-use Rattle.iox_hub_run.specs.HubCommands.DescribeBase.declared.type_detail.TypeVariant.TheVariants.{FixedSize}
-use Rattle.iox_hub_run.specs.HubCommands.Asked.{types_of}
-use Rattle.iox_hub_run.proofs.PortRooms.{keeps_on}
-use Rattle.iox_hub_run.proofs.Rooms.{at_seam}
-use Rattle.iox_hub_run.proofs.RunLemmas.{runs_more}
+use Rattle.iox_hub_commands.specs.DescribeBase.Detail.{detail}
+use Rattle.iox_hub_commands.specs.DescribeBase.declared.type_detail.TypeVariant.TheVariants.{FixedSize}
+use Rattle.iox_hub_commands.specs.Asked.{types_of}
+use Rattle.iox_hub_commands.proofs.PortRooms.{keeps_on}
+use Rattle.iox_hub_commands.proofs.Rooms.{at_seam}
+use Rattle.iox_hub_commands.proofs.RunLemmas.{runs_more}
 use Rattle.iox_hub.proofs.HandledRooms.{fits_first, lacks_for_values, leaves_room}
 use Rattle.iox_hub.specs.Room.{loans_in, samples_in}
 use Rattle.iox_hub.specs.Steps.{HandledStep}

@@ -1,13 +1,13 @@
 use Rattle.std.proofs.Common.{◌≡◌, ◌+◌, ◌≤◌, ◌++◌, length, vec_len, vec_capacity}
 use Rattle.std.specs.Vec.Iter.{into_iter_items, into_iter_len}
-use Rattle.iox_hub_run.specs.Grown.{GrowsOn}
-use Rattle.iox_hub_run.specs.HubCommands.DescribeBase.Detail.{detail}
-use Rattle.iox_hub_run.specs.HubCommands.DescribeBase.declared.type_detail.TypeVariant.TheVariants.{FixedSize}
-use Rattle.iox_hub_run.specs.HubCommands.Asked.{types_of}
-use Rattle.iox_hub_run.specs.Numbers.{numbers_used}
-use Rattle.iox_hub_run.specs.PortRoom.{KeepsRoom}
-use Rattle.iox_hub_run.specs.Room.{FitsAll}
-use Rattle.iox_hub_run.specs.Runs.{Runs}
+use Rattle.iox_hub_commands.specs.Grown.{GrowsOn}
+use Rattle.iox_hub_commands.specs.DescribeBase.Detail.{detail}
+use Rattle.iox_hub_commands.specs.DescribeBase.declared.type_detail.TypeVariant.TheVariants.{FixedSize}
+use Rattle.iox_hub_commands.specs.Asked.{types_of}
+use Rattle.iox_hub_commands.specs.Numbers.{numbers_used}
+use Rattle.iox_hub_commands.specs.PortRoom.{KeepsRoom}
+use Rattle.iox_hub_commands.specs.Room.{FitsAll}
+use Rattle.iox_hub_commands.specs.Runs.{Runs}
 use Rattle.iox_hub.specs.Room.{loans_in, samples_in}
 use Rattle.iox_hub.specs.Steps.{HandledStep}
 use Rattle.iox_hub.proofs.running.carry_out_all.Given as goal

@@ -1,7 +1,7 @@
 use Rattle.std.proofs.Common.{arith, ◌∙◌, ◌<◌, ap, subst, sym, inl, inr, length, refl}
-use Rattle.iox_hub_run.proofs.PortRooms.{keeps_on, roomier_grows_on, roomier_keeps}
-use Rattle.iox_hub_run.proofs.Rooms.{roomier_counts, when_err, when_ok}
-use Rattle.iox_hub_run.specs.Room.{FitsAll}
+use Rattle.iox_hub_commands.proofs.PortRooms.{keeps_on, roomier_grows_on, roomier_keeps}
+use Rattle.iox_hub_commands.proofs.Rooms.{roomier_counts, when_err, when_ok}
+use Rattle.iox_hub_commands.specs.Room.{FitsAll}
 use Rattle.iox_hub.specs.Room.{loans_in, samples_in}
 use Rattle.iox_hub.proofs.HandledRooms.{stops_in_room}
 use Rattle.iox_hub.proofs.running.carry_out_in_room.Goals as goal

@@ -1,12 +1,12 @@
 use Rattle.std.proofs.Common.{ap, subst, sym}
-use Rattle.iox_hub_run.specs.Agreements.{AreOfOneAgreement}
-use Rattle.iox_hub_run.specs.Grown.{GrowsOn}
-use Rattle.iox_hub_run.specs.HubCommands.DescribeBase.Detail.{detail}
-use Rattle.iox_hub_run.specs.HubCommands.DescribeBase.declared.type_detail.TypeVariant.TheVariants.{FixedSize}
-use Rattle.iox_hub_run.specs.HubCommands.Asked.{types_of}
-use Rattle.iox_hub_run.proofs.AsAgreed.{are_as_agreed}
-use Rattle.iox_hub_run.proofs.Rooms.{roomier_goes_on}
-use Rattle.iox_hub_run.proofs.StepChanges.{numbers_on_and_on}
+use Rattle.iox_hub_commands.specs.Agreements.{AreOfOneAgreement}
+use Rattle.iox_hub_commands.specs.Grown.{GrowsOn}
+use Rattle.iox_hub_commands.specs.DescribeBase.Detail.{detail}
+use Rattle.iox_hub_commands.specs.DescribeBase.declared.type_detail.TypeVariant.TheVariants.{FixedSize}
+use Rattle.iox_hub_commands.specs.Asked.{types_of}
+use Rattle.iox_hub_commands.proofs.AsAgreed.{are_as_agreed}
+use Rattle.iox_hub_commands.proofs.Rooms.{roomier_goes_on}
+use Rattle.iox_hub_commands.proofs.StepChanges.{numbers_on_and_on}
 use Rattle.iox_hub.specs.Taking.{TakesOnce, taken}
 use Rattle.iox_hub.proofs.RunWords.{goes_on_by_run, grows_by_run, agrees_by_run}
 use Rattle.iox_hub.proofs.TakenRuns.{run_once}

@@ -1,8 +1,8 @@
-use Rattle.iox_hub_run.specs.HubCommands.DescribeBase.Detail.{detail}
-use Rattle.iox_hub_run.specs.HubCommands.DescribeBase.declared.type_detail.TypeVariant.TheVariants.{FixedSize}
-use Rattle.iox_hub_run.specs.HubCommands.Asked.{types_of}
-use Rattle.iox_hub_run.proofs.AsAgreed.{are_as_agreed}
-use Rattle.iox_hub_run.proofs.StepChanges.{changes_count}
+use Rattle.iox_hub_commands.specs.DescribeBase.Detail.{detail}
+use Rattle.iox_hub_commands.specs.DescribeBase.declared.type_detail.TypeVariant.TheVariants.{FixedSize}
+use Rattle.iox_hub_commands.specs.Asked.{types_of}
+use Rattle.iox_hub_commands.proofs.AsAgreed.{are_as_agreed}
+use Rattle.iox_hub_commands.proofs.StepChanges.{changes_count}
 use Rattle.iox_hub.proofs.RunWords.{changes_by_step, grows_by_step, apart_by_step, agrees_by_step}
 use Rattle.iox_hub.proofs.stepping.step.Goals as goal
 

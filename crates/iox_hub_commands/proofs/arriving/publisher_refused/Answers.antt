@@ -1,6 +1,6 @@
 use Rattle.std.proofs.Common.{le_refl, refl, true}
 use Rattle.iox_domain.specs.Homes as homes
-use Rattle.iox_hub_commands.specs.Domain.Steps.{why_no_publisher}
+use Rattle.iox_delivery.specs.Domain.Steps.{why_no_publisher}
 use Rattle.iox_hub_commands.specs.Making.{with_publisher}
 use Rattle.iox_hub_commands.specs.Naming.{publisher_config}
 use Rattle.iox_hub_commands.proofs.Refused.{refused}

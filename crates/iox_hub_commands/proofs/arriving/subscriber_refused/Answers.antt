@@ -1,6 +1,6 @@
 use Rattle.std.proofs.Common.{le_refl, refl}
 use Rattle.iox_domain.specs.Homes as homes
-use Rattle.iox_hub_commands.specs.Domain.Steps.{why_no_subscriber}
+use Rattle.iox_delivery.specs.Domain.Steps.{why_no_subscriber}
 use Rattle.iox_hub_commands.specs.Making.{with_subscriber}
 use Rattle.iox_hub_commands.specs.Naming.{subscriber_config}
 use Rattle.iox_hub_commands.proofs.Refused.{refused}

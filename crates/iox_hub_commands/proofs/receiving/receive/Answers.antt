@@ -3,7 +3,7 @@ use Rattle.iox_domain.specs.Homes as homes
 use Rattle.iox_domain.proofs.Homely.{put_is_there}
 use Rattle.iox_hub_commands.proofs.Arrived.{came_is_read, came_is_next, came_is_told}
 use Rattle.iox_hub_commands.specs.Reading.{values_under}
-use Rattle.iox_hub_commands.specs.Maps.NumberTable.{value_at}
+use Rattle.iox_delivery.specs.Container.NumberTable.{value_at}
 use Rattle.iox_hub_commands.proofs.receiving.receive.Goals as goal
 
 pub arrival-requires : goal.arrival-requires

@@ -1,5 +1,5 @@
 use Rattle.std.proofs.Common.{◌+◌, ◌≤◌}
-use Rattle.iox_hub_run.specs.Numbers.{numbers_used}
+use Rattle.iox_hub_commands.specs.Numbers.{numbers_used}
 use Rattle.iox_hub_rows.proofs.handled.go_on.Given as goal
 
 -- each line gave out one number at most

@@ -1,5 +1,5 @@
 use Rattle.std.proofs.Common.{slice_get}
-use Rattle.iox_domain.specs.DomainPublisher.Ports.{connection_of}
+use Rattle.iox_domain.specs.DomainPorts.Ports.{connection_of}
 use Rattle.iox_lanes.proofs.Laying.{laid_at}
 use Rattle.iox_lanes.proofs.linking.is_waiting.Goals as goal
 

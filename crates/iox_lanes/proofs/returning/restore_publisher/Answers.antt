@@ -1,6 +1,6 @@
 use Rattle.std.proofs.Common.{◌≡◌, ◌*◌, slice_get, Some, ap, subst, sym, ◌∙◌}
 use Rattle.std.specs.Option.{option_copied_mut}
-use Rattle.iox_domain.specs.DomainSubscriber.Publishers.{port_of, with_port}
+use Rattle.iox_domain.specs.DomainPorts.Publishers.{port_of, with_port}
 use Rattle.iox_lanes.specs.Joined.{row_of}
 use Rattle.iox_lanes.specs.Returning.{IsPortLeftIf, JoinsAt}
 use Rattle.iox_lanes.proofs.Numbers.{put_there, put_elsewhere}

@@ -2,7 +2,7 @@ use Rattle.std.proofs.Common.{[], refl, inr}
 use Rattle.std.proofs.KnownBytes.{Consumes-nil, Appends-nil}
 use Rattle.iox_conversation.proofs.Advancing.{Advances-none, BreaksOff-answered, BreaksOff-beginning}
 use Rattle.iox_conversation.specs.declared.error.ServeError.TheVariants.{OutOfMemory}
-use Rattle.iox_hub_run.specs.Numbers.{numbers_used}
+use Rattle.iox_hub_commands.specs.Numbers.{numbers_used}
 use Rattle.iox_script.specs.Conversation.{AnswersLine}
 use Rattle.iox_script.proofs.script.serve.Goals as goal
 

@@ -1,5 +1,5 @@
 use Rattle.std.proofs.Common.{rules, refl, length, Some, Err}
-use Rattle.iox_domain_subscriber.specs.DomainValues.declared.degradation.DegradationCause.TheVariants as cause
+use Rattle.iox_domain_ports.specs.DomainValues.declared.degradation.DegradationCause.TheVariants as cause
 use Rattle.iox_domain.proofs.Putting.{lends_one, puts_sent, puts_answers, puts_stand}
 use Rattle.iox_domain.proofs.ports.putting.put_free.Goals as goal
 

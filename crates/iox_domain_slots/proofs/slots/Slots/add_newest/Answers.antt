@@ -17,4 +17,5 @@ invariant_of-self c =
       c.self.invariant.4,
       c.self.invariant.5,
       rw after (rw c.push-has_room.ensures.capacity (omega (arith, length-append c.self.inside.history.items (c.args.slot ∷ []), room))),
+      c.self.invariant.7,
     )

@@ -1,8 +1,14 @@
-use Rattle.std.proofs.Common.{◌≡◌, ◌+◌, ◌<◌, ◌∙◌, ℕ, Err, nat_lt, get_or, ap, subst}
-use Rattle.iox_index_base.specs.Unique.{is_held, answer_of}
+use Rattle.std.proofs.Common.{arith, rules, ◌≡◌, ◌+◌, ◌<◌, ◌∙◌, ℕ, Err, nat_lt, get_or, ap, subst}
+use Rattle.iox_container.specs.Unique.{is_held, answer_of}
 use Rattle.iox_domain_slots.specs.contracts.slots.Slots.{the_view}
 use Rattle.iox_domain_slots.proofs.Full.{all_held, all_used, with_size}
+use Rattle.iox_domain_slots.proofs.Loaned.{isnt_lent}
 use Rattle.iox_domain_slots.proofs.slots.Slots.loan.Goals as goal
+
+pub push-requires-clause-free : goal.push-requires-clause-free
+push-requires-clause-free c =
+    let zero : get_or c.self.inside.references.items (c.self.inside.first + c.in-Ok.index) 0 ≡ 0 = search (rules, arith, c.in-Ok.ensures.taken, c.settle.ensures, c.deref.ensures) in
+    isnt_lent (c.self.inside.first + c.in-Ok.index) c.self.inside.loans.items (omega (arith, zero, c.self.invariant.3 (c.self.inside.first + c.in-Ok.index)))
 
 pub returns-in_default : goal.returns-in_default
 returns-in_default c = rw (← c.self.view_is) (

@@ -1,5 +1,5 @@
 use Rattle.std.proofs.Common.{ap, sym, subst, ◌∙◌, arith, rules, ◌≡◌, ◌<◌, length, replicate}
-use Rattle.iox_index_base.specs.Unique.{new_unique_set}
+use Rattle.iox_container.specs.Unique.{new_unique_set}
 use Rattle.std.proofs.lemmas.List.{length-replicate}
 use Rattle.iox_domain_slots.proofs.Full.{none_held, none_used}
 use Rattle.iox_domain_slots.proofs.slots.Slots.new.Goals as goal
@@ -12,8 +12,9 @@ invariant_of-result c =
       omega (arith, size, ap (λ s. s.capacity) same),
       ap (λ s. s.locked) same,
       (λ index below. rw same (rw items (none_held c.args.size index (subst (λ s. index < s.capacity) same below) ∙ sym (none_used c.args.size index)))),
-      (λ slot. rw c.in_ok-with_capacity.ensures.items (rw c.in_ok-new-2.ensures.empty (omega arith))),
-      rw c.in_ok-with_capacity.ensures.items (omega arith),
-      grind (arith, c.in_ok-with_capacity.ensures.capacity),
-      rw c.in_ok-new-2.ensures.empty (omega arith),
+      (λ slot. rw c.in_ok-new-2.ensures.loans (rw c.in_ok-new-3.ensures.empty (omega arith))),
+      rw c.in_ok-new-2.ensures.loans (omega arith),
+      c.requires.loans,
+      rw c.in_ok-new-3.ensures.empty (omega arith),
+      omega (arith, size, c.in_ok-new-2.ensures.made),
     )

@@ -1,5 +1,5 @@
 use Rattle.std.proofs.Common.{ap, sym, subst, ◌∙◌, arith, rules, ◌≡◌, ◌+◌, ◌<◌, ◌++◌, ℕ, length, length-append, replicate, take, ◌-◌}
-use Rattle.iox_index_base.specs.Unique.{new_unique_set}
+use Rattle.iox_container.specs.Unique.{new_unique_set}
 use Rattle.std.proofs.lemmas.List.{length-replicate}
 use Rattle.iox_domain_slots.proofs.Full.{none_held, count_stays, segment_unused, filled_up}
 use Rattle.iox_domain_slots.proofs.slots.Slots.open_segment.Goals as goal
@@ -16,8 +16,9 @@ invariant_of-self-2 c =
       omega (arith, length_is, ap length items, length-append before (replicate {A = ℕ} size 0), length-replicate {A = ℕ} size 0, ap (λ s. s.capacity) same),
       ap (λ s. s.locked) same,
       (λ index below. rw same (rw items (rw length_is (none_held size index (subst (λ s. index < s.capacity) same below) ∙ sym (segment_unused before size index))))),
-      (λ slot. rw items (rw (count_stays before size slot) (c.self.invariant.3 slot))),
-      c.self.invariant.4,
+      (λ slot. rw items (rw (count_stays before size slot) (rw c.in_ok-grow.ensures.loans (c.self.invariant.3 slot)))),
+      rw c.in_ok-grow.ensures.loans c.self.invariant.4,
       c.self.invariant.5,
       c.self.invariant.6,
+      omega (arith, ap length items, length-append before (replicate {A = ℕ} size 0), length-replicate {A = ℕ} size 0, c.self.invariant.7, c.in_ok-grow.ensures.made),
     )

@@ -1,7 +1,7 @@
 use Rattle.std.proofs.Common.{rules, ◌≡◌, ap, ap₂, subst, ◌∙◌, false, is_err, Ok}
 use Rattle.iox_delivery_factories.specs.DescribeBase.Detail.{detail}
 use Rattle.iox_delivery_factories.specs.DescribeBase.declared.type_detail.TypeVariant.TheVariants.{FixedSize}
-use Rattle.iox_hub_services.specs.Opening.{Opens}
+use Rattle.iox_hub_base.specs.ServicesOpening.{Opens}
 use Rattle.iox_hub_base.specs.Hubs.{factories_of, with_factory, one_more}
 use Rattle.iox_hub_base.proofs.OpenedWell.{opens_well}
 use Rattle.iox_hub_base.proofs.hub.Hub.enter.Goals as goal

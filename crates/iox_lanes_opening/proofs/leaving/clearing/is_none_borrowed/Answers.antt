@@ -1,5 +1,5 @@
 use Rattle.std.proofs.Common.{rules, arith, ◌≡◌, []}
-use Rattle.iox_domain_publisher.specs.DomainSlots.Uses.{connection_at}
+use Rattle.iox_domain_ports.specs.DomainSlots.Uses.{connection_at}
 use Rattle.iox_lanes_opening.proofs.Losing.{none_of_any, none_of_one_more}
 use Rattle.iox_lanes_opening.proofs.leaving.clearing.is_none_borrowed.Goals as goal
 

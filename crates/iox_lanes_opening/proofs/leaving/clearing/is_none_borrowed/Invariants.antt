@@ -1,5 +1,5 @@
 use Rattle.std.proofs.Common.{ℕ, ◌≡◌, ◌<◌, []}
-use Rattle.iox_domain_publisher.specs.DomainSlots.Uses.{connection_at}
+use Rattle.iox_domain_ports.specs.DomainSlots.Uses.{connection_at}
 use Rattle.iox_lanes_opening.proofs.leaving.clearing.is_none_borrowed.Given as goal
 
 abbrev pub invariant-loop-index : goal.invariant-loop-index

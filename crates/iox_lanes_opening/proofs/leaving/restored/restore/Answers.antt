@@ -15,11 +15,13 @@ restore_connections-requires g c = record {
 
 pub restore_history-requires : goal.restore_history-requires
 restore_history-requires g c = record {
-  room = subst (λ n. 0 < n) (sym c.restore_connections.ensures.room) c.requires.room;
-  whole = subst (IsWhole g.T.Words.WORDS g.U.Words.WORDS) (sym c.table.ensures) c.requires.whole;
-  quiet = filled_quiet c.forget_messages.new.sender c.restore_connections.new.sender c.restore_connections.ensures.rest
-      (cleared_quiet c.args.sender.now c.forget_messages.new.sender c.forget_messages.ensures.rest c.forget_messages.ensures.cleared (c.if-not-is_rested.ensures.rested).quiet);
-  left = subst (λ t. AreLeft g.T.Words.of_parts g.U.Words.of_parts t c.args.first c.restore_connections.new.sender.uses) (sym c.table.ensures) c.restore_connections.ensures.left;
+  come = record {
+    room = subst (λ n. 0 < n) (sym c.restore_connections.ensures.room) c.requires.room;
+    whole = subst (IsWhole g.T.Words.WORDS g.U.Words.WORDS) (sym c.table.ensures) c.requires.whole;
+    quiet = filled_quiet c.forget_messages.new.sender c.restore_connections.new.sender c.restore_connections.ensures.rest
+        (cleared_quiet c.args.sender.now c.forget_messages.new.sender c.forget_messages.ensures.rest c.forget_messages.ensures.cleared (c.if-not-is_rested.ensures.rested).quiet);
+    left = subst (λ t. AreLeft g.T.Words.of_parts g.U.Words.of_parts t c.args.first c.restore_connections.new.sender.uses) (sym c.table.ensures) c.restore_connections.ensures.left;
+  };
   empty = ap (λ s. s.uses.history) c.restore_connections.ensures.rest ∙ ap (λ uses. uses.history) (c.forget_messages.ensures.cleared).same;
 }
 

@@ -1,6 +1,6 @@
 use Rattle.std.proofs.Common.{rules, ◌≡◌, ◌+◌, ◌∷◌, [], sym, subst}
-use Rattle.iox_domain_publisher.specs.Messages.{Message}
-use Rattle.iox_domain_publisher.specs.MessagesSending.{StandsAlone}
+use Rattle.iox_domain_ports.specs.Messages.{Message}
+use Rattle.iox_domain_ports.specs.MessagesSending.{StandsAlone}
 use Rattle.iox_lanes_opening.specs.Leaving.{message_in, payload_in}
 use Rattle.iox_lanes_opening.proofs.Left.{left_alone}
 use Rattle.iox_lanes_opening.proofs.leaving.restoring.begin.Goals as goal

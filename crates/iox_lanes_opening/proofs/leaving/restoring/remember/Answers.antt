@@ -1,6 +1,6 @@
 use Rattle.std.proofs.Common.{rules, ◌≡◌, ◌++◌, ◌∷◌, [], sym, subst}
-use Rattle.iox_domain_publisher.specs.DomainSlots.Uses.{newest}
-use Rattle.iox_domain_publisher.specs.MessagesSending.{with_uses}
+use Rattle.iox_domain_ports.specs.DomainSlots.Uses.{newest}
+use Rattle.iox_domain_ports.specs.MessagesSending.{with_uses}
 use Rattle.iox_lanes_opening.specs.Leaving.{message_in}
 use Rattle.iox_lanes_opening.specs.Restoring.{AreLeft}
 use Rattle.iox_lanes_opening.proofs.Left.{left_remembered}

@@ -5,13 +5,13 @@ use Rattle.iox_lanes_opening.proofs.Remembering.{one_remembered, quiet_yet}
 use Rattle.iox_lanes_opening.proofs.leaving.restoring.restore_history.Goals as goal
 
 pub loop-at-init : goal.loop-at-init
-loop-at-init g c = (record { rest = refl; left = c.requires.left; remembers = λ may. c.requires.empty }, refl)
+loop-at-init g c = (record { rest = refl; left = c.requires.come.left; remembers = λ may. c.requires.empty }, refl)
 
 pub remember_own-requires : goal.remember_own-requires
 remember_own-requires g c = record {
-  room = omega (arith, c.requires.room, c.loop-at.invariant.1);
-  whole = c.requires.whole;
-  quiet = quiet_yet c.args.sender.now c.loop-at.sender c.loop-at.invariant.0.rest c.requires.quiet;
+  room = omega (arith, c.requires.come.room, c.loop-at.invariant.1);
+  whole = c.requires.come.whole;
+  quiet = quiet_yet c.args.sender.now c.loop-at.sender c.loop-at.invariant.0.rest c.requires.come.quiet;
   left = c.loop-at.invariant.0.left;
 }
 

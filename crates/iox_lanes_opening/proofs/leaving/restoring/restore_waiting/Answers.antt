@@ -7,13 +7,13 @@ use Rattle.iox_lanes_opening.proofs.Waits.{waits_same}
 use Rattle.iox_lanes_opening.proofs.leaving.restoring.restore_waiting.Goals as goal
 
 pub loop-at-init : goal.loop-at-init
-loop-at-init g c = (record { rest = waits_same c.args.index c.args.sender.now; left = c.requires.left; waits = λ may. c.requires.empty }, refl)
+loop-at-init g c = (record { rest = waits_same c.args.index c.args.sender.now; left = c.requires.come.left; waits = λ may. c.requires.empty }, refl)
 
 pub put_own-requires : goal.put_own-requires
 put_own-requires g c = record {
-  room = omega (arith, c.requires.room, c.loop-at.invariant.1);
-  whole = subst (IsWhole g.T.Words.WORDS g.U.Words.WORDS) (sym c.table.ensures) c.requires.whole;
-  quiet = quiet_still c.args.index c.args.sender.now c.loop-at.sender c.loop-at.invariant.0.rest c.requires.quiet;
+  room = omega (arith, c.requires.come.room, c.loop-at.invariant.1);
+  whole = subst (IsWhole g.T.Words.WORDS g.U.Words.WORDS) (sym c.table.ensures) c.requires.come.whole;
+  quiet = quiet_still c.args.index c.args.sender.now c.loop-at.sender c.loop-at.invariant.0.rest c.requires.come.quiet;
   left = subst (λ t. AreLeft g.T.Words.of_parts g.U.Words.of_parts t c.args.first c.loop-at.sender.uses) (sym c.table.ensures) c.loop-at.invariant.0.left;
 }
 

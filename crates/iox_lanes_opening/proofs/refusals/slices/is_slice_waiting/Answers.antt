@@ -1,5 +1,5 @@
 use Rattle.std.proofs.Common.{sym}
-use Rattle.iox_domain.specs.DomainPublisher.Ports.{connection_of}
+use Rattle.iox_domain.specs.DomainPorts.Ports.{connection_of}
 use Rattle.iox_lanes_opening.proofs.Slicing.{slice_at}
 use Rattle.iox_lanes_opening.proofs.refusals.slices.is_slice_waiting.Goals as goal
 

@@ -1,5 +1,5 @@
 use Rattle.std.proofs.Common.{arith, sym}
-use Rattle.iox_domain.specs.DomainPublisher.Ports.{connection_of}
+use Rattle.iox_domain.specs.DomainPorts.Ports.{connection_of}
 use Rattle.iox_lanes_opening.specs.Slices.{is_slice}
 use Rattle.iox_lanes_opening.proofs.Going.{none_got}
 use Rattle.iox_lanes_opening.proofs.Slicing.{some_slice, slice_more}

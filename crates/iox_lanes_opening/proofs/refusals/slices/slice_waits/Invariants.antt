@@ -1,4 +1,4 @@
-use Rattle.iox_domain.specs.DomainPublisher.Ports.{connection_of}
+use Rattle.iox_domain.specs.DomainPorts.Ports.{connection_of}
 use Rattle.iox_lanes_opening.specs.Slices.{is_slice}
 use Rattle.iox_lanes_opening.proofs.Going.{NoneGot}
 use Rattle.iox_lanes_opening.proofs.refusals.slices.slice_waits.Given as goal

@@ -1,6 +1,6 @@
 use Rattle.std.proofs.Common.{Ok, refl}
 use Rattle.iox_conversation.proofs.Advancing.{OnOk-follows}
-use Rattle.iox_hub_run.specs.CommandPorts.{command_of}
+use Rattle.iox_hub_commands.specs.CommandPorts.{command_of}
 use Rattle.iox_line.specs.ReplyText.{reply_text}
 use Rattle.iox_script.proofs.script.ScriptAnswersLines.answer_line.Goals as goal
 

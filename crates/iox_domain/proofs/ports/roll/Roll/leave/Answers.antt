@@ -1,5 +1,5 @@
 use Rattle.std.proofs.Common.{sym, ◌∙◌}
-use Rattle.iox_domain_subscriber.specs.IndexBase.declared.release.ReleaseMode.TheVariants as mode
+use Rattle.iox_domain_ports.specs.Container.declared.release.ReleaseMode.TheVariants as mode
 use Rattle.iox_domain.proofs.Rolling.{left-none, left-some, removed-left}
 use Rattle.iox_domain.proofs.ports.roll.Roll.leave.Goals as goal
 

@@ -1,4 +1,4 @@
-use Rattle.iox_domain_subscriber.specs.DomainValues.declared.degradation.DegradationCause.TheVariants as cause
+use Rattle.iox_domain_ports.specs.DomainValues.declared.degradation.DegradationCause.TheVariants as cause
 use Rattle.iox_domain.proofs.Coming.{adds_subscriber}
 use Rattle.iox_domain.proofs.ports.service_ports.ServicePorts.add_subscriber.Goals as goal
 

@@ -1,5 +1,5 @@
 use Rattle.std.proofs.Common.{sym, ◌∙◌, Ok}
-use Rattle.iox_domain_subscriber.specs.DomainValues.declared.degradation.DegradationCause.TheVariants as cause
+use Rattle.iox_domain_ports.specs.DomainValues.declared.degradation.DegradationCause.TheVariants as cause
 use Rattle.iox_domain.proofs.Coming.{creates_publisher}
 use Rattle.iox_domain.proofs.ports.service_ports.ServicePorts.create_publisher.Goals as goal
 

@@ -1,5 +1,5 @@
 use Rattle.std.proofs.Common.{rules, refl, ◌≡◌, Some}
-use Rattle.iox_domain_subscriber.specs.DomainValues.declared.degradation.DegradationCause.TheVariants as cause
+use Rattle.iox_domain_ports.specs.DomainValues.declared.degradation.DegradationCause.TheVariants as cause
 use Rattle.iox_domain.specs.Subscribers.{subscriber_of}
 use Rattle.iox_domain.specs.PortsSubscribing.{HasSamplesOne}
 use Rattle.iox_domain.proofs.Lifting.{at_subscriber}

@@ -1,5 +1,5 @@
 use Rattle.std.proofs.Common.{rules, refl, ◌≡◌, Some}
-use Rattle.iox_domain_subscriber.specs.Publishers.{port_of}
+use Rattle.iox_domain_ports.specs.Publishers.{port_of}
 use Rattle.iox_domain.proofs.Lifting.{publisher_stays}
 use Rattle.iox_domain.proofs.ports.service_ports.ServicePorts.leave_publisher.Goals as goal
 

@@ -1,5 +1,5 @@
 use Rattle.std.proofs.Common.{rules, refl, ap, ◌≡◌, Some}
-use Rattle.iox_domain_subscriber.specs.Publishers.{port_of}
+use Rattle.iox_domain_ports.specs.Publishers.{port_of}
 use Rattle.iox_domain.specs.Lending.{LoansOne}
 use Rattle.iox_domain.proofs.Lifting.{at_publisher, at_publisher-none}
 use Rattle.iox_domain.proofs.ports.service_ports.ServicePorts.loan.Goals as goal

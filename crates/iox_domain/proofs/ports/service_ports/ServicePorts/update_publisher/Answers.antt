@@ -1,6 +1,6 @@
 use Rattle.std.proofs.Common.{rules, refl, ap, ◌≡◌, Some}
-use Rattle.iox_domain_subscriber.specs.DomainValues.declared.degradation.DegradationCause.TheVariants as cause
-use Rattle.iox_domain_subscriber.specs.Publishers.{port_of}
+use Rattle.iox_domain_ports.specs.DomainValues.declared.degradation.DegradationCause.TheVariants as cause
+use Rattle.iox_domain_ports.specs.Publishers.{port_of}
 use Rattle.iox_domain.specs.PortsPublishing.{UpdatesOne}
 use Rattle.iox_domain.proofs.Lifting.{at_publisher, at_publisher-none}
 use Rattle.iox_domain.proofs.ports.service_ports.ServicePorts.update_publisher.Goals as goal

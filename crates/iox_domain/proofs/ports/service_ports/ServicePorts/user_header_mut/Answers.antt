@@ -2,7 +2,7 @@ use Rattle.std.proofs.Common.{rules, ◌≡◌, Some, refl}
 use Rattle.std.proofs.lemmas.Map.Steps.{set_value_same}
 use Rattle.std.specs.BTreeMap.{is_at}
 use Rattle.std.specs.Ordering.{nat_cmp}
-use Rattle.iox_domain_subscriber.specs.Publishers.{port_of, with_port}
+use Rattle.iox_domain_ports.specs.Publishers.{port_of, with_port}
 use Rattle.iox_domain.proofs.ports.service_ports.ServicePorts.user_header_mut.Goals as goal
 
 pub returns-in-Some : goal.returns-in-Some

@@ -1,7 +1,7 @@
 use Rattle.std.proofs.Common.{rules, ◌≡◌, ◌+◌, ◌∙◌, min, fold, map}
 use Rattle.std.specs.Map.{values_of}
-use Rattle.iox_domain_subscriber.specs.Living.{living_of_subscriber, counted}
-use Rattle.iox_domain_subscriber.proofs.Adding.{living_owned}
+use Rattle.iox_domain_ports.specs.Living.{living_of_subscriber, counted}
+use Rattle.iox_domain_ports.proofs.Adding.{living_owned}
 use Rattle.iox_domain.proofs.ports.subscribers.Subscribers.living.Goals as goal
 
 pub returns : goal.returns

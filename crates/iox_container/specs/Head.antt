@@ -1,0 +1,32 @@
+-- How the head of a set lies in a 64-bit word: from the highest bits down, 24 for the next free index, 16 for the count
+-- of changes, 24 for the count of held indices.
+use Rattle.std.specs.Prelude.{ℕ, ◌+◌, ◌-◌, ◌*◌, ◌^◌, ◌%◌, ◌/◌}
+use Rattle.iox_container.specs.declared.head.HeadDetails.{HeadDetails}
+
+-- the word of a head
+abbrev pub word_of_head : HeadDetails → ℕ
+word_of_head details = (details.head % 2 ^ 24 * 2 ^ 16 + details.aba) * 2 ^ 24 + details.borrowed_indices % 2 ^ 24
+
+-- the head of a word
+abbrev pub head_of_word : ℕ → HeadDetails
+head_of_word word = record {
+  head = word / 2 ^ 24 / 2 ^ 16;
+  aba = word / 2 ^ 24 % 2 ^ 16;
+  borrowed_indices = word % 2 ^ 24;
+}
+
+-- the head once its next free index is taken: the counts go round at their ends
+abbrev pub head_after_acquire : ℕ → HeadDetails → HeadDetails
+head_after_acquire next old = record {
+  head = next;
+  aba = (old.aba + 1) % 2 ^ 16;
+  borrowed_indices = (old.borrowed_indices + 1) % 2 ^ 32;
+}
+
+-- the head once an index is given back
+abbrev pub head_after_release : ℕ → HeadDetails → HeadDetails
+head_after_release index old = record {
+  head = index;
+  aba = (old.aba + 1) % 2 ^ 16;
+  borrowed_indices = (old.borrowed_indices + (2 ^ 32 - 1)) % 2 ^ 32;
+}

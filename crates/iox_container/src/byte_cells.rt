@@ -1,0 +1,32 @@
+//! Byte cells: values that are copied byte by byte, so that a reader beside a writer may see some bytes of one value
+//! and some of another.
+//!
+//! | Module | What it has |
+//! |---|---|
+//! | `coded` | `Coded`: values with an encoding of fixed size |
+//! | `byte_atomic` | `FixedSizeByteAtomic`: a value's bytes in a cell |
+//! | `maybe_torn` | `MaybeTorn`: bytes that were read one by one, and may be no value's |
+//! | `byte_machine` | `ByteMachine`: the cell one byte step at a time |
+//!
+//! A first call:
+//!
+//! ```
+//! /// `iox_container`: a value that is stored byte by byte, and read back.
+//! fn stored(value: u64) -> Option<u64>
+//!     ensures { result ≡ Some value }
+//! {
+//!     FixedSizeByteAtomic::<u64, 8>::new(value)
+//!         .read()
+//!         .assume_consistent()
+//! }
+//! ```
+
+mod byte_atomic;
+mod byte_machine;
+mod coded;
+mod maybe_torn;
+
+pub use byte_atomic::FixedSizeByteAtomic;
+pub use byte_machine::{ByteAnswer, ByteMachine, ByteStep};
+pub use coded::Coded;
+pub use maybe_torn::MaybeTorn;

@@ -1,0 +1,260 @@
+//! Tables whose keys the caller brings.
+ghost use Rattle.std.specs.Prelude.{◌≡◌, ◌≢◌, ℕ, ◌+◌, ◌<◌, ◌≤◌, ◌↔◌, [], ◌∷◌, length, replicate, IsTrue, IsOk, IsSome, IfOk, IfSome, IfNone, OnOk, OnErr, Ok, Err, Some, None, slice_get, option_copied, option_map};
+ghost use Rattle.std.specs.Bool.{OnFalse};
+ghost use Rattle.std.specs.Borrow.{sem};
+ghost use Rattle.std.specs.Fn.{CalledAt};
+ghost use Rattle.std.specs.List.{range_with_len};
+ghost use Rattle.std.specs.Option.{ForSome, option_copied_mut};
+ghost use Rattle.iox_container.specs.SlotTable.{held_count, released, stored};
+ghost use Rattle.iox_container.specs.PairTable.{CallsAtKeys, KeysDiffer, pairs, place_of, value_of};
+
+use crate::CallbackProgression;
+use crate::slot_map::{SlotMap, SlotMapKey};
+use std::alloc::{AllocError, Global};
+use std::fmt;
+use std::marker::Model;
+
+mod error;
+mod fixed_size_flat_map;
+mod iter;
+
+pub use error::FlatMapError;
+pub use fixed_size_flat_map::FixedSizeFlatMap;
+pub use iter::Iter;
+
+/// Values beside keys that the caller brings, at most `capacity` pairs of them, no two with equal keys. `new` takes
+/// all its memory, and of the other calls only `get` may take some.
+///
+/// Contracts see it as a slot table of pairs: each lies at a place that keeps it, a new pair goes to the first free
+/// place, and a place that is given up is the next to be taken. A call looks at the places one after another, until
+/// it has seen each pair; so it costs as many places as pairs were held at once, at most.
+///
+/// Ported from `iceoryx2_bb_container::flatmap::FlatMap`.
+#[derive(Drop)]
+pub struct FlatMap<K: Eq, V> {
+    map: SlotMap<(K, V)>,
+}
+
+impl<K: Eq, V> Model for FlatMap<K, V> {
+    ghost use Rattle.iox_container.specs.SlotTable.{SlotTable};
+    ghost use Rattle.iox_container.specs.PairTable.{KeysDiffer};
+
+    ghost Value = { SlotTable (K × V) };
+
+    ghost view = { λ m. m.map };
+
+    ghost invariant = { λ m. KeysDiffer K.eq m.map.values };
+}
+
+impl<K: Eq, V> FlatMap<K, V> {
+    ghost use Rattle.iox_container.specs.FlatMapLends.{LendsOf};
+
+    /// An empty map of this capacity. It fails only where an allocation fails.
+    pub fn new(alloc: Global, capacity: usize) -> Result<Self, AllocError>
+        ensures empty { IfOk result (λ m. m.values ≡ replicate capacity None) }
+        ensures free { IfOk result (λ m. m.free ≡ range_with_len 0 capacity) }
+    {
+        Ok(FlatMap {
+            map: SlotMap::new(alloc, capacity)?,
+        })
+    }
+
+    /// How many pairs the map holds.
+    pub fn len(&self) -> usize
+        ensures value { result ≡ length (pairs self.now.values) }
+        ensures fits { result ≤ length self.now.values }
+        ensures free { result + length self.now.free ≡ length self.now.values }
+        ensures keys_differ { KeysDiffer K.eq self.now.values }
+    {
+        self.map.len()
+    }
+
+    /// How many pairs fit.
+    pub fn capacity(&self) -> usize
+        ensures { result ≡ length self.now.values }
+    {
+        self.map.capacity()
+    }
+
+    /// Whether the map holds no pair.
+    pub fn is_empty(&self) -> bool
+        ensures { IsTrue result ↔ (pairs self.now.values ≡ []) }
+    {
+        self.len() == 0
+    }
+
+    /// Whether no further pair fits, which is whether there are as many pairs as the capacity.
+    pub fn is_full(&self) -> bool
+        ensures none_free { IsTrue result ↔ (self.now.free ≡ []) }
+        ensures all_held { IsTrue result ↔ (length (pairs self.now.values) ≡ length self.now.values) }
+        ensures not_all_held { OnFalse result (length (pairs self.now.values) < length self.now.values) }
+    {
+        self.map.is_full()
+    }
+
+    fn place(&self, key: &K) -> Option<SlotMapKey>
+        ensures { result ≡ option_map (λ (found : ℕ × (K × V)). found.0) (place_of K.eq key.now self.now) }
+    {
+        let mut unseen = self.map.len();
+        for index in 0..self.map.capacity() {
+            if unseen == 0 {
+                return None;
+            }
+            let place = SlotMapKey::new(index);
+            if let Some(pair) = self.map.get(place) {
+                if pair.0 == *key {
+                    return Some(place);
+                }
+                unseen -= 1;
+            }
+        }
+        None
+    }
+
+    /// Whether the map has an equal key.
+    pub fn contains(&self, key: &K) -> bool
+        ensures { IsTrue result ↔ IsSome (value_of K.eq key.now self.now) }
+    {
+        self.place(key).is_some()
+    }
+
+    /// The value of the key, if the map has it.
+    pub fn get_ref(&self, key: &K) -> Option<&V>
+        ensures { option_copied result ≡ value_of K.eq key.now self.now }
+    {
+        let place = self.place(key)?;
+        match self.map.get(place) {
+            Some(pair) => Some(&pair.1),
+            None => None,
+        }
+    }
+
+    /// The value of the key, if the map has it, to be changed in its place.
+    pub fn get_mut_ref(&mut self, key: &K) -> Option<&mut V>
+        ensures* writes_back { sem 𝓛 (LendsOf K.row V.row K.PartialEq self.entry key.now result) }
+        ensures value { option_copied_mut result ≡ value_of K.eq key.now self.old }
+    {
+        let place = self.place(key)?;
+        match self.map.get_mut(place) {
+            Some(pair) => Some(&mut pair.1),
+            None => None,
+        }
+    }
+
+    /// A clone of the value of the key, if the map has it. It fails only where the map has the key and the clone of its
+    /// value fails, as where an allocation fails.
+    pub fn get(&self, key: &K) -> Result<Option<V>, AllocError>
+    where
+        V: Clone,
+        requires clones_equal { (x y : V) → V.is_clone x y → y ≡ x }
+        ensures value { IfOk result (λ value. value ≡ value_of K.eq key.now self.now) }
+        ensures err { OnErr result (IsSome (value_of K.eq key.now self.now)) }
+        ensures refused { OnErr result (ForSome (value_of K.eq key.now self.now) (λ value. ¬ V.is_infallible value)) }
+    {
+        match self.get_ref(key) {
+            Some(value) => Ok(Some(value.clone()?)),
+            None => Ok(None),
+        }
+    }
+
+    /// Takes a pair in.
+    ///
+    /// Refused with `KeyAlreadyExists` if the map has an equal key, else with `IsFull` if no further pair fits; the
+    /// pair is then dropped.
+    pub fn insert(&mut self, key: K, value: V) -> Result<(), FlatMapError>
+    where
+        K: Drop,
+        V: Drop,
+        ensures exists { (result ≡ Err FlatMapError.KeyAlreadyExists) ↔ IsSome (value_of K.eq key self.old) }
+        ensures full { (result ≡ Err FlatMapError.IsFull) ↔ ((value_of K.eq key self.old ≡ None) × (self.old.free ≡ [])) }
+        ensures accepted { IsOk result ↔ ((value_of K.eq key self.old ≡ None) × (self.old.free ≢ [])) }
+        ensures full_by_pairs { (result ≡ Err FlatMapError.IsFull)
+            ↔ ((value_of K.eq key self.old ≡ None) × (length (pairs self.old.values) ≡ length self.old.values)) }
+        ensures accepted_by_pairs { IsOk result
+            ↔ ((value_of K.eq key self.old ≡ None) × (length (pairs self.old.values) < length self.old.values)) }
+        ensures ok { OnOk result (IfSome (slice_get self.old.free 0) (λ place. self.new ≡ stored self.old place (key, value))) }
+        ensures err { OnErr result (self.new ≡ self.old) }
+    {
+        if self.contains(&key) {
+            return Err(FlatMapError::KeyAlreadyExists);
+        }
+        if self.is_full() {
+            return Err(FlatMapError::IsFull);
+        }
+        self.map.insert((key, value));
+        Ok(())
+    }
+
+    /// Takes the pair of the key out and returns its value, if the map has it. Its key is dropped, and its place is
+    /// the next that is taken.
+    pub fn remove(&mut self, key: &K) -> Option<V>
+    where
+        K: Drop,
+        ensures value { result ≡ value_of K.eq key.now self.old }
+        ensures some { IfSome (place_of K.eq key.now self.old) (λ found. self.new ≡ released self.old found.0) }
+        ensures none { IfNone result (self.new ≡ self.old) }
+    {
+        let place = self.place(key)?;
+        let (_key, value) = self.map.take(place)?;
+        Some(value)
+    }
+
+    /// Calls `callback` at each key in the order of the places, up to and with the first that it answers with `Stop`,
+    /// and not again: the contract says in which state that leaves it.
+    pub fn list_keys<F: FnMut(&K) -> CallbackProgression>(&self, callback: &mut F)
+        requires { F.IsAlwaysCallable callback.old }
+        ensures called { CallsAtKeys (CalledAt F.FnMut) callback.old (pairs self.now.values) callback.new }
+        ensures callable { F.IsAlwaysCallable callback.new }
+    {
+        let mut unseen = self.map.len();
+        for index in 0..self.map.capacity() {
+            if unseen == 0 {
+                return;
+            }
+            let Some(pair) = self.map.get(SlotMapKey::new(index)) else {
+                continue;
+            };
+            unseen -= 1;
+            match callback(&pair.0) {
+                CallbackProgression::Continue => continue,
+                CallbackProgression::Stop => return,
+            }
+        }
+    }
+}
+
+impl<K: Eq, V> FlatMap<K, V> {
+    /// The keys with their values, each pair once, in the order of the places.
+    pub fn iter(&self) -> Iter<'_, K, V>
+        ensures pairs { result ≡ pairs self.now.values }
+        ensures keys_differ { KeysDiffer K.eq self.now.values }
+    {
+        Iter {
+            places: self.map.places(),
+        }
+    }
+}
+
+/// Goes over the pairs, in the order of the places.
+impl<'a, K: Eq, V> IntoIterator for &'a FlatMap<K, V> {
+    type Item = (&'a K, &'a V);
+
+    type IntoIter = Iter<'a, K, V>;
+
+    ghost into_iter_gives = { λ map iter. iter ≡ pairs map.now.values };
+
+    fn into_iter(self) -> Iter<'a, K, V> {
+        self.iter()
+    }
+}
+
+/// The pairs as a map, in the order of the places.
+impl<K: Eq + fmt::Debug, V: fmt::Debug> fmt::Debug for FlatMap<K, V> {
+    fn fmt<W: fmt::Write>(&self, f: &mut fmt::Formatter<W>) -> fmt::Result {
+        let mut out = f.debug_map();
+        for (key, value) in self {
+            out.entry(key, value);
+        }
+        out.finish()
+    }
+}

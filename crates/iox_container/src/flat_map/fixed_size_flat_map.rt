@@ -1,0 +1,193 @@
+//! A flat map whose capacity is part of its type.
+ghost use Rattle.std.specs.Prelude.{◌≡◌, ◌≢◌, ℕ, ◌+◌, ◌<◌, ◌≤◌, ◌↔◌, [], ◌∷◌, length, replicate, IsTrue, IsOk, IsSome, IfOk, IfSome, IfNone, OnOk, OnErr, Ok, Err, Some, None, slice_get, option_copied, option_map};
+ghost use Rattle.std.specs.Bool.{OnFalse};
+ghost use Rattle.std.specs.Borrow.{sem};
+ghost use Rattle.std.specs.Fn.{CalledAt};
+ghost use Rattle.std.specs.List.{range_with_len};
+ghost use Rattle.std.specs.Option.{ForSome, option_copied_mut};
+ghost use Rattle.iox_container.specs.SlotTable.{released, stored};
+ghost use Rattle.iox_container.specs.PairTable.{CallsAtKeys, KeysDiffer, pairs, place_of, value_of};
+
+use crate::CallbackProgression;
+use crate::flat_map::{FlatMap, FlatMapError, Iter};
+use std::alloc::{AllocError, Global};
+use std::fmt;
+use std::marker::Model;
+
+/// Values beside keys that the caller brings, at most `CAPACITY` pairs of them, no two with equal keys. `new` takes
+/// all its memory, and of the other calls only `get` may take some.
+///
+/// Contracts see it as they see a `FlatMap`, with `CAPACITY` places.
+///
+/// Ported from `iceoryx2_bb_container::flatmap::FixedSizeFlatMap`.
+#[derive(Drop)]
+pub struct FixedSizeFlatMap<K: Eq, V, const CAPACITY: usize> {
+    map: FlatMap<K, V>,
+}
+
+impl<K: Eq, V, const CAPACITY: usize> Model for FixedSizeFlatMap<K, V, CAPACITY> {
+    ghost use Rattle.std.specs.Prelude.{◌≡◌, length};
+    ghost use Rattle.iox_container.specs.SlotTable.{SlotTable};
+
+    ghost Value = { SlotTable (K × V) };
+
+    ghost view = { λ m. m.map };
+
+    ghost invariant = { λ m. length m.map.values ≡ CAPACITY };
+}
+
+impl<K: Eq, V, const CAPACITY: usize> FixedSizeFlatMap<K, V, CAPACITY> {
+    ghost use Rattle.iox_container.specs.FixedSizeFlatMapLends.{LendsOf};
+
+    /// An empty map. It fails only where an allocation fails.
+    pub fn new(alloc: Global) -> Result<Self, AllocError>
+        ensures empty { IfOk result (λ m. m.values ≡ replicate CAPACITY None) }
+        ensures free { IfOk result (λ m. m.free ≡ range_with_len 0 CAPACITY) }
+    {
+        Ok(FixedSizeFlatMap {
+            map: FlatMap::new(alloc, CAPACITY)?,
+        })
+    }
+
+    /// How many pairs the map holds.
+    pub fn len(&self) -> usize
+        ensures value { result ≡ length (pairs self.now.values) }
+        ensures fits { result ≤ CAPACITY }
+        ensures free { result + length self.now.free ≡ CAPACITY }
+        ensures keys_differ { KeysDiffer K.eq self.now.values }
+        ensures capacity { length self.now.values ≡ CAPACITY }
+    {
+        self.map.len()
+    }
+
+    /// How many pairs fit, which is `CAPACITY`.
+    pub fn capacity(&self) -> usize
+        ensures { result ≡ CAPACITY }
+    {
+        CAPACITY
+    }
+
+    /// Whether the map holds no pair.
+    pub fn is_empty(&self) -> bool
+        ensures { IsTrue result ↔ (pairs self.now.values ≡ []) }
+    {
+        self.map.is_empty()
+    }
+
+    /// Whether no further pair fits, which is whether there are `CAPACITY` pairs.
+    pub fn is_full(&self) -> bool
+        ensures none_free { IsTrue result ↔ (self.now.free ≡ []) }
+        ensures all_held { IsTrue result ↔ (length (pairs self.now.values) ≡ CAPACITY) }
+        ensures not_all_held { OnFalse result (length (pairs self.now.values) < CAPACITY) }
+    {
+        self.map.is_full()
+    }
+
+    /// Whether the map has an equal key.
+    pub fn contains(&self, key: &K) -> bool
+        ensures { IsTrue result ↔ IsSome (value_of K.eq key.now self.now) }
+    {
+        self.map.contains(key)
+    }
+
+    /// The value of the key, if the map has it.
+    pub fn get_ref(&self, key: &K) -> Option<&V>
+        ensures { option_copied result ≡ value_of K.eq key.now self.now }
+    {
+        self.map.get_ref(key)
+    }
+
+    /// The value of the key, if the map has it, to be changed in its place.
+    pub fn get_mut_ref(&mut self, key: &K) -> Option<&mut V>
+        ensures* writes_back { sem 𝓛 (LendsOf K.row V.row CAPACITY.row K.PartialEq self.entry key.now result) }
+        ensures value { option_copied_mut result ≡ value_of K.eq key.now self.old }
+    {
+        self.map.get_mut_ref(key)
+    }
+
+    /// A clone of the value of the key, if the map has it. It fails only where the map has the key and the clone of its
+    /// value fails, as where an allocation fails.
+    pub fn get(&self, key: &K) -> Result<Option<V>, AllocError>
+    where
+        V: Clone,
+        requires clones_equal { (x y : V) → V.is_clone x y → y ≡ x }
+        ensures value { IfOk result (λ value. value ≡ value_of K.eq key.now self.now) }
+        ensures err { OnErr result (IsSome (value_of K.eq key.now self.now)) }
+        ensures refused { OnErr result (ForSome (value_of K.eq key.now self.now) (λ value. ¬ V.is_infallible value)) }
+    {
+        self.map.get(key)
+    }
+
+    /// Takes a pair in.
+    ///
+    /// Refused with `KeyAlreadyExists` if the map has an equal key, else with `IsFull` if no further pair fits; the
+    /// pair is then dropped.
+    pub fn insert(&mut self, key: K, value: V) -> Result<(), FlatMapError>
+    where
+        K: Drop,
+        V: Drop,
+        ensures exists { (result ≡ Err FlatMapError.KeyAlreadyExists) ↔ IsSome (value_of K.eq key self.old) }
+        ensures full { (result ≡ Err FlatMapError.IsFull) ↔ ((value_of K.eq key self.old ≡ None) × (self.old.free ≡ [])) }
+        ensures accepted { IsOk result ↔ ((value_of K.eq key self.old ≡ None) × (self.old.free ≢ [])) }
+        ensures full_by_pairs { (result ≡ Err FlatMapError.IsFull)
+            ↔ ((value_of K.eq key self.old ≡ None) × (length (pairs self.old.values) ≡ CAPACITY)) }
+        ensures accepted_by_pairs { IsOk result ↔ ((value_of K.eq key self.old ≡ None) × (length (pairs self.old.values) < CAPACITY)) }
+        ensures ok { OnOk result (IfSome (slice_get self.old.free 0) (λ place. self.new ≡ stored self.old place (key, value))) }
+        ensures err { OnErr result (self.new ≡ self.old) }
+    {
+        self.map.insert(key, value)
+    }
+
+    /// Takes the pair of the key out and returns its value, if the map has it. Its key is dropped, and its place is
+    /// the next that is taken.
+    pub fn remove(&mut self, key: &K) -> Option<V>
+    where
+        K: Drop,
+        ensures value { result ≡ value_of K.eq key.now self.old }
+        ensures some { IfSome (place_of K.eq key.now self.old) (λ found. self.new ≡ released self.old found.0) }
+        ensures none { IfNone result (self.new ≡ self.old) }
+    {
+        self.map.remove(key)
+    }
+
+    /// Calls `callback` at each key in the order of the places, up to and with the first that it answers with `Stop`,
+    /// and not again: the contract says in which state that leaves it.
+    pub fn list_keys<F: FnMut(&K) -> CallbackProgression>(&self, callback: &mut F)
+        requires { F.IsAlwaysCallable callback.old }
+        ensures called { CallsAtKeys (CalledAt F.FnMut) callback.old (pairs self.now.values) callback.new }
+        ensures callable { F.IsAlwaysCallable callback.new }
+    {
+        self.map.list_keys(callback);
+    }
+}
+
+impl<K: Eq, V, const CAPACITY: usize> FixedSizeFlatMap<K, V, CAPACITY> {
+    /// The keys with their values, each pair once, in the order of the places.
+    pub fn iter(&self) -> Iter<'_, K, V>
+        ensures pairs { result ≡ pairs self.now.values }
+        ensures keys_differ { KeysDiffer K.eq self.now.values }
+    {
+        self.map.iter()
+    }
+}
+
+/// Goes over the pairs, in the order of the places.
+impl<'a, K: Eq, V, const CAPACITY: usize> IntoIterator for &'a FixedSizeFlatMap<K, V, CAPACITY> {
+    type Item = (&'a K, &'a V);
+
+    type IntoIter = Iter<'a, K, V>;
+
+    ghost into_iter_gives = { λ map iter. iter ≡ pairs map.now.values };
+
+    fn into_iter(self) -> Iter<'a, K, V> {
+        self.iter()
+    }
+}
+
+/// The pairs as a map, in the order of the places.
+impl<K: Eq + fmt::Debug, V: fmt::Debug, const CAPACITY: usize> fmt::Debug
+    for FixedSizeFlatMap<K, V, CAPACITY> {
+    fn fmt<W: fmt::Write>(&self, f: &mut fmt::Formatter<W>) -> fmt::Result {
+        fmt::Debug::fmt(&self.map, f)
+    }
+}

@@ -1,0 +1,39 @@
+pub mod Places
+pub mod Ties
+pub mod Progress
+pub mod Ports
+pub mod PublisherUpdating
+pub mod Sending
+pub mod Lengths
+pub mod Loaning
+pub mod Writing
+pub mod WritingLends
+pub mod Leaving
+pub mod PublisherLaws
+pub mod UpdateLaws
+pub mod Memory
+pub mod LoanLaws
+pub mod Rows
+pub mod Payloads
+pub mod Marks
+pub mod Messages
+pub mod MessagesSending
+pub mod MessagesLaws
+pub mod RowsLends
+pub mod PayloadsLends
+pub mod SenderLends
+pub mod Reading
+pub mod Publishers
+pub mod PublishersLends
+pub mod Keys
+pub mod Subscribing
+pub mod Receiving
+pub mod Expired
+pub mod Following
+pub mod SubscriberUpdating
+pub mod SubscriberLaws
+pub mod Arriving
+pub mod Living
+pub use Rattle.iox_container.specs as Container
+pub use Rattle.iox_domain_slots.specs as DomainSlots
+pub use Rattle.iox_domain_values.specs as DomainValues

@@ -1,0 +1,64 @@
+-- What the steps of a publisher come to, in other words.
+use Rattle.std.specs.Prelude.{ℕ, ◌+◌, ◌<◌, ◌≤◌, ◌≡◌, ◌≢◌, ◌↔◌, ◌&&◌, Bool, true, if◌then◌else◌, List, [], ◌∷◌, eqb, nat_lt, nat_le, slice_get, Some}
+use Rattle.std.specs.List.{list_any}
+use Rattle.iox_domain_slots.specs.Uses.{Uses, nobody, placed, connected, connection_at, with_connection, loaned, dropped, begun, finished, segment_opened, offered, taken, given_back, ended, welcomed}
+use Rattle.iox_domain_ports.specs.Messages.{Message, Loan, is_written, write_all, sent_as}
+use Rattle.iox_domain_ports.specs.MessagesSending.{change_loan}
+use Rattle.iox_domain_slots.specs.Counting.{times}
+
+-- how many different numbers are in a list
+abbrev pub different : List ℕ → ℕ
+different [] = 0
+different (number ∷ numbers) = if list_any (λ other. eqb number other) numbers then different numbers else 1 + different numbers
+
+-- those of a list that are slots of a segment
+abbrev pub of_segment : ℕ → ℕ → List ℕ → List ℕ
+of_segment first size [] = []
+of_segment first size (slot ∷ slots) = if nat_le first slot && nat_lt slot (first + size) then slot
+    ∷ of_segment first size slots else of_segment first size slots
+
+-- Something in use stands in each slot of a segment exactly if as many different loans and messages of it are in use as it has slots.
+abbrev pub FullExactlyIf : Type 0
+FullExactlyIf = (first size : ℕ) (slots : List ℕ)
+    → ((slot : ℕ) → first ≤ slot → slot < first + size → 0 < times slot slots) ↔ (different (of_segment first size slots) ≡ size)
+
+-- a subscriber holds this message, at this place of what its connection has borrowed
+abbrev pub IsHeld : {L X : Type 0} → ℕ → ℕ → X → Uses L X → Type 0
+IsHeld index at message uses = slice_get (connection_at index uses).borrowed at ≡ Some message
+
+-- A message that a subscriber holds stays as it is, at its place, through these steps.
+pub record HeldStays (T U : Type 0) : Type 0 where
+  pub loan : (index at : ℕ) (message : Message T U) (one : Loan T U) (uses : Uses (Loan T U) (Message T U))
+      → IsHeld index at message uses → IsHeld index at message (loaned one uses)
+  pub write : (index at : ℕ) (message : Message T U) (slot : ℕ) (change : Loan T U → Loan T U) (uses : Uses (Loan T U) (Message T U))
+      → IsHeld index at message uses
+      → IsHeld index at message (change_loan slot change uses)
+  pub drop : (index at : ℕ) (message : Message T U) (place : ℕ) (uses : Uses (Loan T U) (Message T U)) → IsHeld index at message uses
+      → IsHeld index at message (dropped place uses)
+  pub begin : (index at : ℕ) (message : Message T U) (place : ℕ) (sent : Message T U) (uses : Uses (Loan T U) (Message T U))
+      → IsHeld index at message uses → IsHeld index at message (begun place sent uses)
+  pub finish : (index at : ℕ) (message : Message T U) (uses : Uses (Loan T U) (Message T U)) → IsHeld index at message uses
+      → IsHeld index at message (finished uses)
+  pub segment : (index at : ℕ) (message : Message T U) (uses : Uses (Loan T U) (Message T U)) → IsHeld index at message uses
+      → IsHeld index at message (segment_opened uses)
+  pub connect : (index at : ℕ) (message : Message T U) (other limit : ℕ) (uses : Uses (Loan T U) (Message T U))
+      → connection_at other uses ≡ nobody → IsHeld index at message uses
+      → IsHeld index at message (record uses { connections = placed other (connected limit) uses.connections })
+  pub offer : (index at : ℕ) (message : Message T U) (other : ℕ) (overflows : Bool) (sent : Message T U)
+      (uses : Uses (Loan T U) (Message T U)) → IsHeld index at message uses
+      → IsHeld index at message (with_connection other (offered overflows sent (connection_at other uses)) uses)
+  pub take : (index at : ℕ) (message : Message T U) (other : ℕ) (uses : Uses (Loan T U) (Message T U)) → IsHeld index at message uses
+      → IsHeld index at message (with_connection other (taken (connection_at other uses)) uses)
+  pub give_back : (index at : ℕ) (message : Message T U) (other place : ℕ) (uses : Uses (Loan T U) (Message T U)) → other ≢ index
+      → IsHeld index at message uses
+      → IsHeld index at message (with_connection other (given_back place (connection_at other uses)) uses)
+  pub end : (index at : ℕ) (message : Message T U) (other : ℕ) (uses : Uses (Loan T U) (Message T U)) → IsHeld index at message uses
+      → IsHeld index at message (with_connection other (ended (connection_at other uses)) uses)
+  pub welcome : (index at : ℕ) (message : Message T U) (other : ℕ) (history : List (Message T U)) (uses : Uses (Loan T U) (Message T U))
+      → IsHeld index at message uses
+      → IsHeld index at message (with_connection other (welcomed history (connection_at other uses)) uses)
+
+-- A loan whose values are written all at once is wholly written, and just these values are sent.
+pub record WholeIsSent (T U : Type 0) : Type 0 where
+  pub whole : (values : List T) (loan : Loan T U) → is_written (write_all values loan) ≡ true
+  pub values : (values : List T) (loan : Loan T U) → (sent_as (write_all values loan)).values ≡ values

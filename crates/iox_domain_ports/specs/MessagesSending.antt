@@ -1,0 +1,171 @@
+-- One publisher with its messages.
+use Rattle.std.specs.Prelude.{false, ℕ, ◌+◌, ◌<◌, ◌≤◌, ◌≡◌, ◌==◌, Bool, List, [], ◌∷◌, length, get_or, map, Option, None, Some, option_map, if◌then◌else◌, eqb, nat_lt, ◌&&◌, is_some, slice_get}
+use Rattle.std.specs.List.{All, list_any, find, position_or_len}
+use Rattle.iox_domain_slots.specs.Uses.{Uses, Connection, in_use, loaned, segment_opened}
+use Rattle.iox_domain_slots.specs.Counting.{times}
+use Rattle.iox_domain_ports.specs.Messages.{Message, Loan, new_loan, is_written}
+use Rattle.iox_domain_ports.specs.Payloads.{PayloadsState, payload_at}
+use Rattle.iox_domain_ports.specs.declared.messages.slot_header.SlotHeader.{SlotHeader}
+
+-- A publisher: how many values a new loan may have at most, how many segments there are and may be, the user header that a new
+-- loan has, and who uses which message.
+pub record SenderState (T U : Type 0) : Type 0 where
+  pub room : ℕ
+  pub segments : ℕ
+  pub most_segments : ℕ
+  pub user_header : U
+  pub uses : Uses (Loan T U) (Message T U)
+
+-- other uses
+abbrev pub with_uses : {T U : Type 0} → Uses (Loan T U) (Message T U) → SenderState T U → SenderState T U
+with_uses uses sender = record sender { uses = uses }
+
+-- a connection whose messages go by other names
+abbrev pub connection_by : {X Y : Type 0} → (X → Y) → Connection X → Connection Y
+connection_by name connection = record {
+  stage = connection.stage;
+  limit = connection.limit;
+  waiting = map name connection.waiting;
+  borrowed = map name connection.borrowed;
+}
+
+-- the same uses where loans and messages go by other names
+abbrev pub uses_by : {L X M Y : Type 0} → (L → M) → (X → Y) → Uses L X → Uses M Y
+uses_by loan message uses = record {
+  first = uses.first;
+  size = uses.size;
+  most_loans = uses.most_loans;
+  kept = uses.kept;
+  most_waiting = uses.most_waiting;
+  most_borrowed = uses.most_borrowed;
+  overflows = uses.overflows;
+  sending = option_map message uses.sending;
+  loans = map loan uses.loans;
+  history = map message uses.history;
+  connections = map (connection_by message) uses.connections;
+}
+
+-- the slots that a publisher's loans and messages stand in
+abbrev pub slots_of : {T U : Type 0} → SenderState T U → Uses ℕ ℕ
+slots_of sender = uses_by (λ loan. loan.slot) (λ message. message.slot) sender.uses
+
+-- A loan is made in any slot of the current segment in which nothing in use stands; there is none exactly if in each of them
+-- stands something in use.
+abbrev pub LoanMade : {T U : Type 0} → SenderState T U → ℕ → ℕ → Option ℕ → SenderState T U → Type 0
+LoanMade old values elements None new =
+    ((slot : ℕ) → old.uses.first ≤ slot → slot < old.uses.first + old.uses.size → 0 < times slot (in_use (slots_of old))) × (new ≡ old)
+LoanMade old values elements (Some slot) new =
+    (old.uses.first ≤ slot) × (slot < old.uses.first + old.uses.size) × (times slot (in_use (slots_of old)) ≡ 0)
+    × (new ≡ with_uses (loaned (new_loan slot values elements old.user_header) old.uses) old)
+
+-- another loan where one stands in this slot
+abbrev pub change_loan : {T U : Type 0} → ℕ → (Loan T U → Loan T U) → Uses (Loan T U) (Message T U) → Uses (Loan T U) (Message T U)
+change_loan slot change uses = record uses { loans = map (λ loan. if eqb slot loan.slot then change loan else loan) uses.loans }
+
+-- one of the loans stands in this slot
+abbrev pub has_loan : {T U : Type 0} → ℕ → Uses (Loan T U) (Message T U) → Bool
+has_loan slot uses = list_any (λ loan. eqb slot loan.slot) uses.loans
+
+-- one of the loans stands in this slot, and has this place
+abbrev pub has_place : {T U : Type 0} → ℕ → ℕ → Uses (Loan T U) (Message T U) → Bool
+has_place slot place uses = list_any (λ loan. eqb slot loan.slot && nat_lt place (length loan.values)) uses.loans
+
+-- one of the loans stands in this slot, and the value at this place of it is written
+abbrev pub has_value : {T U : Type 0} → ℕ → ℕ → Uses (Loan T U) (Message T U) → Bool
+has_value slot place uses = list_any (λ loan. eqb slot loan.slot && is_some (get_or loan.values place None)) uses.loans
+
+-- one of the loans stands in this slot, and has so many values
+abbrev pub has_length : {T U : Type 0} → ℕ → ℕ → Uses (Loan T U) (Message T U) → Bool
+has_length slot count uses = list_any (λ loan. eqb slot loan.slot && eqb count (length loan.values)) uses.loans
+
+-- a message that is this one, if it stands in the same slot
+abbrev pub IsIfInSlot : {T U : Type 0} → Message T U → Message T U → Type 0
+IsIfInSlot message other = other.slot ≡ message.slot → other ≡ message
+
+-- No loan stands in the slot of a message, and each message of the history and of the connections that stands there is this one.
+pub record StandsAlone {T U : Type 0} (message : Message T U) (uses : Uses (Loan T U) (Message T U)) : Type 0 where
+  pub loans : has_loan message.slot uses ≡ false
+  pub history : All (IsIfInSlot message) uses.history
+  pub connections : All (λ connection. All (IsIfInSlot message) connection.waiting
+      × All (IsIfInSlot message) connection.borrowed) uses.connections
+
+-- where in the list of loans the first that stands in this slot is; its length where none does
+abbrev pub place_in : {T U : Type 0} → ℕ → Uses (Loan T U) (Message T U) → ℕ
+place_in slot uses = position_or_len (λ loan. loan.slot == slot) uses.loans
+
+-- the loan that stands in this slot, if one does
+abbrev pub loan_at : {T U : Type 0} → ℕ → Uses (Loan T U) (Message T U) → Option (Loan T U)
+loan_at slot uses = find (λ loan. loan.slot == slot) uses.loans
+
+-- whether a loan is written; no loan isn't
+abbrev pub is_written_loan : {T U : Type 0} → Option (Loan T U) → Bool
+is_written_loan None = false
+is_written_loan (Some loan) = is_written loan
+
+-- whether the loan at this place of the list is written
+abbrev pub is_written_at : {T U : Type 0} → ℕ → Uses (Loan T U) (Message T U) → Bool
+is_written_at at uses = is_written_loan (slice_get uses.loans at)
+
+-- What stands in the slots: the values, which of them are written, and what is told of them; a slot that there isn't has `blank`.
+pub record Store (T U : Type 0) : Type 0 where
+  pub values : PayloadsState T
+  pub written : PayloadsState Bool
+  pub headers : List (SlotHeader U)
+  pub blank : SlotHeader U
+
+-- values of which only some are written
+abbrev pub masked : {T : Type 0} → List Bool → List T → List (Option T)
+masked [] values = []
+masked (written ∷ marks) [] = []
+masked (written ∷ marks) (value ∷ values) = (if written then Some value else None) ∷ masked marks values
+
+-- the message that stands in a slot
+abbrev pub message_in : {T U : Type 0} → Store T U → ℕ → Message T U
+message_in store slot = record {
+  slot = slot;
+  elements = (get_or store.headers slot store.blank).elements;
+  user_header = (get_or store.headers slot store.blank).user_header;
+  values = payload_at slot store.values;
+}
+
+-- the loan that stands in a slot
+abbrev pub loan_in : {T U : Type 0} → Store T U → ℕ → Loan T U
+loan_in store slot = record {
+  slot = slot;
+  elements = (get_or store.headers slot store.blank).elements;
+  user_header = (get_or store.headers slot store.blank).user_header;
+  values = masked (payload_at slot store.written) (payload_at slot store.values);
+}
+
+-- a publisher whose slots have such payloads
+abbrev pub sender_of : {T U : Type 0} → PayloadsState T → SlotHeader U → Uses (Loan T U) (Message T U) → SenderState T U
+sender_of payloads blank uses = record {
+  room = payloads.room;
+  segments = payloads.segments;
+  most_segments = payloads.most_segments;
+  user_header = blank.user_header;
+  uses = uses;
+}
+
+-- what is seen of a publisher: who uses which message, read out of the slots
+abbrev pub seen_sender : {T U : Type 0} → Store T U → Uses ℕ ℕ → SenderState T U
+seen_sender store uses = sender_of store.values store.blank (uses_by (loan_in store) (message_in store) uses)
+
+-- a segment is opened for longer loans
+abbrev pub opened_for : {T U : Type 0} → ℕ → SenderState T U → SenderState T U
+opened_for room sender = record sender { room = room; segments = sender.segments + 1; uses = segment_opened sender.uses }
+
+-- There are as many values as marks in each slot and a header for each; a slot that is lent is used for nothing else; and each slot
+-- that is used is one that there is.
+pub record IsSender {T U : Type 0} (store : Store T U) (uses : Uses ℕ ℕ) : Type 0 where
+  pub values : length store.values.payloads ≡ uses.first + uses.size
+  pub written : length store.written.payloads ≡ uses.first + uses.size
+  pub headers : length store.headers ≡ uses.first + uses.size
+  pub values_size : store.values.size ≡ uses.size
+  pub written_size : store.written.size ≡ uses.size
+  pub room : store.written.room ≡ store.values.room
+  pub segments : store.written.segments ≡ store.values.segments
+  pub most_segments : store.written.most_segments ≡ store.values.most_segments
+  pub marks : (slot : ℕ) → length (payload_at slot store.written) ≡ length (payload_at slot store.values)
+  pub sole : (slot : ℕ) → 0 < times slot uses.loans → times slot (in_use uses) ≡ 1
+  pub within : (slot : ℕ) → 0 < times slot (in_use uses) → slot < uses.first + uses.size

@@ -1,0 +1,69 @@
+//! A publisher comes and leaves.
+ghost use Rattle.std.specs.Prelude.{◌≡◌, ◌<◌, ◌^◌, IfOk, true, [], length};
+ghost use Rattle.iox_domain_ports.specs.Leaving.{new_port, parted_at, departed};
+
+use crate::messages::{Sender, SenderConfig};
+use crate::places::Places;
+use crate::progress::Progress;
+use crate::publisher_port::PublisherPort;
+use crate::ties::Ties;
+use iox_domain_values::{AllocationStrategy, PortIdentity};
+use std::alloc::{AllocError, Global};
+
+impl<T: Copy, U: Copy> PublisherPort<T, U> {
+    /// A publisher that is connected to nobody yet, and is to be listed at its place, with room for so many places of the list of
+    /// subscribers, whose elements have so many values each. It fails only where an allocation fails.
+    pub fn new(
+        alloc: Global,
+        identity: PortIdentity,
+        most_subscribers: usize,
+        allocation: AllocationStrategy,
+        unit: usize,
+        config: SenderConfig,
+        blank: T,
+        user_header: U,
+    ) -> Result<PublisherPort<T, U>, AllocError>
+        requires loans { config.most_loans < 2 ^ 32 }
+        requires history { config.history < 2 ^ 32 }
+        requires waiting { config.most_waiting < 2 ^ 32 }
+        requires borrowed { config.most_borrowed < 2 ^ 32 }
+        requires segments { 0 < config.most_segments }
+        ensures { IfOk result (λ port. port ≡ new_port identity most_subscribers allocation unit config user_header) }
+    {
+        Ok(PublisherPort {
+            service: identity.service,
+            number: identity.number,
+            owner: identity.owner,
+            place: identity.place,
+            allocation,
+            unit,
+            stands: true,
+            seen: 0,
+            ties: Ties::new(alloc, most_subscribers)?,
+            readers: Places::new(alloc),
+            progress: Progress::start(),
+            sender: Sender::new(alloc, config, blank, user_header)?,
+        })
+    }
+
+    // Ends the connection of this index if it goes on and nobody reads there.
+    fn part(&mut self, index: usize)
+        ensures { self.new ≡ parted_at index self.old }
+    {
+        if !self.readers.is_attached(index) {
+            self.end(index);
+        }
+    }
+
+    /// Leaves: the publisher sends no more. Connections where nobody reads end; the others stay until their subscribers find out.
+    ///
+    /// Ported from dropping an `iceoryx2::port::publisher::Publisher`.
+    pub fn leave(&mut self)
+        ensures { self.new ≡ departed self.old }
+    {
+        self.stands = false;
+        for index in 0..self.sender.indices() {
+            self.part(index);
+        }
+    }
+}

@@ -1,0 +1,57 @@
+//! How long loans and segments are, counted in elements.
+ghost use Rattle.std.specs.Prelude.{◌≡◌, ◌≤◌, nat_le, true, Some, IfSome};
+ghost use Rattle.iox_domain_ports.specs.Lengths.{span, extent, room_for, SegmentRoom};
+
+use iox_domain_values::AllocationStrategy;
+
+/// How many values so many elements have, of so many each. An element without values counts as one value, so that lengths are counted of
+/// such elements too.
+///
+/// Ported from `iceoryx2::service::static_config::message_type_details::MessageTypeDetails::sample_layout`, in values.
+pub fn span(unit: usize, elements: u64) -> u128
+    ensures { result ≡ span unit elements }
+{
+    elements as u128 * unit.max(1) as u128
+}
+
+// How many values a loan takes.
+fn extent(unit: usize, values: usize, elements: u64) -> u128
+    ensures { result ≡ extent unit values elements }
+{
+    span(unit, elements).max(values as u128)
+}
+
+// Whether a loan of so many values and elements, each of so many values, is at most so long.
+pub(crate) fn fits(unit: usize, values: usize, elements: u64, room: usize) -> bool
+    ensures fits { result ≡ nat_le (extent unit values elements) room }
+    ensures values { result ≡ true → values ≤ room }
+{
+    extent(unit, values, elements) <= room as u128
+}
+
+// How long a segment is that is opened for a loan of so many values and elements, each of so many values: None if none may be.
+pub(crate) fn segment_room(
+    allocation: AllocationStrategy,
+    unit: usize,
+    values: usize,
+    elements: u64,
+) -> Option<usize>
+    ensures room { SegmentRoom allocation unit values elements result }
+    ensures fits { IfSome result (λ room. values ≤ room) }
+{
+    let length = allocation.segment_length(elements as usize)?;
+    room_for(unit, values, length)
+}
+
+// How long a segment is with room for so many elements, and for these values.
+fn room_for(unit: usize, values: usize, length: usize) -> Option<usize>
+    ensures room { result ≡ room_for unit values (Some length) }
+    ensures fits { IfSome result (λ room. values ≤ room) }
+{
+    let room = extent(unit, values, length as u64);
+    if room < 0x1_0000_0000 {
+        Some(room as usize)
+    } else {
+        None
+    }
+}

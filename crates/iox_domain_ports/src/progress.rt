@@ -1,0 +1,117 @@
+//! How far a send is.
+ghost use Rattle.std.specs.Prelude.{◌≡◌, ◌+◌, ◌<◌, ◌^◌};
+ghost use Rattle.iox_domain_ports.specs.Progress.{start, passed, counted, failing, tried_again};
+
+use std::marker::Model;
+
+/// How far a send is: the place of the list of subscribers that comes next, how often and how long it was tried, how many
+/// connections took the message so far, and whether the send is to fail.
+#[derive(Drop)]
+pub struct Progress {
+    place: usize,
+    retries: u64,
+    elapsed: u64,
+    delivered: usize,
+    fails: bool,
+}
+
+impl Model for Progress {
+    ghost use Rattle.std.specs.Prelude.{◌≤◌};
+    ghost use Rattle.iox_domain_ports.specs.Progress.{ProgressState};
+
+    ghost Value = { ProgressState };
+
+    ghost view = { λ p. record { place = p.place; retries = p.retries; elapsed = p.elapsed; delivered = p.delivered; fails = p.fails } };
+
+    ghost invariant = { λ p. p.delivered ≤ p.place };
+}
+
+impl Progress {
+    /// Nothing was tried yet.
+    pub fn start() -> Progress
+        ensures { result ≡ start }
+    {
+        Progress {
+            place: 0,
+            retries: 0,
+            elapsed: 0,
+            delivered: 0,
+            fails: false,
+        }
+    }
+
+    /// The place that comes next.
+    pub fn place(&self) -> usize
+        ensures { result ≡ self.now.place }
+    {
+        self.place
+    }
+
+    /// How often the place was tried again: 0 at first.
+    pub fn retries(&self) -> u64
+        ensures { result ≡ self.now.retries }
+    {
+        self.retries
+    }
+
+    /// For how many nanoseconds, as the caller told: 0 at first.
+    pub fn elapsed(&self) -> u64
+        ensures { result ≡ self.now.elapsed }
+    {
+        self.elapsed
+    }
+
+    /// How many connections took the message so far.
+    pub fn delivered(&self) -> usize
+        ensures { result ≡ self.now.delivered }
+    {
+        self.delivered
+    }
+
+    /// Whether the send fails after the last place.
+    pub fn fails(&self) -> bool
+        ensures { result ≡ self.now.fails }
+    {
+        self.fails
+    }
+
+    /// The place is passed over.
+    pub fn pass(&mut self)
+        requires { self.old.place + 1 < 2 ^ 64 }
+        ensures { self.new ≡ passed self.old }
+    {
+        self.place += 1;
+        self.retries = 0;
+        self.elapsed = 0;
+    }
+
+    /// The place is passed over, and the send is to fail.
+    pub fn fail(&mut self)
+        requires { self.old.place + 1 < 2 ^ 64 }
+        ensures { self.new ≡ failing self.old }
+    {
+        self.place += 1;
+        self.retries = 0;
+        self.elapsed = 0;
+        self.fails = true;
+    }
+
+    /// The connection of the place took the message.
+    pub fn count(&mut self)
+        requires { self.old.place + 1 < 2 ^ 64 }
+        ensures { self.new ≡ counted self.old }
+    {
+        self.place += 1;
+        self.retries = 0;
+        self.elapsed = 0;
+        self.delivered += 1;
+    }
+
+    /// The place is tried once more, after so many nanoseconds. Retries are counted up to 2^64 - 1.
+    pub fn try_again(&mut self, elapsed: u64)
+        ensures { self.new ≡ tried_again elapsed self.old }
+    {
+        self.retries = self.retries.saturating_add(1);
+        self.elapsed = elapsed;
+    }
+}

@@ -1,0 +1,245 @@
+//! The publishers of a service, by number.
+ghost use Rattle.std.specs.Prelude.{◌≡◌, ◌-◌, ◌^◌, ◌<◌, length, map, min, slice_get, option_copied, is_some, true, OnOk, OnErr, [], None, Some};
+ghost use Rattle.std.specs.Borrow.{sem};
+ghost use Rattle.std.specs.Map.Iter.{ShowsInOrder, deref_pair};
+ghost use Rattle.std.specs.Option.{option_copied_mut};
+ghost use Rattle.iox_domain_slots.specs.Uses.{is_there};
+ghost use Rattle.iox_domain_ports.specs.Ports.{detached_at};
+ghost use Rattle.iox_domain_ports.specs.Publishers.{port_of, with_port, added, connection_in, most_borrowed_in, stands_in, changed, ended_if_left, is_over_in, settled, released, AttachesTo};
+ghost use Rattle.iox_domain_ports.specs.Living.{living_publishers};
+ghost use Rattle.iox_domain_ports.specs.Reading.{place_of, taken_at, given_back_at};
+
+use crate::PublisherPort;
+use crate::living::{add, counted, living_of_publisher};
+use crate::reading::{borrowed_at, give_back_at, is_over, take_at, waiting_at};
+use std::alloc::{AllocError, Global};
+use std::collections::BTreeMap;
+use std::collections::btree_map::Iter;
+use std::marker::Model;
+
+/// The publishers of a service. One that left stays until it has neither loans nor connections.
+///
+/// Contracts see each with its number, by rising number.
+#[derive(Drop)]
+pub struct Publishers<T, U> {
+    ports: BTreeMap<u64, PublisherPort<T, U>>,
+}
+
+impl<T, U> Model for Publishers<T, U> {
+    ghost use Rattle.std.specs.Prelude.{ℕ, List};
+    ghost use Rattle.iox_domain_ports.specs.declared.publisher_port.PublisherPort.{PublisherPort};
+
+    ghost Value = { List (ℕ × PublisherPort T U) };
+
+    ghost view = { λ p. p.ports.entries };
+}
+
+impl<T: Copy, U: Copy> Publishers<T, U> {
+    ghost use Rattle.std.specs.Prelude.{ℕ};
+    ghost use Rattle.iox_domain_ports.specs.declared.publisher_port.PublisherPort.{PublisherPort};
+    ghost use Rattle.iox_domain_ports.specs.PublishersLends.{LendsPort};
+
+    /// No publishers.
+    pub fn new(alloc: Global) -> Self
+        ensures { result ≡ [] }
+    {
+        Publishers {
+            ports: BTreeMap::new(alloc),
+        }
+    }
+
+    /// The publisher of a number, if there is one.
+    pub fn get(&self, number: u64) -> Option<&PublisherPort<T, U>>
+        ensures { option_copied result ≡ port_of number self.now }
+    {
+        self.ports.get(&number)
+    }
+
+    /// The publisher of a number, if there is one, to be changed in its place.
+    pub fn get_mut(&mut self, number: u64) -> Option<&mut PublisherPort<T, U>>
+        ensures* writes_back { sem 𝓛 (LendsPort T.row U.row self.entry number result) }
+        ensures value { option_copied_mut result ≡ port_of number self.old }
+    {
+        self.ports.get_mut(&number)
+    }
+
+    /// The publishers with their numbers, by rising number.
+    pub fn iter(&self) -> Iter<'_, u64, PublisherPort<T, U>>
+        ensures rest { result ≡ self.now }
+        ensures runs { ShowsInOrder (deref_pair {K = ℕ} {X = PublisherPort T U}) }
+    {
+        self.ports.iter()
+    }
+
+    /// Adds a publisher under a number, in the place of one that had it. It fails only where an allocation fails, and then nothing has
+    /// changed.
+    pub fn insert(&mut self, number: u64, port: PublisherPort<T, U>) -> Result<(), AllocError>
+        ensures ok { OnOk result (self.new ≡ added number port self.old) }
+        ensures err { OnErr result (self.new ≡ self.old) }
+    {
+        self.ports.insert(number, port)?;
+        Ok(())
+    }
+
+    /// How many messages wait at a connection of a publisher; none where there is no such publisher or connection.
+    pub fn waiting(&self, number: u64, index: usize) -> usize
+        ensures { result ≡ length (connection_in number index self.now).waiting }
+    {
+        match self.get(number) {
+            Some(port) => waiting_at(port, index),
+            None => 0,
+        }
+    }
+
+    /// How many messages are borrowed of a connection of a publisher; none where there is no such publisher or connection.
+    pub fn borrowed(&self, number: u64, index: usize) -> usize
+        ensures { result ≡ length (connection_in number index self.now).borrowed }
+    {
+        match self.get(number) {
+            Some(port) => borrowed_at(port, index),
+            None => 0,
+        }
+    }
+
+    /// How many messages may be borrowed of a connection of a publisher; 0 where there is no such publisher.
+    pub fn most_borrowed(&self, number: u64) -> usize
+        ensures { result ≡ most_borrowed_in number self.now }
+    {
+        match self.get(number) {
+            Some(port) => port.sender.most_borrowed(),
+            None => 0,
+        }
+    }
+
+    /// Whether the publisher of a number is on the list of publishers: it is there, and didn't leave.
+    pub fn stands(&self, number: u64) -> bool
+        ensures { result ≡ stands_in number self.now }
+    {
+        match self.get(number) {
+            Some(port) => port.stands,
+            None => false,
+        }
+    }
+
+    /// A subscriber attaches to its connection at a publisher, which is made where there is none, for as many waiting messages as it asks
+    /// for and may have; the answer is its index. None where there is no such publisher. It fails only where an allocation fails, and
+    /// then nothing has changed.
+    pub fn attach(
+        &mut self,
+        alloc: Global,
+        number: u64,
+        subscriber: u64,
+        limit: usize,
+    ) -> Option<Result<usize, AllocError>>
+        ensures { AttachesTo number subscriber limit self.old result self.new }
+    {
+        let port = self.get_mut(number)?;
+        let most = port.sender.most_waiting();
+        Some(port.attach(alloc, subscriber, limit.min(most)))
+    }
+
+    /// The reader of a connection of a publisher left: nobody reads there any longer.
+    pub fn detach(&mut self, number: u64, index: usize)
+        ensures { self.new ≡ changed number (detached_at index) self.old }
+    {
+        if let Some(port) = self.get_mut(number) {
+            port.detach(index);
+        }
+    }
+
+    /// Ends a connection of a publisher that left, if it goes on: what waits is lost, what is borrowed stays in use until it is given
+    /// back. A publisher that is over then is gone. One that exists ends its connections itself, as it follows the list of subscribers:
+    /// then nothing happens.
+    pub fn end(&mut self, number: u64, index: usize)
+        ensures { self.new ≡ settled number (changed number (ended_if_left index) self.old) }
+    {
+        self.end_there(number, index);
+        self.settle(number);
+    }
+
+    // Ends a connection of a publisher that left.
+    fn end_there(&mut self, number: u64, index: usize)
+        ensures { self.new ≡ changed number (ended_if_left index) self.old }
+    {
+        if let Some(port) = self.get_mut(number) {
+            end_if_left(port, index);
+        }
+    }
+
+    /// Takes a publisher away that left and has neither loans nor connections.
+    pub fn settle(&mut self, number: u64)
+        ensures { self.new ≡ settled number self.old }
+    {
+        if self.is_over(number) {
+            let _ = self.ports.remove(&number);
+        }
+    }
+
+    /// How much lives of the publishers of an owner, or of all where none is named: those that exist, their loans, and the messages of
+    /// sends that wait. Past 2^64 - 1 it is that.
+    pub fn living(&self, owner: Option<u64>) -> u64
+        ensures { result ≡ min (living_publishers owner self.now) (2 ^ 64 - 1) }
+    {
+        self.ports
+            .values()
+            .map(|port| counted(owner, port.owner.number, living_of_publisher(port)))
+            .fold(0, add)
+    }
+
+    // Whether the publisher of a number is over.
+    fn is_over(&self, number: u64) -> bool
+        ensures { result ≡ is_over_in number self.now }
+    {
+        match self.get(number) {
+            Some(port) => is_over(port),
+            None => false,
+        }
+    }
+
+    /// Borrows the oldest message that waits at a connection of a publisher, and answers its slot.
+    pub fn take(&mut self, number: u64, index: usize) -> usize
+        requires data { 0 < length (connection_in number index self.old).waiting }
+        requires room { length (connection_in number index self.old).borrowed < most_borrowed_in number self.old }
+        ensures there { is_there (connection_in number index self.old) ≡ true }
+        ensures slot { slice_get (map (λ message. message.slot) (connection_in number index self.old).waiting) 0 ≡ Some result }
+        ensures new { self.new ≡ changed number (taken_at index) self.old }
+    {
+        match self.get_mut(number) {
+            Some(port) => take_at(port, index),
+            None => 0,
+        }
+    }
+
+    /// Gives back the first message in this slot that is borrowed of a connection of a publisher, which is gone if it is over then.
+    /// Answers false where none is, and then nothing has changed.
+    pub fn give_back(&mut self, number: u64, index: usize, slot: usize) -> bool
+        ensures answer { result ≡ is_some (place_of slot (connection_in number index self.old)) }
+        ensures new { self.new ≡ released number index (place_of slot (connection_in number index self.old)) self.old }
+    {
+        if !self.give_back_there(number, index, slot) {
+            return false;
+        }
+        self.settle(number);
+        true
+    }
+
+    // Gives back the first message in this slot that is borrowed of a connection of a publisher.
+    fn give_back_there(&mut self, number: u64, index: usize, slot: usize) -> bool
+        ensures answer { result ≡ is_some (place_of slot (connection_in number index self.old)) }
+        ensures new { self.new ≡ changed number (given_back_at index (place_of slot (connection_in number index self.old))) self.old }
+    {
+        match self.get_mut(number) {
+            Some(port) => give_back_at(port, index, slot),
+            None => false,
+        }
+    }
+}
+
+// Ends a connection of a publisher, if it left.
+fn end_if_left<T: Copy, U: Copy>(port: &mut PublisherPort<T, U>, index: usize)
+    ensures { port.new ≡ ended_if_left index port.old }
+{
+    if !port.stands {
+        port.end(index);
+    }
+}

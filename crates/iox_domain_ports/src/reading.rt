@@ -1,0 +1,145 @@
+//! What a subscriber does at one publisher.
+ghost use Rattle.std.specs.Prelude.{◌≡◌, ◌+◌, ◌<◌, true, length, map, is_some, option_copied, option_map, slice_get, Some, IfSome};
+ghost use Rattle.std.specs.List.{list_any};
+ghost use Rattle.iox_domain_slots.specs.Uses.{is_there};
+ghost use Rattle.iox_domain_ports.specs.Ports.{connection_of};
+ghost use Rattle.iox_domain_ports.specs.Reading.{borrowed_in, is_over, place_of, taken_at, given_back_at};
+
+use crate::{PublisherPort, Stage};
+
+/// How many messages wait at the connection of this index; none where there is none.
+pub fn waiting_at<T: Copy, U: Copy>(port: &PublisherPort<T, U>, index: usize) -> usize
+    ensures { result ≡ length (connection_of index port.now).waiting }
+{
+    match port.sender.stage(index) {
+        Stage::Vacant => 0,
+        Stage::Live | Stage::Ended => port.sender.waiting(index),
+    }
+}
+
+/// How many messages are borrowed of the connection of this index; none where there is none.
+pub fn borrowed_at<T: Copy, U: Copy>(port: &PublisherPort<T, U>, index: usize) -> usize
+    ensures { result ≡ length (connection_of index port.now).borrowed }
+{
+    match port.sender.stage(index) {
+        Stage::Vacant => 0,
+        Stage::Live | Stage::Ended => port.sender.borrowed(index),
+    }
+}
+
+/// Borrows the oldest message that waits at the connection of this index, and answers its slot.
+pub fn take_at<T: Copy, U: Copy>(port: &mut PublisherPort<T, U>, index: usize) -> usize
+    requires data { 0 < length (connection_of index port.old).waiting }
+    requires room { length (connection_of index port.old).borrowed < port.old.sender.uses.most_borrowed }
+    ensures there { is_there (connection_of index port.old) ≡ true }
+    ensures slot { slice_get (map (λ message. message.slot) (connection_of index port.old).waiting) 0 ≡ Some result }
+    ensures new { port.new ≡ taken_at index port.old }
+{
+    is_there_with_data(port, index);
+    port.sender.take(index)
+}
+
+// A connection at which a message waits is there.
+fn is_there_with_data<T: Copy, U: Copy>(port: &PublisherPort<T, U>, index: usize)
+    requires { 0 < length (connection_of index port.now).waiting }
+    ensures { is_there (connection_of index port.now) ≡ true }
+{
+    match port.sender.stage(index) {
+        Stage::Vacant => unreachable!(),
+        Stage::Live | Stage::Ended => {}
+    }
+}
+
+/// Gives back the first message in this slot that is borrowed of the connection of this index; answers false where none is.
+pub fn give_back_at<T: Copy, U: Copy>(
+    port: &mut PublisherPort<T, U>,
+    index: usize,
+    slot: usize,
+) -> bool
+    ensures answer { result ≡ is_some (place_of slot (connection_of index port.old)) }
+    ensures new { port.new ≡ given_back_at index (place_of slot (connection_of index port.old)) port.old }
+{
+    match find(port, index, slot) {
+        Some(at) => {
+            port.sender.give_back(index, at);
+            true
+        }
+        None => false,
+    }
+}
+
+// Where in the list of what is borrowed of the connection of this index the first message in this slot is.
+fn find<T: Copy, U: Copy>(port: &PublisherPort<T, U>, index: usize, slot: usize) -> Option<usize>
+    ensures place { result ≡ place_of slot (connection_of index port.now) }
+    ensures inside { IfSome result (λ _. slot < port.now.sender.uses.first + port.now.sender.uses.size) }
+{
+    match port.sender.stage(index) {
+        Stage::Vacant => None,
+        Stage::Live | Stage::Ended => port.sender.place_of_borrowed(index, slot),
+    }
+}
+
+/// The values of the first message in this slot that is borrowed of the connection of this index; None where none is.
+pub fn payload_at<T: Copy, U: Copy>(
+    port: &PublisherPort<T, U>,
+    index: usize,
+    slot: usize,
+) -> Option<&[T]>
+    ensures { option_copied result ≡ option_map (λ message. message.values) (borrowed_in slot (connection_of index port.now)) }
+{
+    find(port, index, slot)?;
+    Some(port.sender.payload(slot))
+}
+
+/// The user header of the first message in this slot that is borrowed of the connection of this index; None where none is.
+pub fn user_header_at<T: Copy, U: Copy>(
+    port: &PublisherPort<T, U>,
+    index: usize,
+    slot: usize,
+) -> Option<&U>
+    ensures { option_copied result ≡ option_map (λ message. message.user_header) (borrowed_in slot (connection_of index port.now)) }
+{
+    find(port, index, slot)?;
+    Some(port.sender.user_header(slot))
+}
+
+/// How many elements the first message in this slot has that is borrowed of the connection of this index; None where none is.
+pub fn elements_at<T: Copy, U: Copy>(
+    port: &PublisherPort<T, U>,
+    index: usize,
+    slot: usize,
+) -> Option<u64>
+    ensures { result ≡ option_map (λ message. message.elements) (borrowed_in slot (connection_of index port.now)) }
+{
+    find(port, index, slot)?;
+    Some(port.sender.elements(slot))
+}
+
+/// Whether the publisher left, and has neither loans nor connections, nor a send that waits.
+pub fn is_over<T: Copy, U: Copy>(port: &PublisherPort<T, U>) -> bool
+    ensures { result ≡ is_over port.now }
+{
+    !port.stands && port.sender.loans() == 0 && !port.sender.is_sending() && !has_connections(port)
+}
+
+// Whether the publisher has a connection: one that goes on, or ended and holds something.
+fn has_connections<T: Copy, U: Copy>(port: &PublisherPort<T, U>) -> bool
+    ensures { result ≡ list_any is_there port.now.sender.uses.connections }
+{
+    for index in 0..port.sender.indices() {
+        if is_there_at(port, index) {
+            return true;
+        }
+    }
+    false
+}
+
+// Whether there is a connection of this index.
+fn is_there_at<T: Copy, U: Copy>(port: &PublisherPort<T, U>, index: usize) -> bool
+    ensures { result ≡ is_there (connection_of index port.now) }
+{
+    match port.sender.stage(index) {
+        Stage::Vacant => false,
+        Stage::Live | Stage::Ended => true,
+    }
+}

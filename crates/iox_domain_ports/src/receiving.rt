@@ -1,0 +1,329 @@
+//! A subscriber receives.
+ghost use Rattle.std.specs.Prelude.{◌≡◌, ◌+◌, ◌<◌, ◌^◌, length, slice_get, IfSome, None, Some, true, false};
+ghost use Rattle.std.specs.Bool.{OnTrue, OnFalse};
+ghost use Rattle.iox_domain_slots.specs.Uses.{is_there};
+ghost use Rattle.iox_domain_ports.specs.Subscribing.{attached_at, connection_by, seen_of, has_data, gives, is_idle, ended_key, ended_ports, taken_of, taken_ports};
+ghost use Rattle.iox_domain_ports.specs.Receiving.{IsFirst, IsMet, IsGiver, IsGiverThere, is_idle_at, dropped_port, dropped_ports, swept, given, given_ports, nothing_taken, left_at, left_all, SweepsAt, Serves, Receives};
+
+use crate::attached::{Attached, Seen, Taken};
+use crate::expired::Sought;
+use crate::publishers::Publishers;
+use crate::reading::{borrowed_at, waiting_at};
+use crate::subscriber_port::SubscriberPort;
+use iox_container::SlotMapKey;
+use iox_domain_values::ReceiveError;
+
+impl SubscriberPort {
+    /// The connection of a key, if it holds one.
+    pub fn attached(&self, key: usize) -> Option<Attached>
+        ensures { result ≡ attached_at key self.now }
+    {
+        self.connections.get(SlotMapKey::new(key)).copied()
+    }
+
+    // How many messages wait at the connection of a key.
+    fn waiting<T: Copy, U: Copy>(&self, key: usize, publishers: &Publishers<T, U>) -> usize
+        ensures { result ≡ length (connection_by (attached_at key self.now) publishers.now).waiting }
+    {
+        match self.attached(key) {
+            Some(attached) => publishers.waiting(attached.publisher, attached.index),
+            None => 0,
+        }
+    }
+
+    // How many messages are borrowed of the connection of a key.
+    pub(crate) fn borrowed<T: Copy, U: Copy>(
+        &self,
+        key: usize,
+        publishers: &Publishers<T, U>,
+    ) -> usize
+        ensures { result ≡ length (connection_by (attached_at key self.now) publishers.now).borrowed }
+    {
+        match self.attached(key) {
+            Some(attached) => publishers.borrowed(attached.publisher, attached.index),
+            None => 0,
+        }
+    }
+
+    // What is seen of the connection of a key: its publisher is looked up once.
+    fn seen<T: Copy, U: Copy>(&self, key: usize, publishers: &Publishers<T, U>) -> Seen
+        ensures { result ≡ seen_of (attached_at key self.now) publishers.now }
+    {
+        match self.attached(key) {
+            Some(attached) => seen_at(attached, publishers),
+            None => nothing_seen(),
+        }
+    }
+
+    // Whether a message waits at the connection of a key.
+    fn has_data<T: Copy, U: Copy>(&self, key: usize, publishers: &Publishers<T, U>) -> bool
+        ensures { result ≡ has_data self.now publishers.now key }
+    {
+        0 < self.waiting(key, publishers)
+    }
+
+    // Whether the connection of a key is below the limit of borrows, and has data.
+    pub(crate) fn gives<T: Copy, U: Copy>(&self, key: usize, publishers: &Publishers<T, U>) -> bool
+        ensures { result ≡ gives self.now publishers.now key }
+    {
+        let seen = self.seen(key, publishers);
+        seen.borrowed < seen.most && 0 < seen.waiting
+    }
+
+    // Whether nothing waits and nothing is borrowed at the connection of a key.
+    pub(crate) fn is_idle<T: Copy, U: Copy>(
+        &self,
+        key: usize,
+        publishers: &Publishers<T, U>,
+    ) -> bool
+        ensures { result ≡ is_idle self.now publishers.now key }
+    {
+        let seen = self.seen(key, publishers);
+        seen.waiting == 0 && seen.borrowed == 0
+    }
+
+    // Ends the connection of a key.
+    pub(crate) fn end_key<T: Copy, U: Copy>(
+        &mut self,
+        key: usize,
+        publishers: &mut Publishers<T, U>,
+    )
+        ensures port { self.new ≡ ended_key key self.old }
+        ensures publishers { publishers.new ≡ ended_ports (attached_at key self.old) publishers.old }
+    {
+        let Some(attached) = self.attached(key) else {
+            return;
+        };
+        let _removed = self.connections.remove(SlotMapKey::new(key));
+        publishers.end(attached.publisher, attached.index);
+    }
+
+    // The first key whose connection gives.
+    fn first_giver<T: Copy, U: Copy>(&self, publishers: &Publishers<T, U>) -> Option<usize>
+        ensures { IsFirst (gives self.now publishers.now) result }
+    {
+        for key in 0..self.connections.reached() {
+            if self.gives(key, publishers) {
+                return Some(key);
+            }
+        }
+        None
+    }
+
+    // The first key whose connection has data.
+    pub(crate) fn first_data<T: Copy, U: Copy>(
+        &self,
+        publishers: &Publishers<T, U>,
+    ) -> Option<usize>
+        ensures { IsFirst (has_data self.now publishers.now) result }
+    {
+        for key in 0..self.connections.reached() {
+            if self.has_data(key, publishers) {
+                return Some(key);
+            }
+        }
+        None
+    }
+
+    // Borrows the oldest message that waits at the connection of a key.
+    fn take<T: Copy, U: Copy>(&self, key: usize, publishers: &mut Publishers<T, U>) -> Option<Taken>
+        requires { gives self.now publishers.old key ≡ true }
+        ensures there { is_there (connection_by (attached_at key self.now) publishers.old) ≡ true }
+        ensures taken { result ≡ taken_of self.now.number (attached_at key self.now) publishers.old }
+        ensures publishers { publishers.new ≡ taken_ports (attached_at key self.now) publishers.old }
+    {
+        let attached = self.attached(key)?;
+        Some(Taken {
+            subscriber: self.number,
+            publisher: attached.publisher,
+            index: attached.index,
+            slot: publishers.take(attached.publisher, attached.index),
+        })
+    }
+
+    // Ends the expired connection at a place of the list if it is idle; answers whether it did.
+    fn drop_if_idle<T: Copy, U: Copy>(
+        &mut self,
+        place: usize,
+        publishers: &mut Publishers<T, U>,
+    ) -> bool
+        ensures answer { result ≡ is_idle_at (slice_get self.old.expired.items place) self.old publishers.old }
+        ensures dropped { OnTrue result ((self.new ≡ dropped_port place (slice_get self.old.expired.items place) self.old)
+            × (publishers.new ≡ dropped_ports (slice_get self.old.expired.items place) self.old publishers.old)) }
+        ensures stays { OnFalse result ((self.new ≡ self.old) × (publishers.new ≡ publishers.old)) }
+    {
+        let Some(key) = self.expired.at(place) else {
+            return false;
+        };
+        if !self.is_idle(key, publishers) {
+            return false;
+        }
+        self.drop_expired(place, key, publishers);
+        true
+    }
+
+    // Ends the expired connection of a key, at a place of the list.
+    pub(crate) fn drop_expired<T: Copy, U: Copy>(
+        &mut self,
+        place: usize,
+        key: usize,
+        publishers: &mut Publishers<T, U>,
+    )
+        ensures port { self.new ≡ dropped_port place (Some key) self.old }
+        ensures publishers { publishers.new ≡ dropped_ports (Some key) self.old publishers.old }
+    {
+        self.end_key(key, publishers);
+        self.expired.remove(place);
+    }
+
+    // Ends those of the first so many expired connections that are idle.
+    fn sweep<T: Copy, U: Copy>(&mut self, count: usize, publishers: &mut Publishers<T, U>)
+        ensures port { self.new ≡ (swept 0 count (self.old, publishers.old)).0 }
+        ensures publishers { publishers.new ≡ (swept 0 count (self.old, publishers.old)).1 }
+    {
+        let mut place = 0;
+        for _done in 0..count {
+            place = self.sweep_at(place, publishers);
+        }
+    }
+
+    // Ends the expired connection at a place of the list if it is idle; answers the place of the next one.
+    fn sweep_at<T: Copy, U: Copy>(
+        &mut self,
+        place: usize,
+        publishers: &mut Publishers<T, U>,
+    ) -> usize
+        requires { place + 1 < 2 ^ 64 }
+        ensures { SweepsAt (is_idle_at (slice_get self.old.expired.items place) self.old publishers.old) place self.old publishers.old
+            result self.new publishers.new }
+    {
+        if self.drop_if_idle(place, publishers) {
+            place
+        } else {
+            place + 1
+        }
+    }
+
+    // Whose connection gives, where so many expired ones are met before one does.
+    fn giver<T: Copy, U: Copy>(&self, met: usize, publishers: &Publishers<T, U>) -> Option<usize>
+        requires { IsMet (gives self.now publishers.now) self.now.expired.items met }
+        ensures giver { IsGiver (slice_get self.now.expired.items met) (gives self.now publishers.now) result }
+        ensures gives { IfSome result (λ key. gives self.now publishers.now key ≡ true) }
+    {
+        match self.expired.at(met) {
+            Some(key) => Some(key),
+            None => self.first_giver(publishers),
+        }
+    }
+
+    // Borrows the message that a giver gives.
+    fn take_of<T: Copy, U: Copy>(
+        &self,
+        giver: Option<usize>,
+        publishers: &mut Publishers<T, U>,
+    ) -> Option<Taken>
+        requires { IfSome giver (λ key. gives self.now publishers.old key ≡ true) }
+        ensures there { IsGiverThere giver self.now publishers.old }
+        ensures taken { result ≡ given giver self.now publishers.old }
+        ensures publishers { publishers.new ≡ given_ports giver self.now publishers.old }
+    {
+        match giver {
+            Some(key) => self.take(key, publishers),
+            None => None,
+        }
+    }
+
+    // Borrows the message that comes next.
+    fn serve<T: Copy, U: Copy>(&mut self, publishers: &mut Publishers<T, U>) -> Option<Taken>
+        ensures { Serves self.old publishers.old result self.new publishers.new }
+    {
+        let met = self.first_expired(Sought::Giving, publishers);
+        let giver = self.giver(met, publishers);
+        let taken = self.take_of(giver, publishers);
+        self.sweep(met, publishers);
+        taken
+    }
+
+    // Receives from the connections that there are.
+    pub(crate) fn receive_now<T: Copy, U: Copy>(
+        &mut self,
+        publishers: &mut Publishers<T, U>,
+    ) -> Result<Option<Taken>, ReceiveError>
+        ensures { Receives self.old publishers.old result self.new publishers.new }
+    {
+        match self.serve(publishers) {
+            Some(taken) => Ok(Some(taken)),
+            None => nothing_taken(self.first_data(publishers)),
+        }
+    }
+
+    // Nobody reads at the connection of a key any longer; where its publisher left it ends.
+    fn leave_key<T: Copy, U: Copy>(&self, key: usize, publishers: &mut Publishers<T, U>)
+        ensures { publishers.new ≡ left_at (attached_at key self.now) publishers.old }
+    {
+        let Some(attached) = self.attached(key) else {
+            return;
+        };
+        if publishers.stands(attached.publisher) {
+            publishers.detach(attached.publisher, attached.index);
+        } else {
+            publishers.end(attached.publisher, attached.index);
+        }
+    }
+
+    /// The subscriber leaves: nobody reads at its connections any longer, and those whose publisher left end. What it holds stays in
+    /// use.
+    ///
+    /// Ported from the drop of `iceoryx2::port::subscriber::Subscriber`.
+    pub fn leave<T: Copy, U: Copy>(&mut self, publishers: &mut Publishers<T, U>)
+        ensures port { self.new ≡ record self.old { stands = false } }
+        ensures publishers { publishers.new ≡ left_all self.old.connections.values publishers.old }
+    {
+        self.leave_all(publishers);
+        self.stands = false;
+    }
+
+    // Nobody reads at the connections any longer.
+    fn leave_all<T: Copy, U: Copy>(&self, publishers: &mut Publishers<T, U>)
+        ensures { publishers.new ≡ left_all self.now.connections.values publishers.old }
+    {
+        for key in 0..self.connections.reached() {
+            self.leave_key(key, publishers);
+        }
+    }
+}
+
+// What is seen of a connection.
+fn seen_at<T: Copy, U: Copy>(attached: Attached, publishers: &Publishers<T, U>) -> Seen
+    ensures { result ≡ seen_of (Some attached) publishers.now }
+{
+    match publishers.get(attached.publisher) {
+        Some(port) => Seen {
+            waiting: waiting_at(port, attached.index),
+            borrowed: borrowed_at(port, attached.index),
+            most: port.sender.most_borrowed(),
+        },
+        None => nothing_seen(),
+    }
+}
+
+// What is seen where there is no connection.
+fn nothing_seen() -> Seen
+    ensures { result ≡ record { waiting = 0; borrowed = 0; most = 0 } }
+{
+    Seen {
+        waiting: 0,
+        borrowed: 0,
+        most: 0,
+    }
+}
+
+// What is answered where no message came, and this is the first key whose connection has data.
+fn nothing_taken(unread: Option<usize>) -> Result<Option<Taken>, ReceiveError>
+    ensures { result ≡ nothing_taken unread }
+{
+    match unread {
+        Some(_) => Err(ReceiveError::ExceedsMaxBorrows),
+        None => Ok(None),
+    }
+}

@@ -1,0 +1,243 @@
+//! A publisher sends.
+ghost use Rattle.std.specs.Prelude.{◌≡◌, ◌≢◌, ℕ, ◌+◌, ◌-◌, ◌<◌, ◌≤◌, ◌^◌, Ok, Err, length, get_or, is_some, true, None, Some, if◌then◌else◌};
+ghost use Rattle.iox_domain_values.specs.declared.degradation.DegradationCause.TheVariants as cause;
+ghost use Rattle.iox_domain_ports.specs.MessagesSending.{has_loan, is_written_loan, loan_at, place_in};
+ghost use Rattle.iox_domain_ports.specs.declared.meeting.Meeting.TheVariants as meeting;
+ghost use Rattle.iox_domain_ports.specs.declared.meeting.Sent.TheVariants as sent;
+ghost use Rattle.iox_domain_ports.specs.PublisherLaws.{live_ties, ReachesAll};
+ghost use Rattle.iox_domain_ports.specs.Memory.{HasRoom};
+ghost use Rattle.iox_domain_values.specs.declared.connection_failure.ConnectionFailure.{ConnectionFailure};
+ghost use Rattle.iox_domain_values.specs.declared.port_error.SendError.TheVariants as sending;
+ghost use Rattle.iox_domain_ports.specs.Progress.{start, passed, counted, failing, tried_again};
+ghost use Rattle.iox_domain_ports.specs.Sending.{meeting_of, meeting_at, put_at, met, with_progress, info_of, goes_on_by, decided_by, sent_answer, concluded, ready_loan, begun_at, dropped_at, Sends, Steps, Delivers, Finishes};
+
+use crate::meeting::{Meeting, Sent};
+use crate::messages::Member;
+use crate::progress::Progress;
+use crate::publisher_port::PublisherPort;
+use crate::subscriber_entry::SubscriberEntry;
+use iox_domain_values::{BackpressureDecision, BackpressureInfo, Decides, Degrades, SendError};
+use std::alloc::Global;
+
+impl<T: Copy, U: Copy> PublisherPort<T, U> {
+    // Puts the message that is being sent into the mailbox that the next place is tied to.
+    fn meet(&mut self) -> Meeting
+        ensures meeting { result ≡ meeting_at self.old.progress.place self.old }
+        ensures after { self.new ≡ met self.old.progress.place self.old }
+        ensures room { result ≢ meeting.Over → self.new.progress.place + 1 < 2 ^ 64 }
+    {
+        let place = self.progress.place();
+        if place >= self.ties.len() {
+            return Meeting::Over;
+        }
+        let Some(index) = self.ties.get(place) else {
+            return Meeting::Passed;
+        };
+        self.put(index)
+    }
+
+    // Puts the message that is being sent into a mailbox.
+    fn put(&mut self, index: usize) -> Meeting
+        ensures meeting { result ≡ meeting_of index self.old }
+        ensures after { self.new ≡ put_at index self.old }
+        ensures met { result ≢ meeting.Over }
+        ensures same { self.new.progress ≡ self.old.progress }
+    {
+        if !self.is_live(index) || !self.sender.is_sending() {
+            return Meeting::Passed;
+        }
+        if self.sender.offer(index) {
+            return Meeting::Delivered;
+        }
+        self.readers.asked_at(index)
+    }
+
+    // What a handler is told of a full mailbox.
+    fn info(&self, subscriber: u64) -> BackpressureInfo
+        ensures { result ≡ info_of subscriber self.now }
+    {
+        BackpressureInfo {
+            service_id: self.service,
+            sender_port_id: self.number,
+            receiver_port_id: subscriber,
+            retries: self.progress.retries(),
+            elapsed_time: self.progress.elapsed(),
+        }
+    }
+
+    // Goes on behind a full mailbox, or waits there; answers whether it went on.
+    fn decide(&mut self, decision: BackpressureDecision) -> bool
+        requires { self.old.progress.place + 1 < 2 ^ 64 }
+        ensures went { result ≡ goes_on_by decision }
+        ensures after { self.new ≡ decided_by decision self.old }
+    {
+        match decision {
+            BackpressureDecision::Retry => false,
+            BackpressureDecision::DiscardData => {
+                self.progress.pass();
+                true
+            }
+            BackpressureDecision::DiscardDataAndFail => {
+                self.progress.fail();
+                true
+            }
+        }
+    }
+
+    // Goes on to the next place; answers false where the send waits at a full mailbox, and where there is no place left.
+    fn step<B: Decides>(&mut self, handlers: &B) -> bool
+        ensures { Steps (B.decides handlers.now) (meeting_at self.old.progress.place self.old) (met self.old.progress.place self.old)
+            result self.new }
+    {
+        match self.meet() {
+            Meeting::Over => false,
+            Meeting::Passed => {
+                self.progress.pass();
+                true
+            }
+            Meeting::Delivered => {
+                self.progress.count();
+                true
+            }
+            Meeting::Full(subscriber) => {
+                let info = self.info(subscriber);
+                let decision = handlers.decide(&info);
+                self.decide(decision)
+            }
+        }
+    }
+
+    // Goes over the places that are left, up to one where the send waits; answers whether it came to the end.
+    fn go_on<B: Decides>(&mut self, handlers: &B) -> bool
+        ensures { Delivers (B.decides handlers.now) (length self.old.ties.items - self.old.progress.place) self.old result self.new }
+    {
+        for _place in self.progress.place()..self.ties.len() {
+            if !self.step(handlers) {
+                return false;
+            }
+        }
+        true
+    }
+
+    // What a send answers that came to the end, or waits. The message is in use only where the history or a connection has it, once the
+    // send came to the end.
+    fn conclude(&mut self, arrived: bool) -> Result<Sent, SendError>
+        ensures answer { result ≡ sent_answer arrived self.old.progress }
+        ensures after { self.new ≡ concluded arrived self.old }
+    {
+        if !arrived {
+            return Ok(Sent::Blocked);
+        }
+        self.sender.finish_send();
+        if self.progress.fails() {
+            return Err(SendError::UnableToDeliver);
+        }
+        Ok(Sent::Delivered(self.progress.delivered()))
+    }
+
+    // Goes on with the send that is under way.
+    fn deliver<B: Decides>(&mut self, handlers: &B) -> Result<Sent, SendError>
+        ensures sends { Finishes (B.decides handlers.now) self.old result self.new }
+        ensures all { self.old.sender.uses.overflows ≡ true → is_some self.old.sender.uses.sending ≡ true → self.old.progress ≡ start
+            → result ≡ Ok (sent.Delivered (live_ties self.new)) }
+    {
+        let arrived = self.go_on(handlers);
+        self.conclude(arrived)
+    }
+
+    /// Tries the place again at which the send waits, after so many nanoseconds, and goes on. Answers as `send` does.
+    ///
+    /// This port's own: `iceoryx2::port::publisher::Publisher::send` waits itself.
+    pub fn retry<B: Decides>(&mut self, elapsed: u64, handlers: &B) -> Result<Sent, SendError>
+        ensures { Finishes (B.decides handlers.now) (with_progress (tried_again elapsed self.old.progress) self.old) result self.new }
+    {
+        self.try_again(elapsed);
+        self.deliver(handlers)
+    }
+
+    // The place at which the send waits is tried once more.
+    fn try_again(&mut self, elapsed: u64)
+        ensures { self.new ≡ with_progress (tried_again elapsed self.old.progress) self.old }
+    {
+        self.progress.try_again(elapsed);
+    }
+
+    /// Ends the send that waits, and answers how many connections took the message.
+    pub fn give_up(&mut self) -> usize
+        ensures answer { result ≡ self.old.progress.delivered }
+        ensures after { self.new ≡ concluded true self.old }
+    {
+        self.sender.finish_send();
+        self.progress.delivered()
+    }
+
+    // Whether the loan in this slot may be sent: it is written, and nothing is being sent.
+    fn is_ready(&self, slot: usize) -> bool
+        ensures ready { ready_loan slot self.now ≡ (if result then Some (place_in slot self.now.sender.uses) else None) }
+        ensures loan { result ≡ true → has_loan slot self.now.sender.uses ≡ true }
+        ensures alone { result ≡ true → self.now.sender.uses.sending ≡ None }
+        ensures written { result ≡ true → is_written_loan (loan_at slot self.now.sender.uses) ≡ true }
+    {
+        !self.sender.is_sending() && self.sender.is_written(slot)
+    }
+
+    // Begins the send of the written loan in this slot.
+    fn begin(&mut self, slot: usize)
+        requires alone { self.old.sender.uses.sending ≡ None }
+        requires written { is_written_loan (loan_at slot self.old.sender.uses) ≡ true }
+        ensures begun { self.new ≡ begun_at (place_in slot self.old.sender.uses) self.old }
+        ensures under_way { is_some self.new.sender.uses.sending ≡ true }
+        ensures first { self.new.progress ≡ start }
+        ensures kind { self.new.sender.uses.overflows ≡ self.old.sender.uses.overflows }
+    {
+        self.sender.begin_send(slot);
+        self.progress = Progress::start();
+    }
+
+    // Gives up the loan in this slot.
+    fn drop_loan(&mut self, slot: usize)
+        requires { has_loan slot self.old.sender.uses ≡ true }
+        ensures { self.new ≡ dropped_at (place_in slot self.old.sender.uses) self.old }
+    {
+        self.sender.drop_loan(slot);
+    }
+
+    /// Sends the written loan in this slot: it is a loan no longer, and the newest of the history; each connection that goes on takes
+    /// it, in the order of the list of subscribers, which is followed first. With safe overflow a full mailbox lets its oldest go;
+    /// without it the handlers decide, and the send may wait. None, and nothing happens, where no written loan is there or
+    /// another send waits.
+    ///
+    /// Refused with `ConnectionBrokenSinceSenderNoLongerExists` if the publisher left, with `ConnectionError` where the list
+    /// isn't followed, which never is where an allocation fails where all that it needs is there; then the loan is given up, and
+    /// nothing is sent. `UnableToDeliver` where a handler said so; what was delivered stays.
+    ///
+    /// Ported from `iceoryx2::port::publisher::Publisher::send`.
+    pub fn send<B: Decides + Degrades>(
+        &mut self,
+        alloc: Global,
+        slot: usize,
+        listed: &[Option<Member<SubscriberEntry>>],
+        changes: u64,
+        handlers: &B,
+    ) -> Option<Result<Sent, SendError>>
+        ensures sends { Sends (B.degrades handlers.now cause.FailedToEstablishConnection) (B.decides handlers.now) listed.now changes
+            (ready_loan slot self.old) self.old result self.new }
+        ensures all { self.old.sender.uses.overflows ≡ true → ReachesAll result self.new }
+        ensures enough { HasRoom listed.now self.old → (failure : ConnectionFailure)
+            → result ≢ Some (Err (sending.ConnectionError failure)) }
+    {
+        if !self.is_ready(slot) {
+            return None;
+        }
+        if !self.stands {
+            self.drop_loan(slot);
+            return Some(Err(SendError::ConnectionBrokenSinceSenderNoLongerExists));
+        }
+        if let Err(failure) = self.update(alloc, listed, changes, handlers) {
+            self.drop_loan(slot);
+            return Some(Err(SendError::ConnectionError(failure)));
+        }
+        self.begin(slot);
+        Some(self.deliver(handlers))
+    }
+}

@@ -1,0 +1,262 @@
+//! A subscriber follows the list of publishers.
+ghost use Rattle.std.specs.Prelude.{◌≡◌, ◌+◌, ◌<◌, ◌^◌, length, None};
+ghost use Rattle.iox_domain_values.specs.declared.degradation.DegradationCause.TheVariants as cause;
+ghost use Rattle.iox_domain_ports.specs.PublisherUpdating.{first_failure, update_answer};
+ghost use Rattle.iox_domain_ports.specs.SubscriberUpdating.{told_of, is_listed, FollowsOne, AsksOf, FollowsFrom, FollowsNoneIf, FollowsNones, FollowsList, Updates, HasSamplesAfter, HasSamples, ReceivesAfter, ReceivesNext};
+
+use crate::Member;
+use crate::attached::Taken;
+use crate::publisher_entry::PublisherEntry;
+use crate::publishers::Publishers;
+use crate::subscriber_port::SubscriberPort;
+use iox_domain_values::{
+    ConnectionFailure, DegradationAction, DegradationCause, DegradationInfo, Degrades,
+    ReceiveError, ZeroCopyCreationError,
+};
+use std::alloc::Global;
+
+impl SubscriberPort {
+    // Follows a place if it lists a publisher.
+    fn follow_one<T: Copy, U: Copy>(
+        &mut self,
+        alloc: Global,
+        place: usize,
+        listed: Option<Member<PublisherEntry>>,
+        publishers: &mut Publishers<T, U>,
+    ) -> Result<(), ZeroCopyCreationError>
+        requires { place + 1 < 2 ^ 64 }
+        ensures { FollowsOne place listed self.old publishers.old result self.new publishers.new }
+    {
+        match listed {
+            Some(member) => self.follow_listed(alloc, place, member.value.publisher, publishers),
+            None => Ok(()),
+        }
+    }
+
+    // What a handler is told of a connection that failed.
+    fn told(&self, entry: PublisherEntry) -> DegradationInfo
+        ensures { result ≡ told_of entry self.now }
+    {
+        DegradationInfo {
+            service_id: self.service,
+            sender_port_id: entry.publisher,
+            receiver_port_id: self.number,
+        }
+    }
+
+    // Asks the handler where a connection failed; answers the failure that was found so far.
+    fn ask<D: Degrades>(
+        &self,
+        listed: &Option<Member<PublisherEntry>>,
+        outcome: Result<(), ZeroCopyCreationError>,
+        found: Option<ConnectionFailure>,
+        handler: &D,
+    ) -> Option<ConnectionFailure>
+        ensures { AsksOf (D.degrades handler.now cause.FailedToEstablishConnection) listed.now self.now found outcome result }
+    {
+        let Some(member) = listed else {
+            return found;
+        };
+        let Err(failure) = outcome else {
+            return found;
+        };
+        let info = self.told(member.value);
+        let action = handler.degrade(DegradationCause::FailedToEstablishConnection, &info);
+        first_failure(
+            found,
+            ConnectionFailure::FailedToEstablishConnection(failure),
+            action,
+        )
+    }
+
+    // Follows each place that lists a publisher.
+    fn follow_all<T: Copy, U: Copy, D: Degrades>(
+        &mut self,
+        alloc: Global,
+        listed: &[Option<Member<PublisherEntry>>],
+        handler: &D,
+        publishers: &mut Publishers<T, U>,
+    ) -> Option<ConnectionFailure>
+        ensures { FollowsFrom (D.degrades handler.now cause.FailedToEstablishConnection) 0 listed.now None self.old publishers.old
+            result self.new publishers.new }
+    {
+        let mut found = None;
+        for place in 0..listed.len() {
+            let outcome = self.follow_one(alloc, place, listed[place], publishers);
+            found = self.ask(&listed[place], outcome, found, handler);
+        }
+        found
+    }
+
+    // Follows a place if it lists none.
+    fn follow_if_none<T: Copy, U: Copy>(
+        &mut self,
+        place: usize,
+        listed: &[Option<Member<PublisherEntry>>],
+        publishers: &mut Publishers<T, U>,
+    )
+        ensures { FollowsNoneIf (is_listed listed.now place) place self.old publishers.old self.new publishers.new }
+    {
+        if !is_listed(listed, place) {
+            self.follow_none(place, publishers);
+        }
+    }
+
+    // Follows each place that lists none.
+    fn follow_nones<T: Copy, U: Copy>(
+        &mut self,
+        listed: &[Option<Member<PublisherEntry>>],
+        publishers: &mut Publishers<T, U>,
+    )
+        ensures { FollowsNones listed.now 0 (length self.old.places.items) self.old publishers.old self.new publishers.new }
+    {
+        let count = self.places.len();
+        for place in 0..count {
+            self.follow_if_none(place, listed, publishers);
+        }
+    }
+
+    // Follows the list of publishers.
+    fn follow_list<T: Copy, U: Copy, D: Degrades>(
+        &mut self,
+        alloc: Global,
+        listed: &[Option<Member<PublisherEntry>>],
+        handler: &D,
+        publishers: &mut Publishers<T, U>,
+    ) -> Result<(), ConnectionFailure>
+        ensures { FollowsList (D.degrades handler.now cause.FailedToEstablishConnection) listed.now self.old publishers.old result
+            self.new publishers.new }
+    {
+        let found = self.follow_all(alloc, listed, handler, publishers);
+        self.follow_nones(listed, publishers);
+        answer_of(found)
+    }
+
+    /// Follows the list of publishers, if it changed since it was last followed, or a connection failed then for want of room among the
+    /// expired ones. The subscriber attaches to those that came. A connection whose publisher left ends if it has neither data nor
+    /// borrows, and else expires. Where a connection isn't made the handler is asked; the answer is the first failure that it degrades
+    /// and fails, after all places were tried. A connection fails where an allocation fails, or where the former one at its place
+    /// can't expire.
+    ///
+    /// Ported from `iceoryx2::port::subscriber::Subscriber::update_connections`.
+    pub fn update<T: Copy, U: Copy, D: Degrades>(
+        &mut self,
+        alloc: Global,
+        listed: &[Option<Member<PublisherEntry>>],
+        changes: u64,
+        handler: &D,
+        publishers: &mut Publishers<T, U>,
+    ) -> Result<(), ConnectionFailure>
+        ensures { Updates (D.degrades handler.now cause.FailedToEstablishConnection) listed.now changes self.old publishers.old result
+            self.new publishers.new }
+    {
+        if self.seen == changes && !self.again {
+            return Ok(());
+        }
+        self.seen = changes;
+        self.again = false;
+        self.follow_list(alloc, listed, handler, publishers)
+    }
+
+    /// Updates, and answers whether some connection has data, an expired one too. It fails where the update does.
+    ///
+    /// Ported from `iceoryx2::port::subscriber::Subscriber::has_samples`.
+    pub fn has_samples<T: Copy, U: Copy, D: Degrades>(
+        &mut self,
+        alloc: Global,
+        listed: &[Option<Member<PublisherEntry>>],
+        changes: u64,
+        handler: &D,
+        publishers: &mut Publishers<T, U>,
+    ) -> Result<bool, ConnectionFailure>
+        ensures { HasSamples (D.degrades handler.now cause.FailedToEstablishConnection) listed.now changes self.old publishers.old
+            result self.new publishers.new }
+    {
+        let updated = self.update(alloc, listed, changes, handler, publishers);
+        self.has_samples_after(updated, publishers)
+    }
+
+    // Whether some connection has data, after an update.
+    fn has_samples_after<T: Copy, U: Copy>(
+        &self,
+        updated: Result<(), ConnectionFailure>,
+        publishers: &Publishers<T, U>,
+    ) -> Result<bool, ConnectionFailure>
+        ensures { HasSamplesAfter updated self.now publishers.now result }
+    {
+        match updated {
+            Ok(()) => Ok(self.first_data(publishers).is_some()),
+            Err(failure) => Err(failure),
+        }
+    }
+
+    /// Updates, and borrows the message that comes next: the oldest of the first expired connection that is below the limit of borrows
+    /// and has data, else of the first connection by rising key. None where no connection has data. It fails where the update does, and
+    /// where each connection that has data is at the limit of borrows. Of the expired connections those end that were met before the
+    /// one that gave, or all if none gave, and have neither data nor borrows.
+    ///
+    /// Ported from `iceoryx2::port::subscriber::Subscriber::receive`.
+    pub fn receive<T: Copy, U: Copy, D: Degrades>(
+        &mut self,
+        alloc: Global,
+        listed: &[Option<Member<PublisherEntry>>],
+        changes: u64,
+        handler: &D,
+        publishers: &mut Publishers<T, U>,
+    ) -> Result<Option<Taken>, ReceiveError>
+        ensures { ReceivesNext (D.degrades handler.now cause.FailedToEstablishConnection) listed.now changes self.old publishers.old
+            result self.new publishers.new }
+    {
+        let updated = self.update(alloc, listed, changes, handler, publishers);
+        self.receive_after(updated, publishers)
+    }
+
+    // Receives after an update.
+    fn receive_after<T: Copy, U: Copy>(
+        &mut self,
+        updated: Result<(), ConnectionFailure>,
+        publishers: &mut Publishers<T, U>,
+    ) -> Result<Option<Taken>, ReceiveError>
+        ensures { ReceivesAfter updated self.old publishers.old result self.new publishers.new }
+    {
+        match updated {
+            Ok(()) => self.receive_now(publishers),
+            Err(failure) => Err(ReceiveError::ConnectionFailure(failure)),
+        }
+    }
+}
+
+// Whether a place lists a publisher.
+fn is_listed(listed: &[Option<Member<PublisherEntry>>], place: usize) -> bool
+    ensures { result ≡ is_listed listed.now place }
+{
+    if place < listed.len() {
+        listed[place].is_some()
+    } else {
+        false
+    }
+}
+
+// The failure that is answered in the end, after one more.
+fn first_failure(
+    found: Option<ConnectionFailure>,
+    failure: ConnectionFailure,
+    action: DegradationAction,
+) -> Option<ConnectionFailure>
+    ensures { result ≡ first_failure found failure action }
+{
+    match action {
+        DegradationAction::Ignore | DegradationAction::Warn => found,
+        DegradationAction::DegradeAndFail => Some(found.unwrap_or(failure)),
+    }
+}
+
+// What an update answers.
+fn answer_of(found: Option<ConnectionFailure>) -> Result<(), ConnectionFailure>
+    ensures { result ≡ update_answer found }
+{
+    match found {
+        Some(failure) => Err(failure),
+        None => Ok(()),
+    }
+}

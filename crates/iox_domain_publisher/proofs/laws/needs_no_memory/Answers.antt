@@ -1,5 +1,0 @@
-use Rattle.iox_domain_publisher.proofs.Enough.{needs_no_memory}
-use Rattle.iox_domain_publisher.proofs.laws.needs_no_memory.Goals as goal
-
-pub returns : goal.returns
-returns g c = needs_no_memory _

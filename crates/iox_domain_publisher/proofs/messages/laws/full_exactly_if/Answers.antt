@@ -1,5 +1,0 @@
-use Rattle.iox_domain_publisher.proofs.Fullness.{full_exactly_if}
-use Rattle.iox_domain_publisher.proofs.messages.laws.full_exactly_if.Goals as goal
-
-pub returns : goal.returns
-returns c = full_exactly_if

@@ -1,5 +1,0 @@
-use Rattle.iox_domain_publisher.proofs.Holding.{whole_is_sent}
-use Rattle.iox_domain_publisher.proofs.messages.laws.whole_is_sent.Goals as goal
-
-pub returns : goal.returns
-returns g c = whole_is_sent

@@ -1,7 +1,0 @@
-use Rattle.iox_domain_publisher.specs.DomainValues.declared.degradation.DegradationCause.TheVariants as cause
-use Rattle.iox_domain_publisher.proofs.Following.{Following}
-use Rattle.iox_domain_publisher.proofs.publisher_port.PublisherPort.follow_all.Given as goal
-
-abbrev pub invariant-loop-place : goal.invariant-loop-place
-invariant-loop-place g l =
-    Following (g.D.Degrades.degrades l.fn.handler cause.FailedToEstablishConnection) l.fn.listed l.fn.self l.found l.self l.place

@@ -1,6 +1,0 @@
-use Rattle.iox_domain_publisher.proofs.Delivering.{Going}
-use Rattle.iox_domain_publisher.proofs.publisher_port.PublisherPort.go_on.Given as goal
-
-abbrev pub invariant-loop-place : goal.invariant-loop-place
-invariant-loop-place g l =
-    Going (g.B.Decides.decides l.fn.handlers) l.fn.self l.self l._place

@@ -1,7 +1,0 @@
-use Rattle.std.specs.Prelude.{◌-◌, length}
-use Rattle.iox_domain_publisher.specs.Updating.{untied_from}
-use Rattle.iox_domain_publisher.proofs.Following.{Untying}
-use Rattle.iox_domain_publisher.proofs.publisher_port.PublisherPort.untie_from.Given as goal
-
-abbrev pub invariant-loop-place : goal.invariant-loop-place
-invariant-loop-place g l = Untying (untied_from (length l.fn.self.ties.items - l.fn.first) l.fn.first l.fn.self) l.fn.self l.self (length l.fn.self.ties.items) l.place

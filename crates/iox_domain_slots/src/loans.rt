@@ -1,0 +1,156 @@
+//! The loans of a publisher by their slots.
+ghost use Rattle.std.specs.Prelude.{◌≡◌, ◌+◌, ◌^◌, ◌<◌, ◌≤◌, ◌++◌, ◌∷◌, [], length, get_or, remove, IfOk, OnErr, true, false};
+ghost use Rattle.iox_container.specs.Unique.{is_among};
+ghost use Rattle.iox_domain_slots.specs.Loans.{LoansState, place_in};
+
+use std::alloc::{AllocError, Global};
+use std::marker::Model;
+
+/// The slots of the loans in their order, the oldest first. Each is found and taken out at once.
+///
+/// They are linked from the newest to the oldest, which leads to the next slot that can be made. What is newer than the newest isn't kept.
+#[derive(Drop)]
+pub(crate) struct Loans {
+    older: Vec<usize>,
+    newer: Vec<usize>,
+    newest: usize,
+    len: usize,
+    // Whether a loan is in the slot.
+    lent: Vec<bool>,
+}
+
+impl Model for Loans {
+    ghost use Rattle.std.specs.Prelude.{◌≡◌, ◌+◌, ◌<◌, ◌^◌, ℕ, false, length, get_or, reverse};
+    ghost use Rattle.iox_container.specs.Links.{LinksKeys, walk};
+    ghost use Rattle.iox_container.specs.Unique.{is_among};
+    ghost use Rattle.iox_domain_slots.specs.Loans.{LoansState};
+
+    ghost Value = { LoansState };
+
+    ghost view = { λ l. record { items = reverse (walk l.older.items l.len l.newest); made = length l.older.items } };
+
+    ghost invariant = { λ l. LinksKeys l.older.items l.newer.items l.newest (length l.older.items) l.len (walk l.older.items l.len l.newest)
+        × ((slot : ℕ) → get_or l.lent.items slot false ≡ is_among slot (walk l.older.items l.len l.newest))
+        × (length l.lent.items ≡ length l.older.items) × (l.len + 1 < 2 ^ 64) };
+}
+
+impl Loans {
+    /// No loans, and so many slots. It fails only where an allocation fails.
+    pub(crate) fn new(alloc: Global, slots: usize) -> Result<Loans, AllocError>
+        ensures loans { IfOk result (λ loans. loans.items ≡ []) }
+        ensures made { IfOk result (λ loans. loans.made ≡ slots) }
+    {
+        let older = vec![in alloc; 0; slots]?;
+        let mut newer = vec![in alloc; 0; slots]?;
+        newer.push(0)?;
+        let lent = vec![in alloc; false; slots]?;
+        Ok(Loans {
+            older,
+            newer,
+            newest: slots,
+            len: 0,
+            lent,
+        })
+    }
+
+    /// How many loans are out.
+    pub(crate) fn len(&self) -> usize
+        ensures { result ≡ length self.now.items }
+    {
+        self.len
+    }
+
+    /// Whether a loan is in this slot.
+    pub(crate) fn has(&self, slot: usize) -> bool
+        ensures { result ≡ is_among slot self.now.items }
+    {
+        slot < self.lent.len() && self.lent[slot]
+    }
+
+    /// A loan is out in this slot, in which there was none.
+    pub(crate) fn push(&mut self, slot: usize)
+        requires made { slot < self.old.made }
+        requires free { is_among slot self.old.items ≡ false }
+        requires few { length self.old.items + 2 < 2 ^ 64 }
+        ensures items { self.new.items ≡ self.old.items ++ slot ∷ [] }
+        ensures made { self.new.made ≡ self.old.made }
+    {
+        self.lent[slot] = true;
+        self.older[slot] = self.newest;
+        self.newer[self.newest] = slot;
+        self.newest = slot;
+        self.len += 1;
+    }
+
+    /// The loan in this slot ends.
+    pub(crate) fn remove(&mut self, slot: usize)
+        requires { is_among slot self.old.items ≡ true }
+        ensures after { self.new ≡ record { items = remove self.old.items (place_in slot self.old.items); made = self.old.made } }
+        ensures there { get_or self.old.items (place_in slot self.old.items) 0 ≡ slot }
+        ensures within { place_in slot self.old.items < length self.old.items }
+    {
+        self.lent[slot] = false;
+        self.len -= 1;
+        let older = self.older[slot];
+        if slot == self.newest {
+            self.newest = older;
+            return;
+        }
+        let newer = self.newer[slot];
+        self.older[newer] = older;
+        self.newer[older] = newer;
+    }
+
+    // The next slot is made, and stands as the oldest loan.
+    fn append(&mut self) -> Result<usize, AllocError>
+        requires { length self.old.items + 2 < 2 ^ 64 }
+        ensures slot { IfOk result (λ slot. slot ≡ self.old.made) }
+        ensures after { IfOk result (λ slot. self.new ≡ record { items = slot ∷ self.old.items; made = slot + 1 }) }
+        ensures refused { OnErr result (self.new ≡ self.old) }
+    {
+        self.older.reserve(1)?;
+        self.newer.reserve(1)?;
+        self.lent.reserve(1)?;
+        let slot = self.older.len();
+        self.older.push_reserved(slot + 1);
+        self.newer.push_reserved(slot);
+        self.lent.push_reserved(true);
+        self.len += 1;
+        Ok(slot)
+    }
+
+    // The next slot is made, with no loan.
+    fn make_slot(&mut self) -> Result<(), AllocError>
+        requires { length self.old.items + 2 < 2 ^ 64 }
+        ensures made { IfOk result (λ _. self.new ≡ record self.old { made = self.old.made + 1 }) }
+        ensures refused { OnErr result (self.new ≡ self.old) }
+    {
+        let slot = self.append()?;
+        self.remove(slot);
+        Ok(())
+    }
+
+    // Takes the memory of so many slots more, so that it is taken once.
+    fn reserve(&mut self, slots: usize) -> Result<(), AllocError>
+        ensures { self.new ≡ self.old }
+    {
+        self.older.reserve(slots)?;
+        self.newer.reserve(slots)?;
+        self.lent.reserve(slots)?;
+        Ok(())
+    }
+
+    /// So many slots more are made. It fails only where an allocation fails; then fewer were made.
+    pub(crate) fn grow(&mut self, slots: usize) -> Result<(), AllocError>
+        requires { length self.old.items + 2 < 2 ^ 64 }
+        ensures loans { self.new.items ≡ self.old.items }
+        ensures made { IfOk result (λ _. self.new.made ≡ self.old.made + slots) }
+        ensures more { self.old.made ≤ self.new.made }
+    {
+        self.reserve(slots)?;
+        for _ in 0..slots {
+            self.make_slot()?;
+        }
+        Ok(())
+    }
+}

@@ -1,5 +1,0 @@
-use Rattle.iox_domain_subscriber.proofs.Lacking.{attaches_at_once}
-use Rattle.iox_domain_subscriber.proofs.following.attaches_at_once.Goals as goal
-
-pub returns : goal.returns
-returns g c = attaches_at_once

@@ -1,5 +1,0 @@
-use Rattle.iox_domain_subscriber.proofs.Serving.{receives_if_given}
-use Rattle.iox_domain_subscriber.proofs.laws.receives_if_given.Goals as goal
-
-pub returns : goal.returns
-returns g c = receives_if_given

@@ -1,6 +1,0 @@
-use Rattle.iox_domain_subscriber.specs.Expired.{is_sought}
-use Rattle.iox_domain_subscriber.proofs.First.{NoneMet}
-use Rattle.iox_domain_subscriber.proofs.subscriber_port.SubscriberPort.first_expired.Given as goal
-
-abbrev pub invariant-loop-place : goal.invariant-loop-place
-invariant-loop-place g l = NoneMet (is_sought l.sought l.self l.publishers) l.self.expired.items l.place

@@ -1,8 +1,0 @@
-use Rattle.std.proofs.Common.{arith}
-use Rattle.iox_domain_subscriber.proofs.Sweeping.{all_left}
-use Rattle.iox_domain_subscriber.proofs.subscriber_port.SubscriberPort.leave_all.Goals as goal
-
-pub returns : goal.returns
-returns g c =
-    all_left c.args.self.now.connections.values c.args.publishers.now c.loop-key.publishers c.loop-key.key c.loop-key.invariant
-    (λ other past. c.reached-key-end.ensures.none other (omega (arith, c.loop-key-test.false, past)))

@@ -1,6 +1,0 @@
-use Rattle.std.proofs.Common.{◌≡◌, drop}
-use Rattle.iox_domain_subscriber.specs.Receiving.{left_all}
-use Rattle.iox_domain_subscriber.proofs.subscriber_port.SubscriberPort.leave_all.Given as goal
-
-abbrev pub invariant-loop-key : goal.invariant-loop-key
-invariant-loop-key g l = left_all (drop l.key l.fn.self.connections.values) l.publishers ≡ left_all l.fn.self.connections.values l.fn.publishers

@@ -1,5 +1,0 @@
-use Rattle.iox_domain_subscriber.proofs.Sweeping.{Sweeping}
-use Rattle.iox_domain_subscriber.proofs.subscriber_port.SubscriberPort.sweep.Given as goal
-
-abbrev pub invariant-loop-done : goal.invariant-loop-done
-invariant-loop-done g l = Sweeping l.fn.count (l.fn.self, l.fn.publishers) (l.self, l.publishers) l.place l._done

@@ -1,0 +1,7 @@
+use Rattle.std.proofs.Common.{◌≡◌, ◌-◌, ◌^◌, min, take}
+use Rattle.iox_hub_base.specs.Room.{samples_at_most_in}
+use Rattle.iox_hub_base.specs.Unboxed.{unboxed}
+use Rattle.iox_hub_base.proofs.presences.Presences.samples_at_most.Given as goal
+
+abbrev pub invariant-loop-entry : goal.invariant-loop-entry
+invariant-loop-entry g l = l.count ≡ min (samples_at_most_in (unboxed (take l.entry-index l.entries))) (2 ^ 64 - 1)

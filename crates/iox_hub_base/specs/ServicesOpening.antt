@@ -1,0 +1,35 @@
+-- A service opens, and is closed.
+use Rattle.std.specs.Prelude.{ℕ, ◌≡◌, ◌⊎◌, Bool, true, false, is_some, Result, Ok, Err}
+use Rattle.iox_domain.specs.DescribeBase.Detail.{Detail}
+use Rattle.iox_domain.specs.DescribeSettings.declared.static_config.Settings.{Settings}
+use Rattle.iox_domain.specs.Domains.{IsNewDomain}
+use Rattle.iox_domain.specs.declared.domain.Domain.{Domain}
+use Rattle.iox_domain.specs.Fitting.{Fits}
+use Rattle.iox_domain.specs.DomainValues.declared.create_error.DomainError.{DomainError}
+use Rattle.iox_domain.specs.DomainValues.declared.create_error.DomainError.TheVariants.{OutOfMemory}
+use Rattle.iox_hub_base.specs.Open.{OpenServices, presence_of, opened, closed}
+use Rattle.iox_hub_base.specs.declared.presence.Presence.TheVariants.{Here}
+
+-- whether a service of this number is open, be its domain here or out
+abbrev pub is_open : {T U B D : Type 0} → ℕ → OpenServices T U B D → Bool
+is_open number services = is_some (presence_of number services.domains)
+
+-- A new domain of this hub and number is here under it, by settings that are agreed.
+abbrev pub HasNew : {T U B D : Type 0} → ℕ → ℕ → Settings → OpenServices T U B D → OpenServices T U B D → Type 0
+HasNew {T} {U} {B} {D} buffer number settings old new =
+    (domain : Domain T U B D) × IsNewDomain (record { hub = old.hub; service = number }) buffer settings domain
+    × (new ≡ record old { domains = opened number (Here domain) old.domains })
+
+-- A service opens: where one of this number is open, or the settings don't fit, nothing happens; else a new domain is here under
+-- it. It is refused for want of memory alone, where a new one would be made, and then nothing has changed.
+abbrev pub Opens : {T U B D : Type 0} → Detail → Detail → ℕ → ℕ → Settings → OpenServices T U B D → Result (Unit {0}) DomainError
+    → OpenServices T U B D → Type 0
+Opens payload user_header buffer number settings old (Ok done) new =
+    (((is_open number old ≡ true) ⊎ (Fits payload user_header settings → ⊥)) × (new ≡ old))
+    ⊎ ((is_open number old ≡ false) × Fits payload user_header settings × HasNew buffer number settings old new)
+Opens payload user_header buffer number settings old (Err error) new =
+    (error ≡ OutOfMemory) × (is_open number old ≡ false) × Fits payload user_header settings × (new ≡ old)
+
+-- nothing is open under a number any longer
+abbrev pub without_service : {T U B D : Type 0} → ℕ → OpenServices T U B D → OpenServices T U B D
+without_service number services = record services { domains = closed number services.domains }

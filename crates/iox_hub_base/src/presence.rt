@@ -1,0 +1,104 @@
+//! A domain that is here, or what is agreed while it is out.
+ghost use Rattle.std.specs.Prelude.{◌≡◌, ◌↔◌, ◌-◌, ◌^◌, IsTrue, min, option_copied};
+ghost use Rattle.std.specs.Borrow.{sem};
+ghost use Rattle.std.specs.Option.{option_copied_mut};
+ghost use Rattle.iox_hub_base.specs.Open.{here, taken_out};
+ghost use Rattle.iox_hub_base.specs.Agreeing.{same_agreement};
+ghost use Rattle.iox_hub_base.specs.Room.{counted_at};
+ghost use Rattle.iox_domain.specs.Loans.{loans_left};
+ghost use Rattle.iox_domain.specs.Samples.{samples_at_most};
+ghost use Rattle.iox_hub_base.specs.declared.presence.Presence.TheVariants.{Out};
+
+use iox_describe_settings::publish_subscribe::StaticConfig;
+use iox_domain::Domain;
+use iox_domain::allowances::{loans, samples};
+use iox_domain_values::{DegradationHandler, Handlers};
+use std::mem;
+
+/// An open service: its domain, or what its nodes agreed on while the domain is out.
+#[derive(Drop)]
+pub enum Presence<T, U, B = Handlers, D = DegradationHandler> {
+    /// The domain is here.
+    Here(Domain<T, U, B, D>),
+    /// The domain was taken by the user, to be driven elsewhere.
+    Out(StaticConfig),
+}
+
+impl<T, U, B, D> Presence<T, U, B, D> {
+    ghost use Rattle.iox_hub_base.specs.Lends.{LendsDomain};
+
+    /// The domain, if it is here.
+    pub fn domain(&self) -> Option<&Domain<T, U, B, D>>
+        ensures { option_copied result ≡ here self.now }
+    {
+        match self {
+            Presence::Here(domain) => Some(domain),
+            Presence::Out(_) => None,
+        }
+    }
+
+    /// The domain, if it is here, to be changed in its place.
+    pub fn domain_mut(&mut self) -> Option<&mut Domain<T, U, B, D>>
+        ensures* writes_back { sem 𝓛 (LendsDomain T.row U.row B.row D.row self.entry result) }
+        ensures value { option_copied_mut result ≡ here self.old }
+    {
+        match self {
+            Presence::Here(domain) => Some(domain),
+            Presence::Out(_) => None,
+        }
+    }
+
+    /// Whether the domain is out, and just this is agreed.
+    pub fn awaits(&self, agreed: &StaticConfig) -> bool
+        ensures { IsTrue result ↔ (self.now ≡ Out agreed.now) }
+    {
+        match self {
+            Presence::Here(_) => false,
+            Presence::Out(awaited) => is_same(awaited, agreed),
+        }
+    }
+
+    /// Takes the domain out, if it is here; what is agreed stays.
+    pub fn take(&mut self) -> Option<Domain<T, U, B, D>>
+        ensures domain { result ≡ here self.old }
+        ensures new { self.new ≡ taken_out self.old }
+    {
+        let agreed = match self {
+            Presence::Here(domain) => domain.agreed,
+            Presence::Out(agreed) => *agreed,
+        };
+        match mem::replace(self, Presence::Out(agreed)) {
+            Presence::Here(domain) => Some(domain),
+            Presence::Out(_) => None,
+        }
+    }
+}
+
+impl<T: Copy, U: Copy, B, D> Presence<T, U, B, D> {
+    /// How many loans the publishers of the domain may still make; none where it is out. Past 2^64 - 1 it is that.
+    pub fn loans_left(&self) -> u64
+        ensures { result ≡ min (counted_at (λ ports. loans_left ports) self.now) (2 ^ 64 - 1) }
+    {
+        match self {
+            Presence::Here(domain) => loans::loans_left(&domain.state.ports),
+            Presence::Out(_) => 0,
+        }
+    }
+
+    /// How many samples the subscribers of the domain may hold at once; none where it is out. Past 2^64 - 1 it is that.
+    pub fn samples_at_most(&self) -> u64
+        ensures { result ≡ min (counted_at (λ ports. samples_at_most ports) self.now) (2 ^ 64 - 1) }
+    {
+        match self {
+            Presence::Here(domain) => samples::samples_at_most(&domain.state.ports),
+            Presence::Out(_) => 0,
+        }
+    }
+}
+
+// Whether the same is agreed.
+fn is_same(a: &StaticConfig, b: &StaticConfig) -> bool
+    ensures { result ≡ same_agreement a.now b.now }
+{
+    a == b
+}

@@ -1,0 +1,132 @@
+//! What is open, by numbers.
+ghost use Rattle.std.specs.Prelude.{◌≡◌, ◌-◌, ◌^◌, ℕ, min, option_copied, OnOk, OnErr, [], None};
+ghost use Rattle.std.specs.Borrow.{sem};
+ghost use Rattle.std.specs.Option.{option_copied_mut};
+ghost use Rattle.iox_hub_base.specs.Open.{presence_of, domain_of, with_presence, opened, closed};
+ghost use Rattle.iox_hub_base.specs.Room.{loans_left_in, samples_at_most_in};
+
+use crate::by_number::ByNumber;
+use crate::presence::Presence;
+use iox_domain::Domain;
+use iox_domain_ports::living::add;
+use std::alloc::{AllocError, Global};
+use std::marker::Model;
+
+/// Open services, by their numbers.
+///
+/// Contracts see each with its number, by rising number.
+#[derive(Drop)]
+pub struct Presences<T, U, B, D> {
+    entries: ByNumber<Presence<T, U, B, D>>,
+}
+
+impl<T, U, B, D> Model for Presences<T, U, B, D> {
+    ghost use Rattle.std.specs.Prelude.{ℕ, List};
+    ghost use Rattle.iox_hub_base.specs.declared.presence.Presence.{Presence};
+
+    ghost Value = { List (ℕ × Presence T U B D) };
+
+    ghost view = { λ p. p.entries };
+}
+
+impl<T: Copy, U: Copy, B: Drop, D: Drop> Presences<T, U, B, D> {
+    ghost use Rattle.iox_hub_base.specs.Lends.{LendsPresence, LendsDomainOf};
+
+    /// Nothing is open.
+    pub fn new(alloc: Global) -> Self
+        ensures { result ≡ [] }
+    {
+        Presences {
+            entries: ByNumber::new(alloc),
+        }
+    }
+
+    /// What is open under a number, if anything is.
+    pub fn get(&self, number: u64) -> Option<&Presence<T, U, B, D>>
+        ensures { option_copied result ≡ presence_of number self.now }
+    {
+        self.entries.get(number)
+    }
+
+    /// What is open under a number, if anything is, to be changed in its place.
+    pub fn get_mut(&mut self, number: u64) -> Option<&mut Presence<T, U, B, D>>
+        ensures* writes_back { sem 𝓛 (LendsPresence T.row U.row B.row D.row self.entry number result) }
+        ensures value { option_copied_mut result ≡ presence_of number self.old }
+    {
+        self.entries.get_mut(number)
+    }
+
+    /// The domain under a number, if it is here.
+    pub fn domain(&self, number: u64) -> Option<&Domain<T, U, B, D>>
+        ensures { option_copied result ≡ domain_of number self.now }
+    {
+        self.get(number)?.domain()
+    }
+
+    /// The domain under a number, if it is here, to be changed in its place.
+    pub fn domain_mut(&mut self, number: u64) -> Option<&mut Domain<T, U, B, D>>
+        ensures* writes_back { sem 𝓛 (LendsDomainOf T.row U.row B.row D.row self.entry number result) }
+        ensures value { option_copied_mut result ≡ domain_of number self.old }
+    {
+        match self.get_mut(number) {
+            Some(presence) => presence.domain_mut(),
+            None => None,
+        }
+    }
+
+    /// How many loans the publishers of all domains that are here may still make. Past 2^64 - 1 it is that.
+    pub fn loans_left(&self) -> u64
+        ensures { result ≡ min (loans_left_in self.now) (2 ^ 64 - 1) }
+    {
+        let mut left = 0;
+        let entries = self.entries.entries();
+        for entry in entries {
+            left = add(left, entry.1.loans_left());
+        }
+        left
+    }
+
+    /// How many samples the subscribers of all domains that are here may hold at once. Past 2^64 - 1 it is that.
+    pub fn samples_at_most(&self) -> u64
+        ensures { result ≡ min (samples_at_most_in self.now) (2 ^ 64 - 1) }
+    {
+        let mut count = 0;
+        let entries = self.entries.entries();
+        for entry in entries {
+            count = add(count, entry.1.samples_at_most());
+        }
+        count
+    }
+
+    /// Something else is under a number, if something is open under it. It takes no memory.
+    pub fn replace(&mut self, number: u64, presence: Presence<T, U, B, D>)
+        ensures { self.new ≡ with_presence number self.old presence }
+    {
+        if let Some(there) = self.get_mut(number) {
+            *there = presence;
+        }
+    }
+
+    /// A service opens under a number, in the place of one that had it. It fails only where an allocation fails, and then nothing has
+    /// changed.
+    pub fn insert(
+        &mut self,
+        alloc: Global,
+        number: u64,
+        presence: Presence<T, U, B, D>,
+    ) -> Result<(), AllocError>
+        ensures ok { OnOk result (self.new ≡ opened number presence self.old) }
+        ensures err { OnErr result (self.new ≡ self.old) }
+    {
+        self.entries.insert(alloc, number, presence)
+    }
+
+    /// Nothing is open under a number any longer. The other numbers have what they had.
+    pub fn remove(&mut self, number: u64)
+        ensures new { self.new ≡ closed number self.old }
+        ensures gone { presence_of number self.new ≡ None }
+        ensures others { (other : ℕ) → (number ≡ other → ⊥) → presence_of other self.new ≡ presence_of other self.old }
+    {
+        self.entries.remove(number);
+    }
+}

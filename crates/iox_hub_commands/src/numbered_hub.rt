@@ -1,0 +1,44 @@
+//! A hub with what commands made in it.
+ghost use Rattle.std.specs.Prelude.{◌≡◌};
+ghost use Rattle.iox_hub_commands.specs.Agreements.{AreOfOneAgreement};
+ghost use Rattle.iox_hub_commands.specs.Grown.{HaveGrown};
+ghost use Rattle.iox_hub_commands.specs.Lives.{NumbersRise};
+ghost use Rattle.iox_hub_commands.specs.Numbers.{IsNew, numbers_used};
+ghost use Rattle.iox_hub_commands.specs.PortRoom.{HasRoom};
+
+use crate::services::{Factories, Hub, HubConfig};
+use crate::{FixedDegradation, FixedHandlers, Made};
+use std::alloc::Global;
+
+/// A hub, and what commands made in it, under numbers that are counted from 1 for each kind. A number is spent when what it stands for
+/// ends.
+///
+/// `T` is the element of messages, `U` their user header; `B` decides for publishers, `D` for subscribers. This port's own.
+#[derive(Drop)]
+pub struct NumberedHub<T, U, B = FixedHandlers, D = FixedDegradation> {
+    /// The hub.
+    pub hub: Hub<T, U, B, D>,
+    /// The factories that aren't closed.
+    pub factories: Factories,
+    /// The ports that didn't leave, the loans that are out, the samples that are held.
+    pub made: Made,
+}
+
+impl<T: Copy, U: Copy, B: Drop, D: Drop> NumberedHub<T, U, B, D> {
+    /// A hub in which nothing was made. It takes no memory.
+    /// Example: `let mut hub = NumberedHub::<u64, ()>::new(alloc, config);`
+    pub fn new(alloc: Global, config: HubConfig) -> Self
+        ensures is_new { IsNew config result }
+        ensures numbers { numbers_used result ≡ 5 }
+        ensures rise { NumbersRise result }
+        ensures grown { HaveGrown result.hub.services.domains }
+        ensures one_agreement { AreOfOneAgreement result.factories.made result.hub }
+        ensures room { HasRoom result }
+    {
+        NumberedHub {
+            hub: Hub::new(alloc, config),
+            factories: Factories::new(alloc),
+            made: Made::new(alloc),
+        }
+    }
+}

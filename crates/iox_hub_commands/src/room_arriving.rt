@@ -1,0 +1,76 @@
+//! Ports come, once there is room for the numbers of the loans and samples that they may have.
+ghost use Rattle.std.specs.Prelude.{◌+◌, ◌<◌, ◌^◌};
+ghost use Rattle.iox_hub_commands.specs.PortRoom.{KeepsRoom};
+ghost use Rattle.iox_hub_commands.specs.Services.{PublisherArrives, SubscriberArrives};
+
+use crate::numbered_hub::NumberedHub;
+use crate::{arriving, most_loans};
+use iox_command::{PublisherOptions, Reply, SubscriberOptions};
+use iox_domain::DomainId;
+use iox_domain_values::{Decides, Degrades, PortOwner};
+use std::alloc::Global;
+
+impl<T: Copy, U: Copy + Default, B: Decides + Degrades, D: Degrades> NumberedHub<T, U, B, D> {
+    /// A publisher of slices comes to a domain, with what is named, and gets the next number; `handlers` decide for it. Skipped
+    /// where the domain isn't here; else refused as `Made::make_publisher` refuses it, also where an allocation fails for the
+    /// room for its loans.
+    /// Example: `let reply = hub.publisher_with(alloc, domain, owner, &options, handlers);`
+    pub fn publisher_with(
+        &mut self,
+        alloc: Global,
+        domain: DomainId,
+        owner: PortOwner,
+        options: &PublisherOptions,
+        handlers: B,
+    ) -> Reply<T>
+        requires { self.old.made.publishers.next + 1 < 2 ^ 64 }
+        ensures room { KeepsRoom self.old self.new }
+        ensures comes { PublisherArrives U.is_default (λ handlers. B.degrades handlers) domain owner options.now handlers self.old
+            result self.new }
+    {
+        if self.room_for_loans(most_loans(options) as u64).is_err() {
+            return arriving::publisher_refused(&self.hub, domain, owner, options);
+        }
+        arriving::publisher(
+            alloc,
+            &mut self.made,
+            &mut self.hub,
+            domain,
+            owner,
+            options,
+            handlers,
+        )
+    }
+}
+
+impl<T: Copy, U: Copy, B: Decides + Degrades, D: Degrades> NumberedHub<T, U, B, D> {
+    /// A subscriber comes to a domain, with what is named, and gets the next number; `handler` decides for it. Skipped where the
+    /// domain isn't here; else refused as `Made::make_subscriber` refuses it, also where an allocation fails for the room for its
+    /// samples.
+    /// Example: `let reply = hub.subscriber_with(alloc, domain, owner, &options, handler);`
+    pub fn subscriber_with(
+        &mut self,
+        alloc: Global,
+        domain: DomainId,
+        owner: PortOwner,
+        options: &SubscriberOptions,
+        handler: D,
+    ) -> Reply<T>
+        requires { self.old.made.subscribers.next + 1 < 2 ^ 64 }
+        ensures room { KeepsRoom self.old self.new }
+        ensures comes { SubscriberArrives (λ handler. D.degrades handler) domain owner options.now handler self.old result self.new }
+    {
+        if self.room_for_samples(self.most_samples(domain)).is_err() {
+            return arriving::subscriber_refused(&self.hub, domain, owner, options);
+        }
+        arriving::subscriber(
+            alloc,
+            &mut self.made,
+            &mut self.hub,
+            domain,
+            owner,
+            options,
+            handler,
+        )
+    }
+}

@@ -1,0 +1,160 @@
+//! The commands on nodes and services.
+ghost use Rattle.std.specs.Prelude.{◌≡◌, ◌+◌, ◌<◌, ◌^◌, option_map};
+ghost use Rattle.iox_delivery.specs.DescribeBase.Detail.{detail};
+ghost use Rattle.iox_delivery.specs.DescribeBase.declared.type_detail.TypeVariant.TheVariants.{FixedSize};
+ghost use Rattle.iox_hub_commands.specs.Asked.{types_of};
+ghost use Rattle.iox_hub_commands.specs.PortRoom.{KeepsRoom};
+ghost use Rattle.iox_hub_commands.specs.Services.{NodeMakes, Creates, Opens, OpensOrCreates, Acts, Closes, MakesPublisher, MakesSubscriber, domain_of_factory, owner_of_factory};
+ghost use Rattle.iox_hub_commands.specs.ServicesTables.{publish_subscribe_in};
+ghost use Rattle.iox_delivery.specs.Container.NumberTable.{value_at};
+
+use crate::numbered_hub::NumberedHub;
+use crate::replies::{closed_reply, factory_reply, foreign_reply};
+use crate::services::{ServiceAsked, foreign};
+use crate::{
+    PublisherHandlers, SubscriberHandler, arriving, most_loans, publisher_handlers,
+    subscriber_handler,
+};
+use iox_command::{ForeignStep, PublisherOptions, Refusal, Reply, StepBefore, SubscriberOptions};
+use iox_describe_base::{
+    AttributeSpecifier, AttributeVerifier, MessagingPattern, ServiceName, ZeroCopySend,
+};
+use iox_domain::DomainId;
+use iox_domain_values::{Decides, Degrades, PortOwner};
+use iox_queues_base::Words;
+use std::alloc::Global;
+
+impl<T: Words + ZeroCopySend, U: Copy + ZeroCopySend, B: Drop, D: Drop> NumberedHub<T, U, B, D> {
+    pub(crate) fn node(&mut self) -> Reply<T>
+        ensures { NodeMakes self.old result self.new }
+    {
+        match self.hub.new_node() {
+            Ok(node) => Reply::NodeMade(node.number()),
+            Err(error) => Reply::Refused(Refusal::Hub(error)),
+        }
+    }
+
+    pub(crate) fn create(
+        &mut self,
+        alloc: Global,
+        asked: &ServiceAsked,
+        attributes: &AttributeSpecifier,
+        steps: &[StepBefore],
+    ) -> Reply<T>
+        requires { self.old.factories.made.next + 1 < 2 ^ 64 }
+        ensures { Creates (detail FixedSize T.name T.size T.alignment) (detail FixedSize U.name U.size U.alignment)
+            (types_of T.name T.size T.alignment U.name U.size U.alignment) asked.now attributes.now steps.now self.old result self.new }
+    {
+        factory_reply(
+            self.factories
+                .create(alloc, &mut self.hub, asked, attributes, steps),
+        )
+    }
+
+    pub(crate) fn open(
+        &mut self,
+        alloc: Global,
+        asked: &ServiceAsked,
+        requirements: AttributeVerifier,
+        steps: &[StepBefore],
+    ) -> Reply<T>
+        requires { self.old.factories.made.next + 1 < 2 ^ 64 }
+        ensures { Opens (detail FixedSize T.name T.size T.alignment) (detail FixedSize U.name U.size U.alignment)
+            (types_of T.name T.size T.alignment U.name U.size U.alignment) asked.now requirements steps.now self.old result self.new }
+    {
+        factory_reply(
+            self.factories
+                .open(alloc, &mut self.hub, asked, requirements, steps),
+        )
+    }
+
+    pub(crate) fn open_or_create(
+        &mut self,
+        alloc: Global,
+        asked: &ServiceAsked,
+        requirements: AttributeVerifier,
+        steps: &[StepBefore],
+    ) -> Reply<T>
+        requires { self.old.factories.made.next + 1 < 2 ^ 64 }
+        ensures { OpensOrCreates (detail FixedSize T.name T.size T.alignment) (detail FixedSize U.name U.size U.alignment)
+            (types_of T.name T.size T.alignment U.name U.size U.alignment) asked.now requirements steps.now self.old result self.new }
+    {
+        factory_reply(
+            self.factories
+                .open_or_create(alloc, &mut self.hub, asked, requirements, steps),
+        )
+    }
+
+    pub(crate) fn foreign(
+        &mut self,
+        alloc: Global,
+        pattern: MessagingPattern,
+        name: &ServiceName,
+        steps: &[ForeignStep],
+    ) -> Reply<T>
+        ensures { Acts pattern name.now (types_of T.name T.size T.alignment U.name U.size U.alignment) steps.now self.old result self.new }
+    {
+        foreign_reply(foreign(alloc, &mut self.hub, pattern, name, steps))
+    }
+
+    pub(crate) fn close(&mut self, factory: u64) -> Reply<T>
+        ensures { Closes factory self.old result self.new }
+    {
+        closed_reply(self.factories.close(&mut self.hub, factory))
+    }
+}
+
+impl<T, U, B, D> NumberedHub<T, U, B, D> {
+    // The domain of the factory that goes by a number, and whose its ports are; None where none of publish-subscribe does.
+    fn place(&self, factory: u64) -> Option<(DomainId, PortOwner)>
+        ensures { result ≡ option_map (λ opened. (domain_of_factory opened, owner_of_factory opened))
+            (publish_subscribe_in (value_at self.now.factories.made factory)) }
+    {
+        let factory = self.factories.publish_subscribe(factory)?;
+        let domain = DomainId {
+            hub: factory.hub(),
+            service: factory.number(),
+        };
+        let owner = PortOwner {
+            number: factory.owner(),
+            node_id: factory.node(),
+        };
+        Some((domain, owner))
+    }
+}
+
+impl<T: Copy, U: Copy + Default, B: PublisherHandlers, D: Degrades> NumberedHub<T, U, B, D> {
+    pub(crate) fn publisher(
+        &mut self,
+        alloc: Global,
+        factory: u64,
+        options: &PublisherOptions,
+    ) -> Reply<T>
+        requires { self.old.made.publishers.next + 1 < 2 ^ 64 }
+        ensures room { KeepsRoom self.old self.new }
+        ensures comes { MakesPublisher U.is_default B.fixed (λ handlers. B.degrades handlers) factory options.now self.old result self.new }
+    {
+        let Some((domain, owner)) = self.place(factory) else {
+            return Reply::Skipped;
+        };
+        self.publisher_with(alloc, domain, owner, options, publisher_handlers(options))
+    }
+}
+
+impl<T: Copy, U: Copy, B: Decides + Degrades, D: SubscriberHandler> NumberedHub<T, U, B, D> {
+    pub(crate) fn subscriber(
+        &mut self,
+        alloc: Global,
+        factory: u64,
+        options: &SubscriberOptions,
+    ) -> Reply<T>
+        requires { self.old.made.subscribers.next + 1 < 2 ^ 64 }
+        ensures room { KeepsRoom self.old self.new }
+        ensures comes { MakesSubscriber D.fixed (λ handler. D.degrades handler) factory options.now self.old result self.new }
+    {
+        let Some((domain, owner)) = self.place(factory) else {
+            return Reply::Skipped;
+        };
+        self.subscriber_with(alloc, domain, owner, options, subscriber_handler(options))
+    }
+}

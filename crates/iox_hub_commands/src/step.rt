@@ -1,0 +1,173 @@
+//! One command, and its reply.
+ghost use Rattle.std.specs.Prelude.{◌+◌, ◌<◌, ◌≤◌, ◌^◌, OnErr};
+ghost use Rattle.iox_delivery.specs.DescribeBase.Detail.{detail};
+ghost use Rattle.iox_delivery.specs.DescribeBase.declared.type_detail.TypeVariant.TheVariants.{FixedSize};
+ghost use Rattle.iox_hub_commands.specs.Asked.{types_of};
+ghost use Rattle.iox_hub_commands.specs.Agreements.{AreOfOneAgreement};
+ghost use Rattle.iox_hub_commands.specs.Grown.{GrowsOn, HaveGrown, AreAsAgreed, OneDomainMoves};
+ghost use Rattle.iox_hub_commands.specs.Lives.{ChangesOneThing};
+ghost use Rattle.iox_hub_commands.specs.Numbers.{numbers_used};
+ghost use Rattle.iox_hub_commands.specs.PortRoom.{HasRoom, KeepsRoom, LacksInRoom, OfPorts};
+ghost use Rattle.iox_hub_commands.specs.CommandSteps.{Step};
+
+use crate::numbered_hub::NumberedHub;
+use crate::services::ServiceAsked;
+use crate::{PublisherHandlers, SubscriberHandler, following, lending, messages, receiving};
+use iox_command::{Command, Reply};
+use iox_describe_base::ZeroCopySend;
+use iox_queues_base::Words;
+use std::alloc::{AllocError, Global};
+
+impl<
+    T: Words + ZeroCopySend + Default,
+    U: Copy + ZeroCopySend + Default,
+    B: PublisherHandlers,
+    D: SubscriberHandler,
+> NumberedHub<T, U, B, D> {
+    /// Carries out one command, and answers the reply to it.
+    ///
+    /// A command is skipped, and nothing happens, where a number stands for nothing, where a port command names a factory of another
+    /// pattern than publish-subscribe, where a publisher waits with a send (or none waits, for `Retry` and `GiveUp`), where a loan isn't
+    /// written, or has other values or places than are named. A call that is refused is replied to with its error.
+    ///
+    /// A publisher comes once there is room for the numbers of all loans that it may make, and a subscriber once there is room
+    /// for those of all samples that it may hold, beside those of all others: so no loan and no sample lacks memory for its
+    /// number. Where an allocation fails for that room the port is refused.
+    ///
+    /// Fails only where an allocation fails for the values of the reply; or for one more number of a loan where no publisher is
+    /// there, or of a sample where no subscriber is. Then nothing has changed but that a sample that came is held, and that there
+    /// may be more room.
+    /// Example: `let reply = hub.step(alloc, Command::Node)?;`
+    pub fn step(&mut self, alloc: Global, command: Command<T>) -> Result<Reply<T>, AllocError>
+        requires { numbers_used self.old + 1 < 2 ^ 64 }
+        ensures steps { Step (detail FixedSize T.name T.size T.alignment) (detail FixedSize U.name U.size U.alignment)
+            (types_of T.name T.size T.alignment U.name U.size U.alignment) T.is_default U.is_default B.fixed
+            (λ handlers. B.degrades handlers) (λ handlers. B.decides handlers) D.fixed (λ handler. D.degrades handler) command.entry
+            self.old result self.new }
+        ensures counts { numbers_used self.new ≤ numbers_used self.old + 1 }
+        ensures one { ChangesOneThing self.old self.new }
+        ensures grows { GrowsOn self.old.hub self.new.hub }
+        ensures agreed { HaveGrown self.old.hub.services.domains → AreAsAgreed self.new.hub.services.domains }
+        ensures one_agreement { AreOfOneAgreement self.old.factories.made self.old.hub
+            → AreOfOneAgreement self.new.factories.made self.new.hub }
+        ensures apart { OneDomainMoves self.old.hub self.new.hub }
+        ensures room { KeepsRoom self.old self.new }
+        ensures lacks { HasRoom self.old → OnErr result (LacksInRoom command.entry self.old self.new) }
+    {
+        self.carry_out(alloc, command)
+    }
+
+    // The same, without what that comes to in other words.
+    fn carry_out(&mut self, alloc: Global, command: Command<T>) -> Result<Reply<T>, AllocError>
+        requires { numbers_used self.old + 1 < 2 ^ 64 }
+        ensures comes { OfPorts (KeepsRoom self.old self.new) command.entry }
+        ensures steps { Step (detail FixedSize T.name T.size T.alignment) (detail FixedSize U.name U.size U.alignment)
+            (types_of T.name T.size T.alignment U.name U.size U.alignment) T.is_default U.is_default B.fixed
+            (λ handlers. B.degrades handlers) (λ handlers. B.decides handlers) D.fixed (λ handler. D.degrades handler) command.entry
+            self.old result self.new }
+    {
+        match command {
+            Command::Node => Ok(self.node()),
+            Command::Create {
+                node,
+                name,
+                options,
+                attributes,
+                steps,
+            } => {
+                let asked = ServiceAsked {
+                    node,
+                    name,
+                    options,
+                };
+                Ok(self.create(alloc, &asked, &attributes, steps.as_slice()))
+            }
+            Command::Open {
+                node,
+                name,
+                options,
+                requirements,
+                steps,
+            } => {
+                let asked = ServiceAsked {
+                    node,
+                    name,
+                    options,
+                };
+                Ok(self.open(alloc, &asked, requirements, steps.as_slice()))
+            }
+            Command::OpenOrCreate {
+                node,
+                name,
+                options,
+                requirements,
+                steps,
+            } => {
+                let asked = ServiceAsked {
+                    node,
+                    name,
+                    options,
+                };
+                Ok(self.open_or_create(alloc, &asked, requirements, steps.as_slice()))
+            }
+            Command::Foreign {
+                pattern,
+                name,
+                steps,
+            } => Ok(self.foreign(alloc, pattern, &name, steps.as_slice())),
+            Command::Close { factory } => Ok(self.close(factory)),
+            Command::Publisher { factory, options } => {
+                Ok(self.publisher(alloc, factory, &options))
+            }
+            Command::Subscriber { factory, options } => {
+                Ok(self.subscriber(alloc, factory, &options))
+            }
+            Command::Loan { publisher, length } => {
+                lending::loan(alloc, &mut self.made, &mut self.hub, publisher, length)
+            }
+            Command::LoanUninit { publisher, length } => {
+                lending::loan_uninit(alloc, &mut self.made, &mut self.hub, publisher, length)
+            }
+            Command::Set { loan, place, value } => {
+                Ok(messages::set(&self.made, &mut self.hub, loan, place, value))
+            }
+            Command::Fill { loan, values } => {
+                Ok(messages::fill(&self.made, &mut self.hub, loan, values.as_slice()))
+            }
+            Command::Drop { loan } => {
+                Ok(messages::drop_loan(&mut self.made, &mut self.hub, loan))
+            }
+            Command::Send { loan } => {
+                Ok(messages::send(alloc, &mut self.made, &mut self.hub, loan))
+            }
+            Command::Put { publisher, values } => Ok(lending::put(
+                alloc,
+                &self.made,
+                &mut self.hub,
+                publisher,
+                values.as_slice(),
+            )),
+            Command::Retry {
+                publisher,
+                nanoseconds,
+            } => Ok(messages::retry(&self.made, &mut self.hub, publisher, nanoseconds)),
+            Command::GiveUp { publisher } => {
+                Ok(messages::give_up(&self.made, &mut self.hub, publisher))
+            }
+            Command::Receive { subscriber } => {
+                receiving::receive(alloc, &mut self.made, &mut self.hub, subscriber)
+            }
+            Command::Read { sample } => messages::read(alloc, &self.made, &self.hub, sample),
+            Command::Release { sample } => {
+                Ok(messages::release(&mut self.made, &mut self.hub, sample))
+            }
+            Command::Update { port } => {
+                Ok(following::update(alloc, &self.made, &mut self.hub, port))
+            }
+            Command::Leave { port } => { Ok(following::leave(&mut self.made, &mut self.hub, port)) }
+            Command::Has { subscriber } => {
+                Ok(following::has(alloc, &self.made, &mut self.hub, subscriber))
+            }
+        }
+    }
+}

@@ -1,8 +1,0 @@
-use Rattle.std.proofs.Common.{refl}
-use Rattle.iox_hub_run.proofs.numbered_hub.NumberedHub.carry_out.Goals as goal
-
-pub returns-in-Foreign : goal.returns-in-Foreign
-returns-in-Foreign g c = record { comes = rw c.in-Foreign.is tt; steps = rw c.in-Foreign.is (rw c.as_slice-in-Foreign.ensures at c.foreign.ensures) }
-
-pub returns-in-Put : goal.returns-in-Put
-returns-in-Put g c = record { comes = rw c.in-Put.is tt; steps = rw c.in-Put.is (rw c.as_slice-in-Put.ensures at c.put.ensures, refl) }

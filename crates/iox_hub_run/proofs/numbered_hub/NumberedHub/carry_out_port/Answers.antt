@@ -1,5 +1,0 @@
-use Rattle.std.proofs.Common.{refl}
-use Rattle.iox_hub_run.proofs.numbered_hub.NumberedHub.carry_out_port.Goals as goal
-
-pub returns-in-Put : goal.returns-in-Put
-returns-in-Put g c = rw c.in-Put.is (rw c.as_slice-in-Put.ensures at c.put.ensures, refl)

@@ -1,7 +1,0 @@
-pub mod Own
-pub mod Takings
-pub mod Same
-pub mod Lawful
-mod Rising
-mod Placed
-mod Searched

@@ -1,5 +1,0 @@
-use Rattle.iox_hub_services.proofs.Lawful.{gives_back}
-use Rattle.iox_hub_services.proofs.laws.gives_back.Goals as goal
-
-pub returns : goal.returns
-returns g c = gives_back _ _ _ _

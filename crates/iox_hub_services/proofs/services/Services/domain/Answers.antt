@@ -1,6 +1,0 @@
-use Rattle.iox_hub_services.proofs.Own.{own_if}
-use Rattle.iox_hub_services.proofs.services.Services.domain.Goals as goal
-
-pub returns-clause-own : goal.returns-clause-own
-returns-clause-own g c =
-    rw (← c.self.view_is) (own_if c.self.inside.hub c.args.number c.self.inside.presences (λ domain. domain.now) c.domain.result c.self.invariant c.domain.ensures)

@@ -1,4 +1,0 @@
-use Rattle.iox_index_base.proofs.container.Container.find.Goals as goal
-
-pub returns : goal.returns
-returns g c = rw (← c.self.view_is) c.call_members.ensures

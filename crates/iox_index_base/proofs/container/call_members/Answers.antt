@@ -1,5 +1,0 @@
-use Rattle.std.proofs.Common.{refl}
-use Rattle.iox_index_base.proofs.container.call_members.Goals as goal
-
-pub returns-clause-called : goal.returns-clause-called
-returns-clause-called g c = c.loop-found.invariant.3 c.loop-found.callback (rw c.in_default.ensures.none refl)

@@ -1,0 +1,98 @@
+-- Laws of what is opened: it is as it was asked for, or the refusal names what isn't.
+use Rattle.std.specs.Prelude.{ℕ, ◌≡◌, ◌⊎◌, ⊤, Some, Result, Ok, Err, List}
+use Rattle.iox_machine.specs.Agreement.{Agreement, event_verdict, publish_subscribe_verdict, request_response_verdict}
+use Rattle.iox_machine.specs.AgreementLaws.{agreed_in}
+use Rattle.iox_machine.specs.Asked.{settings_of}
+use Rattle.iox_machine.specs.Phase.{Phase}
+use Rattle.iox_machine.specs.Run.{Step}
+use Rattle.iox_machine.specs.State.{State}
+use Rattle.iox_command.specs.NegotiateBase.DescribeBase.Attributes.{Required}
+use Rattle.iox_command.specs.NegotiateBase.DescribeBase.declared.message_type.MessageTypeDetails.{MessageTypeDetails}
+use Rattle.iox_command.specs.NegotiateBase.DescribeVerdict.declared.requirement.event.ClauseError.{ClauseError as EventClause}
+use Rattle.iox_command.specs.NegotiateBase.DescribeVerdict.declared.requirement.publish_subscribe.ClauseError.{ClauseError as PublishSubscribeClause}
+use Rattle.iox_command.specs.NegotiateBase.DescribeVerdict.declared.requirement.request_response.ClauseError.{ClauseError as RequestResponseClause}
+use Rattle.iox_command.specs.NegotiateBase.EventErrors as event
+use Rattle.iox_command.specs.NegotiateBase.PublishSubscribeErrors as publish_subscribe
+use Rattle.iox_command.specs.NegotiateBase.RequestResponseErrors as request_response
+use Rattle.iox_command.specs.NegotiateBase.declared.failure.OpenFailure.{OpenFailure}
+use Rattle.iox_command.specs.NegotiateBase.declared.failure.OpenFailure.TheVariants.{Clause}
+use Rattle.iox_command.specs.NegotiateBase.declared.failure.OpenOrCreateFailure.{OpenOrCreateFailure}
+use Rattle.iox_command.specs.NegotiateBase.declared.failure.OpenOrCreateFailure.TheVariants as neither
+use Rattle.iox_command.specs.Patterns.{pattern_of}
+use Rattle.iox_command.specs.declared.command.Command.TheVariants as command
+use Rattle.iox_command.specs.declared.refusal.Refusal.{Refusal}
+use Rattle.iox_command.specs.declared.refusal.Refusal.TheVariants as refusal
+use Rattle.iox_command.specs.declared.reply.Reply.{Reply}
+use Rattle.iox_command.specs.declared.reply.Reply.TheVariants as reply
+use Rattle.iox_command.specs.declared.service.ServiceOptions.{ServiceOptions}
+use Rattle.iox_command.specs.declared.service.ServiceOptions.TheVariants as options
+use Rattle.iox_command.specs.declared.step.StepBefore.{StepBefore}
+
+-- What is agreed on in a phase is so.
+abbrev pub IsAgreedOn : (Agreement → Type 0) → Phase → Type 0
+IsAgreedOn So phase = (agreed : Agreement) × (agreed_in phase ≡ Some agreed) × So agreed
+
+-- A failure to open that names a clause names the first one that what is agreed on doesn't meet.
+abbrev pub NamesUnmet : {V : Type 0} → (Agreement → Result (Unit {0}) V) → OpenFailure V → Phase → Type 0
+NamesUnmet verdict (Clause unmet) phase = IsAgreedOn (λ agreed. verdict agreed ≡ Err unmet) phase
+NamesUnmet verdict other phase = ⊤
+
+-- So it is where a failure to open or to create is one to open.
+abbrev pub EitherNamesUnmet : {V : Type 0} → (Agreement → Result (Unit {0}) V) → OpenOrCreateFailure V → Phase → Type 0
+EitherNamesUnmet verdict (neither.Open failure) phase = NamesUnmet verdict failure phase
+EitherNamesUnmet verdict other phase = ⊤
+
+module _ (types : MessageTypeDetails) where
+  -- An agreement meets each clause that is asked, and has what is required of attributes.
+  abbrev pub MeetsAsked : ServiceOptions → Required → Agreement → Type 0
+  MeetsAsked (options.PublishSubscribe named) required agreed = publish_subscribe_verdict types required named agreed ≡ Ok tt
+  MeetsAsked (options.Event named) required agreed = event_verdict required named agreed ≡ Ok tt
+  MeetsAsked (options.RequestResponse named) required agreed = request_response_verdict types required named agreed ≡ Ok tt
+
+  -- A refusal tells why a service isn't opened: a clause is the first that isn't met.
+  abbrev pub TellsUnmet : ServiceOptions → Required → Refusal → Phase → Type 0
+  TellsUnmet (options.PublishSubscribe named) required why phase =
+      (failure : OpenFailure PublishSubscribeClause) × (why ≡ refusal.PublishSubscribeOpen (publish_subscribe.open_error failure))
+      × NamesUnmet (publish_subscribe_verdict types required named) failure phase
+  TellsUnmet (options.Event named) required why phase =
+      (failure : OpenFailure EventClause) × (why ≡ refusal.EventOpen (event.open_error failure))
+      × NamesUnmet (event_verdict required named) failure phase
+  TellsUnmet (options.RequestResponse named) required why phase =
+      (failure : OpenFailure RequestResponseClause) × (why ≡ refusal.RequestResponseOpen (request_response.open_error failure))
+      × NamesUnmet (request_response_verdict types required named) failure phase
+
+  -- So a refusal tells why a service is neither opened nor created.
+  abbrev pub EitherTellsUnmet : ServiceOptions → Required → Refusal → Phase → Type 0
+  EitherTellsUnmet (options.PublishSubscribe named) required why phase =
+      (failure : OpenOrCreateFailure PublishSubscribeClause)
+      × (why ≡ refusal.PublishSubscribeOpenOrCreate (publish_subscribe.open_or_create_error failure))
+      × EitherNamesUnmet (publish_subscribe_verdict types required named) failure phase
+  EitherTellsUnmet (options.Event named) required why phase =
+      (failure : OpenOrCreateFailure EventClause) × (why ≡ refusal.EventOpenOrCreate (event.open_or_create_error failure))
+      × EitherNamesUnmet (event_verdict required named) failure phase
+  EitherTellsUnmet (options.RequestResponse named) required why phase =
+      (failure : OpenOrCreateFailure RequestResponseClause)
+      × (why ≡ refusal.RequestResponseOpenOrCreate (request_response.open_or_create_error failure))
+      × EitherNamesUnmet (request_response_verdict types required named) failure phase
+
+module _ {T : Type 0} (IsDefault : T → Type 0) where
+  -- A service that is opened meets all that is asked. One that is refused for a clause is there, and that is the first clause that it
+  -- doesn't meet.
+  abbrev pub OpenedMeetsAsked : Type 0
+  OpenedMeetsAsked = (types : MessageTypeDetails) (buffer node : ℕ) (name : List ℕ) (options : ServiceOptions) (required : Required)
+      (steps : List StepBefore) (old : State T) (answer : Reply T) (new : State T)
+      → Step types IsDefault buffer (command.Open node name options required steps) old answer new
+      → ((number : ℕ) → answer ≡ reply.FactoryMade number
+      → IsAgreedOn (MeetsAsked types options required) (new.phases (pattern_of options) name))
+      × ((why : Refusal) → answer ≡ reply.Refused why → TellsUnmet types options required why (new.phases (pattern_of options) name))
+
+  -- So it is of one that is opened or created; what is created is just as it was asked for.
+  abbrev pub EitherMeetsAsked : Type 0
+  EitherMeetsAsked = (types : MessageTypeDetails) (buffer node : ℕ) (name : List ℕ) (options : ServiceOptions) (required : Required)
+      (steps : List StepBefore) (old : State T) (answer : Reply T) (new : State T)
+      → Step types IsDefault buffer (command.OpenOrCreate node name options required steps) old answer new
+      → ((number : ℕ) → answer ≡ reply.FactoryMade number
+      → IsAgreedOn (λ agreed. MeetsAsked types options required agreed
+      ⊎ (agreed ≡ record { settings = settings_of types options; attributes = required.pairs })) (new.phases (pattern_of options) name))
+      × ((why : Refusal) → answer ≡ reply.Refused why
+      → EitherTellsUnmet types options required why (new.phases (pattern_of options) name))

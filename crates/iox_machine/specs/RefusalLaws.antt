@@ -1,0 +1,215 @@
+-- Laws of what a call leaves that is refused.
+use Rattle.std.specs.Prelude.{ℕ, zero, suc, ◌≡◌, ◌⊎◌, Bool, true, false, ◌&&◌, ◌==◌, nat_le, List, [], ◌∷◌, ◌++◌, length, take, map, filter, fold, None, Some, find, option_map, unwrap_or, if◌then◌else◌}
+use Rattle.std.specs.Option.{option_map_or}
+use Rattle.iox_machine.specs.Mailbox.{Mailbox, newest, put}
+use Rattle.iox_machine.specs.Message.{Loan, Message, sent_as}
+use Rattle.iox_machine.specs.Phase.{Phase, Absent, acted}
+use Rattle.iox_machine.specs.PortList.{those}
+use Rattle.iox_machine.specs.Run.{Runs, Step}
+use Rattle.iox_machine.specs.Service.{Publisher, Send, Service, Subscriber, mailbox, with_publisher}
+use Rattle.iox_machine.specs.State.{State, new_state, replaced}
+use Rattle.iox_machine.specs.Table.{at, contains, removed}
+use Rattle.iox_command.specs.DomainValues.Actions.{decision_of}
+use Rattle.iox_command.specs.DomainValues.declared.backpressure.BackpressureDecision.TheVariants.{DiscardDataAndFail}
+use Rattle.iox_command.specs.DomainValues.declared.port_error.SendError.TheVariants as error
+use Rattle.iox_command.specs.NegotiateBase.DescribeBase.declared.message_type.MessageTypeDetails.{MessageTypeDetails}
+use Rattle.iox_command.specs.NegotiateBase.DescribeBase.declared.pattern.MessagingPattern.{MessagingPattern}
+use Rattle.iox_command.specs.Patterns.{pattern_of}
+use Rattle.iox_command.specs.declared.command.Command.{Command}
+use Rattle.iox_command.specs.declared.command.Command.TheVariants as command
+use Rattle.iox_command.specs.declared.refusal.Refusal.{Refusal}
+use Rattle.iox_command.specs.declared.refusal.Refusal.TheVariants as refusal
+use Rattle.iox_command.specs.declared.reply.Reply.{Reply}
+use Rattle.iox_command.specs.declared.reply.Reply.TheVariants as reply
+use Rattle.iox_command.specs.declared.step.ForeignStep.{ForeignStep}
+use Rattle.iox_command.specs.declared.step.StepBefore.{StepBefore}
+
+-- A phase is as it was; or nothing stood there, and nothing stands.
+abbrev pub IsAsBefore : Phase → Phase → Type 0
+IsAsBefore old new = (new ≡ old) ⊎ ((lives : ℕ) × (later : ℕ) × (old ≡ Absent lives) × (new ≡ Absent later))
+
+-- A command creates or opens the service of a pattern and name, and no node outside the hub does anything meanwhile.
+abbrev pub IsQuietCallFor : {T : Type 0} → MessagingPattern → List ℕ → Command T → Type 0
+IsQuietCallFor pattern name (command.Create node other options attributes steps) =
+    (pattern_of options ≡ pattern) × (other ≡ name) × (steps ≡ [])
+IsQuietCallFor pattern name (command.Open node other options required steps) =
+    (pattern_of options ≡ pattern) × (other ≡ name) × (steps ≡ [])
+IsQuietCallFor pattern name (command.OpenOrCreate node other options required steps) =
+    (pattern_of options ≡ pattern) × (other ≡ name) × (steps ≡ [])
+IsQuietCallFor pattern name other = ⊥
+
+-- what nodes outside the hub are to do before an access, which goes by its number from 1 on
+abbrev pub steps_at : List StepBefore → ℕ → List ForeignStep
+steps_at steps access = map (λ before. before.step) (filter (λ before. before.access == access) steps)
+
+-- what they are to do before the first so many accesses, one after the other
+abbrev pub steps_through : List StepBefore → ℕ → List ForeignStep
+steps_through steps zero = []
+steps_through steps (suc accesses) = steps_through steps accesses ++ steps_at steps (suc accesses)
+
+-- A phase is what the steps of nodes outside the hub alone made of another: those before so many accesses, and of those before the next one
+-- so many as were done. Where nothing stood then, a life may have begun and ended.
+abbrev pub IsLeftBySteps : MessageTypeDetails → MessagingPattern → List StepBefore → Phase → Phase → Type 0
+IsLeftBySteps types pattern steps old new =
+    (accesses : ℕ) × (done : ℕ)
+    × IsAsBefore
+    (fold (acted types pattern) old (steps_through steps accesses ++ take done (steps_at steps (suc accesses)))) new
+
+-- A command creates or opens the service of a pattern and name, and these are the steps of nodes outside the hub meanwhile.
+abbrev pub IsCallWith : {T : Type 0} → MessagingPattern → List ℕ → List StepBefore → Command T → Type 0
+IsCallWith pattern name steps (command.Create node other options attributes meanwhile) =
+    (pattern_of options ≡ pattern) × (other ≡ name) × (meanwhile ≡ steps)
+IsCallWith pattern name steps (command.Open node other options required meanwhile) =
+    (pattern_of options ≡ pattern) × (other ≡ name) × (meanwhile ≡ steps)
+IsCallWith pattern name steps (command.OpenOrCreate node other options required meanwhile) =
+    (pattern_of options ≡ pattern) × (other ≡ name) × (meanwhile ≡ steps)
+IsCallWith pattern name steps other = ⊥
+
+-- what stays of a subscriber: its factory, whether it stands, and how many messages may wait for it
+abbrev pub subscriber_kept : Subscriber → ℕ × Bool × ℕ
+subscriber_kept one = (one.factory, one.stands, one.buffer_size)
+
+module _ {T : Type 0} where
+  -- whether a command is a call of a port that brings its connections up to date first
+  abbrev pub is_updating : Command T → Bool
+  is_updating (command.Send loan) = true
+  is_updating (command.Put publisher values) = true
+  is_updating (command.Receive subscriber) = true
+  is_updating (command.Update number) = true
+  is_updating (command.Has subscriber) = true
+  is_updating other = false
+
+  -- whether a command begins to send
+  abbrev pub is_sending : Command T → Bool
+  is_sending (command.Send loan) = true
+  is_sending (command.Put publisher values) = true
+  is_sending other = false
+
+  -- the loans that are out after a refused call: a send has spent its own
+  abbrev pub loans_left : Command T → List (ℕ × Loan T) → List (ℕ × Loan T)
+  loans_left (command.Send loan) loans = removed loan loans
+  loans_left other loans = loans
+
+  -- what stays of a publisher: its factory, whether it stands, and its history
+  abbrev pub publisher_kept : Publisher T → ℕ × Bool × List (Message T)
+  publisher_kept one = (one.factory, one.stands, one.history)
+
+  -- Name, settings, lists, samples and histories of a service stay, and the same ports stand, of the same factories.
+  abbrev pub KeepsPorts : Service T → Service T → Type 0
+  KeepsPorts old new =
+      (new.name ≡ old.name) × (new.settings ≡ old.settings)
+      × (new.publisher_list ≡ old.publisher_list) × (new.subscriber_list ≡ old.subscriber_list) × (new.samples ≡ old.samples)
+      × ((number : ℕ) → option_map publisher_kept (at number new.publishers) ≡ option_map publisher_kept (at number old.publishers))
+      × ((number : ℕ) → option_map subscriber_kept (at number new.subscribers) ≡ option_map subscriber_kept (at number old.subscribers))
+
+  -- All that is borrowed stays so. What waits stays where the publisher is connected to a subscriber that is listed.
+  abbrev pub KeepsMessages : Service T → Service T → Type 0
+  KeepsMessages old new = (publisher subscriber : ℕ)
+      → ((mailbox publisher subscriber new).borrowed ≡ (mailbox publisher subscriber old).borrowed)
+      × ((contains (those old.subscriber_list.places) subscriber
+      && option_map_or (λ one. contains (those one.connected) subscriber) (at publisher old.publishers) false) ≡ true
+      → (mailbox publisher subscriber new).waiting ≡ (mailbox publisher subscriber old).waiting)
+
+  -- A message is sent by a publisher: that of a loan, or the next one, with the values of a put.
+  abbrev pub IsSentBy : Command T → Service T → ℕ → Message T → Type 0
+  IsSentBy (command.Send loan) service number message =
+      (lent : Loan T) × (at loan service.loans ≡ Some lent) × (number ≡ lent.publisher) × (message ≡ sent_as lent)
+  IsSentBy (command.Put publisher values) service number message =
+      (one : Publisher T) × (at publisher service.publishers ≡ Some one) × (number ≡ publisher)
+      × (message ≡ record { number = one.next; values = values })
+  IsSentBy other service number message = ⊥
+
+  -- a mailbox once a message was put there: behind those that wait, unless as many wait as may
+  abbrev pub offered_to : Message T → Mailbox T → Mailbox T
+  offered_to message box = if nat_le box.limit (length box.waiting) then box else record box { waiting = box.waiting ++ message ∷ [] }
+
+  -- Of some subscribers one lacks a message: without safe overflow its mailbox is full, it stands and is connected, and the publisher is to
+  -- discard and fail then.
+  abbrev pub LacksOne : ℕ → Publisher T → List ℕ → Service T → Type 0
+  LacksOne number one left service =
+      (service.settings.enable_safe_overflow ≡ false) × (decision_of one.strategy one.handler ≡ DiscardDataAndFail)
+      × ((lacking : ℕ) × (contains left lacking ≡ true)
+      × (nat_le (mailbox number lacking service).limit (length (mailbox number lacking service).waiting) ≡ true)
+      × (option_map_or (λ it. it.stands && contains (those it.connected) number) (at lacking service.subscribers) false ≡ true))
+
+  -- A publisher sent a message to all that it is connected to, and couldn't deliver: without safe overflow it waits now where fewer waited
+  -- than may, and nowhere else, and some subscriber lacks it. The message is the newest of its history, no send is blocked, and all else is
+  -- as before.
+  abbrev pub IsUndelivered : ℕ → Publisher T → Message T → Service T → Service T → Type 0
+  IsUndelivered number one message old new =
+      LacksOne number one (those one.connected) old
+      × ((publisher subscriber : ℕ) → mailbox publisher subscriber new
+      ≡ (if (publisher == number) && contains (those one.connected) subscriber then offered_to message (mailbox publisher subscriber old)
+      else mailbox publisher subscriber old))
+      × (new ≡ record (with_publisher number (record one {
+        history = newest old.settings.history_size (one.history ++ message ∷ []);
+        blocked = None;
+      }) old) { mailboxes = new.mailboxes })
+
+  -- A send that was blocked went to those that were left, and couldn't deliver: each mailbox took its message that had room, one subscriber
+  -- lacks it, now or from before, and no send is blocked.
+  abbrev pub IsRetried : ℕ → Publisher T → Send T → Service T → Service T → Type 0
+  IsRetried number one send old new =
+      ((send.fails ≡ true) ⊎ LacksOne number one send.left old)
+      × ((publisher subscriber : ℕ) → mailbox publisher subscriber new
+      ≡ (if (publisher == number) && contains send.left subscriber
+      then unwrap_or (put old.settings.enable_safe_overflow send.message (mailbox publisher subscriber old)) (mailbox publisher subscriber old)
+      else mailbox publisher subscriber old))
+      × (new ≡ record (with_publisher number (record one { blocked = None }) old) { mailboxes = new.mailboxes })
+
+module _ {T : Type 0} (IsDefault : T → Type 0) where
+  -- A send, a put, a receive, an update or a look for data that is refused changes one service at most, and of that only connections that
+  -- were brought up to date; and a send has spent its loan. All agreements, nodes, factories and numbers stay. One that couldn't deliver
+  -- isn't meant: it did all else that a send does.
+  abbrev pub RefusedPortsLeave : Type 0
+  RefusedPortsLeave = (types : MessageTypeDetails) (buffer : ℕ) (asked : Command T) (old new : State T) (why : Refusal)
+      → is_updating asked ≡ true → (why ≡ refusal.Send error.UnableToDeliver → ⊥)
+      → Step types IsDefault buffer asked old (reply.Refused why) new
+      → (has : Service T → Bool) × (service : Service T) × (after : Service T) × (find has old.services ≡ Some service)
+      × (new ≡ record old { services = replaced has after old.services })
+      × (after.loans ≡ loans_left asked service.loans) × KeepsPorts service after × KeepsMessages service after
+
+  -- In every run of a new machine: a send or a put that couldn't deliver brought the publisher's connections up to date, as a refused
+  -- update leaves them, and then sent its message to all who had room for it. The loan is spent, and all other services stay.
+  abbrev pub UndeliveredLeaves : Type 0
+  UndeliveredLeaves = (types : MessageTypeDetails) (buffer : ℕ) (before : List (Command T)) (told : List (Reply T)) (old : State T)
+      → Runs types IsDefault buffer before new_state told old
+      → (asked : Command T) (new : State T) → is_sending asked ≡ true
+      → Step types IsDefault buffer asked old (reply.Refused (refusal.Send error.UnableToDeliver)) new
+      → (has : Service T → Bool) × (service : Service T) × (mid : Service T) × (after : Service T)
+      × (number : ℕ) × (one : Publisher T) × (message : Message T)
+      × (find has old.services ≡ Some service) × (new ≡ record old { services = replaced has after old.services })
+      × IsSentBy asked service number message
+      × (mid.loans ≡ loans_left asked service.loans) × KeepsPorts service mid × KeepsMessages service mid
+      × (at number mid.publishers ≡ Some one) × (one.seen ≡ mid.subscriber_list.changes)
+      × IsUndelivered number one message mid after
+
+  -- In every run of a new machine: a retry that couldn't deliver sent the message of the blocked send to all that were left, and changed
+  -- nothing else.
+  abbrev pub RetriesLeave : Type 0
+  RetriesLeave = (types : MessageTypeDetails) (buffer : ℕ) (before : List (Command T)) (told : List (Reply T)) (old : State T)
+      → Runs types IsDefault buffer before new_state told old
+      → (number nanoseconds : ℕ) (new : State T)
+      → Step types IsDefault buffer (command.Retry number nanoseconds) old (reply.Refused (refusal.Send error.UnableToDeliver)) new
+      → (has : Service T → Bool) × (service : Service T) × (after : Service T) × (one : Publisher T) × (send : Send T)
+      × (find has old.services ≡ Some service) × (new ≡ record old { services = replaced has after old.services })
+      × (at number service.publishers ≡ Some one) × (one.blocked ≡ Some send) × IsRetried number one send service after
+
+  -- In every run of a new machine: a creation or an opening that is refused, while no node outside the hub does anything, leaves what is
+  -- agreed on and the nodes that are in. Where nothing stood a life may have begun and ended.
+  abbrev pub RefusedCallsLeaveNodes : Type 0
+  RefusedCallsLeaveNodes = (types : MessageTypeDetails) (buffer : ℕ) (before : List (Command T)) (told : List (Reply T)) (old : State T)
+      → Runs types IsDefault buffer before new_state told old
+      → (pattern : MessagingPattern) (name : List ℕ) (asked : Command T) (new : State T) (why : Refusal) → IsQuietCallFor pattern name asked
+      → Step types IsDefault buffer asked old (reply.Refused why) new
+      → IsAsBefore (old.phases pattern name) (new.phases pattern name)
+
+  -- In every run of a new machine: a creation or an opening that is refused leaves what nodes outside the hub made of its phase meanwhile,
+  -- and does nothing to it itself. Where nothing stood a life may have begun and ended.
+  abbrev pub RefusedCallsLeaveSteps : Type 0
+  RefusedCallsLeaveSteps = (types : MessageTypeDetails) (buffer : ℕ) (before : List (Command T)) (told : List (Reply T)) (old : State T)
+      → Runs types IsDefault buffer before new_state told old
+      → (pattern : MessagingPattern) (name : List ℕ) (steps : List StepBefore) (asked : Command T) (new : State T) (why : Refusal)
+      → IsCallWith pattern name steps asked
+      → Step types IsDefault buffer asked old (reply.Refused why) new
+      → IsLeftBySteps types pattern steps (old.phases pattern name) (new.phases pattern name)

@@ -1,5 +1,0 @@
-use Rattle.iox_maps.proofs.Telling.{found_and_gone}
-use Rattle.iox_maps.proofs.by_number.laws.found_and_gone.Goals as goal
-
-pub returns : goal.returns
-returns g c = found_and_gone _

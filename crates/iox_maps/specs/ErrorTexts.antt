@@ -1,9 +1,0 @@
--- The texts of a flat map's errors.
-use Rattle.std.specs.Prelude.{ℕ, List, codes}
-use Rattle.iox_maps.specs.declared.flat_map.error.FlatMapError.{FlatMapError}
-use Rattle.iox_maps.specs.declared.flat_map.error.FlatMapError.TheVariants.{KeyAlreadyExists, IsFull}
-
--- how a refusal reads: its type's name and its own
-abbrev pub flat_map_error_text : FlatMapError → List ℕ
-flat_map_error_text KeyAlreadyExists = codes "FlatMapError::KeyAlreadyExists"
-flat_map_error_text IsFull = codes "FlatMapError::IsFull"
