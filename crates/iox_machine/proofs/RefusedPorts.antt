@@ -10,7 +10,7 @@ use Rattle.iox_machine.specs.Ports.{AtFree, Puts, SendsLoan, publisher_in, subsc
 use Rattle.iox_machine.specs.PublisherUpdate as publishing
 use Rattle.iox_machine.specs.PublisherUpdate.{update_answer}
 use Rattle.iox_machine.specs.Receiving.{Receives, has_samples, lasting}
-use Rattle.iox_machine.specs.RefusalLaws.{KeepsMessages, KeepsPorts, RefusedPortsLeave, loans_left, publisher_kept, subscriber_kept}
+use Rattle.iox_machine.specs.RefusalLaws.{KeepsMessages, KeepsPorts, RefusedPortsLeave, loans_left, publisher_staying, subscriber_staying}
 use Rattle.iox_machine.specs.Replies.{IsRefused, IsSkipped}
 use Rattle.iox_machine.specs.Sending.{Begins, Sends, deliver}
 use Rattle.iox_machine.specs.Service.{Publisher, Send, Service, Subscriber, with_publisher, with_subscriber}
@@ -56,7 +56,7 @@ module _ {T : Type 0} where
   )
 
   pub left-same : (service : Service T) → Left service service
-  left-same service = (refl, ports-same service, (λ p s. (refl, (λ both. refl))))
+  left-same service = (refl, ports-same service, (λ p s. (refl, (λ both. refl), (λ box there both. there))))
 
   left-refused : (why : Refusal) (old mid : Service T) (answer : Reply T) (new : Service T) → Left old mid → IsRefused why mid answer new
       → Left old new
@@ -160,7 +160,7 @@ module _ {T : Type 0} where
   -- ---- a put
 
   abbrev pub Alike : Publisher T → Publisher T → Type 0
-  Alike one after = (publisher_kept after ≡ publisher_kept one) × (after.connected ≡ one.connected)
+  Alike one after = (publisher_staying after ≡ publisher_staying one) × (after.connected ≡ one.connected)
 
   pub lends-alike : (number count : ℕ) (one : Publisher T) (service : Service T) (refused : Option LoanError) (after : Publisher T)
       → Lends number count one service refused after → Alike one after
@@ -192,12 +192,13 @@ module _ {T : Type 0} where
       refl,
       refl,
       refl,
-      (λ n. changed-view publisher_kept number n publisher after old.publishers found alike.0),
+      (λ n. changed-view publisher_staying number n publisher after old.publishers found alike.0),
       (λ n. refl),
     ) on.1,
     (λ p s. (
       (on.2 p s).0,
       (λ both. (on.2 p s).1 (ap (λ (b : Bool). subscriber_listed s old && b) (reach-same p s alike.1) ∙ both)),
+      (λ box there both. (on.2 p s).2 box there (ap (λ (b : Bool). subscriber_listed s old && b) (reach-same p s alike.1) ∙ both)),
     )),
   )
     where
@@ -227,9 +228,9 @@ module _ {T : Type 0} where
 
   -- ---- the commands
 
-  abbrev Leaves : Command T → State T → State T → Type 0
-  Leaves asked old new =
-      (has : Service T → Bool) × (service : Service T) × (after : Service T) × (find has old.services ≡ Some service)
+  abbrev Leaves : (Service T → Bool) → Command T → State T → State T → Type 0
+  Leaves has asked old new =
+      (service : Service T) × (after : Service T) × (find has old.services ≡ Some service)
       × (new ≡ record old { services = replaced has after old.services })
       × (after.loans ≡ loans_left asked service.loans) × KeepsPorts service after × KeepsMessages service after
 
@@ -237,12 +238,12 @@ module _ {T : Type 0} where
       (old : State T) (why : Refusal) (new : State T)
       → ((one : V) (service after : Service T) → found service ≡ Some one → Does one service (reply.Refused why) after
       → (after.loans ≡ loans_left asked service.loans) × KeepsPorts service after × KeepsMessages service after)
-      → AtOne found Does old (reply.Refused why) new → Leaves asked old new
+      → AtOne found Does old (reply.Refused why) new → Leaves (λ (other : Service T). is_some (found other)) asked old new
   leaves-at asked found Does old why new does h =
       elim (at-one found Does old (reply.Refused why) new h) [
         | inl w ↦ never-told why reply.Skipped w.0 refl
         | inr w ↦ let left = does w.1 w.0 w.2 w.4 w.5 in
-            ((λ (other : Service T). is_some (found other)), w.0, w.2, w.3, w.6, left.0, left.1, left.2)
+            (w.0, w.2, w.3, w.6, left.0, left.1, left.2)
       ]
 
   leaves-free : (asked : Command T) (number : ℕ) (Does : Publisher T → Service T → Reply T → Service T → Type 0) (old : State T)
@@ -250,7 +251,7 @@ module _ {T : Type 0} where
       → ((one : Publisher T) (service after : Service T) → at number service.publishers ≡ Some one
       → Does one service (reply.Refused why) after
       → (after.loans ≡ loans_left asked service.loans) × KeepsPorts service after × KeepsMessages service after)
-      → AtFree number Does old (reply.Refused why) new → Leaves asked old new
+      → AtFree number Does old (reply.Refused why) new → Leaves (λ (other : Service T). is_some (publisher_in number other)) asked old new
   leaves-free asked number Does old why new does h =
       leaves-at asked (publisher_in number)
       (λ (publisher : Publisher T) (service : Service T) (told : Reply T) (after : Service T). MatchOption publisher.blocked
@@ -266,7 +267,8 @@ module _ {T : Type 0} where
       → ((service : Service T) → loans_left asked service.loans ≡ service.loans)
       → ((one : Subscriber) (service mid after : Service T) → Left service mid → at number mid.subscribers ≡ Some one
       → Does one mid (reply.Refused why) after → Left service after)
-      → AtOne (subscriber_in number) (subscribing.UpdatesFirst buffer number told Does) old (reply.Refused why) new → Leaves asked old new
+      → AtOne (subscriber_in number) (subscribing.UpdatesFirst buffer number told Does) old (reply.Refused why) new
+      → Leaves (λ (other : Service T). is_some (subscriber_in number other)) asked old new
   leaves-subscriber asked buffer number told Does old why new same does h =
       leaves-at asked (subscriber_in number) (subscribing.UpdatesFirst buffer number told Does) old why new
       (λ one service after is did.
@@ -288,7 +290,7 @@ module _ {T : Type 0} where
           refl,
           refl,
           (λ n. refl),
-          (λ n. changed-view subscriber_kept number n one
+          (λ n. changed-view subscriber_staying number n one
               (record one { expired = lasting number mid one.expired }) mid.subscribers found refl),
         ),
         on.2,

@@ -9,7 +9,7 @@ use Rattle.iox_machine.specs.PortList.{those}
 use Rattle.iox_machine.specs.Ports.{publisher_in, subscriber_in}
 use Rattle.iox_machine.specs.PublisherUpdate as publishing
 use Rattle.iox_machine.specs.PublisherUpdate.{update_answer}
-use Rattle.iox_machine.specs.RefusalLaws.{KeepsMessages, KeepsPorts, publisher_kept, subscriber_kept}
+use Rattle.iox_machine.specs.RefusalLaws.{KeepsMessages, KeepsPorts, publisher_staying, subscriber_staying}
 use Rattle.iox_machine.specs.Replies.{IsRefused, IsSkipped}
 use Rattle.iox_machine.specs.Service.{Publisher, Service, Subscriber, connect, mailbox, with_mailbox, with_publisher, with_subscriber}
 use Rattle.iox_machine.specs.State.{State, replaced}
@@ -262,16 +262,16 @@ module _ {T : Type 0} where
       by.2,
       by.4,
       (λ n. elim (cases_Bool (n == number)) [
-        | inl same ↦ subst (λ (k : ℕ). option_map publisher_kept (at k new.publishers)
-            ≡ option_map publisher_kept (at k old.publishers))
+        | inl same ↦ subst (λ (k : ℕ). option_map publisher_staying (at k new.publishers)
+            ≡ option_map publisher_staying (at k old.publishers))
             (sym (eqb-true n number same))
-            (ap (option_map publisher_kept)
+            (ap (option_map publisher_staying)
             (follows-publishers number 0 was old after new found h)
-            ∙ (ap (λ (one : Publisher T). Some (publisher_kept one)) h.2
-            ∙ sym (ap (option_map publisher_kept) found)))
-        | inr off ↦ ap (option_map publisher_kept) (by.5 n (eqb-false n number off))
+            ∙ (ap (λ (one : Publisher T). Some (publisher_staying one)) h.2
+            ∙ sym (ap (option_map publisher_staying) found)))
+        | inr off ↦ ap (option_map publisher_staying) (by.5 n (eqb-false n number off))
       ]),
-      (λ n. ap (λ (table : List (ℕ × Subscriber)). option_map subscriber_kept
+      (λ n. ap (λ (table : List (ℕ × Subscriber)). option_map subscriber_staying
           (at n table)) by.3),
     )
 
@@ -280,6 +280,7 @@ module _ {T : Type 0} where
       ap (λ (o : Option (Mailbox T)). borrowed_in o) (now p s)
           ∙ (borrowed-welcomes p s number was.history news begun ∙ borrowed-ended p s number old),
       (λ both. waits (both-true (subscriber_listed s old) (reach p s old) both) (cases_Bool (p == number))),
+      (λ box there both. stays (both-true (subscriber_listed s old) (reach p s old) both) (cases_Bool (p == number)) ∙ there),
     )
       where
         waits : (subscriber_listed s old ≡ true) × (reach p s old ≡ true) → ((p == number) ≡ true) ⊎ ((p == number) ≡ false)
@@ -293,6 +294,15 @@ module _ {T : Type 0} where
         waits both (inr off) =
             ap (λ (o : Option (Mailbox T)). (unwrap_or o (record { limit = 0; waiting = []; borrowed = [] })).waiting)
             (by.6 p s (eqb-false p number off))
+
+        stays : (subscriber_listed s old ≡ true) × (reach p s old ≡ true) → ((p == number) ≡ true) ⊎ ((p == number) ≡ false)
+            → new.mailboxes p s ≡ old.mailboxes p s
+        stays (listed, connected) (inl same) =
+            ap (λ (k : ℕ). new.mailboxes k s) (eqb-true p number same)
+            ∙ (stays-there s listed
+            (sym (ap (reach_of s) (ap (λ (k : ℕ). at k old.publishers) (eqb-true p number same) ∙ found)) ∙ connected)
+            ∙ ap (λ (k : ℕ). old.mailboxes k s) (sym (eqb-true p number same)))
+        stays both (inr off) = by.6 p s (eqb-false p number off)
 
     pub keeps-loans : new.loans ≡ old.loans
     keeps-loans = (same-followed number was old after new h).0.0
@@ -338,12 +348,12 @@ module _ {T : Type 0} where
       (turned-walks.attends buffer number was old after new found h).publisher_list,
       soft.2,
       soft.4,
-      (λ n. ap (λ (table : List (ℕ × Publisher T)). option_map publisher_kept
+      (λ n. ap (λ (table : List (ℕ × Publisher T)). option_map publisher_staying
           (at n table)) soft.3),
-      (λ n. ap (λ (table : List (ℕ × Subscriber)). option_map subscriber_kept
+      (λ n. ap (λ (table : List (ℕ × Subscriber)). option_map subscriber_staying
           (at n table)) (soft-followed buffer number was old after new h).2
-          ∙ changed-view subscriber_kept number n was after old.subscribers found
-          (ap subscriber_kept h.4)),
+          ∙ changed-view subscriber_staying number n was after old.subscribers found
+          (ap subscriber_staying h.4)),
     )
 
     pub attended-messages : KeepsMessages old new
@@ -351,6 +361,7 @@ module _ {T : Type 0} where
       ap (λ (it : Service T). borrowed_in (it.mailboxes p s)) h.5
           ∙ borrowed-connects p s was.buffer_size number (those h.2) (with_subscriber number after old),
       (λ both. (soft.6 p s).0),
+      (λ box there both. attended-boxes p s box there),
     )
 
     pub attended-loans : new.loans ≡ old.loans

@@ -86,7 +86,7 @@ module _ {T : Type 0} (IsDefault : T → Type 0) where
       → IsAgreedOn (MeetsAsked types options required) (new.phases (pattern_of options) name))
       × ((why : Refusal) → answer ≡ reply.Refused why → TellsUnmet types options required why (new.phases (pattern_of options) name))
 
-  -- So it is of one that is opened or created; what is created is just as it was asked for.
+  -- So it is of one that is opened or created: what is agreed on meets all that is asked, or is just that.
   abbrev pub EitherMeetsAsked : Type 0
   EitherMeetsAsked = (types : MessageTypeDetails) (buffer node : ℕ) (name : List ℕ) (options : ServiceOptions) (required : Required)
       (steps : List StepBefore) (old : State T) (answer : Reply T) (new : State T)

@@ -1,10 +1,11 @@
 -- Laws of what a call leaves that is refused.
-use Rattle.std.specs.Prelude.{ℕ, zero, suc, ◌≡◌, ◌⊎◌, Bool, true, false, ◌&&◌, ◌==◌, nat_le, List, [], ◌∷◌, ◌++◌, length, take, map, filter, fold, None, Some, find, option_map, unwrap_or, if◌then◌else◌}
+use Rattle.std.specs.Prelude.{ℕ, zero, suc, ◌≡◌, ◌⊎◌, Bool, true, false, ◌&&◌, ◌==◌, nat_le, List, [], ◌∷◌, ◌++◌, length, take, map, filter, fold, None, Some, find, is_some, option_map, unwrap_or, if◌then◌else◌}
 use Rattle.std.specs.Option.{option_map_or}
 use Rattle.iox_machine.specs.Mailbox.{Mailbox, newest, put}
 use Rattle.iox_machine.specs.Message.{Loan, Message, sent_as}
 use Rattle.iox_machine.specs.Phase.{Phase, Absent, acted}
 use Rattle.iox_machine.specs.PortList.{those}
+use Rattle.iox_machine.specs.Ports.{publisher_in, subscriber_in}
 use Rattle.iox_machine.specs.Run.{Runs, Step}
 use Rattle.iox_machine.specs.Service.{Publisher, Send, Service, Subscriber, mailbox, with_publisher}
 use Rattle.iox_machine.specs.State.{State, new_state, replaced}
@@ -17,6 +18,7 @@ use Rattle.iox_command.specs.NegotiateBase.DescribeBase.declared.pattern.Messagi
 use Rattle.iox_command.specs.Patterns.{pattern_of}
 use Rattle.iox_command.specs.declared.command.Command.{Command}
 use Rattle.iox_command.specs.declared.command.Command.TheVariants as command
+use Rattle.iox_command.specs.declared.port.PortNumber.TheVariants as port
 use Rattle.iox_command.specs.declared.refusal.Refusal.{Refusal}
 use Rattle.iox_command.specs.declared.refusal.Refusal.TheVariants as refusal
 use Rattle.iox_command.specs.declared.reply.Reply.{Reply}
@@ -65,9 +67,9 @@ IsCallWith pattern name steps (command.OpenOrCreate node other options required 
     (pattern_of options ≡ pattern) × (other ≡ name) × (meanwhile ≡ steps)
 IsCallWith pattern name steps other = ⊥
 
--- what stays of a subscriber: its factory, whether it stands, and how many messages may wait for it
-abbrev pub subscriber_kept : Subscriber → ℕ × Bool × ℕ
-subscriber_kept one = (one.factory, one.stands, one.buffer_size)
+-- what stays of a subscriber: all but how far it follows the list of publishers, and its connections
+abbrev pub subscriber_staying : Subscriber → Subscriber
+subscriber_staying one = record one { seen = 0; again = false; connected = []; expired = [] }
 
 module _ {T : Type 0} where
   -- whether a command is a call of a port that brings its connections up to date first
@@ -85,30 +87,45 @@ module _ {T : Type 0} where
   is_sending (command.Put publisher values) = true
   is_sending other = false
 
+  -- which service a call is of: it has the loan or the port that the call names
+  abbrev pub is_asked_of : Command T → Service T → Bool
+  is_asked_of (command.Send loan) = λ service. is_some (at loan service.loans)
+  is_asked_of (command.Put publisher values) = λ service. is_some (publisher_in publisher service)
+  is_asked_of (command.Receive subscriber) = λ service. is_some (subscriber_in subscriber service)
+  is_asked_of (command.Update (port.Publisher publisher)) = λ service. is_some (publisher_in publisher service)
+  is_asked_of (command.Update (port.Subscriber subscriber)) = λ service. is_some (subscriber_in subscriber service)
+  is_asked_of (command.Has subscriber) = λ service. is_some (subscriber_in subscriber service)
+  is_asked_of other = λ service. false
+
   -- the loans that are out after a refused call: a send has spent its own
   abbrev pub loans_left : Command T → List (ℕ × Loan T) → List (ℕ × Loan T)
   loans_left (command.Send loan) loans = removed loan loans
   loans_left other loans = loans
 
-  -- what stays of a publisher: its factory, whether it stands, and its history
-  abbrev pub publisher_kept : Publisher T → ℕ × Bool × List (Message T)
-  publisher_kept one = (one.factory, one.stands, one.history)
+  -- what stays of a publisher: all but how far it follows the list of subscribers, its connections, and what a loan takes
+  abbrev pub publisher_staying : Publisher T → Publisher T
+  publisher_staying one = record one { seen = 0; connected = []; room = 0; segments = 0; first = 0; next = 0 }
 
-  -- Name, settings, lists, samples and histories of a service stay, and the same ports stand, of the same factories.
+  -- Name, settings, lists and samples of a service stay, and each port but for how far it follows the others and what a loan takes of it.
   abbrev pub KeepsPorts : Service T → Service T → Type 0
   KeepsPorts old new =
       (new.name ≡ old.name) × (new.settings ≡ old.settings)
       × (new.publisher_list ≡ old.publisher_list) × (new.subscriber_list ≡ old.subscriber_list) × (new.samples ≡ old.samples)
-      × ((number : ℕ) → option_map publisher_kept (at number new.publishers) ≡ option_map publisher_kept (at number old.publishers))
-      × ((number : ℕ) → option_map subscriber_kept (at number new.subscribers) ≡ option_map subscriber_kept (at number old.subscribers))
+      × ((number : ℕ) → option_map publisher_staying (at number new.publishers) ≡ option_map publisher_staying (at number old.publishers))
+      × ((number : ℕ) → option_map subscriber_staying (at number new.subscribers) ≡ option_map subscriber_staying (at number old.subscribers))
 
-  -- All that is borrowed stays so. What waits stays where the publisher is connected to a subscriber that is listed.
+  -- All that is borrowed stays so. Where the publisher is connected to a subscriber that is listed, what waits stays, and a mailbox that was
+  -- there is as it was.
   abbrev pub KeepsMessages : Service T → Service T → Type 0
   KeepsMessages old new = (publisher subscriber : ℕ)
       → ((mailbox publisher subscriber new).borrowed ≡ (mailbox publisher subscriber old).borrowed)
       × ((contains (those old.subscriber_list.places) subscriber
       && option_map_or (λ one. contains (those one.connected) subscriber) (at publisher old.publishers) false) ≡ true
       → (mailbox publisher subscriber new).waiting ≡ (mailbox publisher subscriber old).waiting)
+      × ((box : Mailbox T) → old.mailboxes publisher subscriber ≡ Some box
+      → (contains (those old.subscriber_list.places) subscriber
+      && option_map_or (λ one. contains (those one.connected) subscriber) (at publisher old.publishers) false) ≡ true
+      → new.mailboxes publisher subscriber ≡ Some box)
 
   -- A message is sent by a publisher: that of a loan, or the next one, with the values of a put.
   abbrev pub IsSentBy : Command T → Service T → ℕ → Message T → Type 0
@@ -158,15 +175,15 @@ module _ {T : Type 0} where
       × (new ≡ record (with_publisher number (record one { blocked = None }) old) { mailboxes = new.mailboxes })
 
 module _ {T : Type 0} (IsDefault : T → Type 0) where
-  -- A send, a put, a receive, an update or a look for data that is refused changes one service at most, and of that only connections that
-  -- were brought up to date; and a send has spent its loan. All agreements, nodes, factories and numbers stay. One that couldn't deliver
-  -- isn't meant: it did all else that a send does.
+  -- A send, a put, a receive, an update or a look for data that is refused leaves all but the service that has what it names: all others,
+  -- agreements, nodes, factories and numbers. A send has spent its loan; other loans stay, and so do what `KeepsPorts` and `KeepsMessages`
+  -- name. A send that couldn't deliver isn't meant: it did all else that a send does.
   abbrev pub RefusedPortsLeave : Type 0
   RefusedPortsLeave = (types : MessageTypeDetails) (buffer : ℕ) (asked : Command T) (old new : State T) (why : Refusal)
       → is_updating asked ≡ true → (why ≡ refusal.Send error.UnableToDeliver → ⊥)
       → Step types IsDefault buffer asked old (reply.Refused why) new
-      → (has : Service T → Bool) × (service : Service T) × (after : Service T) × (find has old.services ≡ Some service)
-      × (new ≡ record old { services = replaced has after old.services })
+      → (service : Service T) × (after : Service T) × (find (is_asked_of asked) old.services ≡ Some service)
+      × (new ≡ record old { services = replaced (is_asked_of asked) after old.services })
       × (after.loans ≡ loans_left asked service.loans) × KeepsPorts service after × KeepsMessages service after
 
   -- In every run of a new machine: a send or a put that couldn't deliver brought the publisher's connections up to date, as a refused

@@ -82,10 +82,10 @@ pub fn refused_calls_leave_foreign_steps<T: Default>()
     ensures { RefusedCallsLeaveSteps T.is_default }
 {}
 
-/// A send, a put, a receive, an update or a look for data that is refused changes one service at most, and of that only the connections
-/// that a port brought up to date: agreements, nodes, factories, lists, histories, samples and all that is borrowed stay, and so do loans,
-/// but that a send has spent its own. What waits stays where the publisher is connected to a subscriber that is listed. A send that
-/// couldn't deliver isn't meant: it did all else that a send does.
+/// A send, a put, a receive, an update or a look for data that is refused leaves all but the service that has what it names. Of that it
+/// leaves name, settings, lists, samples and all that is borrowed, and each port but for how far it follows the others and what a loan
+/// takes of it. Loans stay, but that a send has spent its own. Where the publisher is connected to a subscriber that is listed, what waits
+/// stays, and a mailbox that was there is as it was. A send that couldn't deliver isn't meant: it did all else that a send does.
 pub fn a_refused_port_leaves_the_rest<T: Default>()
     ensures { RefusedPortsLeave T.is_default }
 {}
@@ -196,7 +196,7 @@ pub fn what_is_opened_is_as_asked<T: Default>()
     ensures { OpenedMeetsAsked T.is_default }
 {}
 
-/// So it is of a service that is opened or created; what is created is just as it was asked for.
+/// So it is of a service that is opened or created: what is agreed on then meets each clause that is asked, or is just what was asked for.
 pub fn what_is_opened_or_created_is_as_asked<T: Default>()
     ensures { EitherMeetsAsked T.is_default }
 {}
