@@ -7,11 +7,10 @@
 
 ghost use Rattle.std.specs.Prelude.{◌≡◌, ◌≤◌, IfSome};
 
-use iox_lanes_base::calls::Receipt;
-use iox_lanes_machine::{LaneSizes, Lanes};
-use iox_lanes_parties::publisher::LoanAnswer;
-use iox_lanes_threads::{LanePublisher, LaneSubscriber, LaneThreads, end, open_threads};
-use iox_queues_steps::rings::RingKind;
+use iox_lanes::{
+    LanePublisher, LaneSizes, LaneSubscriber, LaneThreads, Lanes, LoanAnswer, Receipt, RingKind,
+    end, open_threads,
+};
 use std::alloc::{AllocError, Global};
 use std::sync::Wait;
 use std::thread::Threads;

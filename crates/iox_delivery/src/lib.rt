@@ -14,7 +14,7 @@
 //! - [`update_connections`]: what follows the ports of the other side.
 //! - [`publishing`], [`lending`], [`subscribing`]: what ports of slices have in common with these, by port, slot and message.
 //! - [`slices`]: publishers, subscribers, loans and samples of slices.
-//! - [`laws`]: what a loan comes to that was just made.
+//! - [`laws`]: what a loan comes to that was just made; what may be sent, and what may be read.
 //!
 //! No port, loan, sample or waiting send may be let go: it is spent by the call that ends it.
 //!

@@ -29,13 +29,13 @@ use Rattle.iox_domain.specs.Roomy.{IsListOnce, IsAttached, LeadsOnEntry}
 use Rattle.iox_domain.proofs.Naming.{reads_same}
 use Rattle.iox_domain.proofs.Reading.{attached_ended, leads_ended, attached_taken, leads_taken, attached_then, leads_then, is_attached_then}
 
--- A subscriber reads from each connection that it has, no two of its keys are for one, and the key of the connection to a publisher that is
+-- A subscriber reads from each connection that it has, no two of its keys are for one publisher, and the key of the connection to a publisher that is
 -- listed is that of its place.
 pub record Reads {T U : Type 0} (subscriber : ℕ) (places : List (Option (Member PublisherEntry))) (port : SubscriberPort) (ports : List (ℕ × PublisherPort T U)) : Type 0 where
   pub named : port.number ≡ subscriber
   pub lead : All LeadsOnEntry ports
   pub reads : (key : ℕ) (attached : Attached) → attached_at key port ≡ Some attached → IsAttached subscriber attached ports
-  pub apart : (key other : ℕ) (attached : Attached) → attached_at key port ≡ Some attached → attached_at other port ≡ Some attached → key ≡ other
+  pub apart : (key other : ℕ) (one two : Attached) → attached_at key port ≡ Some one → attached_at other port ≡ Some two → one.publisher ≡ two.publisher → key ≡ other
   pub placed : (key place : ℕ) (attached : Attached) (member : Member PublisherEntry) → attached_at key port ≡ Some attached → get_or places place None ≡ Some member
       → attached.publisher ≡ member.value.publisher → get_or port.places.items place None ≡ Some key
 
@@ -90,7 +90,7 @@ done_alike {T} {U} subscriber places port new ports new_ports alike are state =
         named = alike.number ∙ state.named;
         lead = state.lead;
         reads = λ key attached is. state.reads key attached (back key attached is);
-        apart = λ key other attached is_key is_other. state.apart key other attached (back key attached is_key) (back other attached is_other);
+        apart = λ key other one two is_key is_other same. state.apart key other one two (back key one is_key) (back other two is_other) same;
         placed = λ key place attached member is there same. ap (λ ties. get_or ties.items place None) alike.places ∙ state.placed key place attached member (back key attached is) there same;
       };
       others = λ other attached not reads. reads;
@@ -142,8 +142,8 @@ parted_without subscriber places key (Some gone) port ports there state =
           lead = leads_ended gone ports state.lead;
           reads = λ one attached is.
               let was = still one attached is in
-              attached_ended subscriber attached gone ports (λ same. was.0 (state.apart one key gone (was.1 ∙ ap (λ a. Some a) same) there)) (state.reads one attached was.1);
-          apart = λ one other attached is_one is_other. state.apart one other attached (still one attached is_one).1 (still other attached is_other).1;
+              attached_ended subscriber attached gone ports (λ same. was.0 (state.apart one key gone gone (was.1 ∙ ap (λ a. Some a) same) there refl)) (state.reads one attached was.1);
+          apart = λ key other one two is_key is_other same. state.apart key other one two (still key one is_key).1 (still other two is_other).1 same;
           placed = λ one place attached member is listed same. state.placed one place attached member (still one attached is).1 listed same;
         };
         others = λ other attached not reads.
@@ -243,14 +243,14 @@ done_kept {T} {U} subscriber next places place number index key member port port
               (subst (λ n. IsAttached n came new_ports) state.named (is_attached_then number port.number port.buffer_size index (port_of number ports) ports new_ports refl attaches state.lead))
           | inr was ↦ on subscriber attached (state.reads one attached was.1)
         ];
-        apart = λ one other attached is_one is_other. elim (named one attached is_one) [
-          | inl own ↦ elim (named other attached is_other) [
-            | inl second ↦ own.0 ∙ sym second.0
-            | inr was ↦ absurd (none other attached was.1 (ap (λ a. a.publisher) own.1))
+        apart = λ first second one two is_first is_second same. elim (named first one is_first) [
+          | inl own ↦ elim (named second two is_second) [
+            | inl other ↦ own.0 ∙ sym other.0
+            | inr was ↦ absurd (none second two was.1 (sym same ∙ ap (λ a. a.publisher) own.1))
           ]
-          | inr was ↦ elim (named other attached is_other) [
-            | inl own ↦ absurd (none one attached was.1 (ap (λ a. a.publisher) own.1))
-            | inr second ↦ state.apart one other attached was.1 second.1
+          | inr was ↦ elim (named second two is_second) [
+            | inl own ↦ absurd (none first one was.1 (same ∙ ap (λ a. a.publisher) own.1))
+            | inr other ↦ state.apart first second one two was.1 other.1 same
           ]
         ];
         placed = λ one at attached second is is_listed same. elim (named one attached is) [

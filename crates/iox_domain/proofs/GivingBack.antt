@@ -18,7 +18,7 @@ use Rattle.iox_domain.specs.DomainPorts.declared.subscriber_port.SubscriberPort.
 use Rattle.iox_domain.specs.PortLawsLaws.{IsTidy, IsSoundEntry}
 use Rattle.iox_domain.proofs.ListKeeps.{tidy_found, none_there, last_of}
 use Rattle.iox_domain.proofs.Numbered.{at_number, other_fails, other_set, same_set, other_gone}
-use Rattle.iox_domain.specs.Samples.{spare_at, spare_samples}
+use Rattle.iox_domain.specs.Samples.{borrowed_at, borrowed_of}
 use Rattle.iox_domain.proofs.Borrowing.{settled_borrowed}
 use Rattle.iox_domain.proofs.SamplesSums.{sum_both}
 
@@ -162,20 +162,16 @@ pub released_few : {T U : Type 0} (next publisher index at : ℕ) (ports : List 
     → length (connection_in number other ports).borrowed ≤ length (connection_in number other (released publisher index (Some at) ports)).borrowed + one_if publisher index number other
 released_few next publisher index at ports all number other = back_found next publisher index at (port_of publisher ports) ports all refl number other
 
--- and so a subscriber may receive one more by each key that names it
-spare_back : {T U : Type 0} (most publisher index : ℕ) (attached : Option Attached) (old new : List (ℕ × PublisherPort T U))
+-- and so at most one less is borrowed by each key that names it
+borrowed_back : {T U : Type 0} (most publisher index : ℕ) (attached : Option Attached) (old new : List (ℕ × PublisherPort T U))
     → ((number other : ℕ) → length (connection_in number other old).borrowed ≤ length (connection_in number other new).borrowed + one_if publisher index number other)
-    → spare_at most attached new ≤ spare_at most attached old + names_one publisher index attached
-spare_back most publisher index None old new few = omega arith
-spare_back most publisher index (Some attached) old new few = omega (arith, few attached.publisher attached.index)
+    → borrowed_at most attached old ≤ borrowed_at most attached new + names_one publisher index attached
+borrowed_back most publisher index None old new few = omega arith
+borrowed_back most publisher index (Some attached) old new few = omega (arith, few attached.publisher attached.index)
 
-if_both : (test : Bool) (one other more : ℕ) → one ≤ other + more → (if test then one else 0) ≤ (if test then other else 0) + (if test then more else 0)
-if_both true one other more less = less
-if_both false one other more less = omega arith
-
-pub samples_back : {T U : Type 0} (most publisher index : ℕ) (port : SubscriberPort) (old new : List (ℕ × PublisherPort T U))
+pub borrowed_of_back : {T U : Type 0} (most publisher index : ℕ) (connections : List (Option Attached)) (old new : List (ℕ × PublisherPort T U))
     → ((number other : ℕ) → length (connection_in number other old).borrowed ≤ length (connection_in number other new).borrowed + one_if publisher index number other)
-    → spare_samples most port new ≤ spare_samples most port old + names_of publisher index port
-samples_back most publisher index port old new few =
-    if_both port.stands _ _ _
-    (sum_both (λ attached. spare_at most attached new) (λ attached. spare_at most attached old) (λ attached. names_one publisher index attached) port.connections.values (λ attached. spare_back most publisher index attached old new few))
+    → borrowed_of most connections old ≤ borrowed_of most connections new + sum_by (λ attached. names_one publisher index attached) connections
+borrowed_of_back most publisher index connections old new few =
+    sum_both (λ attached. borrowed_at most attached old) (λ attached. borrowed_at most attached new) (λ attached. names_one publisher index attached) connections
+    (λ attached. borrowed_back most publisher index attached old new few)

@@ -59,6 +59,7 @@ mod Sparing
 mod Taking
 mod GivingBack
 mod Naming
+mod FewHeld
 pub mod LessLeft
 mod Reading
 mod Listening

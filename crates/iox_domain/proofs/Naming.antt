@@ -85,7 +85,7 @@ counted_reads ports publisher index number port entry some =
     (entry both.0).reads found.0 (record { publisher = publisher; index = index }) found.1
 
 counted_once : {T U : Type 0} (ports : ServicePorts T U) (publisher index : ℕ) (number : ℕ) (port : SubscriberPort) → ReadsApartEntry ports (number, port) → names_of publisher index port ≤ 1
-counted_once ports publisher index number port entry = if_most port.stands _ (λ stands. named_once publisher index port.connections.values (entry stands).apart)
+counted_once ports publisher index number port entry = if_most port.stands _ (λ stands. named_once publisher index port.connections.values (λ key other attached is_key is_other. (entry stands).apart key other attached attached is_key is_other refl))
 
 -- two who read from one connection are one
 abbrev read_by : Option Reader → ℕ

@@ -1,7 +1,9 @@
 -- What a change of the publishers of a service leaves borrowed.
-use Rattle.std.proofs.Common.{arith, ◌≡◌, ◌∙◌, ◌≤◌, ◌==◌, ℕ, Bool, true, false, List, length, min, is_some, Option, None, Some, Result, Ok, Err, if◌then◌else◌, refl, ap, inl, inr}
+use Rattle.std.proofs.Common.{arith, ◌≡◌, ◌∙◌, ◌+◌, ◌≤◌, ◌==◌, ℕ, Bool, true, false, cond, List, ◌∷◌, [], length, min, is_some, Option, None, Some, Result, Ok, Err, if◌then◌else◌, refl, ap, inl, inr}
 use Rattle.std.proofs.lemmas.Bool.{cases_eq}
+use Rattle.std.proofs.lemmas.Map.{length-set_value}
 use Rattle.std.specs.List.{All, list_any}
+use Rattle.std.specs.Map.{lookup, remove_entry}
 use Rattle.std.specs.declared.alloc.AllocError.{AllocError}
 use Rattle.iox_domain.specs.DomainPorts.Ports.{connection_of, detached_at, ended_at}
 use Rattle.iox_domain.specs.DomainPorts.declared.publisher_port.PublisherPort.{PublisherPort}
@@ -18,17 +20,19 @@ use Rattle.iox_domain.proofs.Numbered.{at_number, other_fails, other_set, same_s
 use Rattle.iox_domain.proofs.Walks.{Walks, WalksTaking}
 use Rattle.iox_domain.proofs.Borrowing.{Borrows, borrows_same, borrows_ended_if, borrows_attaches, borrows_taken}
 
--- publishers stay sound, and of each connection as much is borrowed as before, or more
+-- publishers stay sound, none comes, and of each connection as much is borrowed as before, or more
 pub record Lends {T U : Type 0} (old new : List (ℕ × PublisherPort T U)) : Type 0 where
   pub keeps : ListKeeps old new
+  pub few : length new ≤ length old
   pub more : (next : ℕ) → All (IsSoundEntry next) old → (number index : ℕ) → length (connection_in number index old).borrowed ≤ length (connection_in number index new).borrowed
 
 pub lends_stays : {T U : Type 0} (ports : List (ℕ × PublisherPort T U)) → Lends ports ports
-lends_stays ports = record { keeps = list_stays ports; more = λ next all number index. omega arith }
+lends_stays ports = record { keeps = list_stays ports; few = omega arith; more = λ next all number index. omega arith }
 
 pub lends_on : {T U : Type 0} (old between new : List (ℕ × PublisherPort T U)) → Lends old between → Lends between new → Lends old new
 lends_on old between new one two = record {
   keeps = list_on old between new one.keeps two.keeps;
+  few = omega (arith, one.few, two.few);
   more = λ next all number index. omega (arith, one.more next all number index, two.more next (one.keeps.sound next all) number index);
 }
 
@@ -51,6 +55,7 @@ more_with number other index ports port after there borrows = elim (cases_eq oth
 lends_with : {T U : Type 0} (number : ℕ) (ports : List (ℕ × PublisherPort T U)) (port after : PublisherPort T U) → port_of number ports ≡ Some port → PortKeeps port after → Borrows port after → Lends ports (with_port number ports after)
 lends_with number ports port after there keeps borrows = record {
   keeps = list_with number ports port after there keeps;
+  few = omega (arith, length-set_value (at_number number) ports after);
   more = λ next all other index. more_with number other index ports port after there borrows;
 }
 
@@ -59,8 +64,16 @@ more_changed : {T U : Type 0} (number other index : ℕ) (step : PublisherPort T
 more_changed number other index step None ports there borrows = omega arith
 more_changed number other index step (Some port) ports there borrows = more_with number other index ports port (step port) there (borrows port)
 
+few_changed : {T U : Type 0} (number : ℕ) (step : PublisherPort T U → PublisherPort T U) (found : Option (PublisherPort T U)) (ports : List (ℕ × PublisherPort T U)) → length (changed_at_port number step found ports) ≤ length ports
+few_changed number step None ports = omega arith
+few_changed number step (Some port) ports = omega (arith, length-set_value (at_number number) ports (step port))
+
 pub lends_changed : {T U : Type 0} (number : ℕ) (step : PublisherPort T U → PublisherPort T U) (ports : List (ℕ × PublisherPort T U)) → ListKeeps ports (changed number step ports) → ((port : PublisherPort T U) → Borrows port (step port)) → Lends ports (changed number step ports)
-lends_changed number step ports keeps borrows = record { keeps = keeps; more = λ next all other index. more_changed number other index step (port_of number ports) ports refl borrows }
+lends_changed number step ports keeps borrows = record {
+  keeps = keeps;
+  few = few_changed number step (port_of number ports) ports;
+  more = λ next all other index. more_changed number other index step (port_of number ports) ports refl borrows;
+}
 
 -- of a publisher that is over nothing is borrowed
 vacant_of : (now : Stage) → is_open now ≡ false → now ≡ stage.Vacant
@@ -88,9 +101,37 @@ more_gone true next number other index ports over all = elim (cases_eq other num
       omega (arith, ap (λ found. length (connection_at_port index found).borrowed) now)
 ]
 
+-- where one goes there is one less
+gone_by : {X : Type 0} (test : ℕ → Bool) (passes : Bool) (e : ℕ × X) (es : List (ℕ × X)) → length (remove_entry test es) ≤ length es → length (cond passes es (e ∷ remove_entry test es)) ≤ length (e ∷ es)
+gone_by test true e es few = omega arith
+gone_by test false e es few = omega (arith, few)
+
+few_gone : {X : Type 0} (test : ℕ → Bool) (es : List (ℕ × X)) → length (remove_entry test es) ≤ length es
+few_gone test [] = omega arith
+few_gone test (e ∷ es) = gone_by test (test e.0) e es (few_gone test es)
+
+found_by : {X : Type 0} (test : ℕ → Bool) (passes : Bool) (e : ℕ × X) (es : List (ℕ × X)) (value : X) → (lookup test es ≡ Some value → length es ≡ length (remove_entry test es) + 1) → cond passes (Some e.1) (lookup test es) ≡ Some value
+    → length (e ∷ es) ≡ length (cond passes es (e ∷ remove_entry test es)) + 1
+found_by test true e es value rest there = omega arith
+found_by test false e es value rest there = omega (arith, rest there)
+
+pub one_gone : {X : Type 0} (test : ℕ → Bool) (es : List (ℕ × X)) (value : X) → lookup test es ≡ Some value → length es ≡ length (remove_entry test es) + 1
+one_gone test [] value there = cc
+one_gone test (e ∷ es) value there = found_by test (test e.0) e es value (one_gone test es value) there
+
+few_settled : {T U : Type 0} (over : Bool) (number : ℕ) (ports : List (ℕ × PublisherPort T U)) → length (if over then removed number ports else ports) ≤ length ports
+few_settled true number ports = few_gone (at_number number) ports
+few_settled false number ports = omega arith
+
+pub few_stepped : {T U : Type 0} (number other : ℕ) (step : PublisherPort T U → PublisherPort T U) (found : Option (PublisherPort T U)) (ports : List (ℕ × PublisherPort T U)) → length (settled other (changed_at_port number step found ports)) ≤ length ports
+few_stepped number other step found ports =
+    let stepped = changed_at_port number step found ports in
+    omega (arith, few_settled (is_over_in other stepped) other stepped, few_changed number step found ports)
+
 pub lends_settled : {T U : Type 0} (number : ℕ) (ports : List (ℕ × PublisherPort T U)) → Lends ports (settled number ports)
 lends_settled number ports = record {
   keeps = list_settled number ports;
+  few = few_settled (is_over_in number ports) number ports;
   more = λ next all other index. more_gone (is_over_in number ports) next number other index ports refl all;
 }
 
@@ -110,6 +151,12 @@ more_attached number subscriber limit other at (Some port) old new (Some (Ok ind
       ap (λ all. length (connection_in other at all).borrowed) attaches.2,
     )
 
+few_attached : {T U : Type 0} (number subscriber limit : ℕ) (found : Option (PublisherPort T U)) (old new : List (ℕ × PublisherPort T U)) (answer : Option (Result ℕ AllocError)) → AttachesAtPort number subscriber limit found old answer new → length new ≤ length old
+few_attached number subscriber limit None old new answer attaches = omega (arith, ap (λ all. length all) attaches.1)
+few_attached number subscriber limit (Some port) old new None attaches = absurd attaches
+few_attached number subscriber limit (Some port) old new (Some (Err error)) attaches = omega (arith, ap (λ all. length all) attaches.1)
+few_attached number subscriber limit (Some port) old new (Some (Ok index)) attaches = omega (arith, ap (λ all. length all) attaches.2, length-set_value (at_number number) old attaches.0)
+
 -- so it is with each step of a subscriber
 port_ended_if : {T U : Type 0} (index : ℕ) (port : PublisherPort T U) → PortKeeps port (ended_if_left index port)
 port_ended_if index port = port_if port.stands port port (ended_at index port) (λ stands. port_stays port) (λ left. port_ended index port)
@@ -127,6 +174,7 @@ lends_walks subscriber = record {
   on = lends_on;
   attach = λ number limit old new answer attaches. record {
     keeps = (held_walks subscriber).attach number limit old new answer attaches;
+    few = few_attached number subscriber limit (port_of number old) old new answer attaches;
     more = λ next all other at. more_attached number subscriber limit other at (port_of number old) old new answer refl attaches;
   };
   end = lends_ended;

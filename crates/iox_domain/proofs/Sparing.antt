@@ -25,7 +25,7 @@ use Rattle.iox_domain.specs.PortLawsLaws.{IsSoundEntry}
 use Rattle.iox_domain.specs.Tries.{how_often}
 use Rattle.iox_domain.proofs.BookedTakes.{met_gives}
 use Rattle.iox_domain.proofs.Keys.{adds_other, often_there, often_without, none_without}
-use Rattle.iox_domain.specs.Samples.{spare_at, spare_of, spare_samples}
+use Rattle.iox_domain.specs.Samples.{borrowed_at, borrowed_of}
 use Rattle.iox_domain.proofs.Bools.{both_true}
 use Rattle.iox_domain.proofs.SamplesLending.{Lends, lends_on, lends_is, lends_ended, lends_walks}
 
@@ -33,42 +33,30 @@ use Rattle.iox_domain.proofs.SamplesLending.{Lends, lends_on, lends_is, lends_en
 abbrev pub More : {T U : Type 0} → List (ℕ × PublisherPort T U) → List (ℕ × PublisherPort T U) → Type 0
 More old new = (number index : ℕ) → length (connection_in number index old).borrowed ≤ length (connection_in number index new).borrowed
 
-pub spare_less : {T U : Type 0} (most : ℕ) (attached : Option Attached) (old new : List (ℕ × PublisherPort T U)) → More old new → spare_at most attached new ≤ spare_at most attached old
-spare_less most None old new more = omega arith
-spare_less most (Some attached) old new more = omega (arith, more attached.publisher attached.index)
+pub borrowed_more : {T U : Type 0} (most : ℕ) (attached : Option Attached) (old new : List (ℕ × PublisherPort T U)) → More old new → borrowed_at most attached old ≤ borrowed_at most attached new
+borrowed_more most None old new more = omega arith
+borrowed_more most (Some attached) old new more = omega (arith, more attached.publisher attached.index)
 
-pub spare_of_less : {T U : Type 0} (most : ℕ) (connections : List (Option Attached)) (old new : List (ℕ × PublisherPort T U)) → More old new → spare_of most connections new ≤ spare_of most connections old
-spare_of_less most connections old new more = sum_by-le-sum_by (λ attached. spare_at most attached new) (λ attached. spare_at most attached old) connections (λ attached. spare_less most attached old new more)
-
--- each of these may have as many as may be
-spare_any : {T U : Type 0} (most : ℕ) (attached : Option Attached) (ports : List (ℕ × PublisherPort T U)) → spare_at most attached ports ≤ most
-spare_any most None ports = omega arith
-spare_any most (Some attached) ports = omega arith
-
-pub within_if : (test : Bool) (one other : ℕ) → one ≤ other → (if test then one else 0) ≤ (if test then other else 0)
-within_if true one other less = less
-within_if false one other less = omega arith
-
-pub spare_samples_less : {T U : Type 0} (most : ℕ) (port : SubscriberPort) (old new : List (ℕ × PublisherPort T U)) → More old new → spare_samples most port new ≤ spare_samples most port old
-spare_samples_less most port old new more = within_if port.stands _ _ (spare_of_less most port.connections.values old new more)
+pub borrowed_of_more : {T U : Type 0} (most : ℕ) (connections : List (Option Attached)) (old new : List (ℕ × PublisherPort T U)) → More old new → borrowed_of most connections old ≤ borrowed_of most connections new
+borrowed_of_more most connections old new more = sum_by-le-sum_by (λ attached. borrowed_at most attached old) (λ attached. borrowed_at most attached new) connections (λ attached. borrowed_more most attached old new more)
 
 -- a key that is free holds no connection
 abbrev pub FreeFit : SlotTable Attached → Type 0
 FreeFit keys = (key : ℕ) → 0 < how_often key keys.free → (key < length keys.values) × (value_at keys.values key ≡ None)
 
--- What a step of a subscriber leaves: it lends, free keys are free, and no more samples may come than before.
+-- What a step of a subscriber leaves: it lends, free keys are free, and as much is borrowed by its keys as before, or more.
 pub record Spared {T U : Type 0} (most : ℕ) (port : SubscriberPort) (ports : List (ℕ × PublisherPort T U)) (new : SubscriberPort) (new_ports : List (ℕ × PublisherPort T U)) : Type 0 where
   pub lends : Lends ports new_ports
   pub stands : new.stands ≡ port.stands
   pub free : FreeFit port.connections → FreeFit new.connections
-  pub less : (next : ℕ) → All (IsSoundEntry next) ports → FreeFit port.connections → spare_of most new.connections.values new_ports ≤ spare_of most port.connections.values ports
+  pub less : (next : ℕ) → All (IsSoundEntry next) ports → FreeFit port.connections → borrowed_of most port.connections.values ports ≤ borrowed_of most new.connections.values new_ports
 
 spared_lent : {T U : Type 0} (most : ℕ) (port new : SubscriberPort) (ports new_ports : List (ℕ × PublisherPort T U)) → new.connections ≡ port.connections → new.stands ≡ port.stands → Lends ports new_ports → Spared most port ports new new_ports
 spared_lent most port new ports new_ports is stands lends = record {
   lends = lends;
   stands = stands;
   free = λ fit. subst FreeFit (sym is) fit;
-  less = λ next all fit. omega (arith, ap (λ keys. spare_of most keys.values new_ports) is, spare_of_less most port.connections.values ports new_ports (lends.more next all));
+  less = λ next all fit. omega (arith, ap (λ keys. borrowed_of most keys.values new_ports) is, borrowed_of_more most port.connections.values ports new_ports (lends.more next all));
 }
 
 spared_rest : {T U : Type 0} (most : ℕ) (port new : SubscriberPort) (ports new_ports : List (ℕ × PublisherPort T U)) → new.connections ≡ port.connections → new.stands ≡ port.stands → new_ports ≡ ports → Spared most port ports new new_ports
@@ -110,10 +98,10 @@ spared_without most key (Some attached) port ports there none = record {
   free = released_free key attached port.connections there;
   less = λ next all fit. omega (
     arith,
-    sum_by-set (λ one. spare_at most one ports) port.connections.values key None None (within_values port.connections.values key attached there),
-    ap (λ one. spare_at most one ports) there,
+    sum_by-set (λ one. borrowed_at most one ports) port.connections.values key None None (within_values port.connections.values key attached there),
+    ap (λ one. borrowed_at most one ports) there,
     none,
-    spare_of_less most (set port.connections.values key None) ports (ended_ports (Some attached) ports) ((lends_ended attached ports).more next all),
+    borrowed_of_more most (set port.connections.values key None) ports (ended_ports (Some attached) ports) ((lends_ended attached ports).more next all),
   );
 }
 
@@ -183,11 +171,10 @@ spared_kept most place attached port new ports new_ports lends (key, first, is) 
       let was = fit key (often_there key 0 port.connections.free first) in
       omega (
         arith,
-        ap (λ one. spare_of most one.connections.values new_ports) is,
-        sum_by-set (λ one. spare_at most one new_ports) port.connections.values key (Some attached) None was.0,
-        ap (λ one. spare_at most one new_ports) was.1,
-        spare_any most (Some attached) new_ports,
-        spare_of_less most port.connections.values ports new_ports (lends.more next all),
+        ap (λ one. borrowed_of most one.connections.values new_ports) is,
+        sum_by-set (λ one. borrowed_at most one new_ports) port.connections.values key (Some attached) None was.0,
+        ap (λ one. borrowed_at most one new_ports) was.1,
+        borrowed_of_more most port.connections.values ports new_ports (lends.more next all),
       );
 }
 

@@ -221,7 +221,7 @@ record Followed {T U : Type 0} (number : ℕ) (old : ServicePorts T U) (port aft
 own_number : (number : ℕ) → at_number number number ≡ true
 own_number number = ap is_eq (sym (nat_cmp_is number number Equal refl))
 
-entry_found : {T U : Type 0} (number : ℕ) (port : SubscriberPort) (old : ServicePorts T U) → subscriber_of number old.subscribers ≡ Some port → AreRoomy old → ReadsApartEntry old (number, port)
+pub entry_found : {T U : Type 0} (number : ℕ) (port : SubscriberPort) (old : ServicePorts T U) → subscriber_of number old.subscribers ≡ Some port → AreRoomy old → ReadsApartEntry old (number, port)
 entry_found number port old there roomy =
     let found = found_of_all (ReadsApartEntry old) (at_number number) old.subscribers port roomy.apart there in
     subst (λ n. ReadsApartEntry old (n, port)) (sym (number_is number found.key found.passes)) found.holds
@@ -332,7 +332,7 @@ subscriber_comes {T} {U} may owner (Ok buffer_size) (Some place) old new answer 
       named = refl;
       lead = roomy.lead;
       reads = λ key attached is. absurd (no_values n key attached is);
-      apart = λ key other attached is. absurd (no_values n key attached is);
+      apart = λ key other one two is. absurd (no_values n key one is);
       placed = λ key at attached member is. absurd (no_values n key attached is);
     } in
     let done = done_updates next next old.publisher_list may listed first after old.publishers ports_after outcome roomy.list is_list updates begun in

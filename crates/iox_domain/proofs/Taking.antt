@@ -1,5 +1,5 @@
--- A receive: each sample that comes is one less that may come.
-use Rattle.std.proofs.Common.{arith, ◌≡◌, ◌∙◌, ◌+◌, ◌-◌, ◌≤◌, ◌<◌, ◌∷◌, [], ℕ, Bool, true, List, length, take, slice_get, nat_lt, Option, None, Some, Result, Ok, Err, refl, ap}
+-- A receive: each sample that comes is borrowed besides those that were.
+use Rattle.std.proofs.Common.{arith, ◌≡◌, ◌∙◌, ◌+◌, ◌≤◌, ◌<◌, ◌∷◌, [], ℕ, Bool, true, List, length, min, take, slice_get, nat_lt, Option, None, Some, Result, Ok, Err, refl, ap}
 use Rattle.std.proofs.lemmas.List.{length-append}
 use Rattle.std.specs.List.{All}
 use Rattle.iox_domain.specs.Container.declared.container.Member.{Member}
@@ -24,10 +24,10 @@ use Rattle.iox_domain.specs.PortLawsLaws.{IsSoundEntry}
 use Rattle.iox_domain.specs.SizeLaws.{IsMadeFor, allowed_by}
 use Rattle.iox_domain.proofs.BookedTakes.{taken_set, met_gives}
 use Rattle.iox_domain.proofs.Numbered.{at_number, found_of_all, same_set}
-use Rattle.iox_domain.specs.Samples.{spare_at, spare_of, received_in}
+use Rattle.iox_domain.specs.Samples.{borrowed_at, borrowed_of, received_in}
 use Rattle.iox_domain.proofs.Bools.{both_true}
 use Rattle.iox_domain.proofs.SamplesLending.{Lends, lends_stays, lends_on, lends_is, lends_takes}
-use Rattle.iox_domain.proofs.Sparing.{FreeFit, spare_less, spared_updates, spared_swept, within_values}
+use Rattle.iox_domain.proofs.Sparing.{FreeFit, borrowed_more, spared_updates, spared_swept, within_values}
 use Rattle.iox_domain.proofs.SamplesSums.{one_fewer}
 
 -- how many samples came
@@ -35,10 +35,10 @@ abbrev came : Option Taken → ℕ
 came None = 0
 came (Some taken) = 1
 
--- What a giver leaves: it lends, and what came may not come any more.
+-- What a giver leaves: it lends, and what came is borrowed besides.
 record Gives {T U : Type 0} (most came : ℕ) (port : SubscriberPort) (ports new_ports : List (ℕ × PublisherPort T U)) : Type 0 where
   lends : Lends ports new_ports
-  less : (next : ℕ) → All (IsSoundEntry next) ports → spare_of most port.connections.values new_ports + came ≤ spare_of most port.connections.values ports
+  less : (next : ℕ) → All (IsSoundEntry next) ports → borrowed_of most port.connections.values ports + came ≤ borrowed_of most port.connections.values new_ports
 
 gives_none : {T U : Type 0} (most : ℕ) (port : SubscriberPort) (ports : List (ℕ × PublisherPort T U)) → Gives most 0 port ports ports
 gives_none most port ports = record { lends = lends_stays ports; less = λ next all. omega arith }
@@ -50,8 +50,8 @@ some_first (x ∷ xs) some = omega arith
 -- the connection of a publisher gives: one more is borrowed of it, and no more than may be
 gave_at : {T U : Type 0} (sizes : ServiceSizes) (attached : Attached) (found : Option (PublisherPort T U)) (ports : List (ℕ × PublisherPort T U)) → All (IsMadeFor (allowed_by sizes)) ports → port_of attached.publisher ports ≡ found
     → nat_lt (length (connection_at_port attached.index found).borrowed) (most_borrowed_at_port found) ≡ true → nat_lt 0 (length (connection_at_port attached.index found).waiting) ≡ true
-    → (sizes.subscriber_max_borrowed_samples - length (connection_in attached.publisher attached.index (changed_at_port attached.publisher (taken_at attached.index) found ports)).borrowed) + 1
-    ≤ sizes.subscriber_max_borrowed_samples - length (connection_at_port attached.index found).borrowed
+    → min (length (connection_at_port attached.index found).borrowed) sizes.subscriber_max_borrowed_samples + 1
+    ≤ min (length (connection_in attached.publisher attached.index (changed_at_port attached.publisher (taken_at attached.index) found ports)).borrowed) sizes.subscriber_max_borrowed_samples
 gave_at sizes attached None ports all there below some = cc
 gave_at {T} {U} sizes attached (Some port) ports all there below some =
     let old = connection_of attached.index port in
@@ -80,8 +80,8 @@ gave {T} {U} sizes key (Some attached) port ports all there below some =
     record {
       lends = lends;
       less = λ next sound.
-          one_fewer (λ one. spare_at most one (taken_ports (Some attached) ports)) (λ one. spare_at most one ports) port.connections.values key (Some attached) None
-          (λ one. spare_less most one ports (taken_ports (Some attached) ports) (lends.more next sound)) (within_values port.connections.values key attached there) there
+          one_fewer (λ one. borrowed_at most one ports) (λ one. borrowed_at most one (taken_ports (Some attached) ports)) port.connections.values key (Some attached) None
+          (λ one. borrowed_more most one ports (taken_ports (Some attached) ports) (lends.more next sound)) (within_values port.connections.values key attached there) there
           (gave_at sizes attached (port_of attached.publisher ports) ports all refl below some);
     }
 
@@ -92,11 +92,11 @@ given_gives sizes (Some key) port ports all giving =
     let both = both_true (is_below port ports key) (has_data port ports key) (giving key refl) in
     gave sizes key (attached_at key port) port ports all refl both.0 both.1
 
--- What a receive leaves: it lends, as many stand, and what came may not come any more.
+-- What a receive leaves: it lends, as many stand, and what came is borrowed besides.
 pub record ReceivesLess {T U : Type 0} (most came : ℕ) (port : SubscriberPort) (ports : List (ℕ × PublisherPort T U)) (new : SubscriberPort) (new_ports : List (ℕ × PublisherPort T U)) : Type 0 where
   pub lends : Lends ports new_ports
   pub stands : new.stands ≡ port.stands
-  pub less : (next : ℕ) → All (IsSoundEntry next) ports → FreeFit port.connections → spare_of most new.connections.values new_ports + came ≤ spare_of most port.connections.values ports
+  pub less : (next : ℕ) → All (IsSoundEntry next) ports → FreeFit port.connections → borrowed_of most port.connections.values ports + came ≤ borrowed_of most new.connections.values new_ports
 
 serves_less : {T U : Type 0} (sizes : ServiceSizes) (port new : SubscriberPort) (ports new_ports : List (ℕ × PublisherPort T U)) (taken : Option Taken) → All (IsMadeFor (allowed_by sizes)) ports → Serves port ports taken new new_ports
     → ReceivesLess sizes.subscriber_max_borrowed_samples (came taken) port ports new new_ports
@@ -128,8 +128,8 @@ receives_after_less sizes (Err failure) port new ports new_ports answer all (is_
   less = λ next sound fit. omega (
     arith,
     ap (λ told. received_in (Some told)) is_answer,
-    ap (λ one. spare_of sizes.subscriber_max_borrowed_samples one.connections.values new_ports) is,
-    ap (λ all. spare_of sizes.subscriber_max_borrowed_samples port.connections.values all) are,
+    ap (λ one. borrowed_of sizes.subscriber_max_borrowed_samples one.connections.values new_ports) is,
+    ap (λ all. borrowed_of sizes.subscriber_max_borrowed_samples port.connections.values all) are,
   );
 }
 receives_after_less sizes (Ok done) port new ports new_ports answer all (taken, serves, is_answer) =

@@ -44,7 +44,7 @@ LeadsOn port = (subscriber index : ℕ) → leads_to subscriber (get_or port.rea
 abbrev pub LeadsOnEntry : {T U : Type 0} → ℕ × PublisherPort T U → Type 0
 LeadsOnEntry (number, port) = LeadsOn port
 
--- A subscriber is alone with each of its connections, and has one key for it.
+-- A subscriber is alone with each of its connections, and has one key for each publisher that it is connected to.
 pub record ReadsApart {T U : Type 0} (ports : ServicePorts T U) (number : ℕ) (port : SubscriberPort) : Type 0 where
   -- it goes by its number
   pub named : port.number ≡ number
@@ -53,9 +53,9 @@ pub record ReadsApart {T U : Type 0} (ports : ServicePorts T U) (number : ℕ) (
       × (member.value.subscriber ≡ number)
   -- it reads from each connection that it has
   pub reads : (key : ℕ) (attached : Attached) → attached_at key port ≡ Some attached → IsAttached number attached ports.publishers
-  -- no two of its keys are for one connection
-  pub apart : (key other : ℕ) (attached : Attached) → attached_at key port ≡ Some attached → attached_at other port ≡ Some attached
-      → key ≡ other
+  -- no two of its keys are for one publisher
+  pub apart : (key other : ℕ) (one two : Attached) → attached_at key port ≡ Some one → attached_at other port ≡ Some two
+      → one.publisher ≡ two.publisher → key ≡ other
   -- the key of a connection to a publisher that is listed is that of the place where it is listed
   pub placed : (key place : ℕ) (attached : Attached) (member : Member PublisherEntry) → attached_at key port ≡ Some attached
       → get_or ports.publisher_list.places place None ≡ Some member
@@ -65,7 +65,7 @@ pub record ReadsApart {T U : Type 0} (ports : ServicePorts T U) (number : ℕ) (
 abbrev pub ReadsApartEntry : {T U : Type 0} → ServicePorts T U → ℕ × SubscriberPort → Type 0
 ReadsApartEntry ports (number, port) = port.stands ≡ true → ReadsApart ports number port
 
--- What sees to it that of each connection one subscriber borrows, by one key, and no more than may be.
+-- What sees to it that of each connection one subscriber borrows, by one key, and no more than may be; and by one key of each publisher.
 pub record AreRoomy {T U : Type 0} (ports : ServicePorts T U) : Type 0 where
   -- each publisher goes by a number that was given out, and a connection that there isn't holds nothing
   pub sound : IsSound ports

@@ -11,9 +11,9 @@ use Rattle.iox_domain.specs.DomainValues.declared.service_sizes.ServiceSizes.{Se
 use Rattle.iox_domain.specs.Roomy.{AreRoomy}
 use Rattle.iox_domain.specs.Samples.{samples_left, received_by, released_by, brought_by}
 
--- No sample may come in a new service. A call makes no more samples possible than it gives back, and than a subscriber may hold
--- that comes by it; and each sample that comes is one less that may come. So it is in a service that is roomy, as a new one is
--- and as each call leaves it.
+-- No sample may come in a new service. A call makes no more samples possible than it gives back, and than may be held by a
+-- subscriber, or of a publisher, that comes by it; and each sample that comes is one less that may come. So it is in a service
+-- that is roomy, as a new one is and as each call leaves it.
 pub record SamplesLeft (T U : Type 0) (overrides : ℕ → ℕ → Type 0) (may : DegradationInfo → DegradationAction
     → Type 0) (decide : BackpressureInfo → BackpressureDecision → Type 0) : Type 0 where
   -- a new service is roomy

@@ -1,7 +1,6 @@
 -- A run of commands that name no handler.
-use Rattle.std.proofs.Common.{arith, ◌≡◌, ◌∙◌, ◌<◌, ◌++◌, ◌⊎◌, Bool, true, false, List, [], ◌∷◌, map, Option, Err, refl, sym, ap, subst, inl, inr}
+use Rattle.std.proofs.Common.{◌≡◌, ◌∙◌, ◌<◌, ◌++◌, Bool, true, false, List, [], ◌∷◌, map, Option, Err, refl, sym, ap, subst, inl, inr}
 use Rattle.std.proofs.lemmas.List.{length-map}
-use Rattle.std.proofs.lemmas.List.Sums.{sum_by-cons}
 use Rattle.std.specs.declared.alloc.AllocError.{AllocError}
 use Rattle.iox_hub_commands.specs.Command.declared.command.Command.{Command}
 use Rattle.iox_hub_commands.specs.Command.declared.reply.Reply.{Reply}
@@ -14,12 +13,9 @@ use Rattle.iox_hub_commands.specs.DomainValues.declared.backpressure_strategy.Ba
 use Rattle.iox_hub_commands.specs.DomainValues.declared.degradation.DegradationAction.{DegradationAction}
 use Rattle.iox_hub_commands.specs.DomainValues.declared.degradation.DegradationCause.{DegradationCause}
 use Rattle.iox_hub_commands.specs.DomainValues.declared.degradation.DegradationInfo.{DegradationInfo}
-use Rattle.iox_hub_commands.specs.Room.{loans_in, samples_in, FitsAll}
-use Rattle.iox_hub_commands.specs.Runs.{Runs, IsRun, NeverBegins}
+use Rattle.iox_hub_commands.specs.Runs.{Runs, IsRun}
 use Rattle.iox_hub_commands.specs.CommandSteps.{Step}
 use Rattle.iox_hub_commands.specs.declared.numbered_hub.NumberedHub.{NumberedHub}
-use Rattle.iox_hub.specs.Room as handled_room
-use Rattle.iox_hub.specs.Room.{loans_of, samples_of}
 use Rattle.iox_hub.specs.RunLaws.{PlainRunsArePlain}
 use Rattle.iox_hub.specs.Steps.{HandledStep}
 use Rattle.iox_hub.specs.declared.given.GivenHandler.{GivenHandler}
@@ -47,20 +43,6 @@ apart f (a ∷ all) (other ∷ first) one rest is =
     let deeper = apart f all first one rest same.1 in
     record { before = a ∷ deeper.before; at = deeper.at; after = deeper.after; is = ap (λ others. a ∷ others) deeper.is; is_first = cc (sym same.0, deeper.is_first); is_one = deeper.is_one }
 
-module _ {T : Type 0} where
-  -- as many loans and samples get numbers
-  same_loans : (commands : List (Command T)) → handled_room.loans_in (map (λ (command : Command T). asked.Plain command) commands) ≡ loans_in commands
-  same_loans [] = refl
-  same_loans (command ∷ commands) =
-      let first = sum_by-cons (λ one. loans_of one) (asked.Plain command) (map (λ (one : Command T). asked.Plain one) commands) in
-      let rest = same_loans commands in omega (arith, first, rest)
-
-  same_samples : (commands : List (Command T)) → handled_room.samples_in (map (λ (command : Command T). asked.Plain command) commands) ≡ samples_in commands
-  same_samples [] = refl
-  same_samples (command ∷ commands) =
-      let first = sum_by-cons (λ one. samples_of one) (asked.Plain command) (map (λ (one : Command T). asked.Plain one) commands) in
-      let rest = same_samples commands in omega (arith, first, rest)
-
 module _ {T U B D P : Type 0} (payload user_header : Detail) (types : MessageTypeDetails) (is_default : T → Type 0) (is_default_header : U → Type 0)
     (fixed : BackpressureStrategy → Option BackpressureAction → DegradationAction → B) (handled : BackpressureStrategy → Option BackpressureAction → DegradationAction → Option P → Option D → B)
     (degrades : B → DegradationCause → DegradationInfo → DegradationAction → Type 0) (decides : B → BackpressureInfo → BackpressureDecision → Type 0)
@@ -87,27 +69,11 @@ module _ {T U B D P : Type 0} (payload user_header : Detail) (types : MessageTyp
       subst (λ (one : HandledCommand T). HandledStep payload user_header types is_default is_default_header fixed handled degrades decides fixed_reader reader_degrades one mid (Err lacking) new) parts.is_one does in
       (inr (parts.before, parts.at, parts.after, mid.0, lacking, parts.is, ran.0, last.0), last.1 ∙ ran.1)
 
-  run_plain : (commands : List (Command T)) (old new : NumberedHub T U B D × List (Option (GivenHandler P D))) (replies : List (Reply T)) (stopped : Bool)
-      → IsRun (HandledStep payload user_header types is_default is_default_header fixed handled degrades decides fixed_reader reader_degrades) (map (λ (command : Command T). asked.Plain command) commands) old replies stopped new
-      → IsRun (Step payload user_header types is_default is_default_header fixed degrades decides fixed_reader reader_degrades) commands old.0 replies stopped new.0 × (new.1 ≡ old.1)
-  run_plain commands old new replies false runs = runs_plain commands old new replies runs
-  run_plain commands old new replies true (inl (some, none, same)) = (
+  pub plain_runs : PlainRunsArePlain (HandledStep payload user_header types is_default is_default_header fixed handled degrades decides fixed_reader reader_degrades) (Step payload user_header types is_default is_default_header fixed degrades decides fixed_reader reader_degrades)
+  plain_runs commands old new replies false runs = runs_plain commands old new replies runs
+  plain_runs commands old new replies true (inl (some, none, same)) = (
     inl (subst (λ n. 0 < n) (length-map commands (λ (command : Command T). asked.Plain command)) some, none, ap (λ (state : NumberedHub T U B D × List (Option (GivenHandler P D))). state.0) same),
     ap (λ (state : NumberedHub T U B D × List (Option (GivenHandler P D))). state.1) same,
   )
-  run_plain commands old new replies true (inr (first, command, rest, mid, lacking, is, runs, does)) =
+  plain_runs commands old new replies true (inr (first, command, rest, mid, lacking, is, runs, does)) =
       stops_plain commands first command old mid new replies lacking (apart (λ (one : Command T). asked.Plain one) commands first command rest is) runs does
-
-  plain_room : (commands : List (Command T)) (old new : NumberedHub T U B D × List (Option (GivenHandler P D))) (replies : List (Reply T))
-      → FitsAll (handled_room.loans_in (map (λ (command : Command T). asked.Plain command) commands)) (handled_room.samples_in (map (λ (command : Command T). asked.Plain command) commands)) old.0.made ⊎ NeverBegins (HandledStep payload user_header types is_default is_default_header fixed handled degrades decides fixed_reader reader_degrades) (map (λ (command : Command T). asked.Plain command) commands) old replies new
-      → FitsAll (loans_in commands) (samples_in commands) old.0.made ⊎ NeverBegins (Step payload user_header types is_default is_default_header fixed degrades decides fixed_reader reader_degrades) commands old.0 replies new.0
-  plain_room commands old new replies (inl (fit_loans, fit_samples)) =
-      let loans = same_loans commands in let samples = same_samples commands in
-      inl (omega (arith, fit_loans, loans), omega (arith, fit_samples, samples))
-  plain_room commands old new replies (inr (some, none, same)) =
-      inr (subst (λ n. 0 < n) (length-map commands (λ (command : Command T). asked.Plain command)) some, none, ap (λ (state : NumberedHub T U B D × List (Option (GivenHandler P D))). state.0) same)
-
-  pub plain_runs : PlainRunsArePlain (HandledStep payload user_header types is_default is_default_header fixed handled degrades decides fixed_reader reader_degrades) (Step payload user_header types is_default is_default_header fixed degrades decides fixed_reader reader_degrades)
-  plain_runs commands old new replies stopped (roomier, only, runs, room) =
-      let (ran, same) = run_plain commands roomier new replies stopped runs in
-      ((roomier.0, only.0, ran, plain_room commands roomier new replies room), same ∙ only.1)

@@ -3,9 +3,8 @@ use Rattle.std.specs.Prelude.{◌≡◌, Bool, List, map, Result}
 use Rattle.std.specs.declared.alloc.AllocError.{AllocError}
 use Rattle.iox_hub_commands.specs.Command.declared.command.Command.{Command}
 use Rattle.iox_hub_commands.specs.Command.declared.reply.Reply.{Reply}
-use Rattle.iox_hub_commands.specs.Room as plain_room
+use Rattle.iox_hub_commands.specs.Runs.{IsRun}
 use Rattle.iox_hub_commands.specs.declared.numbered_hub.NumberedHub.{NumberedHub}
-use Rattle.iox_hub.specs.Room.{RunsInRoom}
 use Rattle.iox_hub.specs.declared.handled_command.HandledCommand.{HandledCommand}
 use Rattle.iox_hub.specs.declared.handled_command.HandledCommand.TheVariants as asked
 
@@ -15,5 +14,5 @@ abbrev pub PlainRunsArePlain : {T U B D X : Type 0}
     → (Command T → NumberedHub T U B D → Result (Reply T) AllocError → NumberedHub T U B D → Type 0) → Type 0
 PlainRunsArePlain {T} {U} {B} {D} {X} handled plain
     = (commands : List (Command T)) (old new : NumberedHub T U B D × X) (replies : List (Reply T)) (stopped : Bool)
-    → RunsInRoom handled (map (λ (command : Command T). asked.Plain command) commands) old replies stopped new
-    → plain_room.RunsInRoom plain commands old.0 replies stopped new.0 × (new.1 ≡ old.1)
+    → IsRun handled (map (λ (command : Command T). asked.Plain command) commands) old replies stopped new
+    → IsRun plain commands old.0 replies stopped new.0 × (new.1 ≡ old.1)

@@ -17,7 +17,6 @@
 //! | `handlers` | who decides for a publisher, made of such handlers |
 //! | `handled_command` | what may be asked |
 //! | `making` | ports come, with the handlers that are named |
-//! | `room` | how many numbers commands may want |
 //! | `stepping` | one command, and its reply |
 //! | `running` | a list of commands |
 //! | `laws` | what a run comes to in other words |
@@ -57,7 +56,6 @@ mod making;
 pub mod node;
 pub mod port;
 pub mod prelude;
-mod room;
 pub mod running;
 pub mod sample;
 pub mod sample_mut;

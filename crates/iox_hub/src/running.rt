@@ -7,29 +7,27 @@ ghost use Rattle.iox_hub_commands.specs.DescribeBase.declared.type_detail.TypeVa
 ghost use Rattle.iox_hub_commands.specs.Asked.{types_of};
 ghost use Rattle.iox_hub_commands.specs.Lives.{NumbersGoOn};
 ghost use Rattle.iox_hub_commands.specs.Numbers.{numbers_used};
-ghost use Rattle.iox_hub_commands.specs.PortRoom.{KeepsRoom};
-ghost use Rattle.iox_hub_commands.specs.Room.{FitsAll};
+ghost use Rattle.iox_hub_commands.specs.PortRoom.{HasRoom, KeepsRoom};
 ghost use Rattle.iox_hub_commands.specs.Runs.{IsRun};
-ghost use Rattle.iox_hub.specs.Room.{loans_in, samples_in, RunsInRoom, StopsInTime};
+ghost use Rattle.iox_hub.specs.Room.{StopsInTime};
 ghost use Rattle.iox_hub.specs.Steps.{HandledStep};
 ghost use Rattle.iox_hub.specs.Taking.{TakesOnce, taken};
 
 use crate::given::GivenHandlers;
 use crate::handled_command::HandledCommand;
 use crate::handlers::TakesHandlers;
-use crate::room::numbers_in;
 use crate::stepping::step;
 use iox_describe_base::ZeroCopySend;
 use iox_hub_commands::{NumberedHub, RunReport, SubscriberHandler};
 use iox_queues_base::Words;
 use std::alloc::Global;
 
-/// Carries out commands, one after another, once there is room for all replies, and for the numbers of all loans and samples that the
-/// commands may make. Those that make ports take the handlers that they name by their places; those that no port took are left in their
-/// places.
+/// Carries out commands, one after another, once there is room for all replies. Those that make ports take the handlers that they name by
+/// their places; those that no port took are left in their places.
 ///
-/// It stops before the first command, where an allocation fails for that room, and then only room may have grown; or at a command
-/// that receives or reads, where an allocation fails for the values of its reply, and those before it are replied to.
+/// It stops before the first command, where an allocation fails for that room, and then nothing has changed; or at a command
+/// that receives or reads, where an allocation fails for the values of its reply, and those before it are replied to. It makes
+/// no room for numbers: each port made that when it came.
 /// Example: `let report = run(&mut hub, alloc, commands, &mut given);`
 pub fn run<
     T: Words + ZeroCopySend + Default,
@@ -44,12 +42,12 @@ pub fn run<
     given: &mut GivenHandlers<P, D>,
 ) -> RunReport<T>
     requires { numbers_used hub.old + length commands.items < 2 ^ 64 }
-    ensures ran { RunsInRoom (HandledStep (detail FixedSize T.name T.size T.alignment) (detail FixedSize U.name U.size U.alignment)
+    ensures ran { IsRun (HandledStep (detail FixedSize T.name T.size T.alignment) (detail FixedSize U.name U.size U.alignment)
         (types_of T.name T.size T.alignment U.name U.size U.alignment) T.is_default U.is_default B.fixed
         (λ strategy action degrading at_full at_failure. B.handled strategy action degrading at_full at_failure)
         (λ handlers. B.degrades handlers) (λ handlers. B.decides handlers) D.fixed (λ handler. D.degrades handler)) commands.entry.items
         (hub.old, given.old.places.items) result.replies.items result.stopped (hub.new, given.new.places.items) }
-    ensures stops { result.stopped ≡ true
+    ensures stops { HasRoom hub.old → HaveGrown hub.old.hub.services.domains → result.stopped ≡ true
         → StopsInTime commands.entry.items (hub.old, given.old.places.items) (length result.replies.items)
         (hub.new, given.new.places.items) }
     ensures counts { numbers_used hub.new ≤ numbers_used hub.old + length commands.entry.items }
@@ -61,45 +59,10 @@ pub fn run<
     // Just the places that commands name which are replied to, and not skipped, are emptied; each held a handler, and no two are the same.
     ensures once { TakesOnce (taken commands.entry.items result.replies.items) given.old.places.items given.new.places.items }
 {
-    carry_out_in_room(hub, alloc, commands, given)
-}
-
-// The same, without what that comes to in other words.
-fn carry_out_in_room<
-    T: Words + ZeroCopySend + Default,
-    U: Copy + ZeroCopySend + Default,
-    B: TakesHandlers<P, D>,
-    D: SubscriberHandler,
-    P: Drop,
->(
-    hub: &mut NumberedHub<T, U, B, D>,
-    alloc: Global,
-    commands: Vec<HandledCommand<T>>,
-    given: &mut GivenHandlers<P, D>,
-) -> RunReport<T>
-    requires { numbers_used hub.old + length commands.items < 2 ^ 64 }
-    ensures ran { RunsInRoom (HandledStep (detail FixedSize T.name T.size T.alignment) (detail FixedSize U.name U.size U.alignment)
-        (types_of T.name T.size T.alignment U.name U.size U.alignment) T.is_default U.is_default B.fixed
-        (λ strategy action degrading at_full at_failure. B.handled strategy action degrading at_full at_failure)
-        (λ handlers. B.degrades handlers) (λ handlers. B.decides handlers) D.fixed (λ handler. D.degrades handler)) commands.entry.items
-        (hub.old, given.old.places.items) result.replies.items result.stopped (hub.new, given.new.places.items) }
-    ensures stops { result.stopped ≡ true
-        → StopsInTime commands.entry.items (hub.old, given.old.places.items) (length result.replies.items)
-        (hub.new, given.new.places.items) }
-    ensures counts { numbers_used hub.new ≤ numbers_used hub.old + length commands.entry.items }
-    ensures room { KeepsRoom hub.old hub.new }
-{
-    let (loans, samples) = numbers_in(commands.as_slice());
-    if hub.make_room_for(loans, samples).is_err() {
-        return RunReport {
-            replies: Vec::new(alloc),
-            stopped: true,
-        };
-    }
     carry_out_all(hub, alloc, commands, given)
 }
 
-// Carries out commands, where there is room for the numbers of all that they may make.
+// The same, without what that comes to in other words.
 fn carry_out_all<
     T: Words + ZeroCopySend + Default,
     U: Copy + ZeroCopySend + Default,
@@ -112,14 +75,13 @@ fn carry_out_all<
     commands: Vec<HandledCommand<T>>,
     given: &mut GivenHandlers<P, D>,
 ) -> RunReport<T>
-    requires numbers { numbers_used hub.old + length commands.items < 2 ^ 64 }
-    requires room { FitsAll (loans_in commands.items) (samples_in commands.items) hub.old.made }
+    requires { numbers_used hub.old + length commands.items < 2 ^ 64 }
     ensures ran { IsRun (HandledStep (detail FixedSize T.name T.size T.alignment) (detail FixedSize U.name U.size U.alignment)
         (types_of T.name T.size T.alignment U.name U.size U.alignment) T.is_default U.is_default B.fixed
         (λ strategy action degrading at_full at_failure. B.handled strategy action degrading at_full at_failure)
         (λ handlers. B.degrades handlers) (λ handlers. B.decides handlers) D.fixed (λ handler. D.degrades handler)) commands.entry.items
         (hub.old, given.old.places.items) result.replies.items result.stopped (hub.new, given.new.places.items) }
-    ensures stops { result.stopped ≡ true
+    ensures stops { HasRoom hub.old → HaveGrown hub.old.hub.services.domains → result.stopped ≡ true
         → StopsInTime commands.entry.items (hub.old, given.old.places.items) (length result.replies.items)
         (hub.new, given.new.places.items) }
     ensures counts { numbers_used hub.new ≤ numbers_used hub.old + length commands.entry.items }

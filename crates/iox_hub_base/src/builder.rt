@@ -1,5 +1,5 @@
 //! Services are created and opened in a hub.
-ghost use Rattle.std.specs.Prelude.{◌≡◌, ℕ, List, nat_eq};
+ghost use Rattle.std.specs.Prelude.{◌≡◌, ℕ, List, nat_eq, false, true};
 ghost use Rattle.std.specs.Result.{result_map_both};
 ghost use Rattle.iox_delivery_factories.specs.DescribeBase.Detail.{detail};
 ghost use Rattle.iox_delivery_factories.specs.DescribeBase.Hash.{service_hash_of};
@@ -12,7 +12,7 @@ ghost use Rattle.iox_negotiate_table.specs.NegotiateBase.declared.failure.OpenFa
 ghost use Rattle.iox_negotiate_table.specs.Stepped.{SteppedSight};
 ghost use Rattle.iox_hub_base.specs.Opening.{OpensInHub, lacking_either};
 
-use crate::entering::NoRoom;
+use crate::entering::Lacking;
 use crate::factory::PortFactory;
 use crate::hub::Hub;
 use iox_describe::{AttributeSpecifier, AttributeVerifier, ZeroCopySend};
@@ -43,6 +43,11 @@ pub trait HubBuilder<P: Negotiated>: Sized {
     // what is asked of it
     ghost requirement_of: { Self → P.Requirement };
 
+    /// The builder of the service, whatever storage it is negotiated over.
+    /// Example: `let service = builder.builder();`
+    fn builder(self) -> ServiceBuilder<P>
+        ensures { result ≡ record { hub = hub_of self; node = node_of self; name = name_of self; requirement = requirement_of self } };
+
     /// Whether it is a builder of this hub.
     /// Example: `let is_of_it = builder.holds(&hub);`
     fn holds<T: Copy, U: Copy, B: Drop, D: Drop>(&self, hub: &Hub<T, U, B, D>) -> bool
@@ -64,7 +69,17 @@ pub trait HubBuilder<P: Negotiated>: Sized {
             (P.settings (P.adjusted (P.asked (requirement_of self)))) (P.attributes (requirement_of self)).pairs)
             (P.IsWithinLimits (P.adjusted (P.asked (requirement_of self))))
             (P.IsHistoryTooLong (P.adjusted (P.asked (requirement_of self)))) P.create_error old answer new) steps.items hub.old
-            (result_map_both (λ factory. (factory.service.membership, factory.owner)) (λ error. error) result) hub.new };
+            (result_map_both (λ factory. (factory.service.membership, factory.owner)) (λ error. error) result) hub.new }
+    {
+        let mut table = hub.lend_table(alloc, steps);
+        let answer = self.builder().create(alloc, &mut table);
+        hub.settle(
+            alloc,
+            table,
+            answer,
+            Lacking::either_way(P::create_error(CreateFailure::OutOfMemory)),
+        )
+    }
 
     /// Creates the service with these attributes.
     ///
@@ -85,7 +100,19 @@ pub trait HubBuilder<P: Negotiated>: Sized {
             (P.settings (P.adjusted (P.asked (requirement_of self)))) attributes.now)
             (P.IsWithinLimits (P.adjusted (P.asked (requirement_of self))))
             (P.IsHistoryTooLong (P.adjusted (P.asked (requirement_of self)))) P.create_error old answer new) steps.items hub.old
-            (result_map_both (λ factory. (factory.service.membership, factory.owner)) (λ error. error) result) hub.new };
+            (result_map_both (λ factory. (factory.service.membership, factory.owner)) (λ error. error) result) hub.new }
+    {
+        let mut table = hub.lend_table(alloc, steps);
+        let answer = self
+            .builder()
+            .create_with_attributes(alloc, attributes, &mut table);
+        hub.settle(
+            alloc,
+            table,
+            answer,
+            Lacking::either_way(P::create_error(CreateFailure::OutOfMemory)),
+        )
+    }
 
     /// Opens the service, whatever its attributes. See `open_with_attributes_in`.
     /// Example: `let factory = builder.open_in(alloc, &mut hub, Vec::new(alloc))?;`
@@ -101,7 +128,17 @@ pub trait HubBuilder<P: Negotiated>: Sized {
             (λ old answer new. Negotiates SteppedSight old.table.id (node_of self) P.open_error
             (λ made answer. Opens (service_hash_of P.pattern (name_of self)) (node_of self)
             (λ given. P.verdict (requirement_of self) given) made answer) old answer new) steps.items hub.old
-            (result_map_both (λ factory. (factory.service.membership, factory.owner)) (λ error. error) result) hub.new };
+            (result_map_both (λ factory. (factory.service.membership, factory.owner)) (λ error. error) result) hub.new }
+    {
+        let mut table = hub.lend_table(alloc, steps);
+        let answer = self.builder().open(alloc, &mut table);
+        hub.settle(
+            alloc,
+            table,
+            answer,
+            Lacking::either_way(P::open_error(OpenFailure::OutOfMemory)),
+        )
+    }
 
     /// Opens the service if it has these attributes too.
     ///
@@ -120,7 +157,19 @@ pub trait HubBuilder<P: Negotiated>: Sized {
             (λ old answer new. Negotiates SteppedSight old.table.id (node_of self) P.open_error
             (λ made answer. Opens (service_hash_of P.pattern (name_of self)) (node_of self)
             (λ given. P.verdict (P.with_attributes (requirement_of self) attributes) given) made answer) old answer new) steps.items
-            hub.old (result_map_both (λ factory. (factory.service.membership, factory.owner)) (λ error. error) result) hub.new };
+            hub.old (result_map_both (λ factory. (factory.service.membership, factory.owner)) (λ error. error) result) hub.new }
+    {
+        let mut table = hub.lend_table(alloc, steps);
+        let answer = self
+            .builder()
+            .open_with_attributes(alloc, attributes, &mut table);
+        hub.settle(
+            alloc,
+            table,
+            answer,
+            Lacking::either_way(P::open_error(OpenFailure::OutOfMemory)),
+        )
+    }
 
     /// Opens the service, whatever its attributes, or creates it with none. See `open_or_create_with_attributes_in`.
     /// Example: `let factory = builder.open_or_create_in(alloc, &mut hub, Vec::new(alloc))?;`
@@ -139,7 +188,12 @@ pub trait HubBuilder<P: Negotiated>: Sized {
             (P.settings (P.adjusted (P.asked (requirement_of self)))) (P.attributes (requirement_of self)).pairs)
             (P.IsWithinLimits (P.adjusted (P.asked (requirement_of self))))
             (P.IsHistoryTooLong (P.adjusted (P.asked (requirement_of self)))) P.open_or_create_error old answer new) steps.items hub.old
-            (result_map_both (λ factory. (factory.service.membership, factory.owner)) (λ error. error) result) hub.new };
+            (result_map_both (λ factory. (factory.service.membership, factory.owner)) (λ error. error) result) hub.new }
+    {
+        let mut table = hub.lend_table(alloc, steps);
+        let answer = self.builder().open_or_create(alloc, &mut table);
+        hub.settle(alloc, table, answer, lacking_either::<P>())
+    }
 
     /// Opens the service if it has these attributes too, or creates it with the required pairs where none exists.
     ///
@@ -168,7 +222,14 @@ pub trait HubBuilder<P: Negotiated>: Sized {
             (P.IsWithinLimits (P.adjusted (P.asked (P.with_attributes (requirement_of self) attributes))))
             (P.IsHistoryTooLong (P.adjusted (P.asked (P.with_attributes (requirement_of self) attributes)))) P.open_or_create_error old
             answer new) steps.items hub.old
-            (result_map_both (λ factory. (factory.service.membership, factory.owner)) (λ error. error) result) hub.new };
+            (result_map_both (λ factory. (factory.service.membership, factory.owner)) (λ error. error) result) hub.new }
+    {
+        let mut table = hub.lend_table(alloc, steps);
+        let answer = self
+            .builder()
+            .open_or_create_with_attributes(alloc, attributes, &mut table);
+        hub.settle(alloc, table, answer, lacking_either::<P>())
+    }
 }
 
 impl<P: Negotiated> HubBuilder<P> for ServiceBuilder<P> {
@@ -180,134 +241,22 @@ impl<P: Negotiated> HubBuilder<P> for ServiceBuilder<P> {
 
     ghost requirement_of = { λ builder. builder.requirement };
 
+    fn builder(self) -> ServiceBuilder<P> {
+        self
+    }
+
     fn holds<T: Copy, U: Copy, B: Drop, D: Drop>(&self, hub: &Hub<T, U, B, D>) -> bool {
         self.hub() == hub.id()
     }
-
-    fn create_in<T: Words + ZeroCopySend, U: Copy + ZeroCopySend, B: Drop, D: Drop>(
-        self,
-        alloc: Global,
-        hub: &mut Hub<T, U, B, D>,
-        steps: Vec<StepList>,
-    ) -> Result<PortFactory<P>, P::CreateError> {
-        let mut table = hub.lend_table(alloc, steps);
-        let answer = self.create(alloc, &mut table);
-        hub.table = table.into_table();
-        match answer {
-            Ok(service) => match hub.enter(alloc, service) {
-                Ok(factory) => Ok(factory),
-                Err(_) => Err(P::create_error(CreateFailure::OutOfMemory)),
-            },
-            Err(error) => Err(error),
-        }
-    }
-
-    fn create_with_attributes_in<T: Words + ZeroCopySend, U: Copy + ZeroCopySend, B: Drop, D: Drop>(
-        self,
-        alloc: Global,
-        attributes: &AttributeSpecifier,
-        hub: &mut Hub<T, U, B, D>,
-        steps: Vec<StepList>,
-    ) -> Result<PortFactory<P>, P::CreateError> {
-        let mut table = hub.lend_table(alloc, steps);
-        let answer = self.create_with_attributes(alloc, attributes, &mut table);
-        hub.table = table.into_table();
-        match answer {
-            Ok(service) => match hub.enter(alloc, service) {
-                Ok(factory) => Ok(factory),
-                Err(_) => Err(P::create_error(CreateFailure::OutOfMemory)),
-            },
-            Err(error) => Err(error),
-        }
-    }
-
-    fn open_in<T: Words + ZeroCopySend, U: Copy + ZeroCopySend, B: Drop, D: Drop>(
-        self,
-        alloc: Global,
-        hub: &mut Hub<T, U, B, D>,
-        steps: Vec<StepList>,
-    ) -> Result<PortFactory<P>, P::OpenError> {
-        let mut table = hub.lend_table(alloc, steps);
-        let answer = self.open(alloc, &mut table);
-        hub.table = table.into_table();
-        match answer {
-            Ok(service) => match hub.enter(alloc, service) {
-                Ok(factory) => Ok(factory),
-                Err(_) => Err(P::open_error(OpenFailure::OutOfMemory)),
-            },
-            Err(error) => Err(error),
-        }
-    }
-
-    fn open_with_attributes_in<T: Words + ZeroCopySend, U: Copy + ZeroCopySend, B: Drop, D: Drop>(
-        self,
-        alloc: Global,
-        attributes: AttributeVerifier,
-        hub: &mut Hub<T, U, B, D>,
-        steps: Vec<StepList>,
-    ) -> Result<PortFactory<P>, P::OpenError> {
-        let mut table = hub.lend_table(alloc, steps);
-        let answer = self.open_with_attributes(alloc, attributes, &mut table);
-        hub.table = table.into_table();
-        match answer {
-            Ok(service) => match hub.enter(alloc, service) {
-                Ok(factory) => Ok(factory),
-                Err(_) => Err(P::open_error(OpenFailure::OutOfMemory)),
-            },
-            Err(error) => Err(error),
-        }
-    }
-
-    fn open_or_create_in<T: Words + ZeroCopySend, U: Copy + ZeroCopySend, B: Drop, D: Drop>(
-        self,
-        alloc: Global,
-        hub: &mut Hub<T, U, B, D>,
-        steps: Vec<StepList>,
-    ) -> Result<PortFactory<P>, P::OpenOrCreateError> {
-        let mut table = hub.lend_table(alloc, steps);
-        let answer = self.open_or_create(alloc, &mut table);
-        hub.table = table.into_table();
-        match answer {
-            Ok(service) => match hub.enter(alloc, service) {
-                Ok(factory) => Ok(factory),
-                Err(no_room) => Err(P::open_or_create_error(lacking(no_room))),
-            },
-            Err(error) => Err(error),
-        }
-    }
-
-    fn open_or_create_with_attributes_in<
-        T: Words + ZeroCopySend,
-        U: Copy + ZeroCopySend,
-        B: Drop,
-        D: Drop,
-    >(
-        self,
-        alloc: Global,
-        attributes: AttributeVerifier,
-        hub: &mut Hub<T, U, B, D>,
-        steps: Vec<StepList>,
-    ) -> Result<PortFactory<P>, P::OpenOrCreateError> {
-        let mut table = hub.lend_table(alloc, steps);
-        let answer = self.open_or_create_with_attributes(alloc, attributes, &mut table);
-        hub.table = table.into_table();
-        match answer {
-            Ok(service) => match hub.enter(alloc, service) {
-                Ok(factory) => Ok(factory),
-                Err(no_room) => Err(P::open_or_create_error(lacking(no_room))),
-            },
-            Err(error) => Err(error),
-        }
-    }
 }
 
-// The failure of a call that opens or creates, where no memory was found for the service after its last access.
-fn lacking<V>(no_room: NoRoom) -> OpenOrCreateFailure<V>
-    ensures { result ≡ lacking_either no_room.was_new }
+// The errors of a call that opens or creates, where no memory is found after its last access.
+fn lacking_either<P: Negotiated>() -> Lacking<P::OpenOrCreateError>
+    ensures opened { result.opened ≡ P.open_or_create_error (lacking_either false) }
+    ensures created { result.created ≡ P.open_or_create_error (lacking_either true) }
 {
-    if no_room.was_new {
-        OpenOrCreateFailure::Create(CreateFailure::OutOfMemory)
-    } else {
-        OpenOrCreateFailure::Open(OpenFailure::OutOfMemory)
+    Lacking {
+        opened: P::open_or_create_error(OpenOrCreateFailure::Open(OpenFailure::OutOfMemory)),
+        created: P::open_or_create_error(OpenOrCreateFailure::Create(CreateFailure::OutOfMemory)),
     }
 }

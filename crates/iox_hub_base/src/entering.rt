@@ -1,9 +1,9 @@
 //! From a service that was negotiated to a factory of the hub.
-ghost use Rattle.std.specs.Prelude.{◌≡◌};
+ghost use Rattle.std.specs.Prelude.{◌≡◌, Bool, false, true, if◌then◌else◌, IfOk};
 ghost use Rattle.std.specs.Result.{result_map_both};
 ghost use Rattle.iox_delivery_factories.specs.DescribeBase.Detail.{detail};
 ghost use Rattle.iox_delivery_factories.specs.DescribeBase.declared.type_detail.TypeVariant.TheVariants.{FixedSize};
-ghost use Rattle.iox_hub_base.specs.Opening.{Enters, IsClosedAgain};
+ghost use Rattle.iox_hub_base.specs.Opening.{Enters, IsClosedAgain, Settles};
 
 use crate::factory::PortFactory;
 use crate::hub::Hub;
@@ -15,10 +15,41 @@ use iox_queues_base::Words;
 use std::alloc::Global;
 use std::mem;
 
-/// That no memory was found for a service that was negotiated, and whether it had been created.
+/// The errors of a call that negotiates a service, where no memory is found for it after the last access: where the service had been
+/// opened, and where it had been created.
 #[derive(Clone, Copy)]
-pub(crate) struct NoRoom {
-    pub(crate) was_new: bool,
+pub(crate) struct Lacking<E> {
+    pub(crate) opened: E,
+    pub(crate) created: E,
+}
+
+impl<E: Copy> Lacking<E> {
+    /// The same error, whether the service had been opened or created.
+    pub(crate) fn either_way(error: E) -> Self
+        ensures { result ≡ record { opened = error; created = error } }
+    {
+        Lacking {
+            opened: error,
+            created: error,
+        }
+    }
+
+    // The error where no memory was found.
+    fn error(self, no_room: NoRoom) -> E
+        ensures { result ≡ (if no_room.was_new then self.created else self.opened) }
+    {
+        if no_room.was_new {
+            self.created
+        } else {
+            self.opened
+        }
+    }
+}
+
+// That no memory was found for a service that was negotiated, and whether it had been created.
+#[derive(Clone, Copy)]
+struct NoRoom {
+    was_new: bool,
 }
 
 impl<T: Copy, U: Copy, B: Drop, D: Drop> Hub<T, U, B, D> {
@@ -43,8 +74,32 @@ impl<T: Copy, U: Copy, B: Drop, D: Drop> Hub<T, U, B, D> {
 }
 
 impl<T: Words + ZeroCopySend, U: Copy + ZeroCopySend, B: Drop, D: Drop> Hub<T, U, B, D> {
-    /// The factory of the hub for a service that was negotiated.
-    pub(crate) fn enter<P: Pattern>(
+    /// Puts the table back, and answers the factory of the hub for what was negotiated over it, if that is a service.
+    pub(crate) fn settle<P: Pattern, E: Copy>(
+        &mut self,
+        alloc: Global,
+        table: Stepped,
+        answer: Result<negotiated::PortFactory<P>, E>,
+        errors: Lacking<E>,
+    ) -> Result<PortFactory<P>, E>
+        requires { IfOk answer (λ service. service.membership.storage ≡ table.table.id) }
+        ensures { (lacking : Bool → E) → lacking false ≡ errors.opened → lacking true ≡ errors.created
+            → Settles (detail FixedSize T.name T.size T.alignment) (detail FixedSize U.name U.size U.alignment) lacking
+            (result_map_both (λ service. service.membership) (λ error. error) answer) (record self.old { table = table.table })
+            (result_map_both (λ factory. (factory.service.membership, factory.owner)) (λ error. error) result) self.new }
+    {
+        self.table = table.into_table();
+        match answer {
+            Ok(service) => match self.enter(alloc, service) {
+                Ok(factory) => Ok(factory),
+                Err(no_room) => Err(errors.error(no_room)),
+            },
+            Err(error) => Err(error),
+        }
+    }
+
+    // The factory of the hub for a service that was negotiated.
+    fn enter<P: Pattern>(
         &mut self,
         alloc: Global,
         service: negotiated::PortFactory<P>,

@@ -28,6 +28,7 @@ impl<T, U, B, D> Presence<T, U, B, D> {
     ghost use Rattle.iox_hub_base.specs.Lends.{LendsDomain};
 
     /// The domain, if it is here.
+    /// Example: `let domain = presence.domain()?;`
     pub fn domain(&self) -> Option<&Domain<T, U, B, D>>
         ensures { option_copied result ≡ here self.now }
     {
@@ -38,6 +39,7 @@ impl<T, U, B, D> Presence<T, U, B, D> {
     }
 
     /// The domain, if it is here, to be changed in its place.
+    /// Example: `let domain = presence.domain_mut()?;`
     pub fn domain_mut(&mut self) -> Option<&mut Domain<T, U, B, D>>
         ensures* writes_back { sem 𝓛 (LendsDomain T.row U.row B.row D.row self.entry result) }
         ensures value { option_copied_mut result ≡ here self.old }
@@ -49,6 +51,7 @@ impl<T, U, B, D> Presence<T, U, B, D> {
     }
 
     /// Whether the domain is out, and just this is agreed.
+    /// Example: `let is_awaited = presence.awaits(&domain.agreed);`
     pub fn awaits(&self, agreed: &StaticConfig) -> bool
         ensures { IsTrue result ↔ (self.now ≡ Out agreed.now) }
     {
@@ -76,6 +79,7 @@ impl<T, U, B, D> Presence<T, U, B, D> {
 
 impl<T: Copy, U: Copy, B, D> Presence<T, U, B, D> {
     /// How many loans the publishers of the domain may still make; none where it is out. Past 2^64 - 1 it is that.
+    /// Example: `let loans = presence.loans_left();`
     pub fn loans_left(&self) -> u64
         ensures { result ≡ min (counted_at (λ ports. loans_left ports) self.now) (2 ^ 64 - 1) }
     {
@@ -86,6 +90,7 @@ impl<T: Copy, U: Copy, B, D> Presence<T, U, B, D> {
     }
 
     /// How many samples the subscribers of the domain may hold at once; none where it is out. Past 2^64 - 1 it is that.
+    /// Example: `let samples = presence.samples_at_most();`
     pub fn samples_at_most(&self) -> u64
         ensures { result ≡ min (counted_at (λ ports. samples_at_most ports) self.now) (2 ^ 64 - 1) }
     {

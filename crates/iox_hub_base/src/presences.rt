@@ -42,6 +42,7 @@ impl<T: Copy, U: Copy, B: Drop, D: Drop> Presences<T, U, B, D> {
     }
 
     /// What is open under a number, if anything is.
+    /// Example: `let presence = presences.get(number)?;`
     pub fn get(&self, number: u64) -> Option<&Presence<T, U, B, D>>
         ensures { option_copied result ≡ presence_of number self.now }
     {
@@ -49,6 +50,7 @@ impl<T: Copy, U: Copy, B: Drop, D: Drop> Presences<T, U, B, D> {
     }
 
     /// What is open under a number, if anything is, to be changed in its place.
+    /// Example: `let presence = presences.get_mut(number)?;`
     pub fn get_mut(&mut self, number: u64) -> Option<&mut Presence<T, U, B, D>>
         ensures* writes_back { sem 𝓛 (LendsPresence T.row U.row B.row D.row self.entry number result) }
         ensures value { option_copied_mut result ≡ presence_of number self.old }
@@ -57,6 +59,7 @@ impl<T: Copy, U: Copy, B: Drop, D: Drop> Presences<T, U, B, D> {
     }
 
     /// The domain under a number, if it is here.
+    /// Example: `let domain = presences.domain(number)?;`
     pub fn domain(&self, number: u64) -> Option<&Domain<T, U, B, D>>
         ensures { option_copied result ≡ domain_of number self.now }
     {
@@ -64,6 +67,7 @@ impl<T: Copy, U: Copy, B: Drop, D: Drop> Presences<T, U, B, D> {
     }
 
     /// The domain under a number, if it is here, to be changed in its place.
+    /// Example: `let domain = presences.domain_mut(number)?;`
     pub fn domain_mut(&mut self, number: u64) -> Option<&mut Domain<T, U, B, D>>
         ensures* writes_back { sem 𝓛 (LendsDomainOf T.row U.row B.row D.row self.entry number result) }
         ensures value { option_copied_mut result ≡ domain_of number self.old }
@@ -75,6 +79,7 @@ impl<T: Copy, U: Copy, B: Drop, D: Drop> Presences<T, U, B, D> {
     }
 
     /// How many loans the publishers of all domains that are here may still make. Past 2^64 - 1 it is that.
+    /// Example: `let loans = presences.loans_left();`
     pub fn loans_left(&self) -> u64
         ensures { result ≡ min (loans_left_in self.now) (2 ^ 64 - 1) }
     {
@@ -87,6 +92,7 @@ impl<T: Copy, U: Copy, B: Drop, D: Drop> Presences<T, U, B, D> {
     }
 
     /// How many samples the subscribers of all domains that are here may hold at once. Past 2^64 - 1 it is that.
+    /// Example: `let samples = presences.samples_at_most();`
     pub fn samples_at_most(&self) -> u64
         ensures { result ≡ min (samples_at_most_in self.now) (2 ^ 64 - 1) }
     {
@@ -99,6 +105,7 @@ impl<T: Copy, U: Copy, B: Drop, D: Drop> Presences<T, U, B, D> {
     }
 
     /// Something else is under a number, if something is open under it. It takes no memory.
+    /// Example: `presences.replace(number, Presence::Out(agreed));`
     pub fn replace(&mut self, number: u64, presence: Presence<T, U, B, D>)
         ensures { self.new ≡ with_presence number self.old presence }
     {
@@ -109,6 +116,7 @@ impl<T: Copy, U: Copy, B: Drop, D: Drop> Presences<T, U, B, D> {
 
     /// A service opens under a number, in the place of one that had it. It fails only where an allocation fails, and then nothing has
     /// changed.
+    /// Example: `presences.insert(alloc, number, Presence::Here(domain))?;`
     pub fn insert(
         &mut self,
         alloc: Global,
@@ -122,6 +130,7 @@ impl<T: Copy, U: Copy, B: Drop, D: Drop> Presences<T, U, B, D> {
     }
 
     /// Nothing is open under a number any longer. The other numbers have what they had.
+    /// Example: `presences.remove(number);`
     pub fn remove(&mut self, number: u64)
         ensures new { self.new ≡ closed number self.old }
         ensures gone { presence_of number self.new ≡ None }

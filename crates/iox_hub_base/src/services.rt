@@ -49,6 +49,7 @@ impl<T: Copy, U: Copy, B: Drop, D: Drop> Services<T, U, B, D> {
     }
 
     /// Whether a service of this number is open: it was opened and not closed, be its domain here or out.
+    /// Example: `let is_open = services.is_open(number);`
     pub fn is_open(&self, number: u64) -> bool
         ensures { result ≡ is_open number self.now }
     {
@@ -56,6 +57,7 @@ impl<T: Copy, U: Copy, B: Drop, D: Drop> Services<T, U, B, D> {
     }
 
     /// The domain of a service, if it is here. It is of this hub and number.
+    /// Example: `let domain = services.domain(number)?;`
     pub fn domain(&self, number: u64) -> Option<&Domain<T, U, B, D>>
         ensures value { option_copied result ≡ domain_of number self.now.domains }
         ensures own { IfSome result (λ domain. domain.now.id ≡ record { hub = self.now.hub; service = number }) }
@@ -64,6 +66,7 @@ impl<T: Copy, U: Copy, B: Drop, D: Drop> Services<T, U, B, D> {
     }
 
     /// How many loans the publishers of all domains that are here may still make, beside those that are out. Past 2^64 - 1 it is that.
+    /// Example: `let loans = services.loans_left();`
     pub fn loans_left(&self) -> u64
         ensures { result ≡ min (loans_left_in self.now.domains) (2 ^ 64 - 1) }
     {
@@ -71,6 +74,7 @@ impl<T: Copy, U: Copy, B: Drop, D: Drop> Services<T, U, B, D> {
     }
 
     /// How many samples the subscribers of all domains that are here may hold at once. Past 2^64 - 1 it is that.
+    /// Example: `let samples = services.samples_at_most();`
     pub fn samples_at_most(&self) -> u64
         ensures { result ≡ min (samples_at_most_in self.now.domains) (2 ^ 64 - 1) }
     {
@@ -79,6 +83,7 @@ impl<T: Copy, U: Copy, B: Drop, D: Drop> Services<T, U, B, D> {
 
     /// Nothing is open under a number any longer: a domain that was here is dropped with its ports. The other services stay as they were.
     /// It takes no memory.
+    /// Example: `services.close(number);`
     pub fn close(&mut self, number: u64)
         ensures new { self.new ≡ without_service number self.old }
         ensures gone { presence_of number self.new.domains ≡ None }

@@ -19,6 +19,7 @@ pub enum TakeError {
 
 impl TakeError {
     /// What it displays as.
+    /// Example: `let text = TakeError::DomainIsOut.text();`
     pub fn text(&self) -> &'static str
         ensures { result.now ≡ take_text self.now }
     {
@@ -38,6 +39,7 @@ pub struct DomainIsForeign<X> {
 
 impl<X> DomainIsForeign<X> {
     /// What it displays as.
+    /// Example: `let text = foreign.text();`
     pub fn text(&self) -> &'static str
         ensures { result.now ≡ foreign_text }
     {
@@ -90,6 +92,7 @@ impl<T: Copy, U: Copy, B: Drop, D: Drop> Services<T, U, B, D> {
     }
 
     /// Whether a domain would be put back: it is of this hub, and under the number of its service one is out of which just this is agreed.
+    /// Example: `let is_awaited = services.awaits(&domain);`
     pub fn awaits(&self, domain: &Domain<T, U, B, D>) -> bool
         ensures { IsTrue result ↔ IsAwaited domain.now self.now }
     {

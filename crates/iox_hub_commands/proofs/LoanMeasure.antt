@@ -12,7 +12,7 @@ module _ {T U : Type 0} where
   few call old new happens = (loans_left_by_calls AnySlots AnyAction AnyDecision).goes_on call old new happens
 
   pub less_left : (call : PortCall T U) (old new : ServicePorts T U) → Happens AnySlots AnyAction AnyDecision call old new
-      → loans_left new + taken_by 1 0 call ≤ loans_left old + given_by 1 0 call + brought_by (λ config. config.max_loaned_samples) (λ sizes. 0) call old
+      → loans_left new + taken_by 1 0 call ≤ loans_left old + given_by 1 0 call + brought_by (λ config ports. config.max_loaned_samples) (λ ports. 0) call old
   less_left (PublisherComes config user_header (Ok number)) old new happens = omega (arith, few (PublisherComes config user_header (Ok number)) old new happens)
   less_left (PublisherComes config user_header (Err error)) old new happens = omega (arith, few (PublisherComes config user_header (Err error)) old new happens)
   less_left (SubscriberComes owner buffer_size (Ok number)) old new happens = omega (arith, few (SubscriberComes owner buffer_size (Ok number)) old new happens)
@@ -45,8 +45,8 @@ module _ {T U : Type 0} where
     Fine = λ ports. Unit {0};
     loan = 1;
     sample = 0;
-    brings = λ config. config.max_loaned_samples;
-    holds = λ sizes. 0;
+    brings = λ config ports. config.max_loaned_samples;
+    holds = λ ports. 0;
     begins = λ service sizes. tt;
     nothing = λ service sizes. refl;
     goes_on = λ call old new happens fine. tt;

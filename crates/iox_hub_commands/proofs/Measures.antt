@@ -75,9 +75,9 @@ module _ {T U : Type 0} where
   given_by loan sample call = 0
 
   -- what a port brings that comes by a call
-  abbrev pub brought_by : (PublisherConfig → ℕ) → (ServiceSizes → ℕ) → PortCall T U → ServicePorts T U → ℕ
-  brought_by brings holds (PublisherComes config user_header answer) ports = came (brings config) answer
-  brought_by brings holds (SubscriberComes owner buffer_size answer) ports = came (holds ports.sizes) answer
+  abbrev pub brought_by : (PublisherConfig → ServicePorts T U → ℕ) → (ServicePorts T U → ℕ) → PortCall T U → ServicePorts T U → ℕ
+  brought_by brings holds (PublisherComes config user_header answer) ports = came (brings config ports) answer
+  brought_by brings holds (SubscriberComes owner buffer_size answer) ports = came (holds ports) answer
   brought_by brings holds call ports = 0
 
 -- Something is counted of the ports of a service, of which each call takes no less than it gives and brings.
@@ -85,11 +85,11 @@ pub record Measure (T U : Type 0) : Type 1 where
   pub count : ServicePorts T U → ℕ
   -- what holds of the ports throughout
   pub Fine : ServicePorts T U → Type 0
-  -- how much a loan counts, a sample, a publisher that comes, and a subscriber
+  -- how much a loan counts, a sample, a publisher that comes to these ports, and a subscriber
   pub loan : ℕ
   pub sample : ℕ
-  pub brings : PublisherConfig → ℕ
-  pub holds : ServiceSizes → ℕ
+  pub brings : PublisherConfig → ServicePorts T U → ℕ
+  pub holds : ServicePorts T U → ℕ
   pub begins : (service : ℕ) (sizes : ServiceSizes) → Fine (no_ports service sizes)
   pub nothing : (service : ℕ) (sizes : ServiceSizes) → count (no_ports service sizes) ≡ 0
   pub goes_on : (call : PortCall T U) (old new : ServicePorts T U) → Happens AnySlots AnyAction AnyDecision call old new → Fine old → Fine new

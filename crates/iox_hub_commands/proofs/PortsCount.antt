@@ -142,7 +142,12 @@ module _ {T U : Type 0} (m : Measure T U) where
   -- what a subscriber brings to a service, if that is here
   abbrev pub held_at : Option (ServicePorts T U) → ℕ
   held_at None = 0
-  held_at (Some ports) = m.holds ports.sizes
+  held_at (Some ports) = m.holds ports
+
+  -- and what a publisher brings
+  abbrev pub brought_at : PublisherConfig → Option (ServicePorts T U) → ℕ
+  brought_at config None = 0
+  brought_at config (Some ports) = m.brings config ports
 
 module _ {T U B D : Type 0} (m : Measure T U) where
   -- what is counted and what goes by numbers is together no more than it was and is brought
@@ -383,14 +388,15 @@ module _ {T U B D : Type 0} (m : Measure T U) where
       balanced 0 0 0 made after old new (omega (arith, even)) (at_port_if (SubscriberGoes hub_ports with_hub_ports without_hub_subscriber) subscriber_goes (value_at made.subscribers number) old new done at)
 
   pub publisher_balances : (degrades : B → DegradationCause → DegradationInfo → DegradationAction → Type 0) (is_default : U → Type 0) (domain : DomainId) (config : PublisherConfig) (slots : Option ℕ) (handlers : B) (made after : Made) (old new : Hub T U B D) (answer : Reply T)
-      → PublisherStep hub_ports with_hub_ports with_hub_publisher degrades is_default domain config slots handlers made old answer after new → Balances (m.brings config) made old after new
+      → PublisherStep hub_ports with_hub_ports with_hub_publisher degrades is_default domain config slots handlers made old answer after new → Balances (brought_at m config (hub_ports domain old)) made old after new
   publisher_balances degrades is_default domain config slots handlers made after old new answer (user_header, is_header, came, (roomier, is_roomier, (outcome, comes, numbers)), is) =
       let even = roomier_weight m.loan m.sample made roomier is_roomier in
       let still = publisher_numbered m.loan m.sample domain true made.publishers.next outcome came roomier after numbers in
-      balanced (m.brings config) 0 (m.brings config) made after old new (omega (arith, even, still))
-      (makes_counts m (m.brings config) domain (λ number. with_hub_publisher domain number handlers) (steps.PublisherComes (λ worst_case named. named ≡ unwrap_or slots worst_case) (degrades handlers FailedToEstablishConnection) config user_header) (steps.why_no_publisher config)
+      let brings = brought_at m config (hub_ports domain old) in
+      balanced brings 0 brings made after old new (omega (arith, even, still))
+      (makes_counts m brings domain (λ number. with_hub_publisher domain number handlers) (steps.PublisherComes (λ worst_case named. named ≡ unwrap_or slots worst_case) (degrades handlers FailedToEstablishConnection) config user_header) (steps.why_no_publisher config)
       (λ number hub. keep_counts m domain (publisher_kept number handlers) (λ one. refl) hub) (hub_ports domain old)
-      (λ ports later number there does. steps_as m 0 (0 + m.brings config) 0 (m.brings config) ports later (omega arith)
+      (λ ports later number there does. let own : m.brings config ports ≡ brings = ap (brought_at m config) (sym there) in steps_as m 0 (0 + m.brings config ports) 0 brings ports later (omega (arith, own))
       (call_steps m (calls.PublisherComes config user_header (Ok number)) ports later (loosened (λ worst_case named. named ≡ unwrap_or slots worst_case) (degrades handlers FailedToEstablishConnection) AnyDecision (calls.PublisherComes config user_header (Ok number)) ports later does)))
       old new outcome refl comes)
 
@@ -403,6 +409,6 @@ module _ {T U B D : Type 0} (m : Measure T U) where
       balanced brings 0 brings made after old new (omega (arith, even, still))
       (makes_counts m brings domain (λ number. with_hub_subscriber domain number handler) (steps.SubscriberComes (degrades handler FailedToEstablishConnection) config) (steps.why_no_subscriber config)
       (λ number hub. keep_counts m domain (subscriber_kept number handler) (λ one. refl) hub) (hub_ports domain old)
-      (λ ports later number there does. let own : m.holds ports.sizes ≡ brings = ap (held_at m) (sym there) in steps_as m 0 (0 + m.holds ports.sizes) 0 brings ports later (omega (arith, own))
+      (λ ports later number there does. let own : m.holds ports ≡ brings = ap (held_at m) (sym there) in steps_as m 0 (0 + m.holds ports) 0 brings ports later (omega (arith, own))
       (call_steps m (calls.SubscriberComes config.owner config.buffer_size (Ok number)) ports later (loosened AnySlots (degrades handler FailedToEstablishConnection) AnyDecision (calls.SubscriberComes config.owner config.buffer_size (Ok number)) ports later does)))
       old new outcome refl comes)

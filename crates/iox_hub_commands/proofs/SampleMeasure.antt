@@ -1,7 +1,7 @@
 -- The samples that may still come are a measure: each that comes takes one, and one that is released gives one.
 use Rattle.std.proofs.Common.{arith, ◌+◌, ◌≤◌, true, false, None, Some, Ok, Err, refl}
 use Rattle.iox_domain.specs.Roomy.{AreRoomy}
-use Rattle.iox_domain.specs.Samples.{samples_left, received_by, released_by, held_by_one, brought_by as sample_room}
+use Rattle.iox_domain.specs.Samples.{samples_left, received_by, released_by, held_by_one, held_of_one, brought_by as sample_room}
 use Rattle.iox_domain.proofs.LessLeft.{less_left}
 use Rattle.iox_domain.proofs.StayRoomy.{new_roomy, stay_roomy}
 use Rattle.iox_delivery.specs.Domain.Calls.{PortCall, PublisherComes, SubscriberComes, Lends, Writes, GivesLoanUp, PublisherUpdates, Sends, Retries, GivesSendUp, PublisherLeaves, SubscriberUpdates, AsksForSamples, Receives, Releases, SubscriberLeaves, Happens}
@@ -14,7 +14,7 @@ module _ {T U : Type 0} where
   few call old new happens roomy = less_left AnySlots AnyAction AnyDecision call old new happens roomy
 
   pub samples_less : (call : PortCall T U) (old new : ServicePorts T U) → Happens AnySlots AnyAction AnyDecision call old new → AreRoomy old
-      → samples_left new + taken_by 0 1 call ≤ samples_left old + given_by 0 1 call + brought_by (λ config. 0) (λ sizes. held_by_one sizes) call old
+      → samples_left new + taken_by 0 1 call ≤ samples_left old + given_by 0 1 call + brought_by (λ config ports. held_of_one ports) (λ ports. held_by_one ports) call old
   samples_less (PublisherComes config user_header (Ok number)) old new happens roomy = omega (arith, few (PublisherComes config user_header (Ok number)) old new happens roomy)
   samples_less (PublisherComes config user_header (Err error)) old new happens roomy = omega (arith, few (PublisherComes config user_header (Err error)) old new happens roomy)
   samples_less (SubscriberComes owner buffer_size (Ok number)) old new happens roomy = omega (arith, few (SubscriberComes owner buffer_size (Ok number)) old new happens roomy)
@@ -47,8 +47,8 @@ module _ {T U : Type 0} where
     Fine = λ ports. AreRoomy ports;
     loan = 0;
     sample = 1;
-    brings = λ config. 0;
-    holds = λ sizes. held_by_one sizes;
+    brings = λ config ports. held_of_one ports;
+    holds = λ ports. held_by_one ports;
     begins = λ service sizes. new_roomy AnySlots AnyAction AnyDecision service sizes;
     nothing = λ service sizes. refl;
     goes_on = λ call old new happens roomy. stay_roomy AnySlots AnyAction AnyDecision call old new happens roomy;

@@ -1,5 +1,6 @@
 -- A call at a number that stands for nothing is skipped, whatever memory there is.
-use Rattle.std.proofs.Common.{arith, ◌≡◌, ◌≤◌, ℕ, Option, None, Ok, refl}
+use Rattle.std.proofs.Common.{arith, ◌≡◌, ◌≤◌, ℕ, Option, None, Some, Result, Ok, Err, refl}
+use Rattle.std.specs.Prelude.{IsSome, OnErr}
 use Rattle.iox_delivery.specs.DomainValues.declared.degradation.DegradationAction.{DegradationAction}
 use Rattle.iox_delivery.specs.DomainValues.declared.degradation.DegradationInfo.{DegradationInfo}
 use Rattle.iox_delivery.specs.Domain.declared.ports.service_ports.ServicePorts.{ServicePorts}
@@ -29,3 +30,17 @@ module _ {T U H : Type 0} (ports_of : DomainId → H → Option (ServicePorts T 
   pub skips_receive : (degrades : DomainId → ℕ → H → DegradationInfo → DegradationAction → Type 0) (port : Option PortId) → port ≡ None
       → GrowsFirst is_full (ReceivesNumbered ports_of with_ports degrades port) made home (Ok None) made home
   skips_receive degrades port none = (made, same_room made, (None, rw none (refl, refl), (refl, refl)))
+
+-- where a call isn't skipped that is where nothing is found, something is
+pub found_else_skipped : {A B E : Type 0} (found : Option A) (error : E) (skipped : B) → (found ≡ None → Err error ≡ Ok skipped) → IsSome found
+found_else_skipped None error skipped skips = cc (skips refl)
+found_else_skipped (Some value) error skipped skips = refl
+
+pub found_else_none : {A B E : Type 0} (found : Option A) (result : Result (Option B) E) (some : B) → (found ≡ None → result ≡ Ok None) → result ≡ Ok (Some some) → IsSome found
+found_else_none None result some skips is = cc (skips refl, is)
+found_else_none (Some value) result some skips is = refl
+
+-- what holds holds where a call fails
+pub where_it_fails : {A E : Type 0} {P : Type 0} (result : Result A E) → P → OnErr result P
+where_it_fails (Ok value) holds = tt
+where_it_fails (Err error) holds = holds

@@ -1,9 +1,9 @@
 -- Room that is made when ports come: no loan of a publisher that is there lacks memory for its number, and no sample that comes
 -- to a subscriber.
-use Rattle.std.specs.Prelude.{ℕ, ◌≡◌, ◌+◌, ◌<◌, ◌⊎◌, [], length, Option, None, Some}
+use Rattle.std.specs.Prelude.{ℕ, ◌≡◌, ◌+◌, ◌<◌, ◌≤◌, ◌⊎◌, [], length, Option, None, Some, IsSome}
 use Rattle.iox_command.specs.declared.command.Command.{Command}
 use Rattle.iox_command.specs.declared.command.Command.TheVariants as command
-use Rattle.iox_domain.specs.Samples.{held_by_one}
+use Rattle.iox_domain.specs.Samples.{held_by_one, held_of_one}
 use Rattle.iox_delivery.specs.Domain.declared.domain_id.DomainId.{DomainId}
 use Rattle.iox_delivery.specs.Domain.declared.ports.service_ports.ServicePorts.{ServicePorts}
 use Rattle.iox_hub_commands.specs.Reading.{values_under}
@@ -11,7 +11,9 @@ use Rattle.iox_hub_commands.specs.Messages.{SomeValues}
 use Rattle.iox_hub_base.specs.AsHome.{hub_ports}
 use Rattle.iox_hub_base.specs.Room.{loans_left_in, samples_left_in}
 use Rattle.iox_delivery.specs.Container.NumberTable.{NumberTable, value_at}
+use Rattle.iox_hub_commands.specs.Calls.{ready}
 use Rattle.iox_hub_commands.specs.Grown.{HaveGrown}
+use Rattle.iox_hub_commands.specs.Tables.{lender}
 use Rattle.iox_hub_commands.specs.declared.numbered_hub.NumberedHub.{NumberedHub}
 
 -- This holds of a command by which a port comes; of others nothing is said.
@@ -20,31 +22,53 @@ OfPorts Holds (command.Publisher factory options) = Holds
 OfPorts Holds (command.Subscriber factory options) = Holds
 OfPorts Holds other = Unit {0}
 
+-- This holds of a command by which no port comes; of the two others nothing is said.
+abbrev pub OfOthers : {T : Type 0} → Type 0 → Command T → Type 0
+OfOthers Holds (command.Publisher factory options) = Unit {0}
+OfOthers Holds (command.Subscriber factory options) = Unit {0}
+OfOthers Holds other = Holds
+
 -- There is room in a table for what stands there, for so much more, and for one beside that.
 abbrev pub FitsBeside : {V : Type 0} → ℕ → NumberTable V → Type 0
 FitsBeside more table = length table.entries + more < table.room
 
--- Where something stands in a table, there is room in another for so much more.
-abbrev pub FitsIfSome : {V W : Type 0} → NumberTable V → ℕ → NumberTable W → Type 0
-FitsIfSome ports more table = (ports.entries ≡ []) ⊎ FitsBeside more table
+-- What is pledged of a table is enough for what stands there and for so much more, and there is room for it, and for one beside.
+abbrev pub Pledges : {V : Type 0} → ℕ → ℕ → NumberTable V → Type 0
+Pledges more pledged table = (length table.entries + more ≤ pledged) × (pledged < table.room)
 
--- how many samples a subscriber of a service may hold at once, if that is here
+-- What is pledged of a table is enough for what stands there and for so much more; and where something stands in another table,
+-- there is room for it, and for one beside.
+abbrev pub IsPledged : {V W : Type 0} → NumberTable V → ℕ → ℕ → NumberTable W → Type 0
+IsPledged ports more pledged table = (length table.entries + more ≤ pledged) × ((ports.entries ≡ []) ⊎ (pledged < table.room))
+
+-- how many samples a subscriber that comes to a service may hold at once, if that is here
 abbrev pub most_samples : {T U : Type 0} → Option (ServicePorts T U) → ℕ
 most_samples None = 0
-most_samples (Some ports) = held_by_one ports.sizes
+most_samples (Some ports) = held_by_one ports
+
+-- how many samples of a publisher that comes to a service may be held at once, if that is here
+abbrev pub most_samples_of : {T U : Type 0} → Option (ServicePorts T U) → ℕ
+most_samples_of None = 0
+most_samples_of (Some ports) = held_of_one ports
 
 module _ {T U B D : Type 0} where
-  -- how many samples a subscriber of a domain may hold at once
+  -- how many samples a subscriber that comes to a domain may hold at once
   abbrev pub most_samples_at : DomainId → NumberedHub T U B D → ℕ
   most_samples_at domain hub = most_samples (hub_ports domain hub.hub)
 
-  -- Where publishers are there, there is room for the numbers of the loans that are out, of all that they may still make, and of one more.
-  abbrev pub HasLoanRoom : NumberedHub T U B D → Type 0
-  HasLoanRoom hub = FitsIfSome hub.made.publishers (loans_left_in hub.hub.services.domains) hub.made.loans
+  -- how many of a publisher that comes to it may be held at once
+  abbrev pub most_samples_from : DomainId → NumberedHub T U B D → ℕ
+  most_samples_from domain hub = most_samples_of (hub_ports domain hub.hub)
 
-  -- Where subscribers are there, there is room for the numbers of the samples that are held, of all that may still come, and of one more.
+  -- As many numbers are pledged as the loans that are out, and all that publishers may still make; and where publishers are there, there
+  -- is room for these, and for one more.
+  abbrev pub HasLoanRoom : NumberedHub T U B D → Type 0
+  HasLoanRoom hub = IsPledged hub.made.publishers (loans_left_in hub.hub.services.domains) hub.pledged.loans hub.made.loans
+
+  -- As many numbers are pledged as the samples that are held, and all that may still come; and where subscribers are there, there is
+  -- room for these, and for one more.
   abbrev pub HasSampleRoom : NumberedHub T U B D → Type 0
-  HasSampleRoom hub = FitsIfSome hub.made.subscribers (samples_left_in hub.hub.services.domains) hub.made.samples
+  HasSampleRoom hub = IsPledged hub.made.subscribers (samples_left_in hub.hub.services.domains) hub.pledged.samples hub.made.samples
 
   -- The ports that are there have room.
   abbrev pub HasRoom : NumberedHub T U B D → Type 0
@@ -59,12 +83,17 @@ module _ {T U B D : Type 0} where
   CameUnread old new = (new.made.samples.next ≡ old.made.samples.next + 1)
       × SomeValues (values_under hub_ports (value_at new.made.samples old.made.samples.next) new.hub)
 
-  -- What a command that isn't replied to lacked memory for, where the ports that are there have room: one that lends for the
-  -- number of a loan, but only where no publisher is there; one that receives for the number of a sample, where no subscriber is
-  -- there, or for the values of the sample that came; one that reads for values. Each other command is replied to.
+  -- The publisher that a command lends of may lend what it names, and the subscriber that one receives by is there; of other commands
+  -- nothing is said.
+  abbrev pub FindsPort : Command T → NumberedHub T U B D → Type 0
+  FindsPort (command.Loan publisher elements) hub = IsSome (ready hub_ports (lender elements (value_at hub.made.publishers publisher)) hub.hub)
+  FindsPort (command.LoanUninit publisher elements) hub = IsSome (lender elements (value_at hub.made.publishers publisher))
+  FindsPort (command.Receive subscriber) hub = IsSome (value_at hub.made.subscribers subscriber)
+  FindsPort other hub = Unit {0}
+
+  -- What a command that isn't replied to lacked memory for, where the ports that are there have room: one that receives for the
+  -- values of the sample that came; one that reads for values. Each other command is replied to.
   abbrev pub LacksInRoom : Command T → NumberedHub T U B D → NumberedHub T U B D → Type 0
-  LacksInRoom (command.Loan publisher elements) old new = old.made.publishers.entries ≡ []
-  LacksInRoom (command.LoanUninit publisher elements) old new = old.made.publishers.entries ≡ []
-  LacksInRoom (command.Receive subscriber) old new = (old.made.subscribers.entries ≡ []) ⊎ CameUnread old new
+  LacksInRoom (command.Receive subscriber) old new = CameUnread old new
   LacksInRoom (command.Read sample) old new = Unit {0}
   LacksInRoom other old new = ⊥

@@ -1,6 +1,6 @@
 //! The commands that lend, and the one that sends values at once, over the tables of what goes by numbers and any home.
 ghost use Rattle.iox_domain.specs.Homes as homes;
-ghost use Rattle.std.specs.Prelude.{◌≡◌, ◌+◌, ◌<◌, ◌^◌, None, Ok};
+ghost use Rattle.std.specs.Prelude.{◌≡◌, ◌+◌, ◌<◌, ◌^◌, IsSome, None, Ok, OnErr};
 ghost use Rattle.iox_command.specs.declared.reply.Reply.TheVariants as reply;
 ghost use Rattle.iox_container.specs.NumberTable.{value_at};
 ghost use Rattle.iox_hub_commands.specs.Calls.{ready};
@@ -29,6 +29,7 @@ pub fn loan_uninit<T: Copy, U: Copy, H: Home<T, U>>(
     ensures lends { LoanUninitStep (homes.ports_of H.domain_of) (homes.with_ports H.changed) publisher elements made.old home.old result
         made.new home.new }
     ensures skips { lender elements (value_at made.old.publishers publisher) ≡ None → result ≡ Ok reply.Skipped }
+    ensures lacks { OnErr result (IsSome (lender elements (value_at made.old.publishers publisher))) }
 {
     match made.loan_uninit_growing(alloc, home, publisher, elements) {
         Ok(lent) => Ok(loan_reply(lent)),
@@ -53,6 +54,8 @@ pub fn loan<T: Copy + Default, U: Copy, H: Home<T, U>>(
         result made.new home.new }
     ensures skips { ready (homes.ports_of H.domain_of) (lender elements (value_at made.old.publishers publisher)) home.old ≡ None
         → result ≡ Ok reply.Skipped }
+    ensures lacks { OnErr result
+        (IsSome (ready (homes.ports_of H.domain_of) (lender elements (value_at made.old.publishers publisher)) home.old)) }
 {
     match made.loan_growing(alloc, home, publisher, elements, T::default()) {
         Ok(lent) => Ok(loan_reply(lent)),

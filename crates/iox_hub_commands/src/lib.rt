@@ -16,10 +16,10 @@
 //! | `following` | ports follow the list of the others, say whether messages wait, and leave |
 //! | `numbered_hub` | the hub with what was made in it |
 //! | `service_step` | the commands on nodes and services |
-//! | `room_arriving` | ports come, once there is room for the numbers of their loans and samples |
+//! | `room_arriving` | ports come, once the numbers of their loans and samples are pledged |
 //! | `step` | one command, and its reply |
 //! | `port_step` | one command of a port, and its reply |
-//! | `room` | room for the numbers of what a list of commands may make, and of the loans and samples that ports may have |
+//! | `room` | numbers of loans and samples that are pledged to ports, and room for them |
 //! | `run` | a list of commands |
 //! | `laws` | what it comes to that each service has one agreement |
 //!

@@ -6,6 +6,7 @@ ghost use Rattle.iox_hub_commands.specs.Lives.{NumbersRise};
 ghost use Rattle.iox_hub_commands.specs.Numbers.{IsNew, numbers_used};
 ghost use Rattle.iox_hub_commands.specs.PortRoom.{HasRoom};
 
+use crate::room::Pledged;
 use crate::services::{Factories, Hub, HubConfig};
 use crate::{FixedDegradation, FixedHandlers, Made};
 use std::alloc::Global;
@@ -22,6 +23,8 @@ pub struct NumberedHub<T, U, B = FixedHandlers, D = FixedDegradation> {
     pub factories: Factories,
     /// The ports that didn't leave, the loans that are out, the samples that are held.
     pub made: Made,
+    /// How many numbers are pledged to ports.
+    pub pledged: Pledged,
 }
 
 impl<T: Copy, U: Copy, B: Drop, D: Drop> NumberedHub<T, U, B, D> {
@@ -39,6 +42,10 @@ impl<T: Copy, U: Copy, B: Drop, D: Drop> NumberedHub<T, U, B, D> {
             hub: Hub::new(alloc, config),
             factories: Factories::new(alloc),
             made: Made::new(alloc),
+            pledged: Pledged {
+                loans: 0,
+                samples: 0,
+            },
         }
     }
 }

@@ -1,5 +1,5 @@
 //! One command of a port, and its reply.
-ghost use Rattle.std.specs.Prelude.{◌+◌, ◌<◌, ◌≤◌, ◌^◌, OnErr};
+ghost use Rattle.std.specs.Prelude.{◌≡◌, ◌+◌, ◌<◌, ◌≤◌, ◌^◌, OnErr};
 ghost use Rattle.iox_command.specs.Ports.{command_of};
 ghost use Rattle.iox_delivery.specs.DescribeBase.Detail.{detail};
 ghost use Rattle.iox_delivery.specs.DescribeBase.declared.type_detail.TypeVariant.TheVariants.{FixedSize};
@@ -8,7 +8,7 @@ ghost use Rattle.iox_hub_commands.specs.Agreements.{AreOfOneAgreement};
 ghost use Rattle.iox_hub_commands.specs.Grown.{GrowsOn, HaveGrown, AreAsAgreed, OneDomainMoves};
 ghost use Rattle.iox_hub_commands.specs.Lives.{ChangesOneThing};
 ghost use Rattle.iox_hub_commands.specs.Numbers.{numbers_used};
-ghost use Rattle.iox_hub_commands.specs.PortRoom.{HasRoom, KeepsRoom, LacksInRoom};
+ghost use Rattle.iox_hub_commands.specs.PortRoom.{FindsPort, HasRoom, KeepsRoom, LacksInRoom};
 ghost use Rattle.iox_hub_commands.specs.CommandSteps.{Step};
 
 use crate::numbered_hub::NumberedHub;
@@ -45,6 +45,7 @@ impl<
             → AreOfOneAgreement self.new.factories.made self.new.hub }
         ensures apart { OneDomainMoves self.old.hub self.new.hub }
         ensures room { KeepsRoom self.old self.new }
+        ensures finds { OnErr result (FindsPort (command_of command.entry) self.old) }
         ensures lacks { HasRoom self.old → OnErr result (LacksInRoom (command_of command.entry) self.old self.new) }
     {
         self.carry_out_port(alloc, command)
@@ -57,7 +58,9 @@ impl<
         command: PortCommand<T>,
     ) -> Result<Reply<T>, AllocError>
         requires { numbers_used self.old + 1 < 2 ^ 64 }
-        ensures { Step (detail FixedSize T.name T.size T.alignment) (detail FixedSize U.name U.size U.alignment)
+        ensures pledged { self.new.pledged ≡ self.old.pledged }
+        ensures finds { OnErr result (FindsPort (command_of command.entry) self.old) }
+        ensures steps { Step (detail FixedSize T.name T.size T.alignment) (detail FixedSize U.name U.size U.alignment)
             (types_of T.name T.size T.alignment U.name U.size U.alignment) T.is_default U.is_default B.fixed
             (λ handlers. B.degrades handlers) (λ handlers. B.decides handlers) D.fixed (λ handler. D.degrades handler)
             (command_of command.entry) self.old result self.new }

@@ -1,6 +1,6 @@
 //! The command that receives, over the tables of what goes by numbers and any home.
 ghost use Rattle.iox_domain.specs.Homes as homes;
-ghost use Rattle.std.specs.Prelude.{◌≡◌, ◌+◌, ◌<◌, ◌^◌, IsSome, None, Ok};
+ghost use Rattle.std.specs.Prelude.{◌≡◌, ◌+◌, ◌<◌, ◌^◌, IsSome, None, Ok, OnErr};
 ghost use Rattle.iox_command.specs.declared.reply.Reply.TheVariants as reply;
 ghost use Rattle.iox_hub_commands.specs.Receiving.{IsShown, ReceiveStep};
 ghost use Rattle.iox_hub_commands.specs.Reading.{values_under};
@@ -30,6 +30,7 @@ pub fn receive<T: Copy, U: Copy, H: Home<T, U>>(
         (homes.subscriber_degrades (λ kept. H.ForSubscribers.degrades kept) H.domain_of) subscriber made.old home.old result made.new
         home.new }
     ensures skips { value_at made.old.subscribers subscriber ≡ None → result ≡ Ok reply.Skipped }
+    ensures lacks { OnErr result (IsSome (value_at made.old.subscribers subscriber)) }
 {
     let sample = made.samples.next_number();
     match made.receive_growing(alloc, home, subscriber) {

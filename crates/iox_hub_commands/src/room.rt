@@ -1,71 +1,34 @@
-//! Room for the numbers of loans and samples, which a run makes before its first command, and a port that comes.
-ghost use Rattle.std.specs.Prelude.{◌≡◌, ◌+◌, ◌-◌, ◌^◌, ◌≤◌, ◌<◌, length, min, IsOk, OnOk, OnErr};
+//! Room for the numbers of loans and samples, which a port makes that comes.
+ghost use Rattle.std.specs.Prelude.{◌≡◌, ◌+◌, ◌-◌, ◌^◌, ◌≤◌, ◌<◌, length, min, IfSome, IfOk, IsOk, OnOk, OnErr};
 ghost use Rattle.iox_hub_commands.specs.Tables.{SameNumbers};
 ghost use Rattle.iox_hub_base.specs.Room.{loans_left_in, samples_left_in, samples_at_most_in};
-ghost use Rattle.iox_hub_commands.specs.PortRoom.{FitsBeside, most_samples_at};
-ghost use Rattle.iox_hub_commands.specs.Room.{loans_of, samples_of, loans_in, samples_in, FitsMore, FitsAll, OnlyRoomier};
+ghost use Rattle.iox_hub_commands.specs.PortRoom.{FitsBeside, Pledges, HasLoanRoom, HasSampleRoom, KeepsRoom, most_samples_at, most_samples_from};
+ghost use Rattle.iox_hub_commands.specs.Room.{FitsMore, OnlyRoomier};
 
 use crate::numbered_hub::NumberedHub;
-use iox_command::Command;
 use iox_container::by_number::Numbered;
-use iox_domain::allowances::samples::held_by_one;
+use iox_domain::allowances::samples::{held_by_one, held_of_one};
 use iox_domain::{DomainId, calls};
 use iox_domain_values::{Decides, Degrades};
 use std::alloc::AllocError;
 
-/// How many loans get a number by a command, at most.
-/// Example: `let loans = loans_of(&command);`
-pub fn loans_of<T>(command: &Command<T>) -> usize
-    ensures value { result ≡ loans_of command.now }
-    ensures small { result ≤ 1 }
-{
-    match command {
-        Command::Loan { .. } | Command::LoanUninit { .. } => 1,
-        _ => 0,
-    }
-}
-
-/// How many samples do.
-/// Example: `let samples = samples_of(&command);`
-pub fn samples_of<T>(command: &Command<T>) -> usize
-    ensures value { result ≡ samples_of command.now }
-    ensures small { result ≤ 1 }
-{
-    match command {
-        Command::Receive { .. } => 1,
-        _ => 0,
-    }
-}
-
-// How many loans get a number by some commands, at most.
-fn loans_in<T>(commands: &[Command<T>]) -> usize
-    ensures value { result ≡ loans_in commands.now }
-    ensures bound { result ≤ length commands.now }
-{
-    let mut count = 0;
-    for at in 0..commands.len() {
-        count += loans_of(&commands[at]);
-    }
-    count
-}
-
-// How many samples do.
-fn samples_in<T>(commands: &[Command<T>]) -> usize
-    ensures value { result ≡ samples_in commands.now }
-    ensures bound { result ≤ length commands.now }
-{
-    let mut count = 0;
-    for at in 0..commands.len() {
-        count += samples_of(&commands[at]);
-    }
-    count
+/// How many numbers of loans and of samples are pledged: at least as many as are given, and as the ports that are there may still want.
+/// A port pledges what it may want when it comes; what one that left had pledged may be pledged still.
+///
+/// This port's own.
+#[derive(Clone, Copy, Debug, PartialEq, Eq)]
+pub struct Pledged {
+    /// Of loans.
+    pub loans: u64,
+    /// Of samples.
+    pub samples: u64,
 }
 
 // Makes room in a table for so many values more.
 fn room_for<V>(numbers: &mut Numbered<V>, more: usize) -> Result<(), AllocError>
     ensures same { SameNumbers numbers.old numbers.new }
     ensures room { OnOk result (FitsMore more numbers.new) }
-    ensures some { OnErr result (0 < more) }
+    ensures small { OnOk result (length numbers.new.entries + more < 2 ^ 64) }
     ensures enough { FitsMore more numbers.old → IsOk result }
 {
     if more <= numbers.room() - numbers.len() {
@@ -75,39 +38,12 @@ fn room_for<V>(numbers: &mut Numbered<V>, more: usize) -> Result<(), AllocError>
     numbers.reserve(room)
 }
 
-impl<T, U, B, D> NumberedHub<T, U, B, D> {
-    /// Makes room for the numbers of all loans and samples that some commands may make. Fails only where there isn't as much
-    /// already, and an allocation fails; then there may be more room than before.
-    /// Example: `hub.make_room(&commands)?;`
-    pub fn make_room(&mut self, commands: &[Command<T>]) -> Result<(), AllocError>
-        ensures same { OnlyRoomier self.old self.new }
-        ensures room { OnOk result (FitsAll (loans_in commands.now) (samples_in commands.now) self.new.made) }
-        ensures some { OnErr result (0 < length commands.now) }
-        ensures enough { FitsAll (loans_in commands.now) (samples_in commands.now) self.old.made → IsOk result }
-    {
-        self.make_room_for(loans_in(commands), samples_in(commands))
-    }
-
-    /// Makes room for the numbers of so many loans and samples more. Fails only where there isn't as much already, and an allocation fails;
-    /// then there may be more room than before.
-    /// Example: `hub.make_room_for(8, 8)?;`
-    pub fn make_room_for(&mut self, loans: usize, samples: usize) -> Result<(), AllocError>
-        ensures same { OnlyRoomier self.old self.new }
-        ensures room { OnOk result (FitsAll loans samples self.new.made) }
-        ensures some { OnErr result (0 < loans + samples) }
-        ensures enough { FitsAll loans samples self.old.made → IsOk result }
-    {
-        room_for(&mut self.made.loans, loans)?;
-        room_for(&mut self.made.samples, samples)
-    }
-}
-
 // Makes room in a table for so many values more, and for one beside them: so it isn't full when they come, and none of them looks for room.
 // Fails only where there isn't as much already, and an allocation fails.
 fn room_beside<V>(numbers: &mut Numbered<V>, left: u64, more: u64) -> Result<(), AllocError>
     ensures same { SameNumbers numbers.old numbers.new }
     ensures room { OnOk result (FitsBeside (left + more) numbers.new) }
-    ensures small { OnOk result (left + more + 1 < 2 ^ 64) }
+    ensures small { OnOk result (length numbers.new.entries + (left + more) + 1 < 2 ^ 64) }
     ensures enough { FitsBeside (left + more) numbers.old → IsOk result }
 {
     let spare = (numbers.room() - numbers.len()) as u64;
@@ -119,43 +55,128 @@ fn room_beside<V>(numbers: &mut Numbered<V>, left: u64, more: u64) -> Result<(),
     room_for(numbers, beside as usize)
 }
 
+// How many numbers of a table are pledged once so many more are; None where there is no room for these, and for one beside.
+fn pledged_more<V>(numbers: &Numbered<V>, pledged: u64, more: u64) -> Option<u64>
+    ensures { IfSome result (λ all. (all ≡ pledged + more) × (all < numbers.now.room) × (all + 1 < 2 ^ 64)) }
+{
+    let all = pledged.checked_add(more)?;
+    if all < numbers.room() as u64 {
+        Some(all)
+    } else {
+        None
+    }
+}
+
+// Pledges the numbers of a table anew: of what stands there, of so many values that may still come, and of so many more. Room is made
+// for these, and for one beside; where memory is found, for as many again, and for some more for each factory. So this is seldom needed.
+fn pledged_anew<V>(
+    numbers: &mut Numbered<V>,
+    left: u64,
+    more: u64,
+    factories: usize,
+) -> Result<u64, AllocError>
+    ensures same { SameNumbers numbers.old numbers.new }
+    ensures room { IfOk result (λ all. Pledges (left + more) all numbers.new) }
+    ensures small { OnOk result (left + more + 1 < 2 ^ 64) }
+    ensures enough { FitsBeside (left + more) numbers.old → IsOk result }
+{
+    let ample = (numbers.len() as u64)
+        .saturating_add(left)
+        .saturating_add(more)
+        .saturating_mul(2)
+        .saturating_add(factories as u64);
+    let _ample = room_for(numbers, ample as usize);
+    room_beside(numbers, left, more)?;
+    Ok(numbers.len() as u64 + left + more)
+}
+
 impl<T: Copy, U: Copy, B: Drop, D: Drop> NumberedHub<T, U, B, D> {
-    /// Makes room for the numbers of the loans that are out, of all that the publishers may still make, of so many more, and of
-    /// one beside them. Fails only where there isn't as much already, and an allocation fails.
-    /// Example: `hub.room_for_loans(2)?;`
-    pub fn room_for_loans(&mut self, more: u64) -> Result<(), AllocError>
+    /// Pledges the numbers of so many loans more, beside those that are out, and all that the publishers may still make; and makes room for
+    /// them, and for one beside. Fails only where there isn't as much already, and an allocation fails.
+    ///
+    /// It looks at all publishers only where there is no room for what is pledged so far, and for these.
+    /// Example: `hub.pledge_loans(2)?;`
+    pub fn pledge_loans(&mut self, more: u64) -> Result<(), AllocError>
         ensures same { OnlyRoomier self.old self.new }
-        ensures room { OnOk result (FitsBeside (loans_left_in self.old.hub.services.domains + more) self.new.made.loans) }
+        ensures samples { self.new.pledged.samples ≡ self.old.pledged.samples }
+        ensures room { HasLoanRoom self.old → OnOk result
+            (Pledges (loans_left_in self.old.hub.services.domains + more) self.new.pledged.loans self.new.made.loans) }
+        ensures stays { OnErr result (self.new.pledged ≡ self.old.pledged) }
         ensures enough { FitsBeside (loans_left_in self.old.hub.services.domains + more) self.old.made.loans → IsOk result }
     {
+        if let Some(pledged) = pledged_more(&self.made.loans, self.pledged.loans, more) {
+            self.pledged.loans = pledged;
+            return Ok(());
+        }
         let left = self.hub.loans_left();
-        room_beside(&mut self.made.loans, left, more)
+        let factories = self.factories.made.len();
+        self.pledged.loans = pledged_anew(&mut self.made.loans, left, more, factories)?;
+        Ok(())
     }
 
-    /// Makes room for the numbers of the samples that are held, of as many as the subscribers that are there may hold at once, of
-    /// so many more, and of one beside them: so also for all that may still come. Fails only where there isn't as much already,
-    /// and an allocation fails.
-    /// Example: `hub.room_for_samples(2)?;`
-    pub fn room_for_samples(&mut self, more: u64) -> Result<(), AllocError>
+    /// Pledges the numbers of so many samples more, beside those that are held, and all that may still come; and makes room for them, and
+    /// for one beside. Fails only where there isn't room for as many as the subscribers may hold at once, and an allocation fails.
+    ///
+    /// It looks at all subscribers only where there is no room for what is pledged so far, and for these.
+    /// Example: `hub.pledge_samples(2)?;`
+    pub fn pledge_samples(&mut self, more: u64) -> Result<(), AllocError>
         ensures same { OnlyRoomier self.old self.new }
-        ensures room { OnOk result (FitsBeside (samples_left_in self.old.hub.services.domains + more) self.new.made.samples) }
+        ensures loans { self.new.pledged.loans ≡ self.old.pledged.loans }
+        ensures room { HasSampleRoom self.old → OnOk result
+            (Pledges (samples_left_in self.old.hub.services.domains + more) self.new.pledged.samples self.new.made.samples) }
         ensures small { OnOk result (more + 1 < 2 ^ 64) }
+        ensures stays { OnErr result (self.new.pledged ≡ self.old.pledged) }
         ensures enough { FitsBeside (samples_at_most_in self.old.hub.services.domains + more) self.old.made.samples → IsOk result }
     {
+        if let Some(pledged) = pledged_more(&self.made.samples, self.pledged.samples, more) {
+            self.pledged.samples = pledged;
+            return Ok(());
+        }
         let most = self.hub.samples_at_most();
-        room_beside(&mut self.made.samples, most, more)
+        let factories = self.factories.made.len();
+        self.pledged.samples = pledged_anew(&mut self.made.samples, most, more, factories)?;
+        Ok(())
     }
 }
 
 impl<T: Copy, U: Copy, B: Decides + Degrades, D: Degrades> NumberedHub<T, U, B, D> {
-    /// How many samples a subscriber of a domain may hold at once; none where it isn't here. Past 2^64 - 1 it is that.
+    /// How many samples a subscriber that comes to a domain may hold at once, of the publishers that are there; none where it isn't
+    /// here. Past 2^64 - 1 it is that.
     /// Example: `let most = hub.most_samples(domain);`
     pub fn most_samples(&self, domain: DomainId) -> u64
         ensures { result ≡ min (most_samples_at domain self.now) (2 ^ 64 - 1) }
     {
         match calls::ports(&self.hub, domain) {
-            Some(ports) => held_by_one(&ports.sizes),
+            Some(ports) => held_by_one(ports),
             None => 0,
         }
+    }
+
+    /// How many samples of a publisher that comes to a domain may be held at once, by the subscribers that are there; none where it
+    /// isn't here. Past 2^64 - 1 it is that.
+    /// Example: `let most = hub.most_samples_of(domain);`
+    pub fn most_samples_of(&self, domain: DomainId) -> u64
+        ensures { result ≡ min (most_samples_from domain self.now) (2 ^ 64 - 1) }
+    {
+        match calls::ports(&self.hub, domain) {
+            Some(ports) => held_of_one(ports),
+            None => 0,
+        }
+    }
+
+    /// Pledges the numbers of what a publisher that comes to a domain brings: so many loans, and the samples of it that may be held. Fails
+    /// as `pledge_loans` and `pledge_samples` do.
+    /// Example: `hub.pledge_for_publisher(domain, 2)?;`
+    pub fn pledge_for_publisher(&mut self, domain: DomainId, loans: u64) -> Result<(), AllocError>
+        ensures same { OnlyRoomier self.old self.new }
+        ensures keeps { KeepsRoom self.old self.new }
+        ensures loans { HasLoanRoom self.old → OnOk result
+            (Pledges (loans_left_in self.old.hub.services.domains + loans) self.new.pledged.loans self.new.made.loans) }
+        ensures samples { HasSampleRoom self.old → OnOk result
+            (Pledges (samples_left_in self.old.hub.services.domains + most_samples_from domain self.old) self.new.pledged.samples
+            self.new.made.samples) }
+    {
+        self.pledge_loans(loans)?;
+        self.pledge_samples(self.most_samples_of(domain))
     }
 }

@@ -13,7 +13,7 @@ use std::alloc::Global;
 impl<T: Copy, U: Copy + Default, B: Decides + Degrades, D: Degrades> NumberedHub<T, U, B, D> {
     /// A publisher of slices comes to a domain, with what is named, and gets the next number; `handlers` decide for it. Skipped
     /// where the domain isn't here; else refused as `Made::make_publisher` refuses it, also where an allocation fails for the
-    /// room for its loans.
+    /// room for its loans, or for the samples of it that may be held.
     /// Example: `let reply = hub.publisher_with(alloc, domain, owner, &options, handlers);`
     pub fn publisher_with(
         &mut self,
@@ -28,7 +28,10 @@ impl<T: Copy, U: Copy + Default, B: Decides + Degrades, D: Degrades> NumberedHub
         ensures comes { PublisherArrives U.is_default (λ handlers. B.degrades handlers) domain owner options.now handlers self.old
             result self.new }
     {
-        if self.room_for_loans(most_loans(options) as u64).is_err() {
+        if self
+            .pledge_for_publisher(domain, most_loans(options) as u64)
+            .is_err()
+        {
             return arriving::publisher_refused(&self.hub, domain, owner, options);
         }
         arriving::publisher(
@@ -60,7 +63,7 @@ impl<T: Copy, U: Copy, B: Decides + Degrades, D: Degrades> NumberedHub<T, U, B, 
         ensures room { KeepsRoom self.old self.new }
         ensures comes { SubscriberArrives (λ handler. D.degrades handler) domain owner options.now handler self.old result self.new }
     {
-        if self.room_for_samples(self.most_samples(domain)).is_err() {
+        if self.pledge_samples(self.most_samples(domain)).is_err() {
             return arriving::subscriber_refused(&self.hub, domain, owner, options);
         }
         arriving::subscriber(

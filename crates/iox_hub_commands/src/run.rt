@@ -7,8 +7,8 @@ ghost use Rattle.iox_hub_commands.specs.Agreements.{AreOfOneAgreement};
 ghost use Rattle.iox_hub_commands.specs.Grown.{GrowsOn, HaveGrown, AreAsAgreed};
 ghost use Rattle.iox_hub_commands.specs.Lives.{NumbersGoOn};
 ghost use Rattle.iox_hub_commands.specs.Numbers.{numbers_used};
-ghost use Rattle.iox_hub_commands.specs.PortRoom.{KeepsRoom};
-ghost use Rattle.iox_hub_commands.specs.Room.{loans_in, samples_in, FitsAll, RunsInRoom, StopsInTime};
+ghost use Rattle.iox_hub_commands.specs.PortRoom.{HasRoom, KeepsRoom};
+ghost use Rattle.iox_hub_commands.specs.Room.{StopsInTime};
 ghost use Rattle.iox_hub_commands.specs.Runs.{IsRun};
 ghost use Rattle.iox_hub_commands.specs.CommandSteps.{Step};
 
@@ -26,8 +26,7 @@ use std::alloc::Global;
 pub struct RunReport<T> {
     /// One for each command, in order, unless the run stopped.
     pub replies: Vec<Reply<T>>,
-    /// Whether the run stopped before the last reply: no memory was found for the list of replies and the numbers of what the commands may
-    /// make, or for the values of a reply.
+    /// Whether the run stopped before the last reply: no memory was found for the list of replies, or for the values of a reply.
     pub stopped: bool,
 }
 
@@ -37,19 +36,20 @@ impl<
     B: PublisherHandlers,
     D: SubscriberHandler,
 > NumberedHub<T, U, B, D> {
-    /// Carries out commands, one after another, once there is room for all replies, and for the numbers of all loans and samples that the
-    /// commands may make.
+    /// Carries out commands, one after another, once there is room for all replies.
     ///
-    /// It stops before the first command, where an allocation fails for that room, and then only room may have grown; or at a command
-    /// that receives or reads, where an allocation fails for the values of its reply, and those before it are replied to.
+    /// It stops before the first command, where an allocation fails for that room, and then nothing has changed; or at a command
+    /// that receives or reads, where an allocation fails for the values of its reply, and those before it are replied to. It
+    /// makes no room for numbers: each port made that when it came.
     /// Example: `let report = hub.run(alloc, commands);`
     pub fn run(&mut self, alloc: Global, commands: Vec<Command<T>>) -> RunReport<T>
         requires { numbers_used self.old + length commands.items < 2 ^ 64 }
-        ensures ran { RunsInRoom (Step (detail FixedSize T.name T.size T.alignment) (detail FixedSize U.name U.size U.alignment)
+        ensures ran { IsRun (Step (detail FixedSize T.name T.size T.alignment) (detail FixedSize U.name U.size U.alignment)
             (types_of T.name T.size T.alignment U.name U.size U.alignment) T.is_default U.is_default B.fixed
             (λ handlers. B.degrades handlers) (λ handlers. B.decides handlers) D.fixed (λ handler. D.degrades handler))
             commands.entry.items self.old result.replies.items result.stopped self.new }
-        ensures stops { result.stopped ≡ true → StopsInTime commands.entry.items self.old (length result.replies.items) self.new }
+        ensures stops { HasRoom self.old → HaveGrown self.old.hub.services.domains → result.stopped ≡ true
+            → StopsInTime commands.entry.items self.old (length result.replies.items) self.new }
         ensures counts { numbers_used self.new ≤ numbers_used self.old + length commands.entry.items }
         ensures room { KeepsRoom self.old self.new }
         ensures goes_on { NumbersGoOn self.old self.new }
@@ -58,38 +58,18 @@ impl<
         ensures one_agreement { AreOfOneAgreement self.old.factories.made self.old.hub
             → AreOfOneAgreement self.new.factories.made self.new.hub }
     {
-        self.carry_out_in_room(alloc, commands)
-    }
-
-    // The same, without what that comes to in other words.
-    fn carry_out_in_room(&mut self, alloc: Global, commands: Vec<Command<T>>) -> RunReport<T>
-        requires { numbers_used self.old + length commands.items < 2 ^ 64 }
-        ensures ran { RunsInRoom (Step (detail FixedSize T.name T.size T.alignment) (detail FixedSize U.name U.size U.alignment)
-            (types_of T.name T.size T.alignment U.name U.size U.alignment) T.is_default U.is_default B.fixed
-            (λ handlers. B.degrades handlers) (λ handlers. B.decides handlers) D.fixed (λ handler. D.degrades handler))
-            commands.entry.items self.old result.replies.items result.stopped self.new }
-        ensures stops { result.stopped ≡ true → StopsInTime commands.entry.items self.old (length result.replies.items) self.new }
-        ensures counts { numbers_used self.new ≤ numbers_used self.old + length commands.entry.items }
-        ensures room { KeepsRoom self.old self.new }
-    {
-        if self.make_room(commands.as_slice()).is_err() {
-            return RunReport {
-                replies: Vec::new(alloc),
-                stopped: true,
-            };
-        }
         self.carry_out_all(alloc, commands)
     }
 
-    // Carries out commands, where there is room for the numbers of all that they may make.
+    // The same, without what that comes to in other words.
     fn carry_out_all(&mut self, alloc: Global, commands: Vec<Command<T>>) -> RunReport<T>
-        requires numbers { numbers_used self.old + length commands.items < 2 ^ 64 }
-        requires room { FitsAll (loans_in commands.items) (samples_in commands.items) self.old.made }
+        requires { numbers_used self.old + length commands.items < 2 ^ 64 }
         ensures ran { IsRun (Step (detail FixedSize T.name T.size T.alignment) (detail FixedSize U.name U.size U.alignment)
             (types_of T.name T.size T.alignment U.name U.size U.alignment) T.is_default U.is_default B.fixed
             (λ handlers. B.degrades handlers) (λ handlers. B.decides handlers) D.fixed (λ handler. D.degrades handler))
             commands.entry.items self.old result.replies.items result.stopped self.new }
-        ensures stops { result.stopped ≡ true → StopsInTime commands.entry.items self.old (length result.replies.items) self.new }
+        ensures stops { HasRoom self.old → HaveGrown self.old.hub.services.domains → result.stopped ≡ true
+            → StopsInTime commands.entry.items self.old (length result.replies.items) self.new }
         ensures counts { numbers_used self.new ≤ numbers_used self.old + length commands.entry.items }
         ensures room { KeepsRoom self.old self.new }
     {

@@ -26,7 +26,8 @@ use std::alloc::Global;
 
 impl<T: Words + ZeroCopySend, U: Copy + ZeroCopySend, B: Drop, D: Drop> NumberedHub<T, U, B, D> {
     pub(crate) fn node(&mut self) -> Reply<T>
-        ensures { NodeMakes self.old result self.new }
+        ensures pledged { self.new.pledged ≡ self.old.pledged }
+        ensures does { NodeMakes self.old result self.new }
     {
         match self.hub.new_node() {
             Ok(node) => Reply::NodeMade(node.number()),
@@ -42,7 +43,8 @@ impl<T: Words + ZeroCopySend, U: Copy + ZeroCopySend, B: Drop, D: Drop> Numbered
         steps: &[StepBefore],
     ) -> Reply<T>
         requires { self.old.factories.made.next + 1 < 2 ^ 64 }
-        ensures { Creates (detail FixedSize T.name T.size T.alignment) (detail FixedSize U.name U.size U.alignment)
+        ensures pledged { self.new.pledged ≡ self.old.pledged }
+        ensures does { Creates (detail FixedSize T.name T.size T.alignment) (detail FixedSize U.name U.size U.alignment)
             (types_of T.name T.size T.alignment U.name U.size U.alignment) asked.now attributes.now steps.now self.old result self.new }
     {
         factory_reply(
@@ -59,7 +61,8 @@ impl<T: Words + ZeroCopySend, U: Copy + ZeroCopySend, B: Drop, D: Drop> Numbered
         steps: &[StepBefore],
     ) -> Reply<T>
         requires { self.old.factories.made.next + 1 < 2 ^ 64 }
-        ensures { Opens (detail FixedSize T.name T.size T.alignment) (detail FixedSize U.name U.size U.alignment)
+        ensures pledged { self.new.pledged ≡ self.old.pledged }
+        ensures does { Opens (detail FixedSize T.name T.size T.alignment) (detail FixedSize U.name U.size U.alignment)
             (types_of T.name T.size T.alignment U.name U.size U.alignment) asked.now requirements steps.now self.old result self.new }
     {
         factory_reply(
@@ -76,7 +79,8 @@ impl<T: Words + ZeroCopySend, U: Copy + ZeroCopySend, B: Drop, D: Drop> Numbered
         steps: &[StepBefore],
     ) -> Reply<T>
         requires { self.old.factories.made.next + 1 < 2 ^ 64 }
-        ensures { OpensOrCreates (detail FixedSize T.name T.size T.alignment) (detail FixedSize U.name U.size U.alignment)
+        ensures pledged { self.new.pledged ≡ self.old.pledged }
+        ensures does { OpensOrCreates (detail FixedSize T.name T.size T.alignment) (detail FixedSize U.name U.size U.alignment)
             (types_of T.name T.size T.alignment U.name U.size U.alignment) asked.now requirements steps.now self.old result self.new }
     {
         factory_reply(
@@ -92,13 +96,15 @@ impl<T: Words + ZeroCopySend, U: Copy + ZeroCopySend, B: Drop, D: Drop> Numbered
         name: &ServiceName,
         steps: &[ForeignStep],
     ) -> Reply<T>
-        ensures { Acts pattern name.now (types_of T.name T.size T.alignment U.name U.size U.alignment) steps.now self.old result self.new }
+        ensures pledged { self.new.pledged ≡ self.old.pledged }
+        ensures does { Acts pattern name.now (types_of T.name T.size T.alignment U.name U.size U.alignment) steps.now self.old result self.new }
     {
         foreign_reply(foreign(alloc, &mut self.hub, pattern, name, steps))
     }
 
     pub(crate) fn close(&mut self, factory: u64) -> Reply<T>
-        ensures { Closes factory self.old result self.new }
+        ensures pledged { self.new.pledged ≡ self.old.pledged }
+        ensures does { Closes factory self.old result self.new }
     {
         closed_reply(self.factories.close(&mut self.hub, factory))
     }

@@ -4,6 +4,7 @@
 //! |---|---|
 //! | `requests` | what a command asks of negotiation |
 //! | `made` | a service that is open, whatever its pattern |
+//! | `kinds` | how the errors of each pattern are told |
 //! | `factories` | the table: which factory goes by a number |
 //! | `asked` | which service is asked for |
 //! | `refusing` | which services aren't created, whatever stands already |
@@ -27,6 +28,7 @@ pub mod closing;
 pub mod creating;
 pub mod either;
 pub mod factories;
+mod kinds;
 pub mod laws;
 pub mod made;
 pub mod opening;

@@ -1,5 +1,5 @@
 //! One command, and its reply.
-ghost use Rattle.std.specs.Prelude.{◌+◌, ◌<◌, ◌≤◌, ◌^◌, OnErr};
+ghost use Rattle.std.specs.Prelude.{◌≡◌, ◌+◌, ◌<◌, ◌≤◌, ◌^◌, OnErr};
 ghost use Rattle.iox_delivery.specs.DescribeBase.Detail.{detail};
 ghost use Rattle.iox_delivery.specs.DescribeBase.declared.type_detail.TypeVariant.TheVariants.{FixedSize};
 ghost use Rattle.iox_hub_commands.specs.Asked.{types_of};
@@ -7,7 +7,7 @@ ghost use Rattle.iox_hub_commands.specs.Agreements.{AreOfOneAgreement};
 ghost use Rattle.iox_hub_commands.specs.Grown.{GrowsOn, HaveGrown, AreAsAgreed, OneDomainMoves};
 ghost use Rattle.iox_hub_commands.specs.Lives.{ChangesOneThing};
 ghost use Rattle.iox_hub_commands.specs.Numbers.{numbers_used};
-ghost use Rattle.iox_hub_commands.specs.PortRoom.{HasRoom, KeepsRoom, LacksInRoom, OfPorts};
+ghost use Rattle.iox_hub_commands.specs.PortRoom.{FindsPort, HasRoom, KeepsRoom, LacksInRoom, OfOthers, OfPorts};
 ghost use Rattle.iox_hub_commands.specs.CommandSteps.{Step};
 
 use crate::numbered_hub::NumberedHub;
@@ -30,13 +30,12 @@ impl<
     /// pattern than publish-subscribe, where a publisher waits with a send (or none waits, for `Retry` and `GiveUp`), where a loan isn't
     /// written, or has other values or places than are named. A call that is refused is replied to with its error.
     ///
-    /// A publisher comes once there is room for the numbers of all loans that it may make, and a subscriber once there is room
-    /// for those of all samples that it may hold, beside those of all others: so no loan and no sample lacks memory for its
-    /// number. Where an allocation fails for that room the port is refused.
+    /// A publisher comes once there is room for the numbers of all loans that it may make, and of the samples of it that may be held.
+    /// A subscriber comes once there is room for those of all samples that it may hold. So no loan and no sample lacks memory
+    /// for its number. Where an allocation fails for that room the port is refused.
     ///
-    /// Fails only where an allocation fails for the values of the reply; or for one more number of a loan where no publisher is
-    /// there, or of a sample where no subscriber is. Then nothing has changed but that a sample that came is held, and that there
-    /// may be more room.
+    /// Fails only where an allocation fails for the values of the reply. Then nothing has changed but that a sample that came is
+    /// held. A command that is skipped looks for no memory.
     /// Example: `let reply = hub.step(alloc, Command::Node)?;`
     pub fn step(&mut self, alloc: Global, command: Command<T>) -> Result<Reply<T>, AllocError>
         requires { numbers_used self.old + 1 < 2 ^ 64 }
@@ -52,6 +51,7 @@ impl<
             → AreOfOneAgreement self.new.factories.made self.new.hub }
         ensures apart { OneDomainMoves self.old.hub self.new.hub }
         ensures room { KeepsRoom self.old self.new }
+        ensures finds { OnErr result (FindsPort command.entry self.old) }
         ensures lacks { HasRoom self.old → OnErr result (LacksInRoom command.entry self.old self.new) }
     {
         self.carry_out(alloc, command)
@@ -61,6 +61,8 @@ impl<
     fn carry_out(&mut self, alloc: Global, command: Command<T>) -> Result<Reply<T>, AllocError>
         requires { numbers_used self.old + 1 < 2 ^ 64 }
         ensures comes { OfPorts (KeepsRoom self.old self.new) command.entry }
+        ensures pledged { OfOthers (self.new.pledged ≡ self.old.pledged) command.entry }
+        ensures finds { OnErr result (FindsPort command.entry self.old) }
         ensures steps { Step (detail FixedSize T.name T.size T.alignment) (detail FixedSize U.name U.size U.alignment)
             (types_of T.name T.size T.alignment U.name U.size U.alignment) T.is_default U.is_default B.fixed
             (λ handlers. B.degrades handlers) (λ handlers. B.decides handlers) D.fixed (λ handler. D.degrades handler) command.entry

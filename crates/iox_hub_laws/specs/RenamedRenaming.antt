@@ -92,4 +92,5 @@ module _ {T U B D : Type 0} where
     hub = renamed_hub by next count numbered.hub;
     factories = record numbered.factories { made = mapped (renamed_factory by) numbered.factories.made };
     made = renamed_made by numbered.made;
+    pledged = numbered.pledged;
   }

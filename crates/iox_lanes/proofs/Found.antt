@@ -35,7 +35,7 @@ found_on sizes m f false n h w = subst (WasFound sizes) (sym h.1) w
 pub came : (sizes : LaneSizes) (m : World) → WasFound sizes m → CameTo m
 came sizes m w = record { sizes = sizes; some = w.some; ports = w.ports; small = w.small; found = w.found; begun = m; finds = w.finds; schedule = []; made = 0; runs = (refl, refl) }
 
-no_moments : (s : World) (fs : List Found) (m : World) → AreFound s fs m → m.moments ≡ s.moments
+pub no_moments : (s : World) (fs : List Found) (m : World) → AreFound s fs m → m.moments ≡ s.moments
 no_moments s [] m h = ap (λ (x : World). x.moments) h
 no_moments s (f ∷ fs) m h = no_moments (with_found s f) fs m h.1 ∙ found_moments s f
 

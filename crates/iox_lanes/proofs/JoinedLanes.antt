@@ -1,19 +1,25 @@
 -- Lanes that go with the publishers of a domain.
-use Rattle.std.proofs.Common.{arith, ◌≡◌, ◌+◌, ◌*◌, ◌^◌, ◌<◌, ◌≤◌, ℕ, true, List, length, slice_get, get_or, Option, None, Some, refl, sym, subst, ap, inl, inr, ◌∙◌}
+use Rattle.std.proofs.Common.{arith, ◌≡◌, ◌+◌, ◌*◌, ◌^◌, ◌<◌, ◌≤◌, ℕ, Bool, true, List, length, slice_get, get_or, Option, None, Some, refl, sym, subst, ap, inl, inr, ◌∙◌}
 use Rattle.std.proofs.lemmas.Bool.Decides.{eqb_tells}
 use Rattle.std.proofs.lemmas.Nat.{row_fits}
 use Rattle.std.proofs.lemmas.Option.{get_or_from_slice_get, slice_get-get_or, slice_get_within}
 use Rattle.iox_domain.specs.DomainPorts.Publishers.{port_of}
 use Rattle.iox_domain.specs.DomainPorts.declared.publisher_port.PublisherPort.{PublisherPort}
 use Rattle.iox_lanes_machine.specs.Fixed.{slots_at}
+use Rattle.iox_lanes_machine.proofs.Ends.{some_is}
 use Rattle.iox_lanes_machine.specs.LanesBase.Publishing.{publisher_is_idle}
 use Rattle.iox_lanes_machine.specs.LanesBase.Subscribing.{subscriber_is_idle}
 use Rattle.iox_lanes_machine.specs.LanesParties.Parties.{PublisherLaneState, SubscriberLaneState}
 use Rattle.iox_lanes_machine.specs.Resting.{AllBetween}
 use Rattle.iox_lanes_machine.specs.World.{World, publisher_stage, subscriber_stage}
-use Rattle.iox_lanes.specs.Holding.{port_if}
+use Rattle.iox_domain.specs.DomainPorts.declared.subscriber_port.SubscriberPort.{SubscriberPort}
+use Rattle.iox_domain.specs.declared.domain.Domain.{Domain}
+use Rattle.iox_lanes_machine.specs.LanesBase.Table.{TableWords}
+use Rattle.iox_lanes_machine.specs.Links.{LinkState}
+use Rattle.iox_lanes.specs.Holding.{port_if, reader_if, IsLaneIf, IsLinkIf, LinkHolds, SenderHolds}
 use Rattle.iox_lanes_opening.specs.Restored.{place_of}
-use Rattle.iox_lanes.specs.Joined.{HasSlotsIf, IsLinkToIf, IsJoined, JoinedStays, place_if, row_of}
+use Rattle.iox_lanes.specs.Joined.{HasAsMany, HasSlotsIf, IsLinkToIf, IsJoined, JoinedStays, LinkJoins, place_if, row_of}
+use Rattle.iox_lanes.specs.Tied.{IsTied}
 use Rattle.iox_lanes.specs.Returning.{AllRest, ArePortsLeft, IsLeftAt, IsPortLeftIf, JoinsAt}
 use Rattle.iox_lanes.proofs.PortsLeft.{first_is}
 
@@ -130,3 +136,42 @@ module _ {T U : Type 0} (value_of : List ℕ → T) (header_of : List ℕ → U)
       by : (at : Option ℕ) → place_of number senders ≡ at → IsLeftAt value_of header_of lanes readers indices at (port_of number start) (port_of number now)
       by None is = so_far.rest number (λ place there. absurd (cc (sym is ∙ there)))
       by (Some place) is = so_far.done number place is (omega (arith, past, (first_is senders number place is).below))
+
+-- lanes that hold what a domain has have as many slots for each publisher
+as_many : {T U : Type 0} (payload_words : T → List ℕ) (header_words : U → List ℕ) (table : TableWords) (port : PublisherPort T U) (lane : Option PublisherLaneState) → IsLaneIf payload_words header_words table (Some port) lane
+    → HasAsMany port lane
+as_many payload_words header_words table port None is = tt
+as_many payload_words header_words table port (Some lane) is = is.slots
+
+pub as_many_if : {T U B D : Type 0} (payload_words : T → List ℕ) (header_words : U → List ℕ) (domain : Domain T U B D) (lanes : World) (publishers : List ℕ) (place : ℕ) (port : PublisherPort T U)
+    → SenderHolds payload_words header_words domain lanes publishers place → port_if domain.state.ports.publishers (slice_get publishers place) ≡ Some port → HasAsMany port (slice_get lanes.publishers place)
+as_many_if payload_words header_words domain lanes publishers place port holds there =
+    as_many payload_words header_words lanes.table port (slice_get lanes.publishers place) (subst (λ at. IsLaneIf payload_words header_words lanes.table at (slice_get lanes.publishers place)) there holds)
+
+-- and a link of them whose index no connection of the publisher before it has joins
+joined_if : {T U : Type 0} (payload_words : T → List ℕ) (header_words : U → List ℕ) (table : TableWords) (overflows : Bool) (publisher subscriber : ℕ) (line : List ℕ) (port : Option (PublisherPort T U))
+    (reader : Option SubscriberPort) (lane : Option PublisherLaneState) (index : Option ℕ) (link : Option LinkState) (number : ℕ)
+    → IsLinkIf payload_words header_words table overflows publisher subscriber port reader lane index link → IsTied port reader index → index ≡ Some number → place_of number line ≡ Some subscriber
+    → IsLinkToIf port publisher subscriber line index link
+joined_if payload_words header_words table overflows publisher subscriber line None reader lane index link number is tied there alone = is
+joined_if payload_words header_words table overflows publisher subscriber line (Some port) None lane index link number is tied there alone = absurd is
+joined_if payload_words header_words table overflows publisher subscriber line (Some port) (Some reader) None index link number is tied there alone = absurd is
+joined_if payload_words header_words table overflows publisher subscriber line (Some port) (Some reader) (Some lane) None link number is tied there alone = is
+joined_if payload_words header_words table overflows publisher subscriber line (Some port) (Some reader) (Some lane) (Some index) None number is tied there alone = is
+joined_if payload_words header_words table overflows publisher subscriber line (Some port) (Some reader) (Some lane) (Some index) (Some link) number is tied there alone = record {
+  from = is.from;
+  live = tied.1;
+  limit = is.limit;
+  alone = subst (λ (n : ℕ). place_of n line ≡ Some subscriber) (some_is number index (sym there)) alone;
+}
+
+pub link_joined : {T U B D : Type 0} (payload_words : T → List ℕ) (header_words : U → List ℕ) (domain : Domain T U B D) (lanes : World) (publishers subscribers connections : List ℕ) (publisher subscriber number at : ℕ) (line : List ℕ)
+    → LinkHolds payload_words header_words domain lanes publishers subscribers connections publisher subscriber
+    → IsTied (port_if domain.state.ports.publishers (slice_get publishers publisher)) (reader_if domain.state.ports.subscribers (slice_get subscribers subscriber)) (slice_get connections (publisher * length subscribers + subscriber))
+    → at ≡ publisher * length subscribers + subscriber → slice_get connections at ≡ Some number → line ≡ row_of (length subscribers) connections publisher → place_of number line ≡ Some subscriber
+    → LinkJoins domain.state.ports.publishers lanes publishers (length subscribers) connections publisher subscriber
+link_joined payload_words header_words domain lanes publishers subscribers connections publisher subscriber number at line holds tied is there same alone =
+    joined_if payload_words header_words lanes.table domain.state.ports.sizes.enable_safe_overflow publisher subscriber (row_of (length subscribers) connections publisher)
+    (port_if domain.state.ports.publishers (slice_get publishers publisher))
+    (reader_if domain.state.ports.subscribers (slice_get subscribers subscriber)) (slice_get lanes.publishers publisher) (slice_get connections (publisher * length subscribers + subscriber))
+    (slice_get lanes.links (publisher * length subscribers + subscriber)) number holds tied (ap (slice_get connections) (sym is) ∙ there) (ap (place_of number) (sym same) ∙ alone)

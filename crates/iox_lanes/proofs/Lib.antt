@@ -6,5 +6,12 @@ mod PortsLeft
 mod Numbers
 mod JoinedLanes
 mod Found
+mod Behind
+mod LaidPublishers
 mod Sizing
+mod Counting
+mod Failing
+mod Presence
+mod Rows
+mod Tied
 pub mod Forgetting

@@ -23,6 +23,10 @@ not_true : (b : Bool) → (b ≡ true → ⊥) → b ≡ false
 not_true true isnt = absurd (isnt refl)
 not_true false isnt = refl
 
+-- an entry that a number is looked up by has this number
+pub same_key : (number other : ℕ) → is_at (nat_cmp number) other ≡ true → other ≡ number
+same_key number other passes = sym (nat_cmp-IsAntisymmetric number other (equal_of (nat_cmp number other) passes))
+
 module _ {T U : Type 0} (number : ℕ) (ports : List (ℕ × PublisherPort T U)) (port after : PublisherPort T U) (there : port_of number ports ≡ Some port) where
   some : IsSome (port_of number ports)
   some = subst (λ (f : Option (PublisherPort T U)). IsSome f) (sym there) refl
@@ -37,4 +41,4 @@ module _ {T U : Type 0} (number : ℕ) (ports : List (ℕ × PublisherPort T U))
   -- and each other as before
   pub put_elsewhere : (other : ℕ) → (other ≡ number → ⊥) → port_of other (with_port number ports after) ≡ port_of other ports
   put_elsewhere other apart = after_put other ∙ ap (λ b. cond b (Some after) (port_of other ports))
-      (not_true (is_at (nat_cmp number) other) (λ passes. apart (sym (nat_cmp-IsAntisymmetric number other (equal_of (nat_cmp number other) passes)))))
+      (not_true (is_at (nat_cmp number) other) (λ passes. apart (same_key number other passes)))

@@ -71,19 +71,19 @@ dropped (suc n) s [] = refl
 dropped (suc n) s (y ∷ xs) = let same : suc (n + s) ≡ suc n + s = omega arith in dropped n s xs ∙ ap (slice_get (y ∷ xs)) same
 
 -- the index at a place of a row is one of all indices
-row_get : (readers place s index : ℕ) (indices : List ℕ) → slice_get (row_of readers indices place) s ≡ Some index → slice_get indices (place * readers + s) ≡ Some index
+pub row_get : (readers place s index : ℕ) (indices : List ℕ) → slice_get (row_of readers indices place) s ≡ Some index → slice_get indices (place * readers + s) ≡ Some index
 row_get readers place s index indices is = sym (dropped (place * readers) s indices) ∙ taken readers s index (drop (place * readers) indices) is
 
 -- the first place of an index has it
-pub record IsFirst (row : List ℕ) (index s : ℕ) : Type 0 where
-  pub below : s < length row
-  pub has : slice_get row s ≡ Some index
+pub record IsFirst (line : List ℕ) (index s : ℕ) : Type 0 where
+  pub below : s < length line
+  pub has : slice_get line s ≡ Some index
 
-pub first_is : (row : List ℕ) (index s : ℕ) → place_of index row ≡ Some s → IsFirst row index s
-first_is row index s is = by (nat_lt n (length row)) refl
+pub first_is : (line : List ℕ) (index s : ℕ) → place_of index line ≡ Some s → IsFirst line index s
+first_is line index s is = by (nat_lt n (length line)) refl
   where
     n : ℕ
-    n = position_or_len (λ it. it == index) row
+    n = position_or_len (λ it. it == index) line
 
     equal : (x : ℕ) → (x == index) ≡ true → x ≡ index
     equal x same = elim (eqb_tells x index) [
@@ -91,15 +91,15 @@ first_is row index s is = by (nat_lt n (length row)) refl
       | inr apart ↦ absurd (cc (sym same ∙ apart.0))
     ]
 
-    by : (less : Bool) → nat_lt n (length row) ≡ less → IsFirst row index s
+    by : (less : Bool) → nat_lt n (length line) ≡ less → IsFirst line index s
     by true less =
-        let here : n ≡ s = cc (sym (cond-true (nat_lt n (length row)) (Some n) None less) ∙ is) in
-        let below : n < length row = grind (arith, less) in
-        subst (IsFirst row index) here (record {
+        let here : n ≡ s = cc (sym (cond-true (nat_lt n (length line)) (Some n) None less) ∙ is) in
+        let below : n < length line = grind (arith, less) in
+        subst (IsFirst line index) here (record {
           below = below;
-          has = slice_get-get_or row n 0 below ∙ ap Some (equal (get_or row n 0) (passes_at_first (λ it. it == index) row 0 below));
+          has = slice_get-get_or line n 0 below ∙ ap Some (equal (get_or line n 0) (passes_at_first (λ it. it == index) line 0 below));
         })
-    by false less = absurd (cc (sym (cond-false (nat_lt n (length row)) (Some n) None less) ∙ is))
+    by false less = absurd (cc (sym (cond-false (nat_lt n (length line)) (Some n) None less) ∙ is))
 
 -- what the lanes leave at the connection of an index may wait there
 may_wait : {T U : Type 0} (lanes : World) (place readers : ℕ) (indices : List ℕ) (lane : PublisherLaneState) (port : PublisherPort T U) → LanesKeep lanes → AllRest lanes → slice_get lanes.publishers place ≡ Some lane

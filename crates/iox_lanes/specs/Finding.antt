@@ -1,9 +1,10 @@
 -- Lanes to which nothing happened but that something was found.
-use Rattle.std.specs.Prelude.{◌+◌, ◌<◌, ◌^◌, List}
+use Rattle.std.specs.Prelude.{◌+◌, ◌<◌, ◌^◌, Bool, List, set}
 use Rattle.iox_lanes_machine.specs.Findings.{AreFound}
 use Rattle.iox_lanes_machine.specs.Made.{start}
 use Rattle.iox_lanes_machine.specs.World.{World}
 use Rattle.iox_lanes_machine.specs.declared.found.Found.{Found}
+use Rattle.iox_lanes_machine.specs.declared.found.Found.TheVariants as found
 use Rattle.iox_lanes_machine.specs.declared.sizes.LaneSizes.{LaneSizes}
 
 -- Lanes before their first step, with the sizes that they were made of.
@@ -18,3 +19,14 @@ pub record WasFound (sizes : LaneSizes) (m : World) : Type 0 where
   pub small : sizes.buffer + sizes.most_borrowed + 1 < 2 ^ 62
   pub found : List Found
   pub finds : AreFound (start sizes) found m
+
+-- whether the sends of each publisher fail behind a finding
+abbrev pub failing_behind : Found → List Bool → List Bool
+failing_behind (found.Waiting publisher place slot) all = all
+failing_behind (found.GivenBack publisher place slot) all = all
+failing_behind (found.Newest publisher slot) all = all
+failing_behind (found.Held slot word value) all = all
+failing_behind (found.Buffer publisher place messages) all = all
+failing_behind (found.Slots publisher slots most_loans) all = all
+failing_behind (found.Sender publisher node_id publisher_id fails) all = set all publisher fails
+failing_behind (found.Swapped subscriber one other) all = all

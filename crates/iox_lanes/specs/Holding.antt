@@ -34,6 +34,10 @@ abbrev pub port_if : {T U : Type 0} → List (ℕ × PublisherPort T U) → Opti
 port_if ports None = None
 port_if ports (Some number) = port_of number ports
 
+-- there is a publisher of each of these numbers
+abbrev pub AreThere : {T U : Type 0} → List (ℕ × PublisherPort T U) → List ℕ → Type 0
+AreThere ports numbers = (place number : ℕ) → slice_get numbers place ≡ Some number → is_some (port_of number ports) ≡ true
+
 -- the subscriber of a number, if there is one
 abbrev pub reader_if : List (ℕ × SubscriberPort) → Option ℕ → Option SubscriberPort
 reader_if ports None = None
@@ -78,6 +82,12 @@ pub record IsLinkOf {T U : Type 0} (payload_words : T → List ℕ) (header_word
   pub kind : link.kind ≡ kind_of overflows
   pub limit : link.limit ≡ (connection_of index port).limit
   pub waiting : AreLaid payload_words header_words table first port link.found (connection_of index port).waiting
+
+-- a link, if there is one, leads from this place to the other, and its full ring does with one more what this says
+abbrev pub Leads : Bool → ℕ → ℕ → Option LinkState → Type 0
+Leads overflows publisher subscriber None = Unit {0}
+Leads overflows publisher subscriber (Some link) =
+    (link.publisher ≡ publisher) × (link.subscriber ≡ subscriber) × (link.kind ≡ kind_of overflows)
 
 -- the same of a link, a lane, an index and ports that may be wanting; where one is it isn't so
 abbrev pub IsLinkIf : {T U : Type 0} → (T → List ℕ) → (U → List ℕ) → TableWords → Bool → ℕ → ℕ → Option (PublisherPort T U)

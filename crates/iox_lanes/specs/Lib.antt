@@ -1,11 +1,14 @@
 -- The definitions that contracts about a domain's ports in threads cite.
 pub mod Lying
 pub mod Finding
+pub mod Behind
+pub mod Laid
 pub mod Holding
 pub mod Failing
 pub mod Sized
 pub mod Opening
 pub mod Joined
+pub mod Tied
 pub mod Returning
 pub mod Boards
 pub mod Opened

@@ -1,7 +1,18 @@
 //! Lanes find what a domain has.
-ghost use Rattle.std.specs.Prelude.{◌≡◌, ◌+◌, ◌<◌, length, max, IfOk};
-ghost use Rattle.iox_lanes.specs.Holding.{kind_of, numbers_of};
+ghost use Rattle.std.specs.Prelude.{◌≡◌, ◌+◌, ◌-◌, ◌*◌, ◌^◌, ◌++◌, ◌∷◌, ◌<◌, ℕ, [], length, map, max, min, slice_get, slice_index, is_some, set, true, IfOk, OnOk, None, Some};
+ghost use Rattle.iox_domain.specs.DomainPorts.Messages.{Message};
+ghost use Rattle.iox_domain.specs.DomainPorts.Ports.{connection_of};
+ghost use Rattle.iox_domain.specs.DomainPorts.Publishers.{port_of};
+ghost use Rattle.iox_domain.specs.Kept.{kept_under};
+ghost use Rattle.iox_domain.specs.Subscribers.{subscriber_of};
+ghost use Rattle.iox_lanes_opening.specs.Deciding.{would_fail};
+ghost use Rattle.iox_lanes_opening.specs.Refusals.{first_reason};
+ghost use Rattle.iox_lanes.specs.Behind.{behind_findings, behind_finding};
+ghost use Rattle.iox_lanes.specs.Laid.{first_slot, flat_listed, header_findings, history_findings, link_findings, message_findings, publishers_behind, sender_behind, value_findings, waiting_findings};
+ghost use Rattle.iox_lanes.specs.Failing.{asked, failing, FailAsAsked};
+ghost use Rattle.iox_lanes.specs.Holding.{kind_of, numbers_of, AreThere};
 ghost use Rattle.iox_lanes.specs.Sized.{AreAgreed, AreSized};
+ghost use Rattle.iox_lanes.specs.Tied.{tie_for, ties_for, AreTied, AreTies};
 ghost use Rattle.iox_lanes_machine.specs.Resting.{AllBetween};
 ghost use Rattle.iox_lanes_machine.specs.WholeReads.{CameTo};
 
@@ -18,11 +29,12 @@ use iox_queues_base::Words;
 use iox_queues_steps::rings::RingKind;
 use std::alloc::{AllocError, Global};
 
-/// Lanes at which all that the domain has was found.
+/// Lanes at which all that the domain has was found, that nothing keeps from becoming lanes.
 pub(crate) fn build<T: Words, U: Words>(
     alloc: Global,
     domain: &Domain<T, U>,
 ) -> Result<Opened<T>, AllocError>
+    requires { first_reason domain.now ≡ None }
     ensures came { IfOk result (λ opened. CameTo opened.lanes) }
     ensures between { IfOk result (λ opened. AllBetween opened.lanes) }
     ensures sized { IfOk result (λ opened. AreSized domain.now.state.ports.sizes (length opened.publishers.items)
@@ -31,6 +43,11 @@ pub(crate) fn build<T: Words, U: Words>(
         ≡ numbers_of (λ entry. entry.publisher) domain.now.state.ports.publisher_list.places) }
     ensures subscribers { IfOk result (λ opened. opened.subscribers.items
         ≡ numbers_of (λ entry. entry.subscriber) domain.now.state.ports.subscriber_list.places) }
+    ensures some { IfOk result (λ opened. 0 < length opened.one.items) }
+    ensures fails { IfOk result (λ opened. FailAsAsked domain.now opened.lanes opened.publishers.items) }
+    ensures indices { IfOk result (λ opened. length opened.connections.items
+        ≡ length opened.publishers.items * length opened.subscribers.items) }
+    ensures tied { IfOk result (λ opened. AreTied domain.now.state.ports opened.publishers.items opened.subscribers.items opened.connections.items) }
 {
     let publishers = publishers_listed(alloc, &domain.state.ports.publisher_list)?;
     let subscribers = subscribers_listed(alloc, &domain.state.ports.subscriber_list)?;
@@ -119,7 +136,9 @@ fn most_slots<T: Words, U: Words>(domain: &Domain<T, U>, numbers: &[u64]) -> u64
 }
 
 // How many slots a publisher has, with those of segments that are no longer lent.
-fn slots_of<T: Words, U: Words>(port: &PublisherPort<T, U>) -> u64 {
+fn slots_of<T: Words, U: Words>(port: &PublisherPort<T, U>) -> u64
+    ensures { result ≡ min (port.now.sender.uses.first + port.now.sender.uses.size) (2 ^ 64 - 1) }
+{
     (port.sender.first() as u64).saturating_add(port.sender.slots() as u64)
 }
 
@@ -130,17 +149,34 @@ fn find_publishers<T: Words, U: Words>(
     subscribers: &[u64],
     connections: &mut Vec<usize>,
 ) -> Result<(), AllocError>
-    ensures { lanes.new.sizes ≡ lanes.old.sizes }
+    requires publishers { length (failing lanes.old.lanes) ≡ length publishers.now }
+    requires there { AreThere domain.now.state.ports.publishers publishers.now }
+    requires none { connections.old.items ≡ [] }
+    ensures sizes { lanes.new.sizes ≡ lanes.old.sizes }
+    ensures fails { OnOk result (failing lanes.new.lanes ≡ asked domain.now.state.publisher_handlers publishers.now) }
+    ensures ties { OnOk result (AreTies domain.now.state.ports publishers.now subscribers.now connections.new.items) }
+    ensures behind { OnOk result (lanes.new.lanes ≡ publishers_behind T.parts U.parts T.WORDS U.WORDS domain.now publishers.now
+        subscribers.now lanes.old.lanes (length publishers.now)) }
 {
     for place in 0..publishers.len() {
-        if let Some(port) = domain.state.ports.publishers.get(publishers[place]) {
-            find_publisher(lanes, domain, place, publishers[place], port)?;
-            let first = first_slot(lanes.lanes(), place);
-            find_history(lanes, place, first, port)?;
-            find_connections(lanes, domain, place, first, port, subscribers, connections)?;
-        }
+        let port = publisher_of(domain, publishers[place]);
+        find_publisher(lanes, domain, place, publishers[place], port)?;
+        let first = first_slot(lanes.lanes(), place);
+        find_history(lanes, place, first, port)?;
+        find_connections(lanes, domain, place, first, port, subscribers, connections)?;
     }
     Ok(())
+}
+
+// The publisher of a number.
+fn publisher_of<T: Words, U: Words>(domain: &Domain<T, U>, number: u64) -> &PublisherPort<T, U>
+    requires { is_some (port_of number domain.now.state.ports.publishers) ≡ true }
+    ensures { port_of number domain.now.state.ports.publishers ≡ Some result.now }
+{
+    match domain.state.ports.publishers.get(number) {
+        Some(port) => port,
+        None => unreachable!(),
+    }
 }
 
 // A publisher has so many slots and loans, its headers say its node and number, and its sends fail where its fixed action says so.
@@ -151,7 +187,11 @@ fn find_publisher<T: Words, U: Words>(
     number: u64,
     port: &PublisherPort<T, U>,
 ) -> Result<(), AllocError>
-    ensures { lanes.new.sizes ≡ lanes.old.sizes }
+    ensures sizes { lanes.new.sizes ≡ lanes.old.sizes }
+    ensures fails { OnOk result (failing lanes.new.lanes
+        ≡ set (failing lanes.old.lanes) place (would_fail (kept_under number domain.now.state.publisher_handlers))) }
+    ensures behind { OnOk result (lanes.new.lanes ≡ sender_behind lanes.old.lanes place
+        (would_fail (kept_under number domain.now.state.publisher_handlers)) port.now) }
 {
     lanes.find(Found::Slots {
         publisher: place,
@@ -167,7 +207,9 @@ fn find_publisher<T: Words, U: Words>(
 }
 
 // The number of a publisher's first slot in the lanes.
-fn first_slot(lanes: &Lanes, place: usize) -> u64 {
+fn first_slot(lanes: &Lanes, place: usize) -> u64
+    ensures { result ≡ first_slot (slice_get lanes.now.publishers place) }
+{
     match lanes.publishers().get(place) {
         Some(lane) => lane.first_slot(),
         None => 0,
@@ -180,7 +222,10 @@ fn find_history<T: Words, U: Words>(
     first: u64,
     port: &PublisherPort<T, U>,
 ) -> Result<(), AllocError>
-    ensures { lanes.new.sizes ≡ lanes.old.sizes }
+    ensures sizes { lanes.new.sizes ≡ lanes.old.sizes }
+    ensures fails { failing lanes.new.lanes ≡ failing lanes.old.lanes }
+    ensures behind { OnOk result (lanes.new.lanes ≡ behind_findings lanes.old.lanes
+        (history_findings T.parts U.parts T.WORDS U.WORDS place first port.now port.now.sender.uses.history)) }
 {
     for at in 0..port.sender.history() {
         let slot = port.sender.remembered(at);
@@ -202,7 +247,14 @@ fn find_connections<T: Words, U: Words>(
     subscribers: &[u64],
     connections: &mut Vec<usize>,
 ) -> Result<(), AllocError>
-    ensures { lanes.new.sizes ≡ lanes.old.sizes }
+    ensures sizes { lanes.new.sizes ≡ lanes.old.sizes }
+    ensures fails { failing lanes.new.lanes ≡ failing lanes.old.lanes }
+    ensures ties { OnOk result (connections.new.items
+        ≡ connections.old.items ++ ties_for domain.now.state.ports.subscribers subscribers.now port.now) }
+    ensures behind { OnOk result (lanes.new.lanes ≡ behind_findings lanes.old.lanes
+        (flat_listed (λ other. link_findings T.parts U.parts T.WORDS U.WORDS place other first port.now
+        (tie_for port.now (subscriber_of (slice_index subscribers.now other) domain.now.state.ports.subscribers)))
+        (length subscribers.now))) }
 {
     for other in 0..subscribers.len() {
         let index = tie_to(domain, port, subscribers[other]);
@@ -217,19 +269,24 @@ fn find_connections<T: Words, U: Words>(
     Ok(())
 }
 
-// The index of the connection that a publisher's messages for a subscriber go to; one that isn't there if there is none.
+// The index of the connection that a publisher's messages for a subscriber go to; 0 if there is none.
 fn tie_to<T: Words, U: Words>(
     domain: &Domain<T, U>,
     port: &PublisherPort<T, U>,
     subscriber: u64,
-) -> usize {
+) -> usize
+    ensures { result ≡ tie_for port.now (subscriber_of subscriber domain.now.state.ports.subscribers) }
+{
     match domain.state.ports.subscribers.get(subscriber) {
-        Some(reader) => port.ties.get(reader.place).unwrap_or(usize::MAX),
-        None => usize::MAX,
+        Some(reader) => port.ties.get(reader.place).unwrap_or(0),
+        None => 0,
     }
 }
 
-fn limit_at<T: Words, U: Words>(port: &PublisherPort<T, U>, index: usize) -> usize {
+// How many messages may wait at a connection; none where there is none.
+fn limit_at<T: Words, U: Words>(port: &PublisherPort<T, U>, index: usize) -> usize
+    ensures { result ≡ (connection_of index port.now).limit }
+{
     match port.sender.stage(index) {
         Stage::Vacant => 0,
         Stage::Live | Stage::Ended => port.sender.limit(index),
@@ -244,15 +301,13 @@ fn find_waiting<T: Words, U: Words>(
     other: u64,
     index: usize,
 ) -> Result<(), AllocError>
-    ensures { lanes.new.sizes ≡ lanes.old.sizes }
+    ensures sizes { lanes.new.sizes ≡ lanes.old.sizes }
+    ensures fails { failing lanes.new.lanes ≡ failing lanes.old.lanes }
+    ensures behind { OnOk result (lanes.new.lanes ≡ behind_findings lanes.old.lanes
+        (waiting_findings T.parts U.parts T.WORDS U.WORDS place other first port.now (connection_of index port.now).waiting)) }
 {
     for at in 0..waiting_at(port, index) {
-        let Some(slot) = waiting_slot(port, index, at) else {
-            return Ok(());
-        };
-        if !port.sender.has_slot(slot) {
-            return Ok(());
-        }
+        let slot = waiting_slot(port, index, at);
         find_message(lanes, first, port, slot)?;
         lanes.find(Found::Waiting {
             publisher: place,
@@ -263,21 +318,15 @@ fn find_waiting<T: Words, U: Words>(
     Ok(())
 }
 
-// The slot of the message that waits at a place of a connection, if one does.
-fn waiting_slot<T: Words, U: Words>(
-    port: &PublisherPort<T, U>,
-    index: usize,
-    at: usize,
-) -> Option<usize> {
+// The slot of the message that waits at a place of a connection.
+fn waiting_slot<T: Words, U: Words>(port: &PublisherPort<T, U>, index: usize, at: usize) -> usize
+    requires { at < length (connection_of index port.now).waiting }
+    ensures slot { slice_get (map (λ message. message.slot) (connection_of index port.now).waiting) at ≡ Some result }
+    ensures inside { result < port.now.sender.uses.first + port.now.sender.uses.size }
+{
     match port.sender.stage(index) {
-        Stage::Vacant => None,
-        Stage::Live | Stage::Ended => {
-            if at < port.sender.waiting(index) {
-                Some(port.sender.waiting_slot(index, at))
-            } else {
-                None
-            }
-        }
+        Stage::Vacant => unreachable!(),
+        Stage::Live | Stage::Ended => port.sender.waiting_slot(index, at),
     }
 }
 
@@ -289,7 +338,14 @@ fn find_message<T: Words, U: Words>(
     slot: usize,
 ) -> Result<(), AllocError>
     requires { slot < port.now.sender.uses.first + port.now.sender.uses.size }
-    ensures { lanes.new.sizes ≡ lanes.old.sizes }
+    ensures sizes { lanes.new.sizes ≡ lanes.old.sizes }
+    ensures fails { failing lanes.new.lanes ≡ failing lanes.old.lanes }
+    ensures waiting { OnOk result ((index at : ℕ) (message : Message T U)
+        → slice_get (connection_of index port.now).waiting at ≡ Some message → message.slot ≡ slot
+        → lanes.new.lanes ≡ behind_findings lanes.old.lanes (message_findings T.parts U.parts T.WORDS U.WORDS first port.now message)) }
+    ensures remembered { OnOk result ((at : ℕ) (message : Message T U) → slice_get port.now.sender.uses.history at ≡ Some message
+        → message.slot ≡ slot
+        → lanes.new.lanes ≡ behind_findings lanes.old.lanes (message_findings T.parts U.parts T.WORDS U.WORDS first port.now message)) }
 {
     let at = first.saturating_add(slot as u64);
     find_word(lanes, at, SlotWord::Header(0), port.owner.node_id)?;
@@ -303,7 +359,9 @@ fn find_message<T: Words, U: Words>(
 }
 
 fn find_word(lanes: &mut NewLanes, slot: u64, word: SlotWord, value: u64) -> Result<(), AllocError>
-    ensures { lanes.new.sizes ≡ lanes.old.sizes }
+    ensures sizes { lanes.new.sizes ≡ lanes.old.sizes }
+    ensures fails { failing lanes.new.lanes ≡ failing lanes.old.lanes }
+    ensures behind { OnOk result (lanes.new.lanes ≡ behind_finding lanes.old.lanes (Found.Held slot word value)) }
 {
     lanes.find(Found::Held { slot, word, value })
 }
@@ -313,7 +371,10 @@ fn find_user_header<U: Words>(
     slot: u64,
     user_header: &U,
 ) -> Result<(), AllocError>
-    ensures { lanes.new.sizes ≡ lanes.old.sizes }
+    ensures sizes { lanes.new.sizes ≡ lanes.old.sizes }
+    ensures fails { failing lanes.new.lanes ≡ failing lanes.old.lanes }
+    ensures behind { OnOk result (lanes.new.lanes
+        ≡ behind_findings lanes.old.lanes (header_findings U.parts U.WORDS slot user_header.now)) }
 {
     for word in 0..U::WORDS {
         find_word(
@@ -327,7 +388,9 @@ fn find_user_header<U: Words>(
 }
 
 fn find_value<T: Words>(lanes: &mut NewLanes, slot: u64, value: &T) -> Result<(), AllocError>
-    ensures { lanes.new.sizes ≡ lanes.old.sizes }
+    ensures sizes { lanes.new.sizes ≡ lanes.old.sizes }
+    ensures fails { failing lanes.new.lanes ≡ failing lanes.old.lanes }
+    ensures behind { OnOk result (lanes.new.lanes ≡ behind_findings lanes.old.lanes (value_findings T.parts T.WORDS slot value.now)) }
 {
     for word in 0..T::WORDS {
         find_word(
@@ -347,7 +410,8 @@ fn find_orders<T: Words, U: Words>(
     publishers: &[u64],
     subscribers: &[u64],
 ) -> Result<(), AllocError>
-    ensures { lanes.new.sizes ≡ lanes.old.sizes }
+    ensures sizes { lanes.new.sizes ≡ lanes.old.sizes }
+    ensures fails { failing lanes.new.lanes ≡ failing lanes.old.lanes }
 {
     for place in 0..subscribers.len() {
         if let Some(port) = domain.state.ports.subscribers.get(subscribers[place]) {
@@ -363,7 +427,8 @@ fn find_order(
     port: &SubscriberPort,
     publishers: &[u64],
 ) -> Result<(), AllocError>
-    ensures { lanes.new.sizes ≡ lanes.old.sizes }
+    ensures sizes { lanes.new.sizes ≡ lanes.old.sizes }
+    ensures fails { failing lanes.new.lanes ≡ failing lanes.old.lanes }
 {
     let mut to = 0u64;
     for key in 0..port.connections.reached() {

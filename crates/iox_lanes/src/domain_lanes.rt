@@ -10,7 +10,6 @@ ghost use Rattle.iox_lanes.specs.Joined.{IsJoined};
 ghost use Rattle.iox_lanes.specs.Sized.{AreSized};
 
 use crate::building::build;
-use crate::failing::fail_as_asked;
 use crate::holding::hold;
 use crate::joining::joins;
 use iox_domain::Domain;
@@ -113,6 +112,7 @@ fn with<T, U>(opened: Opened<T>, domain: Domain<T, U>) -> DomainLanes<T, U>
 
 // The lanes of a domain, if memory is found for them.
 fn open<T: Words, U: Words>(alloc: Global, domain: &Domain<T, U>) -> Option<Opened<T>>
+    requires { first_reason domain.now ≡ None }
     ensures came { IfSome result (λ opened. CameTo opened.lanes) }
     ensures between { IfSome result (λ opened. AllBetween opened.lanes) }
     ensures sized { IfSome result (λ opened. AreSized domain.now.state.ports.sizes (length opened.publishers.items)
@@ -125,7 +125,7 @@ fn open<T: Words, U: Words>(alloc: Global, domain: &Domain<T, U>) -> Option<Open
 {
     match build(alloc, domain) {
         Ok(opened) => {
-            if hold(domain, &opened) && fail_as_asked(domain, &opened) && joins(domain, &opened) {
+            if hold(domain, &opened) && joins(domain, &opened) {
                 Some(opened)
             } else {
                 None

@@ -1,5 +1,5 @@
 //! Lanes before their first step, to which nothing happened but that something was found.
-ghost use Rattle.std.specs.Prelude.{◌≡◌, ◌<◌, IfOk};
+ghost use Rattle.std.specs.Prelude.{◌≡◌, ◌<◌, IfOk, OnOk, length};
 
 use iox_lanes_machine::{Found, LaneSizes, Lanes};
 use std::alloc::{AllocError, Global};
@@ -25,14 +25,17 @@ impl Model for NewLanes {
 impl NewLanes {
     ghost use Rattle.iox_lanes_machine.specs.Resting.{AllBetween};
     ghost use Rattle.iox_lanes_machine.specs.WholeReads.{CameTo};
-    ghost use Rattle.iox_lanes.specs.Finding.{WasFound};
+    ghost use Rattle.iox_lanes.specs.Behind.{behind_finding};
+    ghost use Rattle.iox_lanes.specs.Failing.{failing};
+    ghost use Rattle.iox_lanes.specs.Finding.{WasFound, failing_behind};
 
     /// Lanes of these sizes. Fails only where an allocation fails; no memory has room for buffers, borrowed samples or
     /// subscribers of 2^61 or more.
-    #[tactic(auto, using(crate::proofs::Found::was_made))]
+    #[tactic(auto, using(crate::proofs::Found::was_made, crate::proofs::Failing::as_many_made))]
     pub fn new(alloc: Global, sizes: LaneSizes) -> Result<NewLanes, AllocError>
         requires { 0 < sizes.buffer }
-        ensures { IfOk result (λ made. made.sizes ≡ sizes) }
+        ensures sizes { IfOk result (λ made. made.sizes ≡ sizes) }
+        ensures publishers { IfOk result (λ made. length (failing made.lanes) ≡ sizes.publishers) }
     {
         if sizes.buffer >= 1 << 61 {
             return Err(AllocError);
@@ -47,10 +50,12 @@ impl NewLanes {
         Ok(NewLanes { sizes, lanes })
     }
 
-    /// This is found, if it may be.
+    /// This is found, if it may be. Whether the sends of a publisher fail says what is found of it alone.
     #[tactic(auto, using(crate::proofs::Found::found_on))]
     pub fn find(&mut self, found: Found) -> Result<(), AllocError>
-        ensures { self.new.sizes ≡ self.old.sizes }
+        ensures sizes { self.new.sizes ≡ self.old.sizes }
+        ensures fails { failing self.new.lanes ≡ failing_behind found (failing self.old.lanes) }
+        ensures behind { OnOk result (self.new.lanes ≡ behind_finding self.old.lanes found) }
     {
         let _ = self.lanes.find(found)?;
         Ok(())
@@ -69,6 +74,7 @@ impl NewLanes {
         ensures came { CameTo result }
         ensures between { AllBetween result }
         ensures found { WasFound self.sizes result }
+        ensures lanes { result ≡ self.lanes }
     {
         let NewLanes { lanes, .. } = self;
         lanes

@@ -1,7 +1,9 @@
 //! Whether lanes hold what a domain has.
-ghost use Rattle.std.specs.Prelude.{◌≡◌, ◌<◌, ◌*◌, ℕ, length};
+ghost use Rattle.std.specs.Prelude.{◌≡◌, ◌<◌, ℕ, length};
 ghost use Rattle.std.specs.Bool.{OnTrue};
 ghost use Rattle.iox_lanes.specs.Holding.{numbers_of, SenderHolds, LinkHolds, ReaderHolds, LanesHold};
+ghost use Rattle.iox_lanes.specs.Sized.{AreSized};
+ghost use Rattle.iox_lanes.specs.Tied.{AreTied};
 
 use crate::domain_lanes::Opened;
 use crate::linking::link_holds;
@@ -15,12 +17,12 @@ pub(crate) fn hold<T: Words, U: Words>(domain: &Domain<T, U>, opened: &Opened<T>
     requires publishers { opened.now.publishers.items ≡ numbers_of (λ entry. entry.publisher) domain.now.state.ports.publisher_list.places }
     requires subscribers { opened.now.subscribers.items
         ≡ numbers_of (λ entry. entry.subscriber) domain.now.state.ports.subscriber_list.places }
+    requires sized { AreSized domain.now.state.ports.sizes (length opened.now.publishers.items) (length opened.now.subscribers.items)
+        T.WORDS U.WORDS opened.now.lanes }
+    requires tied { AreTied domain.now.state.ports opened.now.publishers.items opened.now.subscribers.items opened.now.connections.items }
     ensures { OnTrue result (LanesHold T.parts U.parts T.WORDS U.WORDS domain.now opened.now.lanes opened.now.publishers.items
         opened.now.subscribers.items opened.now.connections.items) }
 {
-    if !are_sized::<T, U>(opened) {
-        return false;
-    }
     if !senders_hold(domain, opened) {
         return false;
     }
@@ -31,51 +33,6 @@ pub(crate) fn hold<T: Words, U: Words>(domain: &Domain<T, U>, opened: &Opened<T>
         return false;
     }
     true
-}
-
-// Whether nothing was done yet, and there are as many ports and words as there are to be.
-fn are_sized<T: Words, U: Words>(opened: &Opened<T>) -> bool
-    ensures moments { OnTrue result (opened.now.lanes.moments ≡ 0) }
-    ensures payload { OnTrue result (opened.now.lanes.table.sizes.payload_words ≡ T.WORDS) }
-    ensures user_header { OnTrue result (opened.now.lanes.table.sizes.user_header_words ≡ U.WORDS) }
-    ensures senders { OnTrue result (length opened.now.lanes.publishers ≡ length opened.now.publishers.items) }
-    ensures readers { OnTrue result (length opened.now.lanes.subscribers ≡ length opened.now.subscribers.items) }
-    ensures links { OnTrue result (length opened.now.lanes.links
-        ≡ length opened.now.publishers.items * length opened.now.subscribers.items) }
-{
-    let sizes = opened.lanes.table().sizes();
-    if opened.lanes.moments() != 0 {
-        return false;
-    }
-    if sizes.payload_words != T::WORDS as u64 {
-        return false;
-    }
-    if sizes.user_header_words != U::WORDS as u64 {
-        return false;
-    }
-    if opened.lanes.publishers().len() != opened.publishers.len() {
-        return false;
-    }
-    if opened.lanes.subscribers().len() != opened.subscribers.len() {
-        return false;
-    }
-    if !is_product(
-        opened.publishers.len(),
-        opened.subscribers.len(),
-        opened.lanes.links().len(),
-    ) {
-        return false;
-    }
-    true
-}
-
-fn is_product(one: usize, other: usize, product: usize) -> bool
-    ensures { OnTrue result (product ≡ one * other) }
-{
-    match one.checked_mul(other) {
-        Some(value) => value == product,
-        None => false,
-    }
 }
 
 fn senders_hold<T: Words, U: Words>(domain: &Domain<T, U>, opened: &Opened<T>) -> bool
@@ -91,6 +48,9 @@ fn senders_hold<T: Words, U: Words>(domain: &Domain<T, U>, opened: &Opened<T>) -
 }
 
 fn links_hold<T: Words, U: Words>(domain: &Domain<T, U>, opened: &Opened<T>) -> bool
+    requires sized { AreSized domain.now.state.ports.sizes (length opened.now.publishers.items) (length opened.now.subscribers.items)
+        T.WORDS U.WORDS opened.now.lanes }
+    requires tied { AreTied domain.now.state.ports opened.now.publishers.items opened.now.subscribers.items opened.now.connections.items }
     ensures { OnTrue result ((publisher : ℕ) → publisher < length opened.now.publishers.items → (subscriber : ℕ)
         → subscriber < length opened.now.subscribers.items
         → LinkHolds T.parts U.parts domain.now opened.now.lanes opened.now.publishers.items opened.now.subscribers.items opened.now.connections.items publisher subscriber) }
@@ -108,6 +68,9 @@ fn links_of_hold<T: Words, U: Words>(
     opened: &Opened<T>,
     publisher: usize,
 ) -> bool
+    requires sized { AreSized domain.now.state.ports.sizes (length opened.now.publishers.items) (length opened.now.subscribers.items)
+        T.WORDS U.WORDS opened.now.lanes }
+    requires tied { AreTied domain.now.state.ports opened.now.publishers.items opened.now.subscribers.items opened.now.connections.items }
     ensures { OnTrue result ((subscriber : ℕ) → subscriber < length opened.now.subscribers.items
         → LinkHolds T.parts U.parts domain.now opened.now.lanes opened.now.publishers.items opened.now.subscribers.items opened.now.connections.items publisher subscriber) }
 {

@@ -1,33 +1,32 @@
 //! Whether lanes go with the domain that they came from, whatever steps they make.
 ghost use Rattle.std.specs.Prelude.{◌≡◌, ◌+◌, ◌*◌, ◌<◌, ℕ, length, slice_get, option_copied, option_map, IfSome, None, Some};
 ghost use Rattle.std.specs.Bool.{OnTrue};
-ghost use Rattle.iox_domain.specs.DomainPorts.Ports.{connection_of};
-ghost use Rattle.iox_domain.specs.DomainSlots.declared.stage.Stage.TheVariants as stage;
-ghost use Rattle.iox_lanes_opening.specs.Restored.{place_of};
+ghost use Rattle.iox_lanes_opening.specs.Restored.{IsRested, place_of};
+ghost use Rattle.iox_lanes_opening.specs.Refusals.{first_reason};
 ghost use Rattle.iox_lanes_machine.specs.Fixed.{fixed_slots};
-ghost use Rattle.iox_lanes.specs.Holding.{LanesHold};
-ghost use Rattle.iox_lanes.specs.Joined.{HasSlotsIf, HasSlotsOf, IsJoined, IsLinkTo, IsLinkToIf, LinkJoins, SenderJoins, place_if, row_of};
+ghost use Rattle.iox_lanes.specs.Holding.{port_if, reader_if, LanesHold, LinkHolds, SenderHolds};
+ghost use Rattle.iox_lanes.specs.Joined.{HasAsMany, HasSlotsIf, HasSlotsOf, IsJoined, LinkJoins, SenderJoins, place_if, row_of};
+ghost use Rattle.iox_lanes.specs.Tied.{AreTied, IsTied};
 
 use crate::domain_lanes::Opened;
-use crate::linking::{leads_from, number_of};
+use crate::linking::number_of;
 use crate::sending::publisher_at;
 use iox_domain::Domain;
-use iox_domain_ports::{PublisherPort, Stage};
-use iox_lanes_machine::Link;
-use iox_lanes_opening::leaving::is_rested;
+use iox_domain_ports::PublisherPort;
 use iox_lanes_parties::PublisherLane;
 use iox_queues_base::Words;
 
 /// Whether lanes that hold what a domain has go with it.
 pub(crate) fn joins<T: Words, U: Words>(domain: &Domain<T, U>, opened: &Opened<T>) -> bool
-    requires { LanesHold T.parts U.parts T.WORDS U.WORDS domain.now opened.now.lanes opened.now.publishers.items
+    requires hold { LanesHold T.parts U.parts T.WORDS U.WORDS domain.now opened.now.lanes opened.now.publishers.items
         opened.now.subscribers.items opened.now.connections.items }
+    requires some { 0 < length opened.now.one.items }
+    requires none { first_reason domain.now ≡ None }
+    requires indices { length opened.now.connections.items ≡ length opened.now.publishers.items * length opened.now.subscribers.items }
+    requires tied { AreTied domain.now.state.ports opened.now.publishers.items opened.now.subscribers.items opened.now.connections.items }
     ensures { OnTrue result (IsJoined T.WORDS U.WORDS (length opened.now.one.items) opened.now.lanes domain.now.state.ports.publishers
         opened.now.publishers.items (length opened.now.subscribers.items) opened.now.connections.items) }
 {
-    if !is_sized(opened) {
-        return false;
-    }
     if !senders_join(domain, opened) {
         return false;
     }
@@ -37,18 +36,10 @@ pub(crate) fn joins<T: Words, U: Words>(domain: &Domain<T, U>, opened: &Opened<T
     true
 }
 
-// Whether there is a place for a value, and an index for each connection.
-fn is_sized<T: Words>(opened: &Opened<T>) -> bool
-    ensures some { OnTrue result (0 < length opened.now.one.items) }
-    ensures indices { OnTrue result (length opened.now.connections.items ≡ length opened.now.lanes.links) }
-{
-    if opened.one.is_empty() {
-        return false;
-    }
-    opened.connections.len() == opened.lanes.links().len()
-}
-
 fn senders_join<T: Words, U: Words>(domain: &Domain<T, U>, opened: &Opened<T>) -> bool
+    requires hold { LanesHold T.parts U.parts T.WORDS U.WORDS domain.now opened.now.lanes opened.now.publishers.items
+        opened.now.subscribers.items opened.now.connections.items }
+    requires none { first_reason domain.now ≡ None }
     ensures { OnTrue result ((place : ℕ) → place < length opened.now.publishers.items
         → SenderJoins domain.now.state.ports.publishers opened.now.lanes opened.now.publishers.items place) }
 {
@@ -60,7 +51,10 @@ fn senders_join<T: Words, U: Words>(domain: &Domain<T, U>, opened: &Opened<T>) -
     true
 }
 
+#[tactic(auto, using(crate::proofs::Presence::rested_if, crate::proofs::JoinedLanes::as_many_if))]
 fn sender_joins<T: Words, U: Words>(domain: &Domain<T, U>, opened: &Opened<T>, place: usize) -> bool
+    requires hold { SenderHolds T.parts U.parts domain.now opened.now.lanes opened.now.publishers.items place }
+    requires none { first_reason domain.now ≡ None }
     ensures { OnTrue result (SenderJoins domain.now.state.ports.publishers opened.now.lanes opened.now.publishers.items place) }
 {
     if !is_alone_in(&opened.publishers, place) {
@@ -103,6 +97,8 @@ fn has_slots_if<T: Words, U: Words>(
     port: &PublisherPort<T, U>,
     lane: Option<&PublisherLane>,
 ) -> bool
+    requires rested { IsRested port.now.sender }
+    requires as_many { HasAsMany port.now (option_copied lane) }
     ensures { OnTrue result (HasSlotsIf (Some port.now) (option_map fixed_slots (option_copied lane.entry))) }
 {
     match lane {
@@ -113,15 +109,11 @@ fn has_slots_if<T: Words, U: Words>(
 
 // Whether the slots of a lane are those of a publisher of which nothing is out.
 fn has_slots_of<T: Words, U: Words>(port: &PublisherPort<T, U>, lane: &PublisherLane) -> bool
+    requires rested { IsRested port.now.sender }
+    requires as_many { HasAsMany port.now (Some lane.now) }
     ensures { OnTrue result (HasSlotsOf port.now (fixed_slots lane.now)) }
 {
-    if !is_rested(&port.sender) {
-        return false;
-    }
     if port.sender.first() != 0 {
-        return false;
-    }
-    if lane.slots() != port.sender.slots() {
         return false;
     }
     if lane.kept() != port.sender.kept() {
@@ -131,6 +123,9 @@ fn has_slots_of<T: Words, U: Words>(port: &PublisherPort<T, U>, lane: &Publisher
 }
 
 fn links_join<T: Words, U: Words>(domain: &Domain<T, U>, opened: &Opened<T>) -> bool
+    requires hold { LanesHold T.parts U.parts T.WORDS U.WORDS domain.now opened.now.lanes opened.now.publishers.items
+        opened.now.subscribers.items opened.now.connections.items }
+    requires tied { AreTied domain.now.state.ports opened.now.publishers.items opened.now.subscribers.items opened.now.connections.items }
     ensures { OnTrue result ((publisher : ℕ) → publisher < length opened.now.publishers.items → (subscriber : ℕ)
         → subscriber < length opened.now.subscribers.items
         → LinkJoins domain.now.state.ports.publishers opened.now.lanes opened.now.publishers.items (length opened.now.subscribers.items) opened.now.connections.items publisher subscriber) }
@@ -148,6 +143,10 @@ fn links_of_join<T: Words, U: Words>(
     opened: &Opened<T>,
     publisher: usize,
 ) -> bool
+    requires hold { LanesHold T.parts U.parts T.WORDS U.WORDS domain.now opened.now.lanes opened.now.publishers.items
+        opened.now.subscribers.items opened.now.connections.items }
+    requires there { publisher < length opened.now.publishers.items }
+    requires tied { AreTied domain.now.state.ports opened.now.publishers.items opened.now.subscribers.items opened.now.connections.items }
     ensures { OnTrue result ((subscriber : ℕ) → subscriber < length opened.now.subscribers.items
         → LinkJoins domain.now.state.ports.publishers opened.now.lanes opened.now.publishers.items (length opened.now.subscribers.items) opened.now.connections.items publisher subscriber) }
 {
@@ -165,6 +164,11 @@ fn link_joins<T: Words, U: Words>(
     publisher: usize,
     subscriber: usize,
 ) -> bool
+    requires hold { LinkHolds T.parts U.parts domain.now opened.now.lanes opened.now.publishers.items opened.now.subscribers.items
+        opened.now.connections.items publisher subscriber }
+    requires tied { IsTied (port_if domain.now.state.ports.publishers (slice_get opened.now.publishers.items publisher))
+        (reader_if domain.now.state.ports.subscribers (slice_get opened.now.subscribers.items subscriber))
+        (slice_get opened.now.connections.items (publisher * length opened.now.subscribers.items + subscriber)) }
     ensures { OnTrue result (LinkJoins domain.now.state.ports.publishers opened.now.lanes opened.now.publishers.items
         (length opened.now.subscribers.items) opened.now.connections.items publisher subscriber) }
 {
@@ -175,14 +179,13 @@ fn link_joins<T: Words, U: Words>(
     let Some(row) = row_of(&opened.connections, readers, publisher) else {
         return false;
     };
-    is_link_to_if(
-        publisher_at(domain, &opened.publishers, publisher),
-        publisher,
-        subscriber,
-        row,
-        opened.connections.get(number),
-        opened.lanes.links().get(number),
-    )
+    let Some(index) = opened.connections.get(number) else {
+        return false;
+    };
+    if !is_first(row, *index, subscriber) {
+        return false;
+    }
+    true
 }
 
 // The row of a publisher's connections, of the indices of all.
@@ -192,48 +195,6 @@ fn row_of(indices: &[usize], readers: usize, publisher: usize) -> Option<&[usize
     let from = publisher.checked_mul(readers)?;
     let end = from.checked_add(readers)?;
     indices.get(from..end)
-}
-
-fn is_link_to_if<T: Words, U: Words>(
-    port: Option<&PublisherPort<T, U>>,
-    publisher: usize,
-    subscriber: usize,
-    row: &[usize],
-    index: Option<&usize>,
-    link: Option<&Link>,
-) -> bool
-    ensures { OnTrue result (IsLinkToIf (option_copied port.entry) publisher subscriber row.now (option_copied index.entry)
-        (option_copied link.entry)) }
-{
-    match (port, index, link) {
-        (Some(port), Some(index), Some(link)) => {
-            is_link_to(port, publisher, subscriber, row, *index, link)
-        }
-        _ => false,
-    }
-}
-
-// Whether a link is the connection of an index of a publisher, which goes on.
-fn is_link_to<T: Words, U: Words>(
-    port: &PublisherPort<T, U>,
-    publisher: usize,
-    subscriber: usize,
-    row: &[usize],
-    index: usize,
-    link: &Link,
-) -> bool
-    ensures { OnTrue result (IsLinkTo port.now publisher subscriber row.now index link.now) }
-{
-    if !leads_from(link, publisher) {
-        return false;
-    }
-    if !is_first(row, index, subscriber) {
-        return false;
-    }
-    if !goes_on(port, index, link) {
-        return false;
-    }
-    true
 }
 
 // Where an index is first in a row.
@@ -250,16 +211,5 @@ fn is_first(row: &[usize], index: usize, place: usize) -> bool
     match index_place(row, index) {
         Some(first) => first == place,
         None => false,
-    }
-}
-
-// Whether a connection goes on, and as many may wait there as at a link.
-fn goes_on<T: Words, U: Words>(port: &PublisherPort<T, U>, index: usize, link: &Link) -> bool
-    ensures live { OnTrue result ((connection_of index port.now).stage ≡ stage.Live) }
-    ensures limit { OnTrue result (link.now.limit ≡ (connection_of index port.now).limit) }
-{
-    match port.sender.stage(index) {
-        Stage::Live => link.limit() == port.sender.limit(index) as u64,
-        Stage::Vacant | Stage::Ended => false,
     }
 }

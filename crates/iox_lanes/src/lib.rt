@@ -7,12 +7,14 @@
 //! - `lying`: whether a message of the domain lies in a slot of the lanes.
 //! - `sending`, `linking`, `receiving`: whether publishers, connections and subscribers of the lanes are those of the domain.
 //! - `holding`: whether lanes hold what the domain has.
-//! - `failing`: whether their sends fail at a full mailbox where those of the domain do.
 //! - `joining`: whether they go with it, whatever steps they make.
 //! - [`returning`]: the domain that lanes leave.
 //! - [`into_domain_error`]: why lanes don't become a domain.
 //! - [`threads`]: the ports of a domain in threads of their own.
 //! - [`laws`]: what holds of lanes and of the domain beside them.
+//!
+//! Named again is what a first program on lanes needs: [`Lanes`], [`Party`], [`Call`], [`Move`], and for threads [`open_threads`],
+//! [`LanePublisher`], [`LaneSubscriber`].
 //!
 //! First calls:
 //!
@@ -29,7 +31,6 @@
 
 mod building;
 pub mod domain_lanes;
-mod failing;
 mod finding;
 mod holding;
 pub mod into_domain_error;
@@ -45,5 +46,14 @@ pub mod threads;
 
 pub use domain_lanes::{DomainLanes, Refused, into_lanes};
 pub use into_domain_error::IntoDomainError;
+pub use iox_lanes_base::calls::Receipt;
+pub use iox_lanes_machine::{LaneSizes, Lanes};
 pub use iox_lanes_opening::refusals::IntoLanesError;
+pub use iox_lanes_parties::publisher::LoanAnswer;
+pub use iox_lanes_parties::{Answer, Call, CallName, Entry, FinishedCall, Move, Party, SendAnswer};
+pub use iox_lanes_threads::{
+    EndError, EndedThreads, LanePublisher, LaneSubscriber, LaneThreads, OpenError, end,
+    open_threads,
+};
+pub use iox_queues_steps::rings::RingKind;
 pub use returning::StillLanes;

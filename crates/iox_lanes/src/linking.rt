@@ -1,21 +1,21 @@
 //! Whether connections of lanes are those of a domain.
-ghost use Rattle.std.specs.Prelude.{◌≡◌, ◌+◌, ◌<◌, ◌*◌, ℕ, true, length, get_or, slice_get, option_copied, IfSome, None, Some};
+ghost use Rattle.std.specs.Prelude.{◌≡◌, ◌+◌, ◌<◌, ◌*◌, true, length, slice_get, option_copied, IfSome, None, Some};
 ghost use Rattle.std.specs.Bool.{OnTrue};
 ghost use Rattle.iox_domain.specs.DomainPorts.Ports.{connection_of};
 ghost use Rattle.iox_domain.specs.DomainSlots.Uses.{is_there};
 ghost use Rattle.iox_lanes.specs.Lying.{AreLaid, IsLaidAt};
-ghost use Rattle.iox_lanes.specs.Holding.{kind_of, reader_if, IsLinkOf, IsLinkIf, LinkHolds};
+ghost use Rattle.iox_lanes.specs.Holding.{port_if, reader_if, IsLinkOf, IsLinkIf, Leads, LinkHolds};
+ghost use Rattle.iox_lanes.specs.Tied.{IsTied};
 
 use crate::domain_lanes::Opened;
 use crate::lying::lies;
 use crate::sending::{has, in_lanes, publisher_at};
 use iox_domain::Domain;
-use iox_domain_ports::{PublisherPort, Stage, SubscriberPort};
+use iox_domain_ports::{PublisherPort, SubscriberPort};
 use iox_lanes_base::words::WordTable;
 use iox_lanes_machine::Link;
 use iox_lanes_parties::PublisherLane;
 use iox_queues_base::Words;
-use iox_queues_steps::rings::RingKind;
 
 /// The subscriber whose number stands at a place, if there is one.
 pub(crate) fn subscriber_at<'a, T: Words, U: Words>(
@@ -38,6 +38,11 @@ pub(crate) fn link_holds<T: Words, U: Words>(
     publisher: usize,
     subscriber: usize,
 ) -> bool
+    requires leads { Leads domain.now.state.ports.sizes.enable_safe_overflow publisher subscriber
+        (slice_get opened.now.lanes.links (publisher * length opened.now.subscribers.items + subscriber)) }
+    requires tied { IsTied (port_if domain.now.state.ports.publishers (slice_get opened.now.publishers.items publisher))
+        (reader_if domain.now.state.ports.subscribers (slice_get opened.now.subscribers.items subscriber))
+        (slice_get opened.now.connections.items (publisher * length opened.now.subscribers.items + subscriber)) }
     ensures { OnTrue result (LinkHolds T.parts U.parts domain.now opened.now.lanes opened.now.publishers.items
         opened.now.subscribers.items opened.now.connections.items publisher subscriber) }
 {
@@ -76,6 +81,8 @@ fn is_link_if<T: Words, U: Words>(
     index: Option<&usize>,
     link: Option<&Link>,
 ) -> bool
+    requires leads { Leads overflows publisher subscriber (option_copied link) }
+    requires tied { IsTied (option_copied port) (option_copied reader) (option_copied index) }
     ensures { OnTrue result (IsLinkIf T.parts U.parts table.now overflows publisher subscriber (option_copied port.entry)
         (option_copied reader.entry) (option_copied lane.entry) (option_copied index.entry) (option_copied link.entry)) }
 {
@@ -102,55 +109,14 @@ fn is_link_of<T: Words, U: Words>(
     subscriber: usize,
     link: &Link,
 ) -> bool
+    requires leads { Leads overflows publisher subscriber (Some link.now) }
+    requires tied { IsTied (Some port.now) (Some reader.now) (Some index) }
     ensures { OnTrue result (IsLinkOf T.parts U.parts table.now overflows port.now reader.now first index publisher subscriber link.now) }
 {
-    if !leads_from(link, publisher) {
-        return false;
-    }
-    if !leads_to(link, subscriber) {
-        return false;
-    }
-    if !is_tied(port, reader.place, index) {
-        return false;
-    }
-    if !is_kind(link.kind(), overflows) {
-        return false;
-    }
     if !connection_lies(table, port, index, first, link) {
         return false;
     }
     true
-}
-
-/// Whether a link leads from the publisher at this place.
-pub(crate) fn leads_from(link: &Link, publisher: usize) -> bool
-    ensures { OnTrue result (link.now.publisher ≡ publisher) }
-{
-    link.publisher() == publisher as u64
-}
-
-fn leads_to(link: &Link, subscriber: usize) -> bool
-    ensures { OnTrue result (link.now.subscriber ≡ subscriber) }
-{
-    link.subscriber() == subscriber as u64
-}
-
-fn is_kind(kind: RingKind, overflows: bool) -> bool
-    ensures { OnTrue result (kind ≡ kind_of overflows) }
-{
-    match kind {
-        RingKind::Overflowing => overflows,
-        RingKind::Refusing => !overflows,
-    }
-}
-
-fn is_tied<T: Words, U: Words>(port: &PublisherPort<T, U>, place: usize, index: usize) -> bool
-    ensures { OnTrue result (get_or port.now.ties.items place None ≡ Some index) }
-{
-    match port.ties.get(place) {
-        Some(tie) => tie == index,
-        None => false,
-    }
 }
 
 // Whether as many may wait at a link as at a connection, and the same messages do.
@@ -161,22 +127,18 @@ fn connection_lies<T: Words, U: Words>(
     first: u64,
     link: &Link,
 ) -> bool
+    requires { is_there (connection_of index port.now) ≡ true }
     ensures limit { OnTrue result (link.now.limit ≡ (connection_of index port.now).limit) }
     ensures waiting { OnTrue result (AreLaid T.parts U.parts table.now first port.now link.now.found
         (connection_of index port.now).waiting) }
 {
-    match port.sender.stage(index) {
-        Stage::Vacant => false,
-        Stage::Live | Stage::Ended => {
-            if link.limit() != port.sender.limit(index) as u64 {
-                return false;
-            }
-            if !waiting_lies(table, first, port, index, link.found()) {
-                return false;
-            }
-            true
-        }
+    if link.limit() != port.sender.limit(index) as u64 {
+        return false;
     }
+    if !waiting_lies(table, first, port, index, link.found()) {
+        return false;
+    }
+    true
 }
 
 // Whether these are the slots of the messages that wait at a connection, which lie there.

@@ -9,7 +9,6 @@ pub mod Running
 pub mod Striding
 pub mod RingStriding
 pub mod SubscriberStriding
-pub mod SubscriberRingStriding
 pub mod Between
 pub mod KnownWrites
 pub mod KnownLoans

@@ -1,6 +1,6 @@
--- Several steps of a publisher, which its lane makes up for at once.
+-- Several steps of a port, which its lane makes up for at once, and those of a publisher.
 use Rattle.std.proofs.lemmas.Option.{slice_get-get_or}
-use Rattle.std.proofs.Common.{ℕ, ◌≡◌, ◌+◌, ◌<◌, ◌^◌, false, length, get_or, Option, refl, sym, ◌∙◌, ap, subst, arith}
+use Rattle.std.proofs.Common.{ℕ, ◌≡◌, ◌+◌, ◌<◌, ◌^◌, false, List, length, get_or, slice_get, Some, refl, sym, ◌∙◌, ap, subst, arith}
 use Rattle.atomic_table.specs.Table.{Me}
 use Rattle.iox_lanes_machine.specs.QueuesSteps.Access.{successor}
 use Rattle.iox_lanes_machine.specs.LanesBase.Numbers.{IsSmall}
@@ -17,89 +17,101 @@ use Rattle.iox_lanes_machine.specs.LanesParties.Within.{IsPublishing}
 use Rattle.iox_lanes_threads_rule.specs.Acts.{single, port_of, stepped, ToldBy}
 use Rattle.iox_lanes_threads_rule.specs.declared.service.Service.{Service}
 use Rattle.iox_lanes_threads_rule.specs.declared.view.Port.{Port}
+use Rattle.iox_lanes_threads_rule.specs.declared.view.PortParty.{PortParty}
 use Rattle.iox_lanes_threads_rule.specs.declared.view.View.{View}
 use Rattle.iox_lanes_threads_ports.specs.Courses.{publisher_party, publisher_stepped, PublisherSteps}
 use Rattle.iox_lanes_threads_ports.specs.Ports.{PublisherStands}
-use Rattle.iox_lanes_threads_ports.specs.Strides.{called, PublisherStrides, PublisherStrode}
+use Rattle.iox_lanes_threads_ports.specs.declared.strides.SlotPart.{SlotPart}
+use Rattle.iox_lanes_threads_ports.specs.declared.strides.SlotPart.TheVariants.{Payload, Head}
+use Rattle.iox_lanes_threads_ports.specs.SlotParts.{storing, storing_at}
+use Rattle.iox_lanes_threads_ports.specs.Strides.{called, PublisherStrides, Strode, PublisherStrode, TouchesWord, LaneKind, publishers, GoesAhead}
 use Rattle.iox_lanes_threads_ports.specs.Strides.PublisherStrides.{stays, goes}
-use Rattle.iox_lanes_threads_ports.proofs.PublisherSteps as publishers
+use Rattle.iox_lanes_threads_ports.proofs.PublisherSteps as steps
 use Rattle.iox_lanes_threads_ports.proofs.Running.{SeatIs, seat_stepped, Publishes, Paced, step_paced}
 
--- an access that is not local is not the last step of a call
-loads_on : (c : PublisherCall) (w : SharedWord) → publisher_next c ≡ Load w → publisher_is_over c ≡ false
-loads_on publishing.Idle w e = refl
-loads_on (publishing.LoanReclaims place route pop) w e = refl
-loads_on publishing.Lending w e = absurd (cc e)
-loads_on (publishing.Writing slot word value) w e = refl
-loads_on (publishing.Written slot) w e = absurd (cc e)
-loads_on (publishing.Heading slot word value) w e = refl
-loads_on (publishing.Remembering slot) w e = refl
-loads_on (publishing.SendReclaims slot place route pop) w e = refl
-loads_on (publishing.Pushing slot place route push delivery) w e = refl
-loads_on (publishing.Sent slot delivery) w e = absurd (cc e)
-loads_on (publishing.Dropping slot) w e = absurd (cc e)
+-- an access to a shared word is not the last step of a call
+touches_on : (c : PublisherCall) → TouchesWord (publisher_next c) → publisher_is_over c ≡ false
+touches_on publishing.Idle t = refl
+touches_on (publishing.LoanReclaims place route pop) t = refl
+touches_on publishing.Lending t = absurd t
+touches_on (publishing.Writing slot word value) t = refl
+touches_on (publishing.Written slot) t = absurd t
+touches_on (publishing.Heading slot word value) t = refl
+touches_on (publishing.Remembering slot) t = refl
+touches_on (publishing.SendReclaims slot place route pop) t = refl
+touches_on (publishing.Pushing slot place route push delivery) t = refl
+touches_on (publishing.Sent slot delivery) t = absurd t
+touches_on (publishing.Dropping slot) t = absurd t
 
-stores_on : (c : PublisherCall) (w : SharedWord) (new : ℕ) → publisher_next c ≡ Store w new → publisher_is_over c ≡ false
-stores_on publishing.Idle w new e = refl
-stores_on (publishing.LoanReclaims place route pop) w new e = refl
-stores_on publishing.Lending w new e = absurd (cc e)
-stores_on (publishing.Writing slot word value) w new e = refl
-stores_on (publishing.Written slot) w new e = absurd (cc e)
-stores_on (publishing.Heading slot word value) w new e = refl
-stores_on (publishing.Remembering slot) w new e = refl
-stores_on (publishing.SendReclaims slot place route pop) w new e = refl
-stores_on (publishing.Pushing slot place route push delivery) w new e = refl
-stores_on (publishing.Sent slot delivery) w new e = absurd (cc e)
-stores_on (publishing.Dropping slot) w new e = absurd (cc e)
+-- accesses may be made ahead of a publisher
+pub publisher_goes_ahead : GoesAhead PublisherLaneState PublisherCall publishers
+publisher_goes_ahead = record {
+  itself = λ lane. refl;
+  may = λ p call lane stands. steps.may_act p (called call lane) stands;
+  stays = λ p lane. stays;
+  goes = λ p begun made q call lane answer stands strides touches told. (
+    steps.goes_on q (called call lane) stands answer told,
+    goes made q (called call lane) answer strides (touches_on call touches) told,
+  );
+}
 
--- no step yet
-pub strode_none : (me : Me ℕ View) (lane : PublisherLaneState) → me ≡ single (port_of me) → PublisherStands (port_of me) lane → PublisherStrode (port_of me) lane 0 me lane
-strode_none me lane alone stands = record { alone = alone; service = refl; name = refl; stands = stands; strides = stays }
-
--- one more
-strode_on : (p : Port) (begun : PublisherLaneState) (made : ℕ) (me me' : Me ℕ View) (now : PublisherLaneState) (answer : ℕ) → PublisherStrode p begun made me now → publisher_is_over now.port.call ≡ false
-    → ToldBy (port_of me) (publisher_next now.port.call) answer → me' ≡ single (publisher_stepped (port_of me) now answer) → PublisherStrode p begun (made + 1) me' (publisher_after answer now)
-strode_on p begun made me me' now answer run busy told is =
-    let port : port_of me' ≡ publisher_stepped (port_of me) now answer = ap port_of is in
+-- the seat of a port behind a step
+pub strode_moved : {L : Type 0} (Stands : Port → L → Type 0) (Went Goes : Port → L → Type 0) (p : Port) (me me' : Me ℕ View) (now now' : L) (access : SharedAccess) (answer : ℕ) (after : ℕ → PortParty) → Strode Stands Went p me now
+    → Stands (stepped (port_of me) access answer after) now' → Goes (stepped (port_of me) access answer after) now' → me' ≡ single (stepped (port_of me) access answer after) → Strode Stands Goes p me' now'
+strode_moved Stands Went Goes p me me' now now' access answer after run stands went is =
+    let port : port_of me' ≡ stepped (port_of me) access answer after = ap port_of is in
     let was : SeatIs p me = record { alone = run.alone; service = run.service; name = run.name } in
-    let seat = seat_stepped p p me me' (publisher_next now.port.call) answer (publisher_party now) was is in
+    let seat = seat_stepped p p me me' access answer after was is in
     record {
       alone = seat.alone;
       service = seat.service;
       name = seat.name;
-      stands = subst (λ (z : Port). PublisherStands z (publisher_after answer now)) (sym port) (publishers.goes_on (port_of me) now run.stands answer told);
-      strides = subst (λ (z : Port). PublisherStrides p begun (made + 1) z (publisher_after answer now)) (sym port) (goes made (port_of me) now answer run.strides busy told);
+      stands = subst (λ (z : Port). Stands z now') (sym port) stands;
+      strides = subst (λ (z : Port). Goes z now') (sym port) went;
     }
 
-pub strode_load : (p : Port) (begun : PublisherLaneState) (made : ℕ) (me me' : Me ℕ View) (lane : PublisherLaneState) (call : PublisherCall) (w : SharedWord) (answer : ℕ) → publisher_next call ≡ Load w → PublisherStrode p begun made me (called call lane)
-    → ToldBy (port_of me) (Load w) answer → me' ≡ single (stepped (port_of me) (Load w) answer (publisher_party (called call lane))) → PublisherStrode p begun (made + 1) me' (publisher_after answer (called call lane))
-strode_load p begun made me me' lane call w answer next run told is =
-    strode_on p begun made me me' (called call lane) answer run (loads_on call w next) (subst (λ (a : SharedAccess). ToldBy (port_of me) a answer) (sym next) told)
-    (subst (λ (a : SharedAccess). me' ≡ single (stepped (port_of me) a answer (publisher_party (called call lane)))) (sym next) is)
+module _ {L C : Type 0} {kind : LaneKind L C} (ahead : GoesAhead L C kind) where
+  -- no step yet
+  pub strode_none : (me : Me ℕ View) (lane : L) → me ≡ single (port_of me) → kind.Stands (port_of me) lane → Strode kind.Stands (kind.Strides (port_of me) lane 0) (port_of me) me lane
+  strode_none me lane alone stands = record { alone = alone; service = refl; name = refl; stands = stands; strides = ahead.stays (port_of me) lane }
 
-pub strode_store : (p : Port) (begun : PublisherLaneState) (made : ℕ) (me me' : Me ℕ View) (lane : PublisherLaneState) (call : PublisherCall) (w : SharedWord) (new : ℕ) → publisher_next call ≡ Store w new → PublisherStrode p begun made me (called call lane)
-    → me' ≡ single (stepped (port_of me) (Store w new) 0 (publisher_party (called call lane))) → PublisherStrode p begun (made + 1) me' (publisher_after 0 (called call lane))
-strode_store p begun made me me' lane call w new next run is =
-    strode_on p begun made me me' (called call lane) 0 run (stores_on call w new next) (subst (λ (a : SharedAccess). ToldBy (port_of me) a 0) (sym next) refl)
-    (subst (λ (a : SharedAccess). me' ≡ single (stepped (port_of me) a 0 (publisher_party (called call lane)))) (sym next) is)
+  -- nor where a call begins
+  pub strode_begun : (me : Me ℕ View) (lane : L) (call : C) → kind.standing lane ≡ call → me ≡ single (port_of me) → kind.Stands (port_of me) lane → Strode kind.Stands (kind.Strides (port_of me) lane 0) (port_of me) me (kind.called call lane)
+  strode_begun me lane call is alone stands = subst (Strode kind.Stands (kind.Strides (port_of me) lane 0) (port_of me) me) (ahead.itself lane ∙ ap (λ (c : C). kind.called c lane) is) (strode_none me lane alone stands)
+
+  -- one more
+  pub strode_load : (p : Port) (begun : L) (made : ℕ) (me me' : Me ℕ View) (lane : L) (call : C) (w : SharedWord) (answer : ℕ) → kind.next call ≡ Load w → Strode kind.Stands (kind.Strides p begun made) p me (kind.called call lane)
+      → ToldBy (port_of me) (Load w) answer → me' ≡ single (stepped (port_of me) (Load w) answer (kind.party (kind.called call lane))) → Strode kind.Stands (kind.Strides p begun (made + 1)) p me' (kind.after answer (kind.called call lane))
+  strode_load p begun made me me' lane call w answer e run told is =
+      let told' : ToldBy (port_of me) (kind.next call) answer = subst (λ (a : SharedAccess). ToldBy (port_of me) a answer) (sym e) told in
+      let on = ahead.goes p begun made (port_of me) call lane answer run.stands run.strides (subst TouchesWord (sym e) tt) told' in
+      strode_moved kind.Stands (kind.Strides p begun made) (kind.Strides p begun (made + 1)) p me me' (kind.called call lane) (kind.after answer (kind.called call lane)) (kind.next call) answer (kind.party (kind.called call lane)) run on.0 on.1
+      (subst (λ (a : SharedAccess). me' ≡ single (stepped (port_of me) a answer (kind.party (kind.called call lane)))) (sym e) is)
+
+  pub strode_store : (p : Port) (begun : L) (made : ℕ) (me me' : Me ℕ View) (lane : L) (call : C) (w : SharedWord) (new : ℕ) → kind.next call ≡ Store w new → Strode kind.Stands (kind.Strides p begun made) p me (kind.called call lane)
+      → me' ≡ single (stepped (port_of me) (Store w new) 0 (kind.party (kind.called call lane))) → Strode kind.Stands (kind.Strides p begun (made + 1)) p me' (kind.after 0 (kind.called call lane))
+  strode_store p begun made me me' lane call w new e run is =
+      let told : ToldBy (port_of me) (kind.next call) 0 = subst (λ (a : SharedAccess). ToldBy (port_of me) a 0) (sym e) refl in
+      let on = ahead.goes p begun made (port_of me) call lane 0 run.stands run.strides (subst TouchesWord (sym e) tt) told in
+      strode_moved kind.Stands (kind.Strides p begun made) (kind.Strides p begun (made + 1)) p me me' (kind.called call lane) (kind.after 0 (kind.called call lane)) (kind.next call) 0 (kind.party (kind.called call lane)) run on.0 on.1
+      (subst (λ (a : SharedAccess). me' ≡ single (stepped (port_of me) a 0 (kind.party (kind.called call lane)))) (sym e) is)
 
 -- the sizes of the service that the table has
-pub same_sizes : (p : Port) (begun : PublisherLaneState) (made : ℕ) (me : Me ℕ View) (now : PublisherLaneState) (sizes : TableSizes) → PublisherStrode p begun made me now → p.service.sizes ≡ sizes → (me ≡ single (port_of me)) × ((port_of me).service.sizes ≡ sizes)
-same_sizes p begun made me now sizes run is = (run.alone, ap (λ (s : Service). s.sizes) run.service ∙ is)
+pub same_sizes : {L : Type 0} {Stands : Port → L → Type 0} {Went : Port → L → Type 0} (p : Port) (me : Me ℕ View) (now : L) (sizes : TableSizes) → Strode Stands Went p me now → p.service.sizes ≡ sizes → (me ≡ single (port_of me)) × ((port_of me).service.sizes ≡ sizes)
+same_sizes p me now sizes run is = (run.alone, ap (λ (s : Service). s.sizes) run.service ∙ is)
 
--- a write goes from word to word
-pub write_here : (lane : PublisherLaneState) (slot k : ℕ) → k < length (call_words lane.port) → called (write_at (call_words lane.port) slot k) lane ≡ called (publishing.Writing slot k (get_or (call_words lane.port) k 0)) lane
-write_here lane slot k less = ap (λ (o : Option ℕ). called (write_from slot k o) lane) (slice_get-get_or (call_words lane.port) k 0 less)
+-- a call that stores the words of a part goes from word to word
+pub storing_first : (part : SlotPart) (words : List ℕ) (slot first : ℕ) → slice_get words 0 ≡ Some first → storing_at part words slot 0 ≡ storing part slot 0 first
+storing_first Payload words slot first is = ap (write_from slot 0) is
+storing_first Head words slot first is = ap (head_from slot 0) is
 
-pub write_next : (lane : PublisherLaneState) (slot k value : ℕ) → k + 1 < 2 ^ 64 → publisher_after 0 (called (publishing.Writing slot k value) lane) ≡ called (write_at (call_words lane.port) slot (k + 1)) lane
-write_next lane slot k value less = let one : successor k ≡ k + 1 = omega (arith, less) in ap (λ (n : ℕ). called (write_at (call_words lane.port) slot n) lane) one
+pub storing_here : (part : SlotPart) (words : List ℕ) (slot k : ℕ) → k < length words → storing_at part words slot k ≡ storing part slot k (get_or words k 0)
+storing_here Payload words slot k less = ap (write_from slot k) (slice_get-get_or words k 0 less)
+storing_here Head words slot k less = ap (head_from slot k) (slice_get-get_or words k 0 less)
 
--- so does a send with header and user header
-pub head_here : (lane : PublisherLaneState) (slot k : ℕ) → k < length (call_words lane.port) → called (head_at (call_words lane.port) slot k) lane ≡ called (publishing.Heading slot k (get_or (call_words lane.port) k 0)) lane
-head_here lane slot k less = ap (λ (o : Option ℕ). called (head_from slot k o) lane) (slice_get-get_or (call_words lane.port) k 0 less)
-
-pub head_next : (lane : PublisherLaneState) (slot k value : ℕ) → k + 1 < 2 ^ 64 → publisher_after 0 (called (publishing.Heading slot k value) lane) ≡ called (head_at (call_words lane.port) slot (k + 1)) lane
-head_next lane slot k value less = let one : successor k ≡ k + 1 = omega (arith, less) in ap (λ (n : ℕ). called (head_at (call_words lane.port) slot n) lane) one
+pub storing_on : (part : SlotPart) (lane : PublisherLaneState) (slot k value : ℕ) → k + 1 < 2 ^ 64 → publisher_after 0 (called (storing part slot k value) lane) ≡ called (storing_at part (call_words lane.port) slot (k + 1)) lane
+storing_on Payload lane slot k value less = let one : successor k ≡ k + 1 = omega (arith, less) in ap (λ (n : ℕ). called (write_at (call_words lane.port) slot n) lane) one
+storing_on Head lane slot k value less = let one : successor k ≡ k + 1 = omega (arith, less) in ap (λ (n : ℕ). called (head_at (call_words lane.port) slot n) lane) one
 
 -- a call that stands at its first word
 pub at_first : (lane : PublisherLaneState) (call there : PublisherCall) → lane.port.call ≡ call → there ≡ call → lane ≡ called there lane
@@ -113,8 +125,8 @@ paced_along most made p lane q now n q' now' small same stands pace stays =
 paced_along most made p lane q now n q' now' small same stands pace (goes m r mid answer before busy told) =
     let was = paced_along most made p lane q now m r mid small same stands pace before in
     let one : made + m + 1 ≡ made + (m + 1) = omega arith in (
-      (publishers.step_same r (publisher_next mid.port.call) answer (publisher_party mid)).service ∙ was.0,
-      publishers.goes_on r mid was.1 answer told,
+      (steps.step_same r (publisher_next mid.port.call) answer (publisher_party mid)).service ∙ was.0,
+      steps.goes_on r mid was.1 answer told,
       subst (λ (k : ℕ). Paced most k p lane (publisher_stepped r mid answer) (publisher_after answer mid)) one (step_paced most (made + m) p lane r mid answer small was.0 was.1 was.2 busy told),
     )
 
@@ -129,18 +141,17 @@ pub strode_once : (me me' : Me ℕ View) (lane lane' : PublisherLaneState) → m
 strode_once me me' lane lane' alone stands busy step =
     let one : 0 + 1 ≡ 1 = omega arith in
     subst (λ (z : ℕ × PublisherLaneState). PublisherStrode (port_of me) lane z.0 me' z.1) (λ i. (one i, sym step.3 i))
-    (strode_on (port_of me) lane 0 me me' lane step.0 (strode_none me lane alone stands) busy step.1 step.2)
+    (strode_moved PublisherStands (PublisherStrides (port_of me) lane 0) (PublisherStrides (port_of me) lane (0 + 1)) (port_of me) me me' lane (publisher_after step.0 lane) (publisher_next lane.port.call) step.0 (publisher_party lane)
+    (strode_none publisher_goes_ahead me lane alone stands) (steps.goes_on (port_of me) lane stands step.0 step.1) (goes 0 (port_of me) lane step.0 stays busy step.1) step.2)
 
--- the words of a call are few
-pub few_written : (p : Port) (lane : PublisherLaneState) (slot k value : ℕ) → PublisherStands p lane → IsSmall p.service.sizes → lane.port.call ≡ publishing.Writing slot k value → length (call_words lane.port) < 2 ^ 64
-few_written p lane slot k value stands small is =
+-- the words of a part are few
+pub few_stored : (part : SlotPart) (p : Port) (lane : PublisherLaneState) (slot k value : ℕ) → PublisherStands p lane → IsSmall p.service.sizes → lane.port.call ≡ storing part slot k value → length (call_words lane.port) < 2 ^ 64
+few_stored Payload p lane slot k value stands small is =
     let at = subst (IsPublishing p.service.sizes lane.port.routes (call_words lane.port)) is stands.within.call in
     let fit = at.2 in
     let all = small.slot in
     omega (arith, fit, all)
-
-pub few_heads : (p : Port) (lane : PublisherLaneState) (slot k value : ℕ) → PublisherStands p lane → IsSmall p.service.sizes → lane.port.call ≡ publishing.Heading slot k value → length (call_words lane.port) < 2 ^ 64
-few_heads p lane slot k value stands small is =
+few_stored Head p lane slot k value stands small is =
     let at = subst (IsPublishing p.service.sizes lane.port.routes (call_words lane.port)) is stands.within.call in
     let fit = at.2 in
     let all = small.slot in

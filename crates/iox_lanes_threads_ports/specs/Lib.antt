@@ -5,6 +5,8 @@ pub mod Known
 pub mod Values
 pub mod Courses
 pub mod Strides
+pub mod RingCalls
+pub mod SlotParts
 pub mod Pace
 pub mod Paces
 pub use Rattle.iox_lanes_threads_rule.specs as LanesThreadsRule

@@ -1,14 +1,21 @@
 -- Several steps of a port, which its lane makes up for at once.
 use Rattle.std.specs.Prelude.{ℕ, ◌≡◌, ◌+◌, false}
 use Rattle.atomic_table.specs.Table.{Me}
+use Rattle.iox_lanes_machine.specs.QueuesSteps.declared.access.Access.{Access}
+use Rattle.iox_lanes_machine.specs.QueuesSteps.declared.access.Access.TheVariants as own
+use Rattle.iox_lanes_machine.specs.QueuesSteps.declared.access.Word.TheVariants.{Write, Read, Cell}
 use Rattle.iox_lanes_machine.specs.LanesBase.Publishing.{publisher_next, publisher_is_over}
 use Rattle.iox_lanes_machine.specs.LanesBase.declared.calls.publisher.PublisherCall.{PublisherCall}
 use Rattle.iox_lanes_machine.specs.LanesBase.declared.calls.subscriber.SubscriberCall.{SubscriberCall}
-use Rattle.iox_lanes_machine.specs.LanesParties.Parties.{PublisherLaneState, SubscriberLaneState, publisher_after}
-use Rattle.iox_lanes_threads_rule.specs.Acts.{single, port_of, ToldBy}
+use Rattle.iox_lanes_machine.specs.LanesBase.declared.words.access.SharedAccess.{SharedAccess}
+use Rattle.iox_lanes_machine.specs.LanesBase.declared.words.access.SharedAccess.TheVariants.{Load, Store, Exchange, Local}
+use Rattle.iox_lanes_machine.specs.LanesBase.Subscribing.{subscriber_next}
+use Rattle.iox_lanes_machine.specs.LanesParties.Parties.{PublisherLaneState, SubscriberLaneState, publisher_after, subscriber_after}
+use Rattle.iox_lanes_threads_rule.specs.Acts.{single, port_of, stepped, MayAct, ToldBy}
 use Rattle.iox_lanes_threads_rule.specs.declared.view.Port.{Port}
+use Rattle.iox_lanes_threads_rule.specs.declared.view.PortParty.{PortParty}
 use Rattle.iox_lanes_threads_rule.specs.declared.view.View.{View}
-use Rattle.iox_lanes_threads_ports.specs.Courses.{publisher_stepped, SubscriberGoes}
+use Rattle.iox_lanes_threads_ports.specs.Courses.{publisher_stepped, publisher_party, subscriber_party, SubscriberGoes}
 use Rattle.iox_lanes_threads_ports.specs.Ports.{PublisherStands, SubscriberStands}
 
 -- a publisher whose call stands there
@@ -20,24 +27,99 @@ pub data PublisherStrides (p : Port) (lane : PublisherLaneState) : ℕ → Port 
   stays : PublisherStrides p lane 0 p lane
   goes : (made : ℕ) (q : Port) (now : PublisherLaneState) (answer : ℕ) → PublisherStrides p lane made q now
       → publisher_is_over now.port.call ≡ false
-      → ToldBy q (publisher_next now.port.call) answer → PublisherStrides p lane (made + 1) (publisher_stepped q now answer) (publisher_after answer now)
+      → ToldBy q (publisher_next now.port.call) answer
+      → PublisherStrides p lane (made + 1) (publisher_stepped q now answer) (publisher_after answer now)
 
--- a publisher with a seat of its own that made so many steps
-pub record PublisherStrode (p : Port) (lane : PublisherLaneState) (made : ℕ) (me : Me ℕ View) (now : PublisherLaneState) : Type 0 where
+-- a port with a seat of its own whose lane made steps: it stands where the port knows what its next step needs, and `Went` says how
+-- it came there
+pub record Strode {L : Type 0} (Stands : Port → L → Type 0) (Went : Port → L → Type 0) (p : Port) (me : Me ℕ View) (now : L) : Type 0 where
   pub alone : me ≡ single (port_of me)
   pub service : (port_of me).service ≡ p.service
   pub name : (port_of me).name ≡ p.name
-  pub stands : PublisherStands (port_of me) now
-  pub strides : PublisherStrides p lane made (port_of me) now
+  pub stands : Stands (port_of me) now
+  pub strides : Went (port_of me) now
+
+-- a publisher that made so many steps
+abbrev pub PublisherStrode : Port → PublisherLaneState → ℕ → Me ℕ View → PublisherLaneState → Type 0
+PublisherStrode p lane made me now = Strode PublisherStands (PublisherStrides p lane made) p me now
 
 -- a subscriber whose call stands there
 abbrev pub subscriber_called : SubscriberCall → SubscriberLaneState → SubscriberLaneState
 subscriber_called call lane = record lane { port = record lane.port { call = call } }
 
--- a subscriber with a seat of its own that made some steps
-pub record SubscriberStrode (p : Port) (lane : SubscriberLaneState) (me : Me ℕ View) (now : SubscriberLaneState) : Type 0 where
-  pub alone : me ≡ single (port_of me)
-  pub service : (port_of me).service ≡ p.service
-  pub name : (port_of me).name ≡ p.name
-  pub stands : SubscriberStands (port_of me) now
-  pub goes : SubscriberGoes p lane (port_of me) now
+-- the steps of a subscriber, which are not counted
+abbrev pub SubscriberStrides : Port → SubscriberLaneState → ℕ → Port → SubscriberLaneState → Type 0
+SubscriberStrides p lane made q now = SubscriberGoes p lane q now
+
+-- a subscriber that made some steps
+abbrev pub SubscriberStrode : Port → SubscriberLaneState → Me ℕ View → SubscriberLaneState → Type 0
+SubscriberStrode p lane me now = Strode SubscriberStands (SubscriberGoes p lane) p me now
+
+-- the access is one to a shared word
+abbrev pub TouchesWord : SharedAccess → Type 0
+TouchesWord (Load w) = Unit {0}
+TouchesWord (Store w new) = Unit {0}
+TouchesWord (Exchange w old new) = Unit {0}
+TouchesWord Local = ⊥
+
+-- What the lanes of a kind do with their calls: `standing` is where the call of a lane stands, `called` a lane whose call stands there,
+-- `next` the access that comes next there, `after` a lane after an answer, and `party` what its port is then. A lane `Stands` where its
+-- port knows what its next step needs, and `Strides` so many steps.
+pub record LaneKind (L C : Type 0) : Type 1 where
+  pub standing : L → C
+  pub called : C → L → L
+  pub next : C → SharedAccess
+  pub after : ℕ → L → L
+  pub party : L → ℕ → PortParty
+  pub Stands : Port → L → Type 0
+  pub Strides : Port → L → ℕ → Port → L → Type 0
+
+-- publishers
+abbrev pub publishers : LaneKind PublisherLaneState PublisherCall
+publishers = record {
+  standing = λ lane. lane.port.call;
+  called = called;
+  next = publisher_next;
+  after = publisher_after;
+  party = publisher_party;
+  Stands = PublisherStands;
+  Strides = PublisherStrides;
+}
+
+-- subscribers
+abbrev pub subscribers : LaneKind SubscriberLaneState SubscriberCall
+subscribers = record {
+  standing = λ lane. lane.port.call;
+  called = subscriber_called;
+  next = subscriber_next;
+  after = subscriber_after;
+  party = subscriber_party;
+  Stands = SubscriberStands;
+  Strides = SubscriberStrides;
+}
+
+-- a lane of a kind with a seat of its own that made so many steps
+abbrev pub StrodeBy : {L C : Type 0} → LaneKind L C → Port → L → ℕ → Me ℕ View → L → Type 0
+StrodeBy kind p lane made me now = Strode kind.Stands (kind.Strides p lane made) p me now
+
+-- Accesses may be made ahead of lanes of a kind. Where a lane stands its port may make the access that comes next. Behind no step it made
+-- none, and behind one more on a shared word, after its answer, it stands again and made one step more.
+pub record GoesAhead (L C : Type 0) (kind : LaneKind L C) : Type 0 where
+  pub itself : (lane : L) → lane ≡ kind.called (kind.standing lane) lane
+  pub may : (p : Port) (call : C) (lane : L) → kind.Stands p (kind.called call lane) → MayAct p (kind.next call)
+  pub stays : (p : Port) (lane : L) → kind.Strides p lane 0 p lane
+  pub goes : (p : Port) (begun : L) (made : ℕ) (q : Port) (call : C) (lane : L) (answer : ℕ)
+      → kind.Stands q (kind.called call lane) → kind.Strides p begun made q (kind.called call lane)
+      → TouchesWord (kind.next call) → ToldBy q (kind.next call) answer
+      → kind.Stands (stepped q (kind.next call) answer (kind.party (kind.called call lane))) (kind.after answer (kind.called call lane))
+      × kind.Strides p begun (made + 1) (stepped q (kind.next call) answer (kind.party (kind.called call lane)))
+      (kind.after answer (kind.called call lane))
+
+-- the access of a ring's end moves no position
+abbrev pub KeepsPositions : Access → Type 0
+KeepsPositions (own.Load word) = Unit {0}
+KeepsPositions (own.Store Write value) = ⊥
+KeepsPositions (own.Store Read value) = ⊥
+KeepsPositions (own.Store (Cell position) value) = Unit {0}
+KeepsPositions (own.Exchange word old new) = ⊥
+KeepsPositions own.Local = Unit {0}

@@ -19,11 +19,10 @@ mod ahead;
 pub mod laws;
 pub mod publisher;
 mod publishing;
+mod ring_calls;
 mod ring_strides;
 mod strides;
 pub mod subscriber;
-mod subscriber_ahead;
-mod subscriber_ring_strides;
 mod subscriber_strides;
 mod subscribing;
 

@@ -1,353 +1,256 @@
-//! A publisher's pops and pushes on its rings, each at once: its lane makes up for one behind its last access.
-ghost use Rattle.std.specs.Prelude.{◌≡◌, ◌<◌, ◌≤◌};
+//! A port's pops and pushes on its rings, each at once: its lane makes up for one behind its last access.
+ghost use Rattle.std.specs.Prelude.{◌≡◌, ◌+◌, ◌<◌, ◌≤◌, ℕ, true, false};
+ghost use Rattle.iox_lanes_machine.specs.QueuesSteps.declared.access.Access.TheVariants as own;
+ghost use Rattle.iox_lanes_machine.specs.QueuesSteps.Refusing.{push_is_over, push_take};
 ghost use Rattle.iox_lanes_machine.specs.QueuesSteps.declared.rings.refusing.pop.Pop.TheVariants as refusing_pop;
 ghost use Rattle.iox_lanes_machine.specs.QueuesSteps.declared.rings.refusing.push.Push.TheVariants as refusing_push;
+ghost use Rattle.iox_lanes_machine.specs.QueuesSteps.declared.rings.refusing.push.Push.{Push as RefusingPush};
+ghost use Rattle.iox_lanes_machine.specs.QueuesSteps.declared.rings.overflowing.pop.Pop.TheVariants as overflowing_pop;
 ghost use Rattle.iox_lanes_machine.specs.QueuesSteps.declared.rings.overflowing.push.Push.TheVariants as overflowing_push;
-ghost use Rattle.iox_lanes_machine.specs.QueuesSteps.declared.rings.ends.Push.TheVariants as ring_push;
 ghost use Rattle.iox_lanes_machine.specs.LanesBase.Numbers.{words_of, IsSmall};
-ghost use Rattle.iox_lanes_machine.specs.LanesBase.declared.calls.publisher.PublisherCall.TheVariants as call;
 ghost use Rattle.iox_lanes_threads_rule.specs.Acts.{single, port_of};
-ghost use Rattle.iox_lanes_threads_ports.specs.Ports.{PublisherStands};
-ghost use Rattle.iox_lanes_threads_ports.specs.Strides.{PublisherStrode};
+ghost use Rattle.iox_lanes_threads_rule.specs.declared.view.Port.{Port};
+ghost use Rattle.iox_lanes_threads_ports.specs.Strides.{StrodeBy, KeepsPositions};
 
-use crate::ahead::{load_ahead, store_ahead};
-use iox_lanes_base::calls::{Delivery, PublisherCall, Route};
-use iox_lanes_base::words::{ConnectionRing, SharedWord, TableSizes};
-use iox_lanes_parties::PublisherLane;
+use crate::ahead::{Ahead, load_ahead, store_ahead};
+use crate::ring_calls::RingCall;
+use iox_lanes_base::words::TableSizes;
 use iox_lanes_threads_rule::{Opening, WordSeat, Words};
-use iox_queues_steps::Word;
-use iox_queues_steps::rings::Push;
-use iox_queues_steps::rings::overflowing::Push as OverflowingPush;
+use iox_queues_steps::rings::overflowing::{Pop as OverflowingPop, Push as OverflowingPush};
 use iox_queues_steps::rings::refusing::{Pop as RefusingPop, Push as RefusingPush};
+use iox_queues_steps::{End, Word};
 
-/// Takes one sample back at a connection for a loan, or finds none.
-pub(crate) fn take_back<K: Opening>(
+// Loads the word that a pop or push loads next at a stage.
+#[inline(always)]
+fn load_at<K: Opening, L: Ahead, S: End, C: RingCall<L, S>>(
     words: &Words<K>,
     seat: &mut WordSeat,
     sizes: &TableSizes,
-    lane: &mut PublisherLane,
-    place: u64,
-    route: Route,
+    lane: &L,
+    call: C,
+    state: S,
+    word: Word,
+) -> u64
+    requires table { (seat.old.table_id ≡ words.now.table_id) × (words.now.table_id.words ≡ words_of sizes.now) × IsSmall sizes.now }
+    requires seat { (seat.old.me ≡ single (port_of seat.old.me)) × ((port_of seat.old.me).service.sizes ≡ sizes.now) }
+    requires stands { L.kind.Stands (port_of seat.old.me) (L.kind.called (C.stage call state) lane.now) }
+    requires cells { 0 < (C.ring call).cells }
+    requires next { S.asks state ≡ own.Load word }
+    ensures table { (seat.new.table_id ≡ seat.old.table_id) × (seat.new.id ≡ seat.old.id) }
+    ensures strode { (p : Port) (begun : L) (made : ℕ)
+        → StrodeBy L.kind p begun made seat.old.me (L.kind.called (C.stage call state) lane.now)
+        → StrodeBy L.kind p begun (made + 1) seat.new.me (L.kind.after result (L.kind.called (C.stage call state) lane.now)) }
+    ensures goes_on { (p : Port) (begun : L) (made : ℕ)
+        → StrodeBy L.kind p begun made seat.old.me (L.kind.called (C.stage call state) lane.now)
+        → S.over (S.takes state result) ≡ false
+        → StrodeBy L.kind p begun (made + 1) seat.new.me (L.kind.called (C.stage call (S.takes state result)) lane.now) }
+    ensures seat { (seat.new.me ≡ single (port_of seat.new.me)) × ((port_of seat.new.me).service.sizes ≡ sizes.now) }
+    ensures stands { S.over (S.takes state result) ≡ false
+        → L.kind.Stands (port_of seat.new.me) (L.kind.called (C.stage call (S.takes state result)) lane.now) }
+{
+    L::goes_ahead();
+    let own = call.ring().word(word);
+    load_ahead(words, seat, sizes, lane, call.stage(state), own)
+}
+
+// Stores into the word that a pop or push stores next at a stage.
+#[inline(always)]
+fn store_at<K: Opening, L: Ahead, S: End, C: RingCall<L, S>>(
+    words: &Words<K>,
+    seat: &mut WordSeat,
+    sizes: &TableSizes,
+    lane: &L,
+    call: C,
+    state: S,
+    word: Word,
+    new: u64,
+)
+    requires table { (seat.old.table_id ≡ words.now.table_id) × (words.now.table_id.words ≡ words_of sizes.now) × IsSmall sizes.now }
+    requires seat { (seat.old.me ≡ single (port_of seat.old.me)) × ((port_of seat.old.me).service.sizes ≡ sizes.now) }
+    requires stands { L.kind.Stands (port_of seat.old.me) (L.kind.called (C.stage call state) lane.now) }
+    requires cells { 0 < (C.ring call).cells }
+    requires next { S.asks state ≡ own.Store word new }
+    ensures table { (seat.new.table_id ≡ seat.old.table_id) × (seat.new.id ≡ seat.old.id) }
+    ensures strode { (p : Port) (begun : L) (made : ℕ)
+        → StrodeBy L.kind p begun made seat.old.me (L.kind.called (C.stage call state) lane.now)
+        → StrodeBy L.kind p begun (made + 1) seat.new.me (L.kind.after 0 (L.kind.called (C.stage call state) lane.now)) }
+    ensures goes_on { (p : Port) (begun : L) (made : ℕ)
+        → StrodeBy L.kind p begun made seat.old.me (L.kind.called (C.stage call state) lane.now)
+        → KeepsPositions (S.asks state) → S.over (S.takes state 0) ≡ false
+        → StrodeBy L.kind p begun (made + 1) seat.new.me (L.kind.called (C.stage call (S.takes state 0)) lane.now) }
+    ensures seat { (seat.new.me ≡ single (port_of seat.new.me)) × ((port_of seat.new.me).service.sizes ≡ sizes.now) }
+    ensures stands { KeepsPositions (S.asks state) → S.over (S.takes state 0) ≡ false
+        → L.kind.Stands (port_of seat.new.me) (L.kind.called (C.stage call (S.takes state 0)) lane.now) }
+{
+    L::goes_ahead();
+    let own = call.ring().word(word);
+    store_ahead(words, seat, sizes, lane, call.stage(state), own, new);
+}
+
+/// Takes one number out of a ring that refuses, or finds none.
+pub(crate) fn pop<K: Opening, L: Ahead, C: RingCall<L, RefusingPop>>(
+    words: &Words<K>,
+    seat: &mut WordSeat,
+    sizes: &TableSizes,
+    lane: &mut L,
+    call: C,
 ) -> u128
     requires table { (seat.old.table_id ≡ words.now.table_id) × (words.now.table_id.words ≡ words_of sizes.now) × IsSmall sizes.now }
     requires seat { (seat.old.me ≡ single (port_of seat.old.me)) × ((port_of seat.old.me).service.sizes ≡ sizes.now) }
-    requires stands { PublisherStands (port_of seat.old.me) lane.old }
-    requires call { lane.old.port.call ≡ call.LoanReclaims place route refusing_pop.Begun }
+    requires stands { L.kind.Stands (port_of seat.old.me) lane.old }
+    requires call { L.kind.standing lane.old ≡ C.stage call refusing_pop.Begun }
+    requires cells { 0 < (C.ring call).cells }
     ensures table { (seat.new.table_id ≡ seat.old.table_id) × (seat.new.id ≡ seat.old.id) }
     ensures some { (0 < result) × (result ≤ 4) }
-    ensures strode { PublisherStrode (port_of seat.old.me) lane.old result seat.new.me lane.new }
+    ensures strode { StrodeBy L.kind (port_of seat.old.me) lane.old result seat.new.me lane.new }
 {
+    L::goes_ahead();
     let sizes = *sizes;
-    let call = PublisherCall::LoanReclaims {
-        place,
-        route,
-        pop: RefusingPop::Begun,
-    };
-    let word = SharedWord::Ring {
-        connection: route.connection,
-        ring: ConnectionRing::Completion,
-        word: Word::Read,
-    };
-    let read = load_ahead(words, seat, &sizes, lane, call, word);
-    let call = PublisherCall::LoanReclaims {
-        place,
-        route,
-        pop: RefusingPop::SawRead { read },
-    };
-    let word = SharedWord::Ring {
-        connection: route.connection,
-        ring: ConnectionRing::Completion,
-        word: Word::Write,
-    };
-    let write = load_ahead(words, seat, &sizes, lane, call, word);
+    let begun = RefusingPop::Begun;
+    let read = load_at(words, seat, &sizes, lane, call, begun, Word::Read);
+    let seen = RefusingPop::SawRead { read };
+    let write = load_at(words, seat, &sizes, lane, call, seen, Word::Write);
     if write == read {
-        lane.go_on_from(call, write);
+        lane.go_on_from(call.stage(seen), write);
         return 2;
     }
     let next = read.saturating_add(1);
-    let call = PublisherCall::LoanReclaims {
-        place,
-        route,
-        pop: RefusingPop::Nonempty { read, next },
-    };
-    let word = SharedWord::Ring {
-        connection: route.connection,
-        ring: ConnectionRing::Completion,
-        word: Word::Cell(read % route.completion_cells),
-    };
-    let value = load_ahead(words, seat, &sizes, lane, call, word);
-    let call = PublisherCall::LoanReclaims {
-        place,
-        route,
-        pop: RefusingPop::SawCell { next, value },
-    };
-    let word = SharedWord::Ring {
-        connection: route.connection,
-        ring: ConnectionRing::Completion,
-        word: Word::Read,
-    };
-    store_ahead(words, seat, &sizes, lane, call, word, next);
-    lane.go_on_from(call, 0);
+    let found = RefusingPop::Nonempty { read, next };
+    let value = load_at(words, seat, &sizes, lane, call, found, Word::Cell(read));
+    let taken = RefusingPop::SawCell { next, value };
+    store_at(words, seat, &sizes, lane, call, taken, Word::Read, next);
+    lane.go_on_from(call.stage(taken), 0);
     4
 }
 
-/// Takes one sample back at a connection for a send, or finds none.
-pub(crate) fn sweep<K: Opening>(
+/// Sees what waits in a ring that overflows, up to where it may be taken, or finds none.
+pub(crate) fn pop_over<K: Opening, L: Ahead, C: RingCall<L, OverflowingPop>>(
     words: &Words<K>,
     seat: &mut WordSeat,
     sizes: &TableSizes,
-    lane: &mut PublisherLane,
-    slot: u64,
-    place: u64,
-    route: Route,
+    lane: &mut L,
+    call: C,
 ) -> u128
     requires table { (seat.old.table_id ≡ words.now.table_id) × (words.now.table_id.words ≡ words_of sizes.now) × IsSmall sizes.now }
     requires seat { (seat.old.me ≡ single (port_of seat.old.me)) × ((port_of seat.old.me).service.sizes ≡ sizes.now) }
-    requires stands { PublisherStands (port_of seat.old.me) lane.old }
-    requires call { lane.old.port.call ≡ call.SendReclaims slot place route refusing_pop.Begun }
+    requires stands { L.kind.Stands (port_of seat.old.me) lane.old }
+    requires call { L.kind.standing lane.old ≡ C.stage call overflowing_pop.Begun }
+    requires cells { 0 < (C.ring call).cells }
     ensures table { (seat.new.table_id ≡ seat.old.table_id) × (seat.new.id ≡ seat.old.id) }
     ensures some { (0 < result) × (result ≤ 4) }
-    ensures strode { PublisherStrode (port_of seat.old.me) lane.old result seat.new.me lane.new }
+    ensures strode { StrodeBy L.kind (port_of seat.old.me) lane.old result seat.new.me lane.new }
 {
+    L::goes_ahead();
     let sizes = *sizes;
-    let call = PublisherCall::SendReclaims {
-        slot,
-        place,
-        route,
-        pop: RefusingPop::Begun,
-    };
-    let word = SharedWord::Ring {
-        connection: route.connection,
-        ring: ConnectionRing::Completion,
-        word: Word::Read,
-    };
-    let read = load_ahead(words, seat, &sizes, lane, call, word);
-    let call = PublisherCall::SendReclaims {
-        slot,
-        place,
-        route,
-        pop: RefusingPop::SawRead { read },
-    };
-    let word = SharedWord::Ring {
-        connection: route.connection,
-        ring: ConnectionRing::Completion,
-        word: Word::Write,
-    };
-    let write = load_ahead(words, seat, &sizes, lane, call, word);
+    let begun = OverflowingPop::Begun;
+    let read = load_at(words, seat, &sizes, lane, call, begun, Word::Read);
+    let seen = OverflowingPop::SawRead { read };
+    let write = load_at(words, seat, &sizes, lane, call, seen, Word::Write);
     if write == read {
-        lane.go_on_from(call, write);
+        lane.go_on_from(call.stage(seen), write);
         return 2;
     }
     let next = read.saturating_add(1);
-    let call = PublisherCall::SendReclaims {
-        slot,
-        place,
-        route,
-        pop: RefusingPop::Nonempty { read, next },
-    };
-    let word = SharedWord::Ring {
-        connection: route.connection,
-        ring: ConnectionRing::Completion,
-        word: Word::Cell(read % route.completion_cells),
-    };
-    let value = load_ahead(words, seat, &sizes, lane, call, word);
-    let call = PublisherCall::SendReclaims {
-        slot,
-        place,
-        route,
-        pop: RefusingPop::SawCell { next, value },
-    };
-    let word = SharedWord::Ring {
-        connection: route.connection,
-        ring: ConnectionRing::Completion,
-        word: Word::Read,
-    };
-    store_ahead(words, seat, &sizes, lane, call, word, next);
-    lane.go_on_from(call, 0);
-    4
+    let found = OverflowingPop::Nonempty { read, next };
+    let value = load_at(words, seat, &sizes, lane, call, found, Word::Cell(read));
+    lane.go_on_from(call.stage(found), value);
+    3
 }
 
-/// Puts a slot into the ring of a connection that refuses, or finds it full.
-pub(crate) fn push<K: Opening>(
+/// Puts a number into a ring that refuses, or finds it full.
+pub(crate) fn push<K: Opening, L: Ahead, C: RingCall<L, RefusingPush>>(
     words: &Words<K>,
     seat: &mut WordSeat,
     sizes: &TableSizes,
-    lane: &mut PublisherLane,
-    slot: u64,
-    place: u64,
-    route: Route,
+    lane: &mut L,
+    call: C,
     limit: u64,
     value: u64,
-    delivery: Delivery,
 ) -> u128
     requires table { (seat.old.table_id ≡ words.now.table_id) × (words.now.table_id.words ≡ words_of sizes.now) × IsSmall sizes.now }
     requires seat { (seat.old.me ≡ single (port_of seat.old.me)) × ((port_of seat.old.me).service.sizes ≡ sizes.now) }
-    requires stands { PublisherStands (port_of seat.old.me) lane.old }
-    requires call { lane.old.port.call ≡ call.Pushing slot place route (ring_push.Refusing (refusing_push.Begun limit value)) delivery }
+    requires stands { L.kind.Stands (port_of seat.old.me) lane.old }
+    requires call { L.kind.standing lane.old ≡ C.stage call (refusing_push.Begun limit value) }
+    requires cells { 0 < (C.ring call).cells }
     ensures table { (seat.new.table_id ≡ seat.old.table_id) × (seat.new.id ≡ seat.old.id) }
     ensures some { (0 < result) × (result ≤ 4) }
-    ensures strode { PublisherStrode (port_of seat.old.me) lane.old result seat.new.me lane.new }
+    ensures ends { (last : RefusingPush) × (answer : ℕ) × (push_is_over (push_take last answer) ≡ true)
+        × (lane.new ≡ L.kind.after answer (L.kind.called (C.stage call last) lane.old)) }
+    ensures strode { StrodeBy L.kind (port_of seat.old.me) lane.old result seat.new.me lane.new }
 {
+    L::goes_ahead();
     let sizes = *sizes;
-    let call = PublisherCall::Pushing {
-        slot,
-        place,
-        route,
-        push: Push::Refusing(RefusingPush::Begun { limit, value }),
-        delivery,
-    };
-    let word = SharedWord::Ring {
-        connection: route.connection,
-        ring: ConnectionRing::Submission,
-        word: Word::Write,
-    };
-    let write = load_ahead(words, seat, &sizes, lane, call, word);
+    let begun = RefusingPush::Begun { limit, value };
+    let write = load_at(words, seat, &sizes, lane, call, begun, Word::Write);
     let next = write.saturating_add(1);
-    let call = PublisherCall::Pushing {
-        slot,
-        place,
-        route,
-        push: Push::Refusing(RefusingPush::SawWrite {
-            limit,
-            value,
-            write,
-            next,
-        }),
-        delivery,
+    let seen = RefusingPush::SawWrite {
+        limit,
+        value,
+        write,
+        next,
     };
-    let word = SharedWord::Ring {
-        connection: route.connection,
-        ring: ConnectionRing::Submission,
-        word: Word::Read,
-    };
-    let read = load_ahead(words, seat, &sizes, lane, call, word);
+    let read = load_at(words, seat, &sizes, lane, call, seen, Word::Read);
     if write.saturating_sub(read) >= limit {
-        lane.go_on_from(call, read);
+        lane.go_on_from(call.stage(seen), read);
         return 2;
     }
-    let call = PublisherCall::Pushing {
-        slot,
-        place,
-        route,
-        push: Push::Refusing(RefusingPush::SawRoom { value, write, next }),
-        delivery,
-    };
-    let word = SharedWord::Ring {
-        connection: route.connection,
-        ring: ConnectionRing::Submission,
-        word: Word::Cell(write % route.submission_cells),
-    };
-    store_ahead(words, seat, &sizes, lane, call, word, value);
-    let call = PublisherCall::Pushing {
-        slot,
-        place,
-        route,
-        push: Push::Refusing(RefusingPush::Filled { value, next }),
-        delivery,
-    };
-    let word = SharedWord::Ring {
-        connection: route.connection,
-        ring: ConnectionRing::Submission,
-        word: Word::Write,
-    };
-    store_ahead(words, seat, &sizes, lane, call, word, next);
-    lane.go_on_from(call, 0);
+    let roomy = RefusingPush::SawRoom { value, write, next };
+    let cell = Word::Cell(write);
+    store_at(words, seat, &sizes, lane, call, roomy, cell, value);
+    let filled = RefusingPush::Filled { value, next };
+    store_at(words, seat, &sizes, lane, call, filled, Word::Write, next);
+    lane.go_on_from(call.stage(filled), 0);
     4
 }
 
-/// Puts a slot into the ring of a connection that overflows, up to where its oldest may have to leave.
-pub(crate) fn push_over<K: Opening>(
+/// Puts a number into a ring that overflows, up to where its oldest may have to leave.
+pub(crate) fn push_over<K: Opening, L: Ahead, C: RingCall<L, OverflowingPush>>(
     words: &Words<K>,
     seat: &mut WordSeat,
     sizes: &TableSizes,
-    lane: &mut PublisherLane,
-    slot: u64,
-    place: u64,
-    route: Route,
+    lane: &mut L,
+    call: C,
     limit: u64,
     value: u64,
-    delivery: Delivery,
 ) -> u128
     requires table { (seat.old.table_id ≡ words.now.table_id) × (words.now.table_id.words ≡ words_of sizes.now) × IsSmall sizes.now }
     requires seat { (seat.old.me ≡ single (port_of seat.old.me)) × ((port_of seat.old.me).service.sizes ≡ sizes.now) }
-    requires stands { PublisherStands (port_of seat.old.me) lane.old }
-    requires call { lane.old.port.call ≡ call.Pushing slot place route (ring_push.Overflowing (overflowing_push.Begun limit value))
-        delivery }
+    requires stands { L.kind.Stands (port_of seat.old.me) lane.old }
+    requires call { L.kind.standing lane.old ≡ C.stage call (overflowing_push.Begun limit value) }
+    requires cells { 0 < (C.ring call).cells }
     ensures table { (seat.new.table_id ≡ seat.old.table_id) × (seat.new.id ≡ seat.old.id) }
     ensures some { (0 < result) × (result ≤ 4) }
-    ensures strode { PublisherStrode (port_of seat.old.me) lane.old result seat.new.me lane.new }
+    ensures strode { StrodeBy L.kind (port_of seat.old.me) lane.old result seat.new.me lane.new }
 {
+    L::goes_ahead();
     let sizes = *sizes;
-    let call = PublisherCall::Pushing {
-        slot,
-        place,
-        route,
-        push: Push::Overflowing(OverflowingPush::Begun { limit, value }),
-        delivery,
-    };
-    let word = SharedWord::Ring {
-        connection: route.connection,
-        ring: ConnectionRing::Submission,
-        word: Word::Write,
-    };
-    let write = load_ahead(words, seat, &sizes, lane, call, word);
+    let begun = OverflowingPush::Begun { limit, value };
+    let write = load_at(words, seat, &sizes, lane, call, begun, Word::Write);
     let next = write.saturating_add(1);
-    let call = PublisherCall::Pushing {
-        slot,
-        place,
-        route,
-        push: Push::Overflowing(OverflowingPush::SawWrite {
-            limit,
-            value,
-            write,
-            next,
-        }),
-        delivery,
+    let seen = OverflowingPush::SawWrite {
+        limit,
+        value,
+        write,
+        next,
     };
-    let word = SharedWord::Ring {
-        connection: route.connection,
-        ring: ConnectionRing::Submission,
-        word: Word::Read,
+    let read = load_at(words, seat, &sizes, lane, call, seen, Word::Read);
+    let measured = OverflowingPush::SawRead {
+        limit,
+        value,
+        write,
+        next,
+        read,
     };
-    let read = load_ahead(words, seat, &sizes, lane, call, word);
-    let call = PublisherCall::Pushing {
-        slot,
-        place,
-        route,
-        push: Push::Overflowing(OverflowingPush::SawRead {
-            limit,
-            value,
-            write,
-            next,
-            read,
-        }),
-        delivery,
+    let cell = Word::Cell(write);
+    store_at(words, seat, &sizes, lane, call, measured, cell, value);
+    let filled = OverflowingPush::Filled {
+        limit,
+        value,
+        write,
+        next,
+        read,
     };
-    let word = SharedWord::Ring {
-        connection: route.connection,
-        ring: ConnectionRing::Submission,
-        word: Word::Cell(write % route.submission_cells),
-    };
-    store_ahead(words, seat, &sizes, lane, call, word, value);
-    let call = PublisherCall::Pushing {
-        slot,
-        place,
-        route,
-        push: Push::Overflowing(OverflowingPush::Filled {
-            limit,
-            value,
-            write,
-            next,
-            read,
-        }),
-        delivery,
-    };
-    let word = SharedWord::Ring {
-        connection: route.connection,
-        ring: ConnectionRing::Submission,
-        word: Word::Write,
-    };
-    store_ahead(words, seat, &sizes, lane, call, word, next);
-    lane.go_on_from(call, 0);
+    store_at(words, seat, &sizes, lane, call, filled, Word::Write, next);
+    lane.go_on_from(call.stage(filled), 0);
     4
 }

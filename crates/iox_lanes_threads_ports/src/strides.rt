@@ -2,15 +2,16 @@
 ghost use Rattle.std.specs.Prelude.{◌≡◌, ◌<◌, ◌≤◌, true, false, length, slice_get, Some};
 ghost use Rattle.iox_lanes_machine.specs.LanesBase.Numbers.{words_of, IsSmall};
 ghost use Rattle.iox_lanes_machine.specs.LanesBase.Publishing.{header_word, publisher_is_over};
-ghost use Rattle.iox_lanes_machine.specs.LanesBase.declared.calls.publisher.PublisherCall.TheVariants as call;
 ghost use Rattle.iox_lanes_machine.specs.LanesParties.Publishers.{words_of as call_words};
 ghost use Rattle.iox_lanes_threads_rule.specs.Acts.{single, port_of};
 ghost use Rattle.iox_lanes_threads_ports.specs.Ports.{PublisherStands};
+ghost use Rattle.iox_lanes_threads_ports.specs.SlotParts.{storing, part_word};
 ghost use Rattle.iox_lanes_threads_ports.specs.Strides.{PublisherStrode};
 
 use crate::ahead::store_ahead;
 use crate::publishing::step;
-use crate::ring_strides::{push, push_over, sweep, take_back};
+use crate::ring_calls::{LoanReclaims, Pushes, SendReclaims};
+use crate::ring_strides::{pop, push, push_over};
 use iox_lanes_base::calls::PublisherCall;
 use iox_lanes_base::words::{SharedWord, SlotWord, TableSizes};
 use iox_lanes_parties::PublisherLane;
@@ -40,59 +41,52 @@ fn header_word(word: u64) -> SlotWord
     }
 }
 
-// Stores all words of a payload: so many steps.
-fn write_words<K: Opening>(
-    words: &Words<K>,
-    seat: &mut WordSeat,
-    sizes: &TableSizes,
-    lane: &mut PublisherLane,
-    slot: u64,
-    first: u64,
-) -> usize
-    requires table { (seat.old.table_id ≡ words.now.table_id) × (words.now.table_id.words ≡ words_of sizes.now) × IsSmall sizes.now }
-    requires seat { (seat.old.me ≡ single (port_of seat.old.me)) × ((port_of seat.old.me).service.sizes ≡ sizes.now) }
-    requires stands { PublisherStands (port_of seat.old.me) lane.old }
-    requires call { lane.old.port.call ≡ call.Writing slot 0 first }
-    requires first { slice_get (call_words lane.old.port) 0 ≡ Some first }
-    ensures table { (seat.new.table_id ≡ seat.old.table_id) × (seat.new.id ≡ seat.old.id) }
-    ensures all { result ≡ length (call_words lane.old.port) }
-    ensures strode { PublisherStrode (port_of seat.old.me) lane.old result seat.new.me lane.new }
-{
-    let sizes = *sizes;
-    let stored = lane.stored();
-    let count = stored.len();
-    for at in 0..count {
-        let (word, value) = (at as u64, stored[at]);
-        let call = PublisherCall::Writing { slot, word, value };
-        let payload = SlotWord::Payload(word);
-        let word = SharedWord::Slot {
-            slot,
-            word: payload,
-        };
-        store_ahead(words, seat, &sizes, lane, call, word, value);
-    }
-    let last = PublisherCall::Writing {
-        slot,
-        word: (count - 1) as u64,
-        value: stored[count - 1],
-    };
-    lane.go_on_from(last, 0);
-    count
+// Which words of a slot a call stores.
+#[derive(Clone, Copy)]
+enum SlotPart {
+    // Those of its payload.
+    Payload,
+    // Those of its header and user header.
+    Head,
 }
 
-// Stores all words of header and user header: so many steps.
-fn head_words<K: Opening>(
+// Where a call stands that stores this word next.
+#[inline(always)]
+fn storing(part: SlotPart, slot: u64, word: u64, value: u64) -> PublisherCall
+    ensures { result ≡ storing part slot word value }
+{
+    match part {
+        SlotPart::Payload => PublisherCall::Writing { slot, word, value },
+        SlotPart::Head => PublisherCall::Heading { slot, word, value },
+    }
+}
+
+// A word of a part.
+#[inline(always)]
+fn part_word(part: SlotPart, word: u64) -> SlotWord
+    ensures { result ≡ part_word part word }
+{
+    match part {
+        SlotPart::Payload => SlotWord::Payload(word),
+        SlotPart::Head => header_word(word),
+    }
+}
+
+// Stores all words of a part: so many steps.
+#[inline(always)]
+fn store_words<K: Opening>(
     words: &Words<K>,
     seat: &mut WordSeat,
     sizes: &TableSizes,
     lane: &mut PublisherLane,
+    part: SlotPart,
     slot: u64,
     first: u64,
 ) -> usize
     requires table { (seat.old.table_id ≡ words.now.table_id) × (words.now.table_id.words ≡ words_of sizes.now) × IsSmall sizes.now }
     requires seat { (seat.old.me ≡ single (port_of seat.old.me)) × ((port_of seat.old.me).service.sizes ≡ sizes.now) }
     requires stands { PublisherStands (port_of seat.old.me) lane.old }
-    requires call { lane.old.port.call ≡ call.Heading slot 0 first }
+    requires call { lane.old.port.call ≡ storing part slot 0 first }
     requires first { slice_get (call_words lane.old.port) 0 ≡ Some first }
     ensures table { (seat.new.table_id ≡ seat.old.table_id) × (seat.new.id ≡ seat.old.id) }
     ensures all { result ≡ length (call_words lane.old.port) }
@@ -103,16 +97,12 @@ fn head_words<K: Opening>(
     let count = stored.len();
     for at in 0..count {
         let (word, value) = (at as u64, stored[at]);
-        let call = PublisherCall::Heading { slot, word, value };
-        let head = header_word(word);
-        let word = SharedWord::Slot { slot, word: head };
+        let call = storing(part, slot, word, value);
+        let own = part_word(part, word);
+        let word = SharedWord::Slot { slot, word: own };
         store_ahead(words, seat, &sizes, lane, call, word, value);
     }
-    let last = PublisherCall::Heading {
-        slot,
-        word: (count - 1) as u64,
-        value: stored[count - 1],
-    };
+    let last = storing(part, slot, (count - 1) as u64, stored[count - 1]);
     lane.go_on_from(last, 0);
     count
 }
@@ -147,44 +137,61 @@ pub(crate) fn stride<K: Opening>(
             word: 0,
             value,
         } if may_store_all(lane.stored(), value, room) => {
-            write_words(words, seat, sizes, lane, slot, value) as u128
+            let part = SlotPart::Payload;
+            store_words(words, seat, sizes, lane, part, slot, value) as u128
         }
         PublisherCall::Heading {
             slot,
             word: 0,
             value,
         } if may_store_all(lane.stored(), value, room) => {
-            head_words(words, seat, sizes, lane, slot, value) as u128
+            let part = SlotPart::Head;
+            store_words(words, seat, sizes, lane, part, slot, value) as u128
         }
         PublisherCall::LoanReclaims {
             place,
             route,
             pop: RefusingPop::Begun,
-        } if room >= 4 => take_back(words, seat, sizes, lane, place, route),
+        } if room >= 4 => pop(words, seat, sizes, lane, LoanReclaims { place, route }),
         PublisherCall::SendReclaims {
             slot,
             place,
             route,
             pop: RefusingPop::Begun,
-        } if room >= 4 => sweep(words, seat, sizes, lane, slot, place, route),
+        } if room >= 4 => {
+            let call = SendReclaims { slot, place, route };
+            pop(words, seat, sizes, lane, call)
+        }
         PublisherCall::Pushing {
             slot,
             place,
             route,
             push: Push::Refusing(RefusingPush::Begun { limit, value }),
             delivery,
-        } if room >= 4 => push(
-            words, seat, sizes, lane, slot, place, route, limit, value, delivery,
-        ),
+        } if room >= 4 => {
+            let call = Pushes {
+                slot,
+                place,
+                route,
+                delivery,
+            };
+            push(words, seat, sizes, lane, call, limit, value)
+        }
         PublisherCall::Pushing {
             slot,
             place,
             route,
             push: Push::Overflowing(OverflowingPush::Begun { limit, value }),
             delivery,
-        } if room >= 4 => push_over(
-            words, seat, sizes, lane, slot, place, route, limit, value, delivery,
-        ),
+        } if room >= 4 => {
+            let call = Pushes {
+                slot,
+                place,
+                route,
+                delivery,
+            };
+            push_over(words, seat, sizes, lane, call, limit, value)
+        }
         PublisherCall::Remembering { .. } => {
             lane.go_on(0);
             1

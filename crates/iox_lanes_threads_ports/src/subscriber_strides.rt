@@ -8,8 +8,9 @@ ghost use Rattle.iox_lanes_threads_ports.specs.Ports.{SubscriberStands};
 ghost use Rattle.iox_lanes_threads_ports.specs.Strides.{SubscriberStrode};
 ghost use Rattle.iox_lanes_threads_ports.specs.Values.{IsShort};
 
-use crate::subscriber_ahead::load_ahead;
-use crate::subscriber_ring_strides::{give_back, pop, pop_over};
+use crate::ahead::load_ahead;
+use crate::ring_calls::{Receives, Releases};
+use crate::ring_strides::{pop, pop_over, push};
 use crate::subscribing::step;
 use iox_lanes_base::calls::SubscriberCall;
 use iox_lanes_base::calls::subscriber::SlotExtent;
@@ -107,7 +108,17 @@ pub(crate) fn stride_on<K: Opening>(
             place,
             route,
             push: RefusingPush::Begun { limit, value },
-        } => give_back(words, seat, sizes, lane, place, route, limit, value),
+        } => {
+            push(
+                words,
+                seat,
+                sizes,
+                lane,
+                Releases { place, route },
+                limit,
+                value,
+            );
+        }
         _ => {}
     }
 }
@@ -131,13 +142,27 @@ pub(crate) fn receive_on<K: Opening>(
             route,
             pop: Pop::Refusing(RefusingPop::Begun),
             waits,
-        } => pop(words, seat, sizes, lane, place, route, waits),
+        } => {
+            let call = Receives {
+                place,
+                route,
+                waits,
+            };
+            pop(words, seat, sizes, lane, call);
+        }
         SubscriberCall::Receiving {
             place,
             route,
             pop: Pop::Overflowing(OverflowingPop::Begun),
             waits,
-        } => pop_over(words, seat, sizes, lane, place, route, waits),
+        } => {
+            let call = Receives {
+                place,
+                route,
+                waits,
+            };
+            pop_over(words, seat, sizes, lane, call);
+        }
         _ => step(words, seat, sizes, lane),
     }
 }

@@ -64,7 +64,7 @@ use Rattle.iox_command.specs.declared.reply.Reply.TheVariants as reply
 
 module _ {T : Type 0} (pattern : MessagingPattern) (name : List ℕ) where
   -- what a machine has that knows of one service alone
-  abbrev own_of : State T → State T
+  abbrev pub own_of : State T → State T
   own_of state = record {
     made = state.made;
     phases = own_phases pattern name state.phases;
@@ -72,7 +72,7 @@ module _ {T : Type 0} (pattern : MessagingPattern) (name : List ℕ) where
     services = filter (is_of pattern name) state.services;
   }
 
-  own-phase : (state : State T) → own_phases pattern name state.phases pattern name ≡ state.phases pattern name
+  pub own-phase : (state : State T) → own_phases pattern name state.phases pattern name ≡ state.phases pattern name
   own-phase state =
       ap (λ (b : Bool). cond b (state.phases pattern name) (Absent 0))
       (and-true (same_pattern pattern pattern) (same_name name name) (pattern-itself pattern) (name-itself name))
@@ -92,7 +92,7 @@ module _ {T : Type 0} (pattern : MessagingPattern) (name : List ℕ) where
       ap (λ (phases : MessagingPattern → List ℕ → Phase). record (own_of state) { phases = phases }) (own-with phase state)
 
   -- where all is left, only numbers were given
-  own-left : (old new : State T) → IsLeft pattern name old new → own_of new ≡ record (own_of old) { made = new.made }
+  pub own-left : (old new : State T) → IsLeft pattern name old new → own_of new ≡ record (own_of old) { made = new.made }
   own-left old new (phase, factories, services) =
       λ i. record {
         made = new.made;
@@ -592,7 +592,7 @@ module _ {T : Type 0} (pattern : MessagingPattern) (name : List ℕ) where
               node = factory.node;
             }) (closes-own number factory.node old answer new) did)
 
-    own-step : (asked : Command T) (old : State T) (answer : Reply T) (new : State T) → Stands new
+    pub own-step : (asked : Command T) (old : State T) (answer : Reply T) (new : State T) → Stands new
         → Step types IsDefault buffer asked old answer new → concerns pattern name asked old ≡ true
         → Step types IsDefault buffer asked (own_of old) answer (own_of new)
     own-step command.Node old answer new stands (inl (told, came)) on = inl (told, ap own_of came)
@@ -746,7 +746,7 @@ module _ {T : Type 0} (pattern : MessagingPattern) (name : List ℕ) where
         (answered ≡ reply.Has (has_samples subscriber it mid)) × (end ≡ mid)) one service after (itself old.made service)
         (λ it mid k done. ends old.made service answer (reply.Has (has_samples subscriber it mid)) mid after k done tt) did) h
 
-    left-asks : (asked : Command T) (old : State T) → concerns pattern name asked old ≡ false → asks pattern name asked old ≡ false
+    pub left-asks : (asked : Command T) (old : State T) → concerns pattern name asked old ≡ false → asks pattern name asked old ≡ false
     left-asks command.Node old off = refl
     left-asks other old off = off
 
@@ -774,7 +774,7 @@ module _ {T : Type 0} (pattern : MessagingPattern) (name : List ℕ) where
             (own-left old run.1 (step-left pattern name types IsDefault buffer one old run.0 run.1 stands run.3 (left-asks one old off)))
             rest
 
-  own-new : own_of new_state ≡ new_state
+  pub own-new : own_of new_state ≡ new_state
   own-new = λ i. record {
     made = record { nodes = 0; factories = 0; publishers = 0; subscribers = 0; loans = 0; samples = 0 };
     phases = λ one other. here (same_pattern one pattern && same_name other name) i;

@@ -13,7 +13,7 @@ use Rattle.iox_machine.proofs.Agreed.{new-stands, runs-stand}
 use Rattle.iox_machine.proofs.Beginning.{or-first, or-second}
 use Rattle.iox_machine.proofs.Cases.{both-true, same-some, never-some}
 use Rattle.iox_machine.proofs.Counts.{has, added}
-use Rattle.iox_machine.proofs.Kept.{Kept, IsNext}
+use Rattle.iox_machine.proofs.Kept.{Kept, IsNext, port-next}
 use Rattle.iox_machine.proofs.Lists.{all-weaker}
 use Rattle.iox_machine.proofs.Moving.{Keeps, IsNegotiated, creates, opens, opens-or-creates, negotiated-keeps, closed, closed-keeps, replaced-keeps, skipped-keeps}
 use Rattle.iox_machine.proofs.Names.{and-true, name-is}
@@ -104,25 +104,25 @@ module _ {T : Type 0} (name : List ℕ) (bound : Made) where
             (added number service.publishers (publisher_told answer) after.publishers kept.publishers found) [
               | inl there ↦ above-has bound.publishers service.publishers was.0 number there
               | inr told ↦ next-above bound.publishers made.publishers number before.0
-                  (publisher-next made answer number told kept.next)
+                  (publisher-next made answer number told (port-next made answer kept.next))
             ]),
         above-all bound.subscribers after.subscribers (λ number found. elim
             (added number service.subscribers (subscriber_told answer) after.subscribers kept.subscribers found) [
               | inl there ↦ above-has bound.subscribers service.subscribers was.1 number there
               | inr told ↦ next-above bound.subscribers made.subscribers number before.1
-                  (subscriber-next made answer number told kept.next)
+                  (subscriber-next made answer number told (port-next made answer kept.next))
             ]),
         above-all bound.loans after.loans (λ number found. elim
             (added number service.loans (loan_told answer) after.loans kept.loans found) [
               | inl there ↦ above-has bound.loans service.loans was.2 number there
               | inr told ↦ next-above bound.loans made.loans number before.2
-                  (loan-next made answer number told kept.next)
+                  (loan-next made answer number told (port-next made answer kept.next))
             ]),
         above-all bound.samples after.samples (λ number found. elim
             (added number service.samples (sample_told answer) after.samples kept.samples found) [
               | inl there ↦ above-has bound.samples service.samples was.3 number there
               | inr told ↦ next-above bound.samples made.samples number before.3
-                  (sample-next made answer number told kept.next)
+                  (sample-next made answer number told (port-next made answer kept.next))
             ]),
       )
 

@@ -13,7 +13,7 @@ use Rattle.iox_machine.specs.State.{State, Made, Factory, new_state, counted, is
 use Rattle.iox_machine.specs.Table.{contains, removed}
 use Rattle.iox_machine.proofs.Cases.{same-some, never-some}
 use Rattle.iox_machine.proofs.Counts.{Adds, adds-itself, adds-filtered, adds-joined, times, of_told, one_if, behind, never-one}
-use Rattle.iox_machine.proofs.Kept.{IsNext}
+use Rattle.iox_machine.proofs.Kept.{IsNext, port-next}
 use Rattle.iox_machine.proofs.Moving.{IsNegotiated, IsClosed, creates, opens, opens-or-creates, closed}
 use Rattle.iox_machine.proofs.Ported.{IsBeside, ports-move}
 use Rattle.iox_command.specs.NegotiateBase.DescribeBase.declared.message_type.MessageTypeDetails.{MessageTypeDetails}
@@ -204,7 +204,7 @@ module _ {T : Type 0} where
   beside asked old answer new (inl skipped) = rests reply.Skipped old old new answer skipped tt refl refl refl refl
   beside asked old answer new (inr (has_it, service, after, first, kept, off, came)) =
       subst (λ (it : State T). Passes old answer it) (sym came) (record {
-        next = kept.next;
+        next = port-next old.made answer kept.next;
         made = refl;
         factories = λ number. wider (times number (numbers_in old.factories)) (times number (numbers_in old.factories))
             (of_told (factory_told answer) number) (omega arith);

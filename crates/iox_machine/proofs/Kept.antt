@@ -44,6 +44,15 @@ IsNext made (reply.LoanMade number) = number ≡ made.loans + 1
 IsNext made (reply.Received number values) = number ≡ made.samples + 1
 IsNext made other = ⊤
 
+-- So a reply about a port does, and it tells no number of a node.
+abbrev pub IsPortNext : {T : Type 0} → Made → Reply T → Type 0
+IsPortNext made (reply.NodeMade number) = ⊥
+IsPortNext made other = IsNext made other
+
+pub port-next : {T : Type 0} (made : Made) (answer : Reply T) → IsPortNext made answer → IsNext made answer
+port-next made (reply.NodeMade number) next = absurd next
+port-next made other next = next
+
 -- What a command leaves of a service: its name, its settings, and what goes by numbers; of that no more, but what the reply tells, by
 -- the number that comes next.
 pub record Kept {T : Type 0} (made : Made) (old : Service T) (answer : Reply T) (new : Service T) : Type 0 where
@@ -55,7 +64,7 @@ pub record Kept {T : Type 0} (made : Made) (old : Service T) (answer : Reply T) 
   pub subscribers : Adds old.subscribers (subscriber_told answer) new.subscribers
   pub loans : Adds old.loans (loan_told answer) new.loans
   pub samples : Adds old.samples (sample_told answer) new.samples
-  pub next : IsNext made answer
+  pub next : IsPortNext made answer
 
 module _ {T : Type 0} where
   pub itself : (made : Made) (service : Service T) → Kept made service reply.Done service
@@ -81,7 +90,7 @@ module _ {T : Type 0} (counts : Made) (origin : Service T) (answer : Reply T) wh
   R service = Kept counts origin answer service
 
   -- The command did what it does, and it is answered.
-  pub ends : (told : Reply T) (mid new : Service T) → K mid → (answer ≡ told) × (new ≡ mid) → IsNext counts told → R new
+  pub ends : (told : Reply T) (mid new : Service T) → K mid → (answer ≡ told) × (new ≡ mid) → IsPortNext counts told → R new
   ends told mid new k (said, came) next =
       subst (λ (it : Reply T). Kept counts origin it new) (sym said)
       (subst (λ (it : Service T). Kept counts origin told it) (sym came) (record {
@@ -204,7 +213,7 @@ module _ {T : Type 0} (counts : Made) (origin : Service T) (answer : Reply T) wh
 
   -- ---- a send
 
-  next-of : (b : Bool) (one other : Reply T) → IsNext counts one → IsNext counts other → IsNext counts (cond b one other)
+  next-of : (b : Bool) (one other : Reply T) → IsPortNext counts one → IsPortNext counts other → IsPortNext counts (cond b one other)
   next-of true one other n m = n
   next-of false one other n m = m
 

@@ -37,6 +37,14 @@ mod Left
 mod Updated
 mod Own
 mod Alone
+mod Mapped
+mod Renumbered
+mod RenumberedPublishers
+mod RenumberedSubscribers
+mod RenumberedPorts
+mod RenumberedSteps
+mod RenumberedCommands
+mod RenumberedRuns
 mod Counted
 mod Going
 mod Totals

@@ -1,13 +1,13 @@
 -- What is opened meets what is asked, and a refusal names the first clause that isn't met.
-use Rattle.std.proofs.Common.{◌≡◌, ◌⊎◌, ◌+◌, ℕ, zero, suc, Bool, true, false, cond, ◌&&◌, ◌||◌, List, length, map, take, Option, None, Some, Result, Ok, Err, refl, sym, ap, subst, inl, inr, ◌∙◌, true≢false}
+use Rattle.std.proofs.Common.{◌≡◌, ◌≤◌, ◌⊎◌, ◌+◌, ℕ, zero, suc, Bool, true, false, cond, ◌&&◌, ◌||◌, List, length, map, take, Option, None, Some, Result, Ok, Err, arith, refl, sym, ap, subst, inl, inr, ◌∙◌, true≢false}
 use Rattle.std.proofs.lemmas.Bool.{eqb-true}
-use Rattle.std.specs.Prelude.{◌==◌, ⊤, filter, fold, nat_le, nat_lt, unwrap_or, MatchResult}
+use Rattle.std.specs.Prelude.{◌==◌, filter, fold, nat_le, nat_lt, unwrap_or, MatchResult}
 use Rattle.iox_machine.specs.Agreement.{Agreement, event_verdict, publish_subscribe_verdict, request_response_verdict, unfit}
 use Rattle.iox_machine.specs.AgreementLaws.{agreed_in, life_of}
 use Rattle.iox_machine.specs.Asked.{settings_of}
 use Rattle.iox_machine.specs.Factories.{Enters, Negotiates, either_lacking}
 use Rattle.iox_machine.specs.Negotiation.{Access, Answer, Call, EitherLooks, Fails, Locks, OpenLooks, Opens, OpensFound, OpensOrCreates, Rounds, created, opened, registered}
-use Rattle.iox_machine.specs.OpeningLaws.{EitherMeetsAsked, EitherNamesUnmet, IsAgreedOn, NamesUnmet, OpenedMeetsAsked}
+use Rattle.iox_machine.specs.OpeningLaws.{EitherMeetsAsked, EitherNamesUnmet, IsAgreedOn, IsNewWith, NamesUnmet, OpenedMeetsAsked}
 use Rattle.iox_machine.specs.Phase.{Absent, BeingMade, Emptied, Node, Own, Phase, Published, acted, entered, is_in}
 use Rattle.iox_machine.specs.Replies.{IsRefused, IsSkipped}
 use Rattle.iox_machine.specs.Run.{factory_of}
@@ -74,22 +74,30 @@ module _ (types : MessageTypeDetails) (pattern : MessagingPattern) (steps : List
 
   rounds-so : {F : Type 0} (Tells : Says F) (Round : Call → Answer F → Call → Type 0) (exhausted : F)
       → ((phase : Phase) → Tells (Some (Err exhausted)) phase)
-      → ((call : Call) (answer : Answer F) (after : Call) → Round call answer after → Tells answer after.phase)
-      → (count : ℕ) (call : Call) (answer : Answer F) (after : Call) → Rounds Round exhausted count call answer after
-      → Tells answer after.phase
-  rounds-so Tells Round exhausted ends goes zero call answer after failed =
+      → ((call : Call) (answer : Answer F) (after : Call) → Tells None call.phase → Round call answer after → Tells answer after.phase)
+      → (count : ℕ) (call : Call) (answer : Answer F) (after : Call) → Tells None call.phase
+      → Rounds Round exhausted count call answer after → Tells answer after.phase
+  rounds-so Tells Round exhausted ends goes zero call answer after so failed =
       fails-so Tells exhausted call answer after (ends call.phase) failed
-  rounds-so Tells Round exhausted ends goes (suc count) call answer after (mid, None, went, more) =
-      rounds-so Tells Round exhausted ends goes count mid answer after more
-  rounds-so Tells Round exhausted ends goes (suc count) call answer after (mid, Some found, went, (told, came)) =
+  rounds-so Tells Round exhausted ends goes (suc count) call answer after so (mid, None, went, more) =
+      rounds-so Tells Round exhausted ends goes count mid answer after (goes call None mid so went) more
+  rounds-so Tells Round exhausted ends goes (suc count) call answer after so (mid, Some found, went, (told, came)) =
       subst (λ (it : Answer _). Tells it after.phase) (sym told)
-      (subst (λ (it : Call). Tells (Some found) it.phase) (sym came) (goes call (Some found) mid went))
+      (subst (λ (it : Call). Tells (Some found) it.phase) (sym came) (goes call (Some found) mid so went))
+
+  -- what is later than a phase is in no earlier life
+  later : (least : ℕ) (from phase : Phase) → least ≤ life_of from → Since from phase → least ≤ life_of phase
+  later least from phase low since = reaches least (life_of from) (life_of phase) low (stays-told from phase since).0
+    where
+      reaches : (a b c : ℕ) → a ≤ b → b ≤ c → a ≤ c
+      reaches a b c h k = omega (arith, h, k)
 
   -- ---- openings
 
-  module _ {V : Type 0} (verdict : Agreement → Result (Unit {0}) V) where
+  -- Of each phase that is met, and of each answer, it is told with this life: none is of a life before it.
+  module _ {V : Type 0} (verdict : Agreement → Result (Unit {0}) V) (least : ℕ) where
     abbrev Tells : Answer (OpenFailure V) → Phase → Type 0
-    Tells None phase = ⊤
+    Tells None phase = least ≤ life_of phase
     Tells (Some (Ok new)) phase = IsAgreedOn (λ agreed. verdict agreed ≡ Ok tt) phase
     Tells (Some (Err failure)) phase = NamesUnmet verdict failure phase
 
@@ -103,15 +111,15 @@ module _ (types : MessageTypeDetails) (pattern : MessagingPattern) (steps : List
 
     -- who registers in the life that was found is in a service of that agreement
     registers-so : (from : Phase) (agreed : Agreement) → agreed_in from ≡ Some agreed → verdict agreed ≡ Ok tt → (phase : Phase)
-        → Since from phase → TellsBoth (registered {V = V} (life_of from) node phase)
-    registers-so from agreed known met (Absent lives) since = tt
-    registers-so from agreed known met (BeingMade life by) since = tt
-    registers-so from agreed known met (Emptied now other by) since = found (now == life_of from)
+        → Since from phase → least ≤ life_of phase → TellsBoth (registered {V = V} (life_of from) node phase)
+    registers-so from agreed known met (Absent lives) since low = low
+    registers-so from agreed known met (BeingMade life by) since low = low
+    registers-so from agreed known met (Emptied now other by) since low = found (now == life_of from)
       where
         found : (b : Bool) → Tells (cond b (Some (Err unopened.IsMarkedForDestruction)) None) (Emptied now other by)
         found true = tt
-        found false = tt
-    registers-so from agreed known met (Published now other nodes) since =
+        found false = low
+    registers-so from agreed known met (Published now other nodes) since low =
         let joined : Answer (OpenFailure V) × Phase = (Some (Ok false), Published now other (entered node nodes)) in
         let full : Answer (OpenFailure V) × Phase = (Some (Err unopened.ExceedsMaxNumberOfNodes), Published now other nodes) in
         let none : Answer (OpenFailure V) × Phase = (None, Published now other nodes) in
@@ -123,11 +131,12 @@ module _ (types : MessageTypeDetails) (pattern : MessagingPattern) (steps : List
           refl,
           ap verdict ((stays-told from (Published now other nodes) since).1 agreed other (eqb-true now (life_of from) same) known refl)
               ∙ met,
-        )) (λ off. tt)) (λ off. tt)
+        )) (λ off. tt)) (λ off. low)
 
-    found-so : (call : Call) (agreed : Agreement) → agreed_in call.phase ≡ Some agreed → (answer : Answer (OpenFailure V)) (after : Call)
+    found-so : (call : Call) (agreed : Agreement) → agreed_in call.phase ≡ Some agreed → least ≤ life_of call.phase
+        → (answer : Answer (OpenFailure V)) (after : Call)
         → OpensFound types pattern steps node verdict (life_of call.phase) agreed call answer after → Tells answer after.phase
-    found-so call agreed known answer after h =
+    found-so call agreed known low answer after h =
         elim (by-result (verdict agreed)
         (λ met. Access types pattern steps node unopened.OutOfMemory
         (λ phase now found later. (found ≡ (registered {V = V} (life_of call.phase) node phase).0)
@@ -139,81 +148,83 @@ module _ (types : MessageTypeDetails) (pattern : MessagingPattern) (steps : List
               (λ phase. tt) call answer after
               (λ phase accesses since it. subst (λ (given : Answer (OpenFailure V)). Tells given after.phase) (sym it.0)
               (subst (λ (end : Call). Tells (registered {V = V} (life_of call.phase) node phase).0 end.phase) (sym it.1)
-              (registers-so call.phase agreed known w.1 phase since))) w.2
+              (registers-so call.phase agreed known w.1 phase since (later least call.phase phase low since)))) w.2
           | inr w ↦ fails-so Tells (unopened.Clause w.0) call answer after (agreed, known, w.1) w.2
         ]
 
-    looks-so : (phase : Phase) (accesses : ℕ) (answer : Answer (OpenFailure V)) (after : Call)
+    looks-so : (phase : Phase) (accesses : ℕ) → least ≤ life_of phase → (answer : Answer (OpenFailure V)) (after : Call)
         → OpenLooks types pattern steps node verdict phase (record { phase = phase; accesses = accesses }) answer after
         → Tells answer after.phase
-    looks-so (Absent lives) accesses answer after failed =
+    looks-so (Absent lives) accesses low answer after failed =
         fails-so Tells unopened.DoesNotExist (record { phase = Absent lives; accesses = accesses }) answer after tt failed
-    looks-so (BeingMade life by) accesses answer after failed =
+    looks-so (BeingMade life by) accesses low answer after failed =
         fails-so Tells unopened.HangsInCreation (record { phase = BeingMade life by; accesses = accesses }) answer after tt failed
-    looks-so (Published life agreed nodes) accesses answer after h =
-        found-so (record { phase = Published life agreed nodes; accesses = accesses }) agreed refl answer after h
-    looks-so (Emptied life agreed by) accesses answer after h =
-        found-so (record { phase = Emptied life agreed by; accesses = accesses }) agreed refl answer after h
+    looks-so (Published life agreed nodes) accesses low answer after h =
+        found-so (record { phase = Published life agreed nodes; accesses = accesses }) agreed refl low answer after h
+    looks-so (Emptied life agreed by) accesses low answer after h =
+        found-so (record { phase = Emptied life agreed by; accesses = accesses }) agreed refl low answer after h
 
-    opens-so : (call : Call) (answer : Answer (OpenFailure V)) (after : Call) → Opens types pattern steps node verdict call answer after
-        → Tells answer after.phase
-    opens-so call answer after h =
+    opens-so : (call : Call) (answer : Answer (OpenFailure V)) (after : Call) → least ≤ life_of call.phase
+        → Opens types pattern steps node verdict call answer after → Tells answer after.phase
+    opens-so call answer after low h =
         rounds-so Tells (Access types pattern steps node unopened.OutOfMemory (OpenLooks types pattern steps node verdict))
         unopened.ServiceInCorruptedState (λ phase. tt)
-        (λ one told then round. access-so Tells unopened.OutOfMemory (OpenLooks types pattern steps node verdict) (λ phase. tt) one told
-        then
-        (λ phase accesses since looked. looks-so phase accesses told then looked) round) 5 call answer after h
+        (λ one told then low_then round. access-so Tells unopened.OutOfMemory (OpenLooks types pattern steps node verdict) (λ phase. tt)
+        one told then
+        (λ phase accesses since looked. looks-so phase accesses (later least one.phase phase low_then since) told then looked) round) 5
+        call answer after low h
 
     -- ---- openings or creations
 
     module _ (asked : Agreement) where
       abbrev TellsEither : Answer (OpenOrCreateFailure V) → Phase → Type 0
-      TellsEither None phase = ⊤
-      TellsEither (Some (Ok new)) phase = IsAgreedOn (λ agreed. (verdict agreed ≡ Ok tt) ⊎ (agreed ≡ asked)) phase
+      TellsEither None phase = least ≤ life_of phase
+      TellsEither (Some (Ok new)) phase = IsAgreedOn (λ agreed. verdict agreed ≡ Ok tt) phase ⊎ IsNewWith node asked least phase
       TellsEither (Some (Err failure)) phase = EitherNamesUnmet verdict failure phase
 
       abbrev TellsMade : Answer CreateFailure → Phase → Type 0
       TellsMade made phase = TellsEither (created {V = V} made) phase
 
-      locks-so : (phase : Phase) (accesses : ℕ) (made : Answer CreateFailure) (after : Call)
+      locks-so : (phase : Phase) (accesses : ℕ) → least ≤ life_of phase → (made : Answer CreateFailure) (after : Call)
           → Locks types pattern steps node asked phase (record { phase = phase; accesses = accesses }) made after
           → TellsMade made after.phase
-      locks-so (Absent lives) accesses made after (inl (told, came)) =
+      locks-so (Absent lives) accesses low made after (inl (told, came)) =
           subst (λ (it : Answer CreateFailure). TellsMade it after.phase) (sym told)
-          (subst (λ (it : Call). TellsMade (Some (Ok true)) it.phase) (sym came) (asked, refl, inr refl))
-      locks-so (Absent lives) accesses made after (inr failed) =
+          (subst (λ (it : Call). TellsMade (Some (Ok true)) it.phase) (sym came) (inr (lives + 1, omega (arith, low), refl)))
+      locks-so (Absent lives) accesses low made after (inr failed) =
           fails-so TellsMade uncreated.OutOfMemory (record { phase = Absent (lives + 1); accesses = accesses }) made after tt failed
-      locks-so (BeingMade life by) accesses made after failed =
+      locks-so (BeingMade life by) accesses low made after failed =
           fails-so TellsMade uncreated.IsBeingCreatedByAnotherInstance (record { phase = BeingMade life by; accesses = accesses }) made
-          after tt failed
-      locks-so (Published life standing nodes) accesses made after failed =
-          fails-so TellsMade uncreated.AlreadyExists (record { phase = Published life standing nodes; accesses = accesses }) made after tt
+          after low failed
+      locks-so (Published life standing nodes) accesses low made after failed =
+          fails-so TellsMade uncreated.AlreadyExists (record { phase = Published life standing nodes; accesses = accesses }) made after low
           failed
-      locks-so (Emptied life standing by) accesses made after failed =
-          fails-so TellsMade uncreated.AlreadyExists (record { phase = Emptied life standing by; accesses = accesses }) made after tt failed
+      locks-so (Emptied life standing by) accesses low made after failed =
+          fails-so TellsMade uncreated.AlreadyExists (record { phase = Emptied life standing by; accesses = accesses }) made after low
+          failed
 
       opened-tells : (found : Answer (OpenFailure V)) (phase : Phase) → Tells found phase → TellsEither (opened {V = V} found) phase
-      opened-tells None phase so = tt
-      opened-tells (Some (Ok new)) phase (agreed, known, met) = (agreed, known, inl met)
+      opened-tells None phase so = so
+      opened-tells (Some (Ok new)) phase so = inl so
       opened-tells (Some (Err failure)) phase so = so
 
-      opened-so : (phase : Phase) (accesses : ℕ) (answer : Answer (OpenOrCreateFailure V)) (after : Call)
+      opened-so : (phase : Phase) (accesses : ℕ) → least ≤ life_of phase → (answer : Answer (OpenOrCreateFailure V)) (after : Call)
           → (found : Answer (OpenFailure V))
           × OpenLooks types pattern steps node verdict phase (record { phase = phase; accesses = accesses }) found after
           × (answer ≡ opened found)
           → TellsEither answer after.phase
-      opened-so phase accesses answer after (found, looked, told) =
+      opened-so phase accesses low answer after (found, looked, told) =
           subst (λ (it : Answer (OpenOrCreateFailure V)). TellsEither it after.phase) (sym told)
-          (opened-tells found after.phase (looks-so phase accesses found after looked))
+          (opened-tells found after.phase (looks-so phase accesses low found after looked))
 
       unfit-so : (phase : Phase) (answer : Answer (OpenOrCreateFailure V)) (after : Call) (failure : CreateFailure) (call : Call)
           → Fails (neither.Create failure) call answer after → TellsEither answer after.phase
       unfit-so phase answer after failure call failed = fails-so TellsEither (neither.Create failure) call answer after tt failed
 
-      either-so : (phase : Phase) (accesses : ℕ) (answer : Answer (OpenOrCreateFailure V)) (after : Call)
+      either-so : (phase : Phase) (accesses : ℕ) → least ≤ life_of phase → (answer : Answer (OpenOrCreateFailure V)) (after : Call)
           → EitherLooks types pattern steps node verdict asked phase (record { phase = phase; accesses = accesses }) answer after
           → TellsEither answer after.phase
-      either-so (Absent lives) accesses answer after h =
+      either-so (Absent lives) accesses low answer after h =
           elim (by-option (unfit asked.settings)
           ((made : Answer CreateFailure)
           × Access types pattern steps node uncreated.OutOfMemory (Locks types pattern steps node asked)
@@ -222,23 +233,24 @@ module _ (types : MessageTypeDetails) (pattern : MessagingPattern) (steps : List
             | inl w ↦ subst (λ (it : Answer (OpenOrCreateFailure V)). TellsEither it after.phase) (sym w.1.2)
                 (access-so TellsMade uncreated.OutOfMemory (Locks types pattern steps node asked) (λ phase. tt)
                 (record { phase = Absent lives; accesses = accesses }) w.1.0 after
-                (λ phase count since locked. locks-so phase count w.1.0 after locked) w.1.1)
+                (λ phase count since locked. locks-so phase count (later least (Absent lives) phase low since) w.1.0 after locked) w.1.1)
             | inr w ↦ unfit-so (Absent lives) answer after w.0 (record { phase = Absent lives; accesses = accesses }) w.2
           ]
-      either-so (BeingMade life by) accesses answer after h = opened-so (BeingMade life by) accesses answer after h
-      either-so (Published life standing nodes) accesses answer after h =
-          opened-so (Published life standing nodes) accesses answer after h
-      either-so (Emptied life standing by) accesses answer after h = opened-so (Emptied life standing by) accesses answer after h
+      either-so (BeingMade life by) accesses low answer after h = opened-so (BeingMade life by) accesses low answer after h
+      either-so (Published life standing nodes) accesses low answer after h =
+          opened-so (Published life standing nodes) accesses low answer after h
+      either-so (Emptied life standing by) accesses low answer after h = opened-so (Emptied life standing by) accesses low answer after h
 
-      opens-or-creates-so : (call : Call) (answer : Answer (OpenOrCreateFailure V)) (after : Call)
+      opens-or-creates-so : (call : Call) (answer : Answer (OpenOrCreateFailure V)) (after : Call) → least ≤ life_of call.phase
           → OpensOrCreates types pattern steps node verdict asked call answer after → TellsEither answer after.phase
-      opens-or-creates-so call answer after h =
+      opens-or-creates-so call answer after low h =
           rounds-so TellsEither
           (Access types pattern steps node (neither.Open unopened.OutOfMemory) (EitherLooks types pattern steps node verdict asked))
           neither.SystemInFlux (λ phase. tt)
-          (λ one told then round. access-so TellsEither (neither.Open unopened.OutOfMemory)
+          (λ one told then low_then round. access-so TellsEither (neither.Open unopened.OutOfMemory)
           (EitherLooks types pattern steps node verdict asked) (λ phase. tt) one told then
-          (λ phase accesses since looked. either-so phase accesses told then looked) round) 5 call answer after h
+          (λ phase accesses since looked. either-so phase accesses (later least one.phase phase low_then since) told then looked) round) 5
+          call answer after low h
 
 -- ---- the commands
 
@@ -327,10 +339,10 @@ module _ {T : Type 0} where
     opening-so told h =
         negotiates-so (Opens types factory.pattern steps (Own factory.node) verdict) told (λ is_new. unopened.OutOfMemory)
         (IsAgreedOn (λ agreed. verdict agreed ≡ Ok tt)) (NamesUnmet verdict) factory old answer new (λ is_new phase. tt)
-        (λ after is_new went. opens-so types factory.pattern steps (Own factory.node) verdict
-        (record { phase = old.phases factory.pattern factory.name; accesses = 0 }) (Some (Ok is_new)) after went)
-        (λ after failure went. opens-so types factory.pattern steps (Own factory.node) verdict
-        (record { phase = old.phases factory.pattern factory.name; accesses = 0 }) (Some (Err failure)) after went) h
+        (λ after is_new went. opens-so types factory.pattern steps (Own factory.node) verdict 0
+        (record { phase = old.phases factory.pattern factory.name; accesses = 0 }) (Some (Ok is_new)) after (omega arith) went)
+        (λ after failure went. opens-so types factory.pattern steps (Own factory.node) verdict 0
+        (record { phase = old.phases factory.pattern factory.name; accesses = 0 }) (Some (Err failure)) after (omega arith) went) h
 
     lacking-none : (is_new : Bool) (phase : Phase) → EitherNamesUnmet verdict (either_lacking is_new) phase
     lacking-none true phase = tt
@@ -339,15 +351,21 @@ module _ {T : Type 0} where
     either-opening-so : (asked : Agreement) (told : OpenOrCreateFailure V → Refusal)
         → Negotiates (OpensOrCreates types factory.pattern steps (Own factory.node) verdict asked) told either_lacking factory old answer
         new
-        → Comes (OpenOrCreateFailure V) told (IsAgreedOn (λ agreed. (verdict agreed ≡ Ok tt) ⊎ (agreed ≡ asked)))
+        → Comes (OpenOrCreateFailure V) told
+        (λ phase. IsAgreedOn (λ agreed. verdict agreed ≡ Ok tt) phase
+        ⊎ IsNewWith (Own factory.node) asked (life_of (old.phases factory.pattern factory.name)) phase)
         (EitherNamesUnmet verdict) answer (new.phases factory.pattern factory.name)
     either-opening-so asked told h =
         negotiates-so (OpensOrCreates types factory.pattern steps (Own factory.node) verdict asked) told either_lacking
-        (IsAgreedOn (λ agreed. (verdict agreed ≡ Ok tt) ⊎ (agreed ≡ asked))) (EitherNamesUnmet verdict) factory old answer new lacking-none
-        (λ after is_new went. opens-or-creates-so types factory.pattern steps (Own factory.node) verdict asked
-        (record { phase = old.phases factory.pattern factory.name; accesses = 0 }) (Some (Ok is_new)) after went)
-        (λ after failure went. opens-or-creates-so types factory.pattern steps (Own factory.node) verdict asked
-        (record { phase = old.phases factory.pattern factory.name; accesses = 0 }) (Some (Err failure)) after went) h
+        (λ phase. IsAgreedOn (λ agreed. verdict agreed ≡ Ok tt) phase
+        ⊎ IsNewWith (Own factory.node) asked (life_of (old.phases factory.pattern factory.name)) phase)
+        (EitherNamesUnmet verdict) factory old answer new lacking-none
+        (λ after is_new went. opens-or-creates-so types factory.pattern steps (Own factory.node) verdict
+        (life_of (old.phases factory.pattern factory.name)) asked
+        (record { phase = old.phases factory.pattern factory.name; accesses = 0 }) (Some (Ok is_new)) after (omega arith) went)
+        (λ after failure went. opens-or-creates-so types factory.pattern steps (Own factory.node) verdict
+        (life_of (old.phases factory.pattern factory.name)) asked
+        (record { phase = old.phases factory.pattern factory.name; accesses = 0 }) (Some (Err failure)) after (omega arith) went) h
 
 pub opened-meets-asked : {T : Type 0} (IsDefault : T → Type 0) → OpenedMeetsAsked IsDefault
 opened-meets-asked IsDefault types buffer node name (options.PublishSubscribe named) required steps old answer new h =

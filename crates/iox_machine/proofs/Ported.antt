@@ -20,7 +20,7 @@ use Rattle.iox_machine.specs.State.{State, Made, Factory, AtOne, is_service_of, 
 use Rattle.iox_machine.specs.SubscriberUpdate as subscribing
 use Rattle.iox_machine.specs.Table.{at, removed}
 use Rattle.iox_machine.proofs.Cases.{by-option, chosen, never-some}
-use Rattle.iox_machine.proofs.Kept.{Kept, IsNext, itself, ends, publisher-turned, updates-first, goes-on, lends-loan, puts, drops, sends-loan, writes, subscriber-updates, receives, releases, publisher-arrives, subscriber-arrives, publisher-leaves, subscriber-leaves}
+use Rattle.iox_machine.proofs.Kept.{Kept, IsPortNext, itself, ends, publisher-turned, updates-first, goes-on, lends-loan, puts, drops, sends-loan, writes, subscriber-updates, receives, releases, publisher-arrives, subscriber-arrives, publisher-leaves, subscriber-leaves}
 use Rattle.iox_machine.proofs.Moving.{at-one}
 use Rattle.iox_machine.proofs.Names.{service-at}
 use Rattle.iox_command.specs.DomainValues.declared.port_error.ReceiveError.TheVariants as receive_error
@@ -81,7 +81,7 @@ module _ {T : Type 0} where
   by-first asked found old so service one first is pattern name off =
       sym (ap (λ (o : Option (Service T)). option_map_or (is_of pattern name) o false) first) ∙ (sym (so pattern name) ∙ off)
 
-  pub stays : (made : Made) (service after : Service T) (answer told : Reply T) → (answer ≡ told) × (after ≡ service) → IsNext made told
+  pub stays : (made : Made) (service after : Service T) (answer told : Reply T) → (answer ≡ told) × (after ≡ service) → IsPortNext made told
       → Kept made service answer after
   stays made service after answer told h next = ends made service answer told service after (itself made service) h next
 

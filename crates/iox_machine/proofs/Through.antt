@@ -1,6 +1,6 @@
 -- What an update leaves of a service: its mailboxes, with what is borrowed and waits, and its ports but for connections.
 use Rattle.std.proofs.Common.{◌≡◌, ◌⊎◌, ℕ, Bool, true, false, cond, not, ◌&&◌, ◌||◌, List, [], ◌∷◌, Option, None, Some, refl, sym, ap, subst, inl, inr, ◌∙◌, true≢false}
-use Rattle.std.proofs.lemmas.Bool.{and_from, and_right, cases_Bool, eq-eqb, eqb-false, eqb-true}
+use Rattle.std.proofs.lemmas.Bool.{and_from, and_right, cases_Bool, eq-eqb, eqb-false, eqb-true, false_from_ne_true}
 use Rattle.std.specs.Option.{option_map_or}
 use Rattle.std.specs.Prelude.{◌==◌, filter, find, fold, is_some, option_map, unwrap_or, MatchOption, MatchResult}
 use Rattle.iox_machine.specs.Mailbox.{Mailbox, newest}
@@ -15,8 +15,8 @@ use Rattle.iox_machine.specs.Service.{Publisher, Service, Subscriber, connect, m
 use Rattle.iox_machine.specs.State.{State, replaced}
 use Rattle.iox_machine.specs.SubscriberUpdate as subscribing
 use Rattle.iox_machine.specs.Table.{at, contains}
-use Rattle.iox_machine.specs.UpdateLaws.{PublisherKeepsMailboxes, SubscriberKeepsMailboxes, box_then, waits_then}
-use Rattle.iox_machine.proofs.Cases.{both-true, by-bool, by-option, by-result}
+use Rattle.iox_machine.specs.UpdateLaws.{PublisherKeepsMailboxes, SubscriberKeepsMailboxes, UpdateLeaves, box_then, first_box, waits_then}
+use Rattle.iox_machine.proofs.Cases.{both-true, by-bool, by-option, by-result, never-some, same-some}
 use Rattle.iox_machine.proofs.Frames.{ByPublisher, BySubscriber, box-same, by-follows, publisher-stands, soft-followed, soft-follows, subscriber-stands}
 use Rattle.iox_machine.proofs.Linking.{Turned, changed-view, reach, reach_of, subscriber_listed, turned-walks}
 use Rattle.iox_machine.proofs.Listed.{publisher-standing, subscriber-standing}
@@ -159,6 +159,66 @@ module _ {T : Type 0} where
               apart false same = refl
       here false off false past is on = absurd (true≢false (sym is))
 
+  subscribers-welcome : (number : ℕ) (history : List (Message T)) (service : Service T) (t : ℕ)
+      → (publishing.welcome number history service t).subscribers ≡ service.subscribers
+  subscribers-welcome number history service t =
+      here (option_map_or (λ (one : Subscriber). one.buffer_size) (at t service.subscribers) 0) (is_some (service.mailboxes number t))
+    where
+      here : (limit : ℕ) (b : Bool)
+          → (cond b service (with_mailbox number t (record { limit = limit; waiting = []; borrowed = [] }) service)).subscribers
+          ≡ service.subscribers
+      here limit true = refl
+      here limit false = refl
+
+  -- a mailbox that wasn't there begins with the history
+  welcomes-new : (number s limit : ℕ) (history : List (Message T)) (news : List ℕ) (service : Service T)
+      → option_map_or (λ (one : Subscriber). one.buffer_size) (at s service.subscribers) 0 ≡ limit → contains news s ≡ true
+      → service.mailboxes number s ≡ None
+      → (fold (publishing.welcome number history) service news).mailboxes number s
+      ≡ Some (record { limit = limit; waiting = newest limit history; borrowed = [] })
+  welcomes-new number s limit history [] service allows is none = absurd (true≢false (sym is))
+  welcomes-new number s limit history (t ∷ more) service allows is none =
+      here (t == s) refl (contains more s) refl is
+      (λ again gone. welcomes-new number s limit history more (publishing.welcome number history service t)
+      (ap (λ (table : List (ℕ × Subscriber)). option_map_or (λ (one : Subscriber). one.buffer_size) (at s table) 0)
+      (subscribers-welcome number history service t) ∙ allows) again gone)
+    where
+      fresh : Mailbox T
+      fresh = record { limit = limit; waiting = newest limit history; borrowed = [] }
+
+      met : (size : ℕ) → (b : Bool) → is_some (service.mailboxes number s) ≡ b
+          → (cond b service (with_mailbox number s (record { limit = size; waiting = []; borrowed = [] }) service)).mailboxes number s
+          ≡ Some (record { limit = size; waiting = []; borrowed = [] })
+      met size true has = absurd (true≢false (sym has ∙ ap is_some none))
+      met size false off = box-same number s (record { limit = size; waiting = []; borrowed = [] }) service
+
+      first : (publishing.welcome number history service s).mailboxes number s ≡ Some fresh
+      first =
+          let size : ℕ = option_map_or (λ (one : Subscriber). one.buffer_size) (at s service.subscribers) 0 in
+          let joined : Service T = connect size number s service in
+          box-same number s (record (mailbox number s joined) { waiting = newest (mailbox number s joined).limit history }) joined
+          ∙ ap (λ (o : Option (Mailbox T)). Some (record (unwrap_or o (record { limit = 0; waiting = []; borrowed = [] })) {
+            waiting = newest (unwrap_or o (record { limit = 0; waiting = []; borrowed = [] })).limit history;
+          })) (met size (is_some (service.mailboxes number s)) refl)
+          ∙ ap (λ (n : ℕ). Some (record { limit = n; waiting = newest n history; borrowed = [] })) allows
+
+      there : (t == s) ≡ true → (publishing.welcome number history service t).mailboxes number s ≡ Some fresh
+      there same = ap (λ (k : ℕ). (publishing.welcome number history service k).mailboxes number s) (eqb-true t s same) ∙ first
+
+      turned : (t == s) ≡ false → (s == t) ≡ false
+      turned off = false_from_ne_true (s == t) (λ same. true≢false (sym (eq-eqb t s (sym (eqb-true s t same))) ∙ off))
+
+      here : (b : Bool) → (t == s) ≡ b → (c : Bool) → contains more s ≡ c → (b || c) ≡ true
+          → (contains more s ≡ true → (publishing.welcome number history service t).mailboxes number s ≡ None
+          → (fold (publishing.welcome number history) (publishing.welcome number history service t) more).mailboxes number s ≡ Some fresh)
+          → (fold (publishing.welcome number history) (publishing.welcome number history service t) more).mailboxes number s ≡ Some fresh
+      here true same true again is on =
+          welcomes-at number s history more (publishing.welcome number history service t) fresh again (there same)
+      here true same false past is on =
+          fold-off number history s more (publishing.welcome number history service t) past ∙ there same
+      here false off true again is on = on again (welcome-off number history service t s (turned off) ∙ none)
+      here false off false past is on = absurd (true≢false (sym is))
+
   -- ---- a publisher follows the list of subscribers
 
   module _ (number : ℕ) (was : Publisher T) (old : Service T) (after : Publisher T) (new : Service T)
@@ -248,6 +308,42 @@ module _ {T : Type 0} where
             ∙ own (ap (λ (k : ℕ). old.mailboxes k s) (sym (eqb-true p number same)) ∙ there) (subscriber_listed s old) refl
             (contains (those was.connected) s) refl
         here false off = by.6 p s (eqb-false p number off) ∙ there
+
+    -- a mailbox that wasn't there is one of the publisher, and begins with the history
+    first-boxes : (p s : ℕ) (box : Mailbox T) → old.mailboxes p s ≡ None → new.mailboxes p s ≡ Some box
+        → (p ≡ number) × (subscriber_listed s old ≡ true) × (box ≡ first_box was old s)
+    first-boxes p s box none there = here (p == number) refl
+      where
+        nothing : (b : Bool) (o : Option (Mailbox T)) → o ≡ None
+            → cond b (option_map (λ (it : Mailbox T). record it { waiting = [] }) o) o ≡ None
+        nothing true o is = ap (option_map (λ (it : Mailbox T). record it { waiting = [] })) is
+        nothing false o is = is
+
+        begun-none : old.mailboxes number s ≡ None → begun.mailboxes number s ≡ None
+        begun-none is = nothing ((number == number) && not (subscriber_listed s old)) (old.mailboxes number s) is
+
+        own : old.mailboxes number s ≡ None → new.mailboxes number s ≡ Some box → (b : Bool) → contains news s ≡ b
+            → (subscriber_listed s old ≡ true) × (box ≡ first_box was old s)
+        own is has true new_one = (
+          (both-true (subscriber_listed s old) (not (contains h.0 s))
+              (both-true (subscriber_listed s old && not (contains h.0 s)) (not (contains (those was.connected) s))
+              (sym (news-of s) ∙ new_one)).0).0,
+          same-some box (first_box was old s)
+              (sym has
+              ∙ (now number s
+              ∙ welcomes-new number s (first_box was old s).limit was.history news begun refl new_one (begun-none is))),
+        )
+        own is has false past =
+            never-some box
+            (sym (now number s ∙ (fold-off number was.history s news begun past ∙ begun-none is)) ∙ has)
+
+        here : (b : Bool) → (p == number) ≡ b → (p ≡ number) × (subscriber_listed s old ≡ true) × (box ≡ first_box was old s)
+        here true same =
+            let both : (subscriber_listed s old ≡ true) × (box ≡ first_box was old s) =
+            own (ap (λ (k : ℕ). old.mailboxes k s) (sym (eqb-true p number same)) ∙ none)
+            (ap (λ (k : ℕ). new.mailboxes k s) (sym (eqb-true p number same)) ∙ there) (contains news s) refl in
+            (eqb-true p number same, both.0, both.1)
+        here false off = never-some box (sym (by.6 p s (eqb-false p number off) ∙ none) ∙ there)
 
     -- ---- what else stays
 
@@ -341,6 +437,33 @@ module _ {T : Type 0} where
                     ∙ (ap (λ (k : ℕ). is_some (it.mailboxes other k))
                     (eqb-true s number (both-true (p == other) (s == number) same).1) ∙ none))))
 
+    -- a mailbox that wasn't there is one of the subscriber, and empty
+    first-attended : (p s : ℕ) (box : Mailbox T) → old.mailboxes p s ≡ None → new.mailboxes p s ≡ Some box
+        → (s ≡ number) × (box ≡ record { limit = was.buffer_size; waiting = []; borrowed = [] })
+    first-attended p s box none there =
+        fold-keeps Met (λ (it : Service T) (publisher : ℕ). connect was.buffer_size publisher number it)
+        (λ it other met. joins it other met) (those h.2) (with_subscriber number after old) (λ one is. never-some one (sym none ∙ is)) box
+        (sym (ap (λ (it : Service T). it.mailboxes p s) h.5) ∙ there)
+      where
+        made : Mailbox T
+        made = record { limit = was.buffer_size; waiting = []; borrowed = [] }
+
+        Met : Service T → Type 0
+        Met it = (one : Mailbox T) → it.mailboxes p s ≡ Some one → (s ≡ number) × (one ≡ made)
+
+        joins : (it : Service T) (other : ℕ) → Met it → Met (connect was.buffer_size other number it)
+        joins it other met = here (is_some (it.mailboxes other number))
+          where
+            set_so : (c : Bool) → ((p == other) && (s == number)) ≡ c → (one : Mailbox T) → cond c (Some made) (it.mailboxes p s) ≡ Some one
+                → (s ≡ number) × (one ≡ made)
+            set_so true same one is =
+                (eqb-true s number (both-true (p == other) (s == number) same).1, sym (same-some made one is))
+            set_so false off one is = met one is
+
+            here : (b : Bool) → Met (cond b it (with_mailbox other number made it))
+            here true = met
+            here false = set_so ((p == other) && (s == number)) refl
+
     pub attended-ports : KeepsPorts old new
     attended-ports = (
       soft.0,
@@ -397,14 +520,22 @@ publisher-keeps-mailboxes {T} IsDefault types buffer number old new h =
     has_it : Service T → Bool
     has_it other = is_some (publisher_in number other)
 
+    Leaves : Type 0
+    Leaves =
+        (before : Service T) × (after : Service T) × (was : Publisher T) × UpdateLeaves has_it old new before after
+        × (publisher_in number before ≡ Some was) × (find has_it new.services ≡ Some after)
+        × ((publisher subscriber : ℕ) (box : Mailbox T) → before.mailboxes publisher subscriber ≡ Some box
+        → after.mailboxes publisher subscriber ≡ Some (box_then number was before publisher subscriber box))
+        × ((publisher subscriber : ℕ) (box : Mailbox T) → before.mailboxes publisher subscriber ≡ None
+        → after.mailboxes publisher subscriber ≡ Some box
+        → (publisher ≡ number) × (contains (those before.subscriber_list.places) subscriber ≡ true)
+        × (box ≡ first_box was before subscriber))
+
     updated : (service : Service T) (one : Publisher T) (end : Service T) → find has_it old.services ≡ Some service
         → publisher_in number service ≡ Some one → publishing.UpdatesFirst number refusal.Connection Ends one service reply.Done end
         → new ≡ record old { services = replaced has_it end old.services }
         → (new ≡ old)
-        ⊎ ((before : Service T) × (after : Service T) × (was : Publisher T) × (find has_it old.services ≡ Some before)
-        × (publisher_in number before ≡ Some was) × (find has_it new.services ≡ Some after)
-        × ((publisher subscriber : ℕ) (box : Mailbox T) → before.mailboxes publisher subscriber ≡ Some box
-        → after.mailboxes publisher subscriber ≡ Some (box_then number was before publisher subscriber box)))
+        ⊎ Leaves
     updated service one end first found did came =
         elim (by-bool (one.seen == service.subscriber_list.changes) (Ends one service reply.Done end)
         ((after : Publisher T) × (mid : Service T) × publishing.Follows number one service after mid
@@ -425,21 +556,24 @@ publisher-keeps-mailboxes {T} IsDefault types buffer number old new h =
 
         followed : (after : Publisher T) (mid : Service T) → publishing.Follows number one service after mid
             → new ≡ record old { services = replaced has_it mid old.services }
-            → (before : Service T) × (then : Service T) × (was : Publisher T) × (find has_it old.services ≡ Some before)
-            × (publisher_in number before ≡ Some was) × (find has_it new.services ≡ Some then)
-            × ((publisher subscriber : ℕ) (box : Mailbox T) → before.mailboxes publisher subscriber ≡ Some box
-            → then.mailboxes publisher subscriber ≡ Some (box_then number was before publisher subscriber box))
+            → Leaves
         followed after mid follows same = (
           service,
           mid,
           one,
-          first,
+          (
+            first,
+            same,
+            keeps-loans number one service after mid there follows,
+            keeps-ports number one service after mid there follows,
+          ),
           found,
           ap (λ (it : State T). find has_it it.services) same
               ∙ find-replaced has_it service mid old.services first
               (publisher-standing service mid (turned-walks.follows number one service after mid there follows).publishers number
               ∙ ap is_some found),
           boxes-then number one service after mid there follows,
+          first-boxes number one service after mid there follows,
         )
 
 pub subscriber-keeps-mailboxes : {T : Type 0} (IsDefault : T → Type 0) → SubscriberKeepsMailboxes IsDefault
@@ -455,15 +589,22 @@ subscriber-keeps-mailboxes {T} IsDefault types buffer number old new h =
     has_it : Service T → Bool
     has_it other = is_some (subscriber_in number other)
 
+    Leaves : Type 0
+    Leaves =
+        (before : Service T) × (after : Service T) × (was : Subscriber) × UpdateLeaves has_it old new before after
+        × (subscriber_in number before ≡ Some was) × (find has_it new.services ≡ Some after)
+        × ((publisher subscriber : ℕ) (box : Mailbox T) → before.mailboxes publisher subscriber ≡ Some box
+        → after.mailboxes publisher subscriber ≡ Some box)
+        × ((publisher subscriber : ℕ) (box : Mailbox T) → before.mailboxes publisher subscriber ≡ None
+        → after.mailboxes publisher subscriber ≡ Some box
+        → (subscriber ≡ number) × (box ≡ record { limit = was.buffer_size; waiting = []; borrowed = [] }))
+
     updated : (service : Service T) (one : Subscriber) (end : Service T) → find has_it old.services ≡ Some service
         → subscriber_in number service ≡ Some one
         → subscribing.UpdatesFirst buffer number refusal.Connection Ends one service reply.Done end
         → new ≡ record old { services = replaced has_it end old.services }
         → (new ≡ old)
-        ⊎ ((before : Service T) × (after : Service T) × (find has_it old.services ≡ Some before)
-        × (find has_it new.services ≡ Some after)
-        × ((publisher subscriber : ℕ) (box : Mailbox T) → before.mailboxes publisher subscriber ≡ Some box
-        → after.mailboxes publisher subscriber ≡ Some box))
+        ⊎ Leaves
     updated service one end first found did came =
         elim (by-bool ((one.seen == service.publisher_list.changes) && not one.again) (Ends one service reply.Done end)
         ((after : Subscriber) × (mid : Service T) × subscribing.Follows buffer number one service after mid
@@ -484,17 +625,22 @@ subscriber-keeps-mailboxes {T} IsDefault types buffer number old new h =
 
         attended : (after : Subscriber) (mid : Service T) → subscribing.Follows buffer number one service after mid
             → new ≡ record old { services = replaced has_it mid old.services }
-            → (before : Service T) × (then : Service T) × (find has_it old.services ≡ Some before)
-            × (find has_it new.services ≡ Some then)
-            × ((publisher subscriber : ℕ) (box : Mailbox T) → before.mailboxes publisher subscriber ≡ Some box
-            → then.mailboxes publisher subscriber ≡ Some box)
+            → Leaves
         attended after mid follows same = (
           service,
           mid,
-          first,
+          one,
+          (
+            first,
+            same,
+            attended-loans buffer number one service after mid there follows,
+            attended-ports buffer number one service after mid there follows,
+          ),
+          found,
           ap (λ (it : State T). find has_it it.services) same
               ∙ find-replaced has_it service mid old.services first
               (subscriber-standing service mid (turned-walks.attends buffer number one service after mid there follows).subscribers number
               ∙ ap is_some found),
           attended-boxes buffer number one service after mid there follows,
+          first-attended buffer number one service after mid there follows,
         )

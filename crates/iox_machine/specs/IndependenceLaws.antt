@@ -1,8 +1,10 @@
 -- Laws of services beside one another.
-use Rattle.std.specs.Prelude.{ℕ, ◌≡◌, ⊤, Bool, true, false, ◌&&◌, List, [], ◌∷◌, find, filter, is_some, MatchBool}
+use Rattle.std.specs.Prelude.{ℕ, ◌≡◌, ⊤, Bool, true, false, ◌&&◌, List, [], ◌∷◌, map, find, filter, is_some, MatchBool, if◌then◌else◌}
 use Rattle.std.specs.Option.{option_map_or}
 use Rattle.iox_machine.specs.Phase.{same_pattern}
 use Rattle.iox_machine.specs.Ports.{publisher_in, subscriber_in}
+use Rattle.iox_machine.specs.Renaming.{Renaming, KeepsApart, renamed, renamed_reply}
+use Rattle.iox_machine.specs.Renumbering.{AreRenumbered, renumbered_table}
 use Rattle.iox_machine.specs.Run.{Step, Runs}
 use Rattle.iox_machine.specs.Service.{Service}
 use Rattle.iox_machine.specs.State.{State, Factory, new_state, same_name}
@@ -82,6 +84,14 @@ module _ {T : Type 0} where
       × (filter (is_of pattern name) new.services ≡ filter (is_of pattern name) old.services)
 
 module _ {T : Type 0} where
+  -- A machine has of the service of a pattern and name what another has of it, by other numbers, and no other factory or service.
+  abbrev pub HasAlone : Renaming → MessagingPattern → List ℕ → State T → State T → Type 0
+  HasAlone by pattern name state own =
+      (own.phases pattern name ≡ state.phases pattern name)
+      × (own.factories
+      ≡ renumbered_table by.factories (λ factory. factory) (filter (λ entry. is_factory_of pattern name entry.1) state.factories))
+      × AreRenumbered by (filter (is_of pattern name) state.services) own.services
+
   -- whether a command makes a node, or asks something of the service of a pattern and name
   abbrev pub concerns : MessagingPattern → List ℕ → Command T → State T → Bool
   concerns pattern name command.Node state = true
@@ -105,6 +115,22 @@ module _ {T : Type 0} where
         ((mid : State T) × Step types IsDefault buffer one own run.0 mid × IsAlone more run.1 run.2 new run.4 mid)
         (IsAlone more run.1 run.2 new run.4 (record own { made = run.1.made }))
 
+    -- the commands of a run that concern the service
+    abbrev pub commands_concerning : (asked : List (Command T)) (old : State T) (answers : List (Reply T)) (new : State T)
+        → Runs types IsDefault buffer asked old answers new → List (Command T)
+    commands_concerning [] old answers new run = []
+    commands_concerning (one ∷ more) old answers new run =
+        if concerns pattern name one old then one ∷ commands_concerning more run.1 run.2 new run.4
+        else commands_concerning more run.1 run.2 new run.4
+
+    -- what these are answered
+    abbrev pub answers_concerning : (asked : List (Command T)) (old : State T) (answers : List (Reply T)) (new : State T)
+        → Runs types IsDefault buffer asked old answers new → List (Reply T)
+    answers_concerning [] old answers new run = []
+    answers_concerning (one ∷ more) old answers new run =
+        if concerns pattern name one old then run.0 ∷ answers_concerning more run.1 run.2 new run.4
+        else answers_concerning more run.1 run.2 new run.4
+
 module _ {T : Type 0} (IsDefault : T → Type 0) where
   -- As long as nothing is asked of a service in a run of a new machine all of it stays as it was, whatever is asked of others.
   abbrev pub OthersAreLeft : Type 0
@@ -121,3 +147,17 @@ module _ {T : Type 0} (IsDefault : T → Type 0) where
       (run : Runs types IsDefault buffer asked new_state answers new)
       → (pattern : MessagingPattern) (name : List ℕ)
       → IsAlone types IsDefault buffer pattern name asked new_state answers new run new_state
+
+  -- In every run of a new machine, leave out the commands that ask nothing of a service, but for those that make nodes. The others, with
+  -- what they name under its other number, are a run of a new machine by themselves: each is answered as it was, with the other number
+  -- where one is told. So all numbers are counted anew, and none is passed over. In the end that machine has of the service what the other
+  -- has.
+  abbrev pub NumbersAreCountedAnew : Type 0
+  NumbersAreCountedAnew = (types : MessageTypeDetails) (buffer : ℕ) (asked : List (Command T)) (answers : List (Reply T)) (new : State T)
+      (run : Runs types IsDefault buffer asked new_state answers new)
+      → (pattern : MessagingPattern) (name : List ℕ)
+      → (by : Renaming) × (after : State T) × KeepsApart by
+      × Runs types IsDefault buffer
+      (map (renamed by) (commands_concerning types IsDefault buffer pattern name asked new_state answers new run)) new_state
+      (map (renamed_reply by) (answers_concerning types IsDefault buffer pattern name asked new_state answers new run)) after
+      × HasAlone by pattern name new after

@@ -24,10 +24,12 @@ pub mod Laws
 pub mod RunLaws
 pub mod MessageLaws
 pub mod AgreementLaws
-pub mod UpdateLaws
 pub mod ConnectionLaws
 pub mod OpeningLaws
 pub mod RefusalLaws
+pub mod UpdateLaws
+pub mod Renaming
+pub mod Renumbering
 pub mod IndependenceLaws
 pub mod NumberLaws
 pub mod OnceLaws

@@ -1,9 +1,9 @@
 -- Laws of what is opened: it is as it was asked for, or the refusal names what isn't.
-use Rattle.std.specs.Prelude.{ℕ, ◌≡◌, ◌⊎◌, ⊤, Some, Result, Ok, Err, List}
+use Rattle.std.specs.Prelude.{ℕ, ◌≡◌, ◌<◌, ◌⊎◌, ⊤, Some, Result, Ok, Err, List, [], ◌∷◌}
 use Rattle.iox_machine.specs.Agreement.{Agreement, event_verdict, publish_subscribe_verdict, request_response_verdict}
-use Rattle.iox_machine.specs.AgreementLaws.{agreed_in}
+use Rattle.iox_machine.specs.AgreementLaws.{agreed_in, life_of}
 use Rattle.iox_machine.specs.Asked.{settings_of}
-use Rattle.iox_machine.specs.Phase.{Phase}
+use Rattle.iox_machine.specs.Phase.{Node, Own, Phase, Published}
 use Rattle.iox_machine.specs.Run.{Step}
 use Rattle.iox_machine.specs.State.{State}
 use Rattle.iox_command.specs.NegotiateBase.DescribeBase.Attributes.{Required}
@@ -31,6 +31,10 @@ use Rattle.iox_command.specs.declared.step.StepBefore.{StepBefore}
 -- What is agreed on in a phase is so.
 abbrev pub IsAgreedOn : (Agreement → Type 0) → Phase → Type 0
 IsAgreedOn So phase = (agreed : Agreement) × (agreed_in phase ≡ Some agreed) × So agreed
+
+-- A service is new, in a later life than this one: just as it was asked for, and with this node alone.
+abbrev pub IsNewWith : Node → Agreement → ℕ → Phase → Type 0
+IsNewWith node asked before phase = (life : ℕ) × (before < life) × (phase ≡ Published life asked ((node, 1) ∷ []))
 
 -- A failure to open that names a clause names the first one that what is agreed on doesn't meet.
 abbrev pub NamesUnmet : {V : Type 0} → (Agreement → Result (Unit {0}) V) → OpenFailure V → Phase → Type 0
@@ -86,13 +90,14 @@ module _ {T : Type 0} (IsDefault : T → Type 0) where
       → IsAgreedOn (MeetsAsked types options required) (new.phases (pattern_of options) name))
       × ((why : Refusal) → answer ≡ reply.Refused why → TellsUnmet types options required why (new.phases (pattern_of options) name))
 
-  -- So it is of one that is opened or created: what is agreed on meets all that is asked, or is just that.
+  -- So it is of one that is opened or created: what is agreed on meets all that is asked, or the service is new and just that.
   abbrev pub EitherMeetsAsked : Type 0
   EitherMeetsAsked = (types : MessageTypeDetails) (buffer node : ℕ) (name : List ℕ) (options : ServiceOptions) (required : Required)
       (steps : List StepBefore) (old : State T) (answer : Reply T) (new : State T)
       → Step types IsDefault buffer (command.OpenOrCreate node name options required steps) old answer new
       → ((number : ℕ) → answer ≡ reply.FactoryMade number
-      → IsAgreedOn (λ agreed. MeetsAsked types options required agreed
-      ⊎ (agreed ≡ record { settings = settings_of types options; attributes = required.pairs })) (new.phases (pattern_of options) name))
+      → IsAgreedOn (MeetsAsked types options required) (new.phases (pattern_of options) name)
+      ⊎ IsNewWith (Own node) (record { settings = settings_of types options; attributes = required.pairs })
+      (life_of (old.phases (pattern_of options) name)) (new.phases (pattern_of options) name))
       × ((why : Refusal) → answer ≡ reply.Refused why
       → EitherTellsUnmet types options required why (new.phases (pattern_of options) name))

@@ -112,10 +112,11 @@ module _ {T : Type 0} where
       (new.name ≡ old.name) × (new.settings ≡ old.settings)
       × (new.publisher_list ≡ old.publisher_list) × (new.subscriber_list ≡ old.subscriber_list) × (new.samples ≡ old.samples)
       × ((number : ℕ) → option_map publisher_staying (at number new.publishers) ≡ option_map publisher_staying (at number old.publishers))
-      × ((number : ℕ) → option_map subscriber_staying (at number new.subscribers) ≡ option_map subscriber_staying (at number old.subscribers))
+      × ((number : ℕ)
+      → option_map subscriber_staying (at number new.subscribers) ≡ option_map subscriber_staying (at number old.subscribers))
 
-  -- All that is borrowed stays so. Where the publisher is connected to a subscriber that is listed, what waits stays, and a mailbox that was
-  -- there is as it was.
+  -- All that is borrowed stays so. Where the publisher is connected to a subscriber that is listed, what waits stays, and a mailbox that
+  -- was there is as it was.
   abbrev pub KeepsMessages : Service T → Service T → Type 0
   KeepsMessages old new = (publisher subscriber : ℕ)
       → ((mailbox publisher subscriber new).borrowed ≡ (mailbox publisher subscriber old).borrowed)
@@ -170,7 +171,8 @@ module _ {T : Type 0} where
       ((send.fails ≡ true) ⊎ LacksOne number one send.left old)
       × ((publisher subscriber : ℕ) → mailbox publisher subscriber new
       ≡ (if (publisher == number) && contains send.left subscriber
-      then unwrap_or (put old.settings.enable_safe_overflow send.message (mailbox publisher subscriber old)) (mailbox publisher subscriber old)
+      then unwrap_or (put old.settings.enable_safe_overflow send.message (mailbox publisher subscriber old))
+      (mailbox publisher subscriber old)
       else mailbox publisher subscriber old))
       × (new ≡ record (with_publisher number (record one { blocked = None }) old) { mailboxes = new.mailboxes })
 

@@ -1,16 +1,18 @@
 -- Laws of updates: who is connected once a port followed the list of the other kind, and what waits then.
-use Rattle.std.specs.Prelude.{ℕ, ◌≡◌, ◌⊎◌, ◌==◌, Bool, false, not, List, [], Option, None, Some, find, zip, is_some, MatchOption, Ok, length, if◌then◌else◌}
+use Rattle.std.specs.Prelude.{ℕ, ◌≡◌, ◌⊎◌, ◌==◌, Bool, true, false, not, List, [], Option, None, Some, find, zip, is_some, MatchOption, Ok, length, if◌then◌else◌}
 use Rattle.std.specs.List.{AllByRecursion}
+use Rattle.std.specs.Option.{option_map_or}
 use Rattle.iox_machine.specs.Mailbox.{Mailbox, newest}
 use Rattle.iox_machine.specs.Message.{Message}
 use Rattle.iox_machine.specs.PortList.{those}
 use Rattle.iox_machine.specs.Ports.{publisher_in, subscriber_in}
 use Rattle.iox_machine.specs.PublisherUpdate.{update_answer}
+use Rattle.iox_machine.specs.RefusalLaws.{KeepsPorts}
 use Rattle.iox_machine.specs.Run.{Step}
 use Rattle.iox_machine.specs.Service.{Service, Publisher, Subscriber}
-use Rattle.iox_machine.specs.State.{State}
+use Rattle.iox_machine.specs.State.{State, replaced}
 use Rattle.iox_machine.specs.SubscriberUpdate.{is_unborrowed}
-use Rattle.iox_machine.specs.Table.{contains}
+use Rattle.iox_machine.specs.Table.{at, contains}
 use Rattle.iox_command.specs.NegotiateBase.DescribeBase.declared.message_type.MessageTypeDetails.{MessageTypeDetails}
 use Rattle.iox_command.specs.declared.command.Command.TheVariants as command
 use Rattle.iox_command.specs.declared.port.PortNumber.TheVariants as port
@@ -40,6 +42,20 @@ module _ {T : Type 0} where
   abbrev pub box_then : ℕ → Publisher T → Service T → ℕ → ℕ → Mailbox T → Mailbox T
   box_then number was service publisher subscriber box =
       if publisher == number then record box { waiting = waits_then was service subscriber box } else box
+
+  -- the mailbox of a publisher and a subscriber that had none: for as many messages as the subscriber allows, with as much of the history
+  -- as may wait, and with nothing borrowed
+  abbrev pub first_box : Publisher T → Service T → ℕ → Mailbox T
+  first_box was service subscriber =
+      let limit = option_map_or (λ one. one.buffer_size) (at subscriber service.subscribers) 0 in
+      record { limit = limit; waiting = newest limit was.history; borrowed = [] }
+
+  -- An update leaves all but one service: all others, agreements, nodes, factories and numbers. Of that it leaves the loans, and what
+  -- `KeepsPorts` names: samples and histories among it.
+  abbrev pub UpdateLeaves : (Service T → Bool) → State T → State T → Service T → Service T → Type 0
+  UpdateLeaves has old new service after =
+      (find has old.services ≡ Some service) × (new ≡ record old { services = replaced has after old.services })
+      × (after.loans ≡ service.loans) × KeepsPorts service after
 
 module _ {T : Type 0} (IsDefault : T → Type 0) where
   -- After an update of a publisher that went well: it has seen all changes of the list of subscribers, and if there were new ones each
@@ -71,24 +87,35 @@ module _ {T : Type 0} (IsDefault : T → Type 0) where
       × (update_answer one.degradation service.publisher_list.places one.connected ≡ Ok tt)))
 
   -- After an update of a publisher that went well each mailbox that was there is there still, with all that is borrowed. What waits in one
-  -- of the publisher itself is what waited, if it was connected to the subscriber and that is listed still.
+  -- of the publisher itself is what waited, if it was connected to the subscriber and that is listed still. A mailbox that wasn't there is
+  -- one of the publisher and a subscriber that is listed, and begins with the history. All else stays.
   abbrev pub PublisherKeepsMailboxes : Type 0
   PublisherKeepsMailboxes = (types : MessageTypeDetails) (buffer number : ℕ) (old new : State T)
       → Step types IsDefault buffer (command.Update (port.Publisher number)) old reply.Done new
       → (new ≡ old)
       ⊎ ((service : Service T) × (after : Service T) × (was : Publisher T)
-      × (find (λ other. is_some (publisher_in number other)) old.services ≡ Some service) × (publisher_in number service ≡ Some was)
+      × UpdateLeaves (λ other. is_some (publisher_in number other)) old new service after
+      × (publisher_in number service ≡ Some was)
       × (find (λ other. is_some (publisher_in number other)) new.services ≡ Some after)
       × ((publisher subscriber : ℕ) (box : Mailbox T) → service.mailboxes publisher subscriber ≡ Some box
-      → after.mailboxes publisher subscriber ≡ Some (box_then number was service publisher subscriber box)))
+      → after.mailboxes publisher subscriber ≡ Some (box_then number was service publisher subscriber box))
+      × ((publisher subscriber : ℕ) (box : Mailbox T) → service.mailboxes publisher subscriber ≡ None
+      → after.mailboxes publisher subscriber ≡ Some box
+      → (publisher ≡ number) × (contains (those service.subscriber_list.places) subscriber ≡ true)
+      × (box ≡ first_box was service subscriber)))
 
-  -- After an update of a subscriber that went well each mailbox that was there is as it was.
+  -- After an update of a subscriber that went well each mailbox that was there is as it was. One that wasn't there is one of the
+  -- subscriber, for as many messages as it allows, and nothing waits there. All else stays.
   abbrev pub SubscriberKeepsMailboxes : Type 0
   SubscriberKeepsMailboxes = (types : MessageTypeDetails) (buffer number : ℕ) (old new : State T)
       → Step types IsDefault buffer (command.Update (port.Subscriber number)) old reply.Done new
       → (new ≡ old)
-      ⊎ ((service : Service T) × (after : Service T)
-      × (find (λ other. is_some (subscriber_in number other)) old.services ≡ Some service)
+      ⊎ ((service : Service T) × (after : Service T) × (was : Subscriber)
+      × UpdateLeaves (λ other. is_some (subscriber_in number other)) old new service after
+      × (subscriber_in number service ≡ Some was)
       × (find (λ other. is_some (subscriber_in number other)) new.services ≡ Some after)
       × ((publisher subscriber : ℕ) (box : Mailbox T) → service.mailboxes publisher subscriber ≡ Some box
-      → after.mailboxes publisher subscriber ≡ Some box))
+      → after.mailboxes publisher subscriber ≡ Some box)
+      × ((publisher subscriber : ℕ) (box : Mailbox T) → service.mailboxes publisher subscriber ≡ None
+      → after.mailboxes publisher subscriber ≡ Some box
+      → (subscriber ≡ number) × (box ≡ record { limit = was.buffer_size; waiting = []; borrowed = [] })))

@@ -13,7 +13,7 @@ ghost use Rattle.iox_machine.specs.AgreementLaws.{AgreementIsDescribed, Agreemen
 ghost use Rattle.iox_machine.specs.AgreementLaws.{NodesAreAgreed, OneAgreement, ServicesStartEmpty};
 ghost use Rattle.iox_machine.specs.ConnectionLaws.{ConnectedAreJoined, PairsConnectOnce, StandingAreListed};
 ghost use Rattle.iox_machine.specs.GoingLaws.{EachIsAnswered};
-ghost use Rattle.iox_machine.specs.IndependenceLaws.{OthersAreLeft, ServicesAreAsIfAlone};
+ghost use Rattle.iox_machine.specs.IndependenceLaws.{NumbersAreCountedAnew, OthersAreLeft, ServicesAreAsIfAlone};
 ghost use Rattle.iox_machine.specs.Laws.{PutAtUnknownIsSkipped, OverflowDropsTheOldest};
 ghost use Rattle.iox_machine.specs.MessageLaws.{HeldIsRead, OrderIsOfSends, ReceivedInOrder, ReceivedWasSent};
 ghost use Rattle.iox_machine.specs.NumberLaws.{NumbersGoUp, NumbersNameOne};
@@ -99,8 +99,8 @@ pub fn an_undelivered_send_went_to_all_others<T: Default>()
 {}
 
 /// In every run of a new machine: a retry that couldn't deliver has sent its message to all that were left. A mailbox has it where it took
-/// it; where that was full it stays as it was. At least one subscriber lacks it now or did so before the send was blocked, the send is over,
-/// and all else stays.
+/// it; where that was full it stays as it was. At least one subscriber lacks it now or did so before the send was blocked, the send is
+/// over, and all else stays.
 pub fn an_undelivered_retry_went_to_all_left<T: Default>()
     ensures { RetriesLeave T.is_default }
 {}
@@ -196,7 +196,8 @@ pub fn what_is_opened_is_as_asked<T: Default>()
     ensures { OpenedMeetsAsked T.is_default }
 {}
 
-/// So it is of a service that is opened or created: what is agreed on then meets each clause that is asked, or is just what was asked for.
+/// So it is of a service that is opened or created: what is agreed on then meets each clause that is asked; or the service is new, in a
+/// later life, with just what was asked for and the node alone.
 pub fn what_is_opened_or_created_is_as_asked<T: Default>()
     ensures { EitherMeetsAsked T.is_default }
 {}
@@ -228,12 +229,15 @@ pub fn an_update_connects_a_subscriber<T: Default>()
 
 /// After an update of a publisher that went well each mailbox that was there is there still, with all that is borrowed. What waited in one
 /// of its own waits still, if it was connected to the subscriber and that is listed. Nothing does, if the subscriber left. Else as much of
-/// the history waits as may.
+/// the history waits as may. So it does in a mailbox that wasn't there, which is one with a subscriber that is listed, for as many messages
+/// as that allows. All other services stay, and so do loans, samples, lists, histories, and ports but for their connections.
 pub fn an_update_of_a_publisher_keeps_mailboxes<T: Default>()
     ensures { PublisherKeepsMailboxes T.is_default }
 {}
 
-/// After an update of a subscriber that went well each mailbox that was there is as it was.
+/// After an update of a subscriber that went well each mailbox that was there is as it was. One that wasn't there is the subscriber's own,
+/// for as many messages as it allows, and empty. All other services stay, and so do loans, samples, lists, histories, and ports but for
+/// their connections.
 pub fn an_update_of_a_subscriber_keeps_mailboxes<T: Default>()
     ensures { SubscriberKeepsMailboxes T.is_default }
 {}
@@ -267,4 +271,12 @@ pub fn services_are_beside_one_another<T: Default>()
 /// what is answered about a service depends on other services by nothing but the numbers that they take.
 pub fn a_service_is_as_if_alone<T: Default>()
     ensures { ServicesAreAsIfAlone T.is_default }
+{}
+
+/// In every run of a new machine, leave out the commands that ask nothing of a service, but for those that make nodes: the others are a run
+/// of a new machine by themselves, with factories, publishers, subscribers, loans and samples numbered anew. Each command names the same by
+/// its other number, and is answered as it was, with the other number where one is told; no two go by one number. In the end both machines
+/// have the same of the service, but for these numbers.
+pub fn numbers_are_counted_anew<T: Default>()
+    ensures { NumbersAreCountedAnew T.is_default }
 {}

@@ -17,13 +17,13 @@ use iox_negotiate_base::{CreateFailure, OpenFailure, OpenOrCreateFailure};
 /// A pattern whose services are negotiated: with errors of its own for what the rounds answer.
 pub trait Negotiated: Pattern {
     /// Why a service isn't opened.
-    type OpenError: Copy;
+    type OpenError: Copy + From<OpenFailure<Self::ClauseError>>;
 
     /// Why a service isn't created.
-    type CreateError: Copy;
+    type CreateError: Copy + From<CreateFailure>;
 
     /// Why a service is neither opened nor created.
-    type OpenOrCreateError: Copy;
+    type OpenOrCreateError: Copy + From<OpenOrCreateFailure<Self::ClauseError>>;
 
     // the error of a failure to open
     ghost open_error: { OpenFailure Self.ClauseError → Self.OpenError };
@@ -37,23 +37,6 @@ pub trait Negotiated: Pattern {
     // the requirement with these attributes, and all else as it is
     ghost with_attributes: { Self.Requirement → Required → Self.Requirement };
 
-    /// The error of a failure to open.
-    /// Example: `PublishSubscribe::open_error(OpenFailure::DoesNotExist)`
-    fn open_error(failure: OpenFailure<Self::ClauseError>) -> Self::OpenError
-        ensures { result ≡ open_error failure };
-
-    /// The error of a failure to create.
-    /// Example: `PublishSubscribe::create_error(CreateFailure::AlreadyExists)`
-    fn create_error(failure: CreateFailure) -> Self::CreateError
-        ensures { result ≡ create_error failure };
-
-    /// The error of a failure to do either.
-    /// Example: `Event::open_or_create_error(OpenOrCreateFailure::SystemInFlux)`
-    fn open_or_create_error(
-        failure: OpenOrCreateFailure<Self::ClauseError>,
-    ) -> Self::OpenOrCreateError
-        ensures { result ≡ open_or_create_error failure };
-
     /// The requirement with these attributes, and all else as it is.
     /// Example: `PublishSubscribe::with_attributes(requirement, attributes)`
     fn with_attributes(
@@ -61,6 +44,44 @@ pub trait Negotiated: Pattern {
         attributes: AttributeVerifier,
     ) -> Self::Requirement
         ensures { result ≡ with_attributes requirement attributes };
+
+    // what the error of opening is made of says which it is
+    ghost opens_from: { (failure : OpenFailure Self.ClauseError) (error : Self.OpenError) → Self.OpenError.from_gives failure error
+        → error ≡ open_error failure };
+
+    // so does what the error of creating is made of
+    ghost creates_from: { (failure : CreateFailure) (error : Self.CreateError) → Self.CreateError.from_gives failure error
+        → error ≡ create_error failure };
+
+    // so does what the error of either is made of
+    ghost opens_or_creates_from: { (failure : OpenOrCreateFailure Self.ClauseError) (error : Self.OpenOrCreateError)
+        → Self.OpenOrCreateError.from_gives failure error → error ≡ open_or_create_error failure };
+
+    /// The error of a failure to open.
+    /// Example: `PublishSubscribe::open_error(OpenFailure::DoesNotExist)`
+    final fn open_error(failure: OpenFailure<Self::ClauseError>) -> Self::OpenError
+        ensures { result ≡ open_error failure }
+    {
+        Self::OpenError::from(failure)
+    }
+
+    /// The error of a failure to create.
+    /// Example: `PublishSubscribe::create_error(CreateFailure::AlreadyExists)`
+    final fn create_error(failure: CreateFailure) -> Self::CreateError
+        ensures { result ≡ create_error failure }
+    {
+        Self::CreateError::from(failure)
+    }
+
+    /// The error of a failure to do either.
+    /// Example: `Event::open_or_create_error(OpenOrCreateFailure::SystemInFlux)`
+    final fn open_or_create_error(
+        failure: OpenOrCreateFailure<Self::ClauseError>,
+    ) -> Self::OpenOrCreateError
+        ensures { result ≡ open_or_create_error failure }
+    {
+        Self::OpenOrCreateError::from(failure)
+    }
 }
 
 impl Negotiated for PublishSubscribe {
@@ -80,35 +101,19 @@ impl Negotiated for PublishSubscribe {
 
     ghost with_attributes = { λ r a. record r { attributes = a } };
 
-    fn open_error(failure: OpenFailure<Self::ClauseError>) -> Self::OpenError
-        ensures { result ≡ error_of.open_error failure }
-    {
-        PublishSubscribeOpenError::from(failure)
-    }
-
-    fn create_error(failure: CreateFailure) -> Self::CreateError
-        ensures { result ≡ error_of.create_error failure }
-    {
-        PublishSubscribeCreateError::from(failure)
-    }
-
-    fn open_or_create_error(
-        failure: OpenOrCreateFailure<Self::ClauseError>,
-    ) -> Self::OpenOrCreateError
-        ensures { result ≡ error_of.open_or_create_error failure }
-    {
-        PublishSubscribeOpenOrCreateError::from(failure)
-    }
-
     fn with_attributes(
         mut requirement: Self::Requirement,
         attributes: AttributeVerifier,
-    ) -> Self::Requirement
-        ensures { result ≡ record requirement { attributes = attributes } }
-    {
+    ) -> Self::Requirement {
         requirement.attributes = attributes;
         requirement
     }
+
+    ghost opens_from = { λ failure error made. made };
+
+    ghost creates_from = { λ failure error made. made };
+
+    ghost opens_or_creates_from = { λ failure error made. made };
 }
 
 impl Negotiated for Event {
@@ -128,35 +133,19 @@ impl Negotiated for Event {
 
     ghost with_attributes = { λ r a. record r { attributes = a } };
 
-    fn open_error(failure: OpenFailure<Self::ClauseError>) -> Self::OpenError
-        ensures { result ≡ error_of.open_error failure }
-    {
-        EventOpenError::from(failure)
-    }
-
-    fn create_error(failure: CreateFailure) -> Self::CreateError
-        ensures { result ≡ error_of.create_error failure }
-    {
-        EventCreateError::from(failure)
-    }
-
-    fn open_or_create_error(
-        failure: OpenOrCreateFailure<Self::ClauseError>,
-    ) -> Self::OpenOrCreateError
-        ensures { result ≡ error_of.open_or_create_error failure }
-    {
-        EventOpenOrCreateError::from(failure)
-    }
-
     fn with_attributes(
         mut requirement: Self::Requirement,
         attributes: AttributeVerifier,
-    ) -> Self::Requirement
-        ensures { result ≡ record requirement { attributes = attributes } }
-    {
+    ) -> Self::Requirement {
         requirement.attributes = attributes;
         requirement
     }
+
+    ghost opens_from = { λ failure error made. made };
+
+    ghost creates_from = { λ failure error made. made };
+
+    ghost opens_or_creates_from = { λ failure error made. made };
 }
 
 impl Negotiated for RequestResponse {
@@ -176,33 +165,17 @@ impl Negotiated for RequestResponse {
 
     ghost with_attributes = { λ r a. record r { attributes = a } };
 
-    fn open_error(failure: OpenFailure<Self::ClauseError>) -> Self::OpenError
-        ensures { result ≡ error_of.open_error failure }
-    {
-        RequestResponseOpenError::from(failure)
-    }
-
-    fn create_error(failure: CreateFailure) -> Self::CreateError
-        ensures { result ≡ error_of.create_error failure }
-    {
-        RequestResponseCreateError::from(failure)
-    }
-
-    fn open_or_create_error(
-        failure: OpenOrCreateFailure<Self::ClauseError>,
-    ) -> Self::OpenOrCreateError
-        ensures { result ≡ error_of.open_or_create_error failure }
-    {
-        RequestResponseOpenOrCreateError::from(failure)
-    }
-
     fn with_attributes(
         mut requirement: Self::Requirement,
         attributes: AttributeVerifier,
-    ) -> Self::Requirement
-        ensures { result ≡ record requirement { attributes = attributes } }
-    {
+    ) -> Self::Requirement {
         requirement.attributes = attributes;
         requirement
     }
+
+    ghost opens_from = { λ failure error made. made };
+
+    ghost creates_from = { λ failure error made. made };
+
+    ghost opens_or_creates_from = { λ failure error made. made };
 }

@@ -1,6 +1,5 @@
 //! Services are created.
-ghost use Rattle.std.specs.Prelude.{◌≡◌, ◌<◌, ◌+◌, ◌^◌, length, true, Some, Err};
-ghost use Rattle.iox_command.specs.declared.service.ServiceOptions.TheVariants as service;
+ghost use Rattle.std.specs.Prelude.{Result, ◌≡◌, ◌<◌, ◌+◌, ◌^◌, length, true, Some, Err};
 ghost use Rattle.iox_hub_base.specs.DescribeBase.Detail.{detail};
 ghost use Rattle.iox_hub_base.specs.DescribeBase.declared.type_detail.TypeVariant.TheVariants.{FixedSize};
 ghost use Rattle.iox_hub_base.specs.Hubs.{is_node};
@@ -9,20 +8,25 @@ ghost use Rattle.iox_hub_commands.specs.Creating.{CreatesAs, CreatesNumbered, cr
 ghost use Rattle.iox_hub_commands.specs.Described.{settings_of};
 ghost use Rattle.iox_command.specs.NegotiateBase.declared.failure.CreateFailure.{CreateFailure};
 ghost use Rattle.iox_hub_commands.specs.Refusing.{IsUncreated, create_refused};
+ghost use Rattle.iox_hub_base.specs.DescribeBase.Hash.{service_hash_of};
+ghost use Rattle.iox_hub_base.specs.DescribeSettings.Agreement.{agreement};
+ghost use Rattle.iox_command.specs.NegotiateBase.declared.failure.CreateFailure.TheVariants as uncreated;
+ghost use Rattle.iox_hub_base.specs.Negotiate.Negotiation.{Creates};
+ghost use Rattle.iox_hub_base.specs.Opening.{Made, OpensInHub};
+ghost use Rattle.std.specs.Result.{result_map_both};
+ghost use Rattle.iox_negotiate_table.specs.Stepped.{SteppedSight};
 
 use crate::services::asked::ServiceAsked;
 use crate::services::factories::Factories;
+use crate::services::kinds::CommandPattern;
 use crate::services::made::MadeFactory;
 use crate::services::refusing::{create_refused, uncreated};
 use crate::services::requests::{event, message_types, publish_subscribe, request_response};
-use iox_command::{
-    EventOptions, PublishSubscribeOptions, Refusal, RequestResponseOptions, ServiceOptions,
-    StepBefore,
-};
+use iox_command::{Refusal, ServiceOptions, StepBefore};
 use iox_describe::pattern::{Event, PublishSubscribe, RequestResponse};
 use iox_describe_base::{AttributeSpecifier, MessageTypeDetails, ZeroCopySend};
-use iox_hub_base::{Hub, HubBuilder};
-use iox_negotiate::Builder;
+use iox_hub_base::{Hub, HubBuilder, PortFactory};
+use iox_negotiate::{Builder, ServiceBuilder};
 use iox_negotiate_base::errors::{
     EventCreateError, PublishSubscribeCreateError, RequestResponseCreateError,
 };
@@ -79,7 +83,7 @@ impl Factories {
             → IsUncreated (settings_of asked.now.options (types_of T.name T.size T.alignment U.name U.size U.alignment)) (Some failure)
             → (result ≡ Err (create_refused asked.now.options failure)) × (self.new.made ≡ self.old.made) × (hub.new ≡ hub.old) }
     {
-        match uncreated::<T, U>(asked, attributes) {
+        match uncreated::<T, U>(&asked.options) {
             Some(failure) => Err(create_refused(&asked.options, failure)),
             None => self.create_accepted(alloc, hub, asked, attributes, steps),
         }
@@ -123,92 +127,57 @@ impl Factories {
     {
         let builder = Builder::of_hub(hub.id(), asked.node, asked.name);
         match &asked.options {
-            ServiceOptions::PublishSubscribe(options) => self.create_publish_subscribe(
-                alloc, hub, builder, options, types, attributes, lists,
-            ),
-            ServiceOptions::Event(options) => self.create_event(
-                alloc, hub, builder, options, attributes, lists,
-            ),
-            ServiceOptions::RequestResponse(options) => self.create_request_response(
-                alloc, hub, builder, options, types, attributes, lists,
-            ),
+            ServiceOptions::PublishSubscribe(options) => {
+                let builder = builder.with_requirement::<PublishSubscribe>(publish_subscribe(
+                    options, types,
+                ));
+                match created(alloc, hub, builder, attributes, lists) {
+                    Ok(factory) => Ok(self.number(MadeFactory::PublishSubscribe(factory))),
+                    Err(refusal) => Err(refusal),
+                }
+            }
+            ServiceOptions::Event(options) => {
+                let builder = builder.with_requirement::<Event>(event(options));
+                match created(alloc, hub, builder, attributes, lists) {
+                    Ok(factory) => Ok(self.number(MadeFactory::Event(factory))),
+                    Err(refusal) => Err(refusal),
+                }
+            }
+            ServiceOptions::RequestResponse(options) => {
+                let builder = builder.with_requirement::<RequestResponse>(request_response(
+                    options, types,
+                ));
+                match created(alloc, hub, builder, attributes, lists) {
+                    Ok(factory) => Ok(self.number(MadeFactory::RequestResponse(factory))),
+                    Err(refusal) => Err(refusal),
+                }
+            }
         }
     }
+}
 
-    // Creates a publish-subscribe service.
-    fn create_publish_subscribe<T: Words + ZeroCopySend, U: Copy + ZeroCopySend, B: Drop, D: Drop>(
-        &mut self,
-        alloc: Global,
-        hub: &mut Hub<T, U, B, D>,
-        builder: Builder,
-        options: &PublishSubscribeOptions,
-        types: MessageTypeDetails,
-        attributes: &AttributeSpecifier,
-        lists: Vec<StepList>,
-    ) -> Result<u64, Refusal>
-        requires hub { builder.hub ≡ hub.old.table.id }
-        requires room { length self.old.made.entries < self.old.made.room }
-        requires number { self.old.made.next + 1 < 2 ^ 64 }
-        ensures { CreatesAs (service.PublishSubscribe options.now) (detail FixedSize T.name T.size T.alignment)
-            (detail FixedSize U.name U.size U.alignment) types builder.node builder.name attributes.now lists.items self.old.made
-            hub.old result self.new.made hub.new }
-    {
-        let builder = builder.with_requirement::<PublishSubscribe>(publish_subscribe(
-            options, types,
-        ));
-        match builder.create_with_attributes_in(alloc, attributes, hub, lists) {
-            Ok(factory) => Ok(self.number(MadeFactory::PublishSubscribe(factory))),
-            Err(error) => Err(Refusal::PublishSubscribeCreate(error)),
-        }
-    }
-
-    // Creates an event service.
-    fn create_event<T: Words + ZeroCopySend, U: Copy + ZeroCopySend, B: Drop, D: Drop>(
-        &mut self,
-        alloc: Global,
-        hub: &mut Hub<T, U, B, D>,
-        builder: Builder,
-        options: &EventOptions,
-        attributes: &AttributeSpecifier,
-        lists: Vec<StepList>,
-    ) -> Result<u64, Refusal>
-        requires hub { builder.hub ≡ hub.old.table.id }
-        requires room { length self.old.made.entries < self.old.made.room }
-        requires number { self.old.made.next + 1 < 2 ^ 64 }
-        ensures { CreatesAs (service.Event options.now) (detail FixedSize T.name T.size T.alignment)
-            (detail FixedSize U.name U.size U.alignment) (types_of T.name T.size T.alignment U.name U.size U.alignment) builder.node
-            builder.name attributes.now lists.items self.old.made hub.old result self.new.made hub.new }
-    {
-        let builder = builder.with_requirement::<Event>(event(options));
-        match builder.create_with_attributes_in(alloc, attributes, hub, lists) {
-            Ok(factory) => Ok(self.number(MadeFactory::Event(factory))),
-            Err(error) => Err(Refusal::EventCreate(error)),
-        }
-    }
-
-    // Creates a request-response service.
-    fn create_request_response<T: Words + ZeroCopySend, U: Copy + ZeroCopySend, B: Drop, D: Drop>(
-        &mut self,
-        alloc: Global,
-        hub: &mut Hub<T, U, B, D>,
-        builder: Builder,
-        options: &RequestResponseOptions,
-        types: MessageTypeDetails,
-        attributes: &AttributeSpecifier,
-        lists: Vec<StepList>,
-    ) -> Result<u64, Refusal>
-        requires hub { builder.hub ≡ hub.old.table.id }
-        requires room { length self.old.made.entries < self.old.made.room }
-        requires number { self.old.made.next + 1 < 2 ^ 64 }
-        ensures { CreatesAs (service.RequestResponse options.now) (detail FixedSize T.name T.size T.alignment)
-            (detail FixedSize U.name U.size U.alignment) types builder.node builder.name attributes.now lists.items self.old.made
-            hub.old result self.new.made hub.new }
-    {
-        let builder = builder.with_requirement::<RequestResponse>(request_response(options, types));
-        match builder.create_with_attributes_in(alloc, attributes, hub, lists) {
-            Ok(factory) => Ok(self.number(MadeFactory::RequestResponse(factory))),
-            Err(error) => Err(Refusal::RequestResponseCreate(error)),
-        }
+// Creates a service of a pattern, as a builder asks.
+fn created<P: CommandPattern, T: Words + ZeroCopySend, U: Copy + ZeroCopySend, B: Drop, D: Drop>(
+    alloc: Global,
+    hub: &mut Hub<T, U, B, D>,
+    builder: ServiceBuilder<P>,
+    attributes: &AttributeSpecifier,
+    lists: Vec<StepList>,
+) -> Result<PortFactory<P>, Refusal>
+    requires hub { builder.hub ≡ hub.old.table.id }
+    ensures { (answer : Result Made P.CreateError) × OpensInHub (detail FixedSize T.name T.size T.alignment)
+        (detail FixedSize U.name U.size U.alignment) (λ was_new. P.create_error uncreated.OutOfMemory)
+        (λ before came after. Creates SteppedSight before.table.id (service_hash_of P.pattern builder.name) builder.node
+        (agreement builder.name (service_hash_of P.pattern builder.name) (P.settings (P.adjusted (P.asked builder.requirement)))
+        attributes.now) (P.IsWithinLimits (P.adjusted (P.asked builder.requirement)))
+        (P.IsHistoryTooLong (P.adjusted (P.asked builder.requirement))) P.create_error before came after)
+        lists.items hub.old answer hub.new
+        × (result_map_both (λ factory. (factory.service.membership, factory.owner)) (λ refusal. refusal) result
+        ≡ result_map_both (λ made. made) P.create_refusal answer) }
+{
+    match builder.create_with_attributes_in(alloc, attributes, hub, lists) {
+        Ok(factory) => Ok(factory),
+        Err(error) => Err(P::create_refusal(error)),
     }
 }
 

@@ -1,24 +1,27 @@
 //! Services are opened, or created.
-ghost use Rattle.std.specs.Prelude.{◌≡◌, ◌<◌, ◌+◌, ◌^◌, length};
-ghost use Rattle.iox_command.specs.declared.service.ServiceOptions.TheVariants as service;
+ghost use Rattle.std.specs.Prelude.{Result, ◌≡◌, ◌<◌, ◌+◌, ◌^◌, length};
 ghost use Rattle.iox_hub_base.specs.DescribeBase.Detail.{detail};
 ghost use Rattle.iox_hub_base.specs.DescribeBase.declared.type_detail.TypeVariant.TheVariants.{FixedSize};
 ghost use Rattle.iox_hub_base.specs.Hubs.{is_node};
 ghost use Rattle.iox_hub_commands.specs.Asked.{types_of};
 ghost use Rattle.iox_hub_commands.specs.Either.{EitherAs, EitherNumbered, either_lacking};
+ghost use Rattle.iox_hub_base.specs.DescribeBase.Hash.{service_hash_of};
+ghost use Rattle.iox_hub_base.specs.DescribeSettings.Agreement.{agreement};
+ghost use Rattle.iox_hub_base.specs.Negotiate.Negotiation.{Either};
+ghost use Rattle.iox_hub_base.specs.Opening.{Made, OpensInHub, lacking_either};
+ghost use Rattle.std.specs.Result.{result_map_both};
+ghost use Rattle.iox_negotiate_table.specs.Stepped.{SteppedSight};
 
 use crate::services::asked::ServiceAsked;
 use crate::services::factories::Factories;
+use crate::services::kinds::CommandPattern;
 use crate::services::made::MadeFactory;
 use crate::services::requests::{event, message_types, publish_subscribe, request_response};
-use iox_command::{
-    EventOptions, PublishSubscribeOptions, Refusal, RequestResponseOptions, ServiceOptions,
-    StepBefore,
-};
+use iox_command::{Refusal, ServiceOptions, StepBefore};
 use iox_describe::pattern::{Event, PublishSubscribe, RequestResponse};
 use iox_describe_base::{AttributeVerifier, MessageTypeDetails, ZeroCopySend};
-use iox_hub_base::{Hub, HubBuilder};
-use iox_negotiate::Builder;
+use iox_hub_base::{Hub, HubBuilder, PortFactory};
+use iox_negotiate::{Builder, ServiceBuilder};
 use iox_negotiate_base::errors::{
     EventOpenError, EventOpenOrCreateError, PublishSubscribeOpenError,
     PublishSubscribeOpenOrCreateError, RequestResponseOpenError, RequestResponseOpenOrCreateError,
@@ -75,102 +78,66 @@ impl Factories {
     {
         let builder = Builder::of_hub(hub.id(), asked.node, asked.name);
         match &asked.options {
-            ServiceOptions::PublishSubscribe(options) => self.open_or_create_publish_subscribe(
-                alloc, hub, builder, options, types, attributes, lists,
-            ),
-            ServiceOptions::Event(options) => self.open_or_create_event(
-                alloc, hub, builder, options, attributes, lists,
-            ),
-            ServiceOptions::RequestResponse(options) => self.open_or_create_request_response(
-                alloc, hub, builder, options, types, attributes, lists,
-            ),
+            ServiceOptions::PublishSubscribe(options) => {
+                let builder = builder.with_requirement::<PublishSubscribe>(publish_subscribe(
+                    options, types,
+                ));
+                match opened_or_created(alloc, hub, builder, attributes, lists) {
+                    Ok(factory) => Ok(self.number(MadeFactory::PublishSubscribe(factory))),
+                    Err(refusal) => Err(refusal),
+                }
+            }
+            ServiceOptions::Event(options) => {
+                let builder = builder.with_requirement::<Event>(event(options));
+                match opened_or_created(alloc, hub, builder, attributes, lists) {
+                    Ok(factory) => Ok(self.number(MadeFactory::Event(factory))),
+                    Err(refusal) => Err(refusal),
+                }
+            }
+            ServiceOptions::RequestResponse(options) => {
+                let builder = builder.with_requirement::<RequestResponse>(request_response(
+                    options, types,
+                ));
+                match opened_or_created(alloc, hub, builder, attributes, lists) {
+                    Ok(factory) => Ok(self.number(MadeFactory::RequestResponse(factory))),
+                    Err(refusal) => Err(refusal),
+                }
+            }
         }
     }
+}
 
-    // Opens or creates a publish-subscribe service.
-    fn open_or_create_publish_subscribe<
-        T: Words + ZeroCopySend,
-        U: Copy + ZeroCopySend,
-        B: Drop,
-        D: Drop,
-    >(
-        &mut self,
-        alloc: Global,
-        hub: &mut Hub<T, U, B, D>,
-        builder: Builder,
-        options: &PublishSubscribeOptions,
-        types: MessageTypeDetails,
-        attributes: AttributeVerifier,
-        lists: Vec<StepList>,
-    ) -> Result<u64, Refusal>
-        requires hub { builder.hub ≡ hub.old.table.id }
-        requires room { length self.old.made.entries < self.old.made.room }
-        requires number { self.old.made.next + 1 < 2 ^ 64 }
-        ensures { EitherAs (service.PublishSubscribe options.now) (detail FixedSize T.name T.size T.alignment)
-            (detail FixedSize U.name U.size U.alignment) types builder.node builder.name attributes lists.items self.old.made hub.old
-            result self.new.made hub.new }
-    {
-        let builder = builder.with_requirement::<PublishSubscribe>(publish_subscribe(
-            options, types,
-        ));
-        match builder.open_or_create_with_attributes_in(alloc, attributes, hub, lists) {
-            Ok(factory) => Ok(self.number(MadeFactory::PublishSubscribe(factory))),
-            Err(error) => Err(Refusal::PublishSubscribeOpenOrCreate(error)),
-        }
-    }
-
-    // Opens or creates an event service.
-    fn open_or_create_event<T: Words + ZeroCopySend, U: Copy + ZeroCopySend, B: Drop, D: Drop>(
-        &mut self,
-        alloc: Global,
-        hub: &mut Hub<T, U, B, D>,
-        builder: Builder,
-        options: &EventOptions,
-        attributes: AttributeVerifier,
-        lists: Vec<StepList>,
-    ) -> Result<u64, Refusal>
-        requires hub { builder.hub ≡ hub.old.table.id }
-        requires room { length self.old.made.entries < self.old.made.room }
-        requires number { self.old.made.next + 1 < 2 ^ 64 }
-        ensures { EitherAs (service.Event options.now) (detail FixedSize T.name T.size T.alignment)
-            (detail FixedSize U.name U.size U.alignment) (types_of T.name T.size T.alignment U.name U.size U.alignment) builder.node
-            builder.name attributes lists.items self.old.made hub.old result self.new.made hub.new }
-    {
-        let builder = builder.with_requirement::<Event>(event(options));
-        match builder.open_or_create_with_attributes_in(alloc, attributes, hub, lists) {
-            Ok(factory) => Ok(self.number(MadeFactory::Event(factory))),
-            Err(error) => Err(Refusal::EventOpenOrCreate(error)),
-        }
-    }
-
-    // Opens or creates a request-response service.
-    fn open_or_create_request_response<
-        T: Words + ZeroCopySend,
-        U: Copy + ZeroCopySend,
-        B: Drop,
-        D: Drop,
-    >(
-        &mut self,
-        alloc: Global,
-        hub: &mut Hub<T, U, B, D>,
-        builder: Builder,
-        options: &RequestResponseOptions,
-        types: MessageTypeDetails,
-        attributes: AttributeVerifier,
-        lists: Vec<StepList>,
-    ) -> Result<u64, Refusal>
-        requires hub { builder.hub ≡ hub.old.table.id }
-        requires room { length self.old.made.entries < self.old.made.room }
-        requires number { self.old.made.next + 1 < 2 ^ 64 }
-        ensures { EitherAs (service.RequestResponse options.now) (detail FixedSize T.name T.size T.alignment)
-            (detail FixedSize U.name U.size U.alignment) types builder.node builder.name attributes lists.items self.old.made hub.old
-            result self.new.made hub.new }
-    {
-        let builder = builder.with_requirement::<RequestResponse>(request_response(options, types));
-        match builder.open_or_create_with_attributes_in(alloc, attributes, hub, lists) {
-            Ok(factory) => Ok(self.number(MadeFactory::RequestResponse(factory))),
-            Err(error) => Err(Refusal::RequestResponseOpenOrCreate(error)),
-        }
+// Opens or creates a service of a pattern, as a builder asks.
+fn opened_or_created<
+    P: CommandPattern,
+    T: Words + ZeroCopySend,
+    U: Copy + ZeroCopySend,
+    B: Drop,
+    D: Drop,
+>(
+    alloc: Global,
+    hub: &mut Hub<T, U, B, D>,
+    builder: ServiceBuilder<P>,
+    attributes: AttributeVerifier,
+    lists: Vec<StepList>,
+) -> Result<PortFactory<P>, Refusal>
+    requires hub { builder.hub ≡ hub.old.table.id }
+    ensures { (answer : Result Made P.OpenOrCreateError) × OpensInHub (detail FixedSize T.name T.size T.alignment)
+        (detail FixedSize U.name U.size U.alignment) (λ was_new. P.open_or_create_error (lacking_either was_new))
+        (λ before came after. Either SteppedSight before.table.id (service_hash_of P.pattern builder.name) builder.node
+        (λ given. P.verdict (P.with_attributes builder.requirement attributes) given)
+        (agreement builder.name (service_hash_of P.pattern builder.name)
+        (P.settings (P.adjusted (P.asked (P.with_attributes builder.requirement attributes))))
+        (P.attributes (P.with_attributes builder.requirement attributes)).pairs)
+        (P.IsWithinLimits (P.adjusted (P.asked (P.with_attributes builder.requirement attributes))))
+        (P.IsHistoryTooLong (P.adjusted (P.asked (P.with_attributes builder.requirement attributes)))) P.open_or_create_error
+        before came after) lists.items hub.old answer hub.new
+        × (result_map_both (λ factory. (factory.service.membership, factory.owner)) (λ refusal. refusal) result
+        ≡ result_map_both (λ made. made) P.either_refusal answer) }
+{
+    match builder.open_or_create_with_attributes_in(alloc, attributes, hub, lists) {
+        Ok(factory) => Ok(factory),
+        Err(error) => Err(P::either_refusal(error)),
     }
 }
 

@@ -1,51 +1,39 @@
 //! Which services aren't created, whatever stands already: it is told of what is asked for alone, with no memory.
 ghost use Rattle.std.specs.Prelude.{◌≡◌};
-ghost use Rattle.iox_negotiate.specs.Asked.{IsRefusal};
 ghost use Rattle.iox_hub_commands.specs.Asked.{types_of};
 ghost use Rattle.iox_hub_commands.specs.Described.{settings_of};
 ghost use Rattle.iox_hub_commands.specs.Refusing.{IsUncreated, create_refused};
 
-use crate::services::asked::ServiceAsked;
 use crate::services::requests::{event, message_types, publish_subscribe, request_response};
 use iox_command::{Refusal, ServiceOptions};
-use iox_describe::pattern::{Event, Pattern, PublishSubscribe, RequestResponse};
-use iox_describe_base::{AttributeSpecifier, MessageTypeDetails, ZeroCopySend};
-use iox_negotiate::{Asked, Negotiated};
-use iox_negotiate_base::{CreateFailure, Request};
+use iox_describe::pattern::{Event, PublishSubscribe, RequestResponse};
+use iox_describe_base::{MessageTypeDetails, ZeroCopySend};
+use iox_negotiate::{Negotiated, settings_refusal};
+use iox_negotiate_base::CreateFailure;
 
 /// Why no service is created with the settings that are asked for, of messages that carry slices of `T` with a user header of `U`, if that is
 /// so.
-/// Example: `let failure = uncreated::<u64, u64>(&asked, &attributes);`
+/// Example: `let failure = uncreated::<u64, u64>(&asked.options);`
 pub fn uncreated<T: ZeroCopySend, U: ZeroCopySend>(
-    asked: &ServiceAsked,
-    attributes: &AttributeSpecifier,
+    options: &ServiceOptions,
 ) -> Option<CreateFailure>
-    ensures { IsUncreated (settings_of asked.now.options (types_of T.name T.size T.alignment U.name U.size U.alignment)) result }
+    ensures { IsUncreated (settings_of options.now (types_of T.name T.size T.alignment U.name U.size U.alignment)) result }
 {
-    uncreated_of(asked, message_types::<T, U>(), attributes)
+    uncreated_of(options, message_types::<T, U>())
 }
 
 // The same, for messages of these types.
-fn uncreated_of(
-    asked: &ServiceAsked,
-    types: MessageTypeDetails,
-    attributes: &AttributeSpecifier,
-) -> Option<CreateFailure>
-    ensures { IsUncreated (settings_of asked.now.options types) result }
+fn uncreated_of(options: &ServiceOptions, types: MessageTypeDetails) -> Option<CreateFailure>
+    ensures { IsUncreated (settings_of options.now types) result }
 {
-    match &asked.options {
-        ServiceOptions::PublishSubscribe(options) => {
-            let requirement = publish_subscribe(options, types);
-            settings_refusal::<PublishSubscribe>(asked, &requirement, attributes)
-        }
-        ServiceOptions::Event(options) => {
-            let requirement = event(options);
-            settings_refusal::<Event>(asked, &requirement, attributes)
-        }
-        ServiceOptions::RequestResponse(options) => {
-            let requirement = request_response(options, types);
-            settings_refusal::<RequestResponse>(asked, &requirement, attributes)
-        }
+    match options {
+        ServiceOptions::PublishSubscribe(options) => settings_refusal::<PublishSubscribe>(
+            &publish_subscribe(options, types),
+        ),
+        ServiceOptions::Event(options) => settings_refusal::<Event>(&event(options)),
+        ServiceOptions::RequestResponse(options) => settings_refusal::<RequestResponse>(
+            &request_response(options, types),
+        ),
     }
 }
 
@@ -63,16 +51,4 @@ pub fn create_refused(options: &ServiceOptions, failure: CreateFailure) -> Refus
             Refusal::RequestResponseCreate(RequestResponse::create_error(failure))
         }
     }
-}
-
-// Why no service is created with the settings of a requirement, if that is so.
-fn settings_refusal<P: Pattern>(
-    asked: &ServiceAsked,
-    requirement: &P::Requirement,
-    attributes: &AttributeSpecifier,
-) -> Option<CreateFailure>
-    ensures { let config = P.adjusted (P.asked requirement.now) in IsRefusal (P.IsWithinLimits config) (P.IsHistoryTooLong config)
-        result }
-{
-    Asked::<P>::new(asked.name, asked.node, requirement, attributes).refusal()
 }

@@ -7,8 +7,7 @@ use Rattle.iox_hub_commands.specs.Asked.{types_of}
 use Rattle.iox_hub_commands.proofs.PortRooms.{keeps_on}
 use Rattle.iox_hub_commands.proofs.Rooms.{at_seam}
 use Rattle.iox_hub_commands.proofs.RunLemmas.{runs_more}
-use Rattle.iox_hub.proofs.HandledRooms.{fits_first, lacks_for_values, leaves_room}
-use Rattle.iox_hub.specs.Room.{loans_in, samples_in}
+use Rattle.iox_hub.proofs.HandledRooms.{lacks_for_values}
 use Rattle.iox_hub.specs.Steps.{HandledStep}
 use Rattle.iox_hub.proofs.running.carry_out_all.Goals as goal
 
@@ -25,8 +24,6 @@ loop-command-preserved g c =
       counts = omega (arith, at.invariant.counts, c.step.ensures.counts, longer);
       answered = omega (arith, at.invariant.answered, c.push_reserved.ensures.len, longer);
       room = omega (arith, at.invariant.room, c.push_reserved.ensures.capacity);
-      fits = leaves_room (detail FixedSize g.T.ZeroCopySend.name g.T.ZeroCopySend.size g.T.ZeroCopySend.alignment) (detail FixedSize g.U.ZeroCopySend.name g.U.ZeroCopySend.size g.U.ZeroCopySend.alignment) (types_of g.T.ZeroCopySend.name g.T.ZeroCopySend.size g.T.ZeroCopySend.alignment g.U.ZeroCopySend.name g.U.ZeroCopySend.size g.U.ZeroCopySend.alignment) (λ value. g.T.Default.is_default value) (λ value. g.U.Default.is_default value) g.B.PublisherHandlers.fixed (λ strategy action degrading at_full at_failure. g.B.TakesHandlers.handled strategy action degrading at_full at_failure) (λ handlers. g.B.Degrades.degrades handlers) (λ handlers. g.B.Decides.decides handlers) g.D.SubscriberHandler.fixed (λ handler. g.D.Degrades.degrades handler) (loans_in (into_iter_items c.next.new.self)) (samples_in (into_iter_items c.next.new.self)) command (at.hub, at.given.places.items) (c.step.new.hub, c.step.new.given.places.items) _ c.in-Ok-step.ensures.steps
-          (fits_first at.hub.made (into_iter_items at.command-iterator) command (into_iter_items c.next.new.self) steps at.invariant.fits);
       grows = λ grown. c.step.ensures.grows (at.invariant.grows grown);
       kept = keeps_on c.args.hub.now at.hub c.step.new.hub at.invariant.grows at.invariant.kept c.step.ensures.room;
     }
@@ -46,7 +43,7 @@ returns-in_default-step-clause-ran g c =
     )
 
 pub returns-in_default-step-clause-stops : goal.returns-in_default-step-clause-stops
-returns-in_default-step-clause-stops g c = λ stopped.
+returns-in_default-step-clause-stops g c = λ (loans, samples) grown stopped.
     let at = c.loop-command in
     let command = c.in-Some.command in
     let steps : into_iter_items at.command-iterator ≡ command ∷ into_iter_items c.next.new.self = c.in-Some.ensures.steps.0 in
@@ -56,8 +53,7 @@ returns-in_default-step-clause-stops g c = λ stopped.
     inr (
       command,
       rw (← all, count) (at_seam at.yielded command (into_iter_items c.next.new.self)),
-      lacks_for_values (detail FixedSize g.T.ZeroCopySend.name g.T.ZeroCopySend.size g.T.ZeroCopySend.alignment) (detail FixedSize g.U.ZeroCopySend.name g.U.ZeroCopySend.size g.U.ZeroCopySend.alignment) (types_of g.T.ZeroCopySend.name g.T.ZeroCopySend.size g.T.ZeroCopySend.alignment g.U.ZeroCopySend.name g.U.ZeroCopySend.size g.U.ZeroCopySend.alignment) (λ value. g.T.Default.is_default value) (λ value. g.U.Default.is_default value) g.B.PublisherHandlers.fixed (λ strategy action degrading at_full at_failure. g.B.TakesHandlers.handled strategy action degrading at_full at_failure) (λ handlers. g.B.Degrades.degrades handlers) (λ handlers. g.B.Decides.decides handlers) g.D.SubscriberHandler.fixed (λ handler. g.D.Degrades.degrades handler) (loans_in (into_iter_items c.next.new.self)) (samples_in (into_iter_items c.next.new.self)) command (at.hub, at.given.places.items) (c.step.new.hub, c.step.new.given.places.items) c.in_default-step.field-0 c.in_default-step.ensures.steps
-          (fits_first at.hub.made (into_iter_items at.command-iterator) command (into_iter_items c.next.new.self) steps at.invariant.fits),
+      lacks_for_values command at.hub c.step.new.hub (c.in_default-step.ensures.lacks (at.invariant.kept.0 loans, at.invariant.kept.1 grown samples)),
     )
 
 pub returns-in_default-step-clause-room : goal.returns-in_default-step-clause-room

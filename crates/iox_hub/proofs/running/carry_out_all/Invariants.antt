@@ -6,9 +6,7 @@ use Rattle.iox_hub_commands.specs.DescribeBase.declared.type_detail.TypeVariant.
 use Rattle.iox_hub_commands.specs.Asked.{types_of}
 use Rattle.iox_hub_commands.specs.Numbers.{numbers_used}
 use Rattle.iox_hub_commands.specs.PortRoom.{KeepsRoom}
-use Rattle.iox_hub_commands.specs.Room.{FitsAll}
 use Rattle.iox_hub_commands.specs.Runs.{Runs}
-use Rattle.iox_hub.specs.Room.{loans_in, samples_in}
 use Rattle.iox_hub.specs.Steps.{HandledStep}
 use Rattle.iox_hub.proofs.running.carry_out_all.Given as goal
 
@@ -21,7 +19,6 @@ invariant-loop-command g l = record {
   counts : numbers_used l.hub ≤ numbers_used l.initial.hub + length l.yielded;
   answered : vec_len l.replies ≡ length l.yielded;
   room : length (into_iter_items l.initial.command-iterator) ≤ vec_capacity l.replies;
-  fits : FitsAll (loans_in (into_iter_items l.command-iterator)) (samples_in (into_iter_items l.command-iterator)) l.hub.made;
   grows : GrowsOn l.initial.hub.hub l.hub.hub;
   kept : KeepsRoom l.initial.hub l.hub;
 }

@@ -1,7 +1,8 @@
-use Rattle.std.proofs.Common.{◌∙◌, Some, Ok, sym}
+use Rattle.std.proofs.Common.{◌∙◌, None, Some, Ok, sym, ap}
 use Rattle.iox_domain.specs.Homes as homes
 use Rattle.iox_domain.proofs.Homely.{put_is_there}
 use Rattle.iox_hub_commands.proofs.Arrived.{came_is_read, came_is_next, came_is_told}
+use Rattle.iox_hub_commands.proofs.Skipping.{found_else_skipped, found_else_none, where_it_fails}
 use Rattle.iox_hub_commands.specs.Reading.{values_under}
 use Rattle.iox_delivery.specs.Container.NumberTable.{value_at}
 use Rattle.iox_hub_commands.proofs.receiving.receive.Goals as goal
@@ -20,3 +21,10 @@ returns-in-Ok-Some-Ok-Some-clause-receives g c = (
       c.in-Ok-Some-Ok-Some.field-0-0-0-0 (rw (c.in-Ok-Some-Ok-Some.field-0-is, c.in-Ok-Some-Ok-Some.field-0-0-is, c.in-Ok-Some-Ok-Some.field-0-0-0-is) at c.in-Ok-Some-Ok-Some.ensures.grows) ∙ sym c.next_number-sample.ensures.value)
       c.arrival.ensures,
 )
+
+pub returns-in-Err-clause-lacks : goal.returns-in-Err-clause-lacks
+returns-in-Err-clause-lacks g c = found_else_skipped _ c.in-Err.lacking None c.in-Err.ensures.skips
+
+pub returns-in-Ok-Some-Ok-Some-clause-lacks : goal.returns-in-Ok-Some-Ok-Some-clause-lacks
+returns-in-Ok-Some-Ok-Some-clause-lacks g c =
+    where_it_fails c.arrival.result (found_else_none _ _ c.in-Ok-Some-Ok-Some.field-0-0 c.in-Ok-Some-Ok-Some.ensures.skips (ap (λ got. Ok got) c.in-Ok-Some-Ok-Some.field-0-is))

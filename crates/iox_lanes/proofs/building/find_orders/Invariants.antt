@@ -1,5 +1,6 @@
 use Rattle.std.proofs.Common.{◌≡◌}
+use Rattle.iox_lanes.specs.Failing.{failing}
 use Rattle.iox_lanes.proofs.building.find_orders.Given as goal
 
 abbrev pub invariant-loop-place : goal.invariant-loop-place
-invariant-loop-place g l = l.lanes.sizes ≡ l.fn.lanes.sizes
+invariant-loop-place g l = (l.lanes.sizes ≡ l.fn.lanes.sizes) × (failing l.lanes.lanes ≡ failing l.fn.lanes.lanes)

@@ -1,104 +1,16 @@
-use Rattle.std.proofs.Common.{ℕ, refl, sym, ap, subst}
+use Rattle.std.proofs.Common.{refl, sym, ap, subst, ◌∙◌}
 use Rattle.iox_lanes_machine.specs.QueuesSteps.declared.rings.overflowing.push.Push.TheVariants as overflowing_push
-use Rattle.iox_lanes_machine.specs.QueuesSteps.declared.rings.ends.Push.TheVariants as ring_push
-use Rattle.iox_lanes_machine.specs.LanesBase.declared.calls.publisher.PublisherCall.TheVariants as publishing
-use Rattle.iox_lanes_machine.specs.LanesParties.Parties.{PublisherLaneState}
 use Rattle.iox_lanes_threads_rule.specs.Acts.{port_of}
-use Rattle.iox_lanes_threads_rule.specs.declared.view.Port.{Port}
-use Rattle.iox_lanes_threads_ports.specs.Strides.{called, PublisherStrode}
-use Rattle.iox_lanes_threads_ports.proofs.Striding.{strode_none, at_first, same_sizes}
+use Rattle.iox_lanes_threads_ports.specs.Strides.{StrodeBy}
+use Rattle.iox_lanes_threads_ports.proofs.Striding.{strode_begun}
 use Rattle.iox_lanes_threads_ports.proofs.ring_strides.push_over.Goals as goal
-
-pub load_ahead-write-requires-clause-stands : goal.load_ahead-write-requires-clause-stands
-load_ahead-write-requires-clause-stands g c =
-    let p : Port = port_of c.args.seat.now.me in
-    let lane : PublisherLaneState = c.args.lane.now in
-    let at0 : PublisherLaneState = called (publishing.Pushing c.args.slot c.args.place c.args.route (ring_push.Overflowing (overflowing_push.Begun c.args.limit c.args.value)) c.args.delivery) lane in
-    let run0 : PublisherStrode p lane 0 c.args.seat.now.me at0 = subst (PublisherStrode p lane 0 c.args.seat.now.me) (at_first lane (publishing.Pushing c.args.slot c.args.place c.args.route (ring_push.Overflowing (overflowing_push.Begun c.args.limit c.args.value)) c.args.delivery) (publishing.Pushing c.args.slot c.args.place c.args.route (ring_push.Overflowing (overflowing_push.Begun c.args.limit c.args.value)) c.args.delivery) c.requires.call refl) (strode_none c.args.seat.now.me lane c.requires.seat.0 c.requires.stands) in
-    run0.stands
-
-pub load_ahead-read-requires-clause-seat : goal.load_ahead-read-requires-clause-seat
-load_ahead-read-requires-clause-seat g c =
-    let p : Port = port_of c.args.seat.now.me in
-    let lane : PublisherLaneState = c.args.lane.now in
-    let at0 : PublisherLaneState = called (publishing.Pushing c.args.slot c.args.place c.args.route (ring_push.Overflowing (overflowing_push.Begun c.args.limit c.args.value)) c.args.delivery) lane in
-    let run0 : PublisherStrode p lane 0 c.args.seat.now.me at0 = subst (PublisherStrode p lane 0 c.args.seat.now.me) (at_first lane (publishing.Pushing c.args.slot c.args.place c.args.route (ring_push.Overflowing (overflowing_push.Begun c.args.limit c.args.value)) c.args.delivery) (publishing.Pushing c.args.slot c.args.place c.args.route (ring_push.Overflowing (overflowing_push.Begun c.args.limit c.args.value)) c.args.delivery) c.requires.call refl) (strode_none c.args.seat.now.me lane c.requires.seat.0 c.requires.stands) in
-    let at1 : PublisherLaneState = called (publishing.Pushing c.args.slot c.args.place c.args.route (ring_push.Overflowing (overflowing_push.SawWrite c.args.limit c.args.value c.load_ahead-write.result c.saturating_add-next.result)) c.args.delivery) lane in
-    let run1 : PublisherStrode p lane 1 c.load_ahead-write.new.seat.me at1 = subst (PublisherStrode p lane 1 c.load_ahead-write.new.seat.me) (ap (λ (n : ℕ). called (publishing.Pushing c.args.slot c.args.place c.args.route (ring_push.Overflowing (overflowing_push.SawWrite c.args.limit c.args.value c.load_ahead-write.result n)) c.args.delivery) lane) (sym c.saturating_add-next.ensures)) (c.load_ahead-write.ensures.strode p lane 0 run0) in
-    same_sizes p lane 1 c.load_ahead-write.new.seat.me at1 c.args.sizes.now run1 c.requires.seat.1
-
-pub load_ahead-read-requires-clause-stands : goal.load_ahead-read-requires-clause-stands
-load_ahead-read-requires-clause-stands g c =
-    let p : Port = port_of c.args.seat.now.me in
-    let lane : PublisherLaneState = c.args.lane.now in
-    let at0 : PublisherLaneState = called (publishing.Pushing c.args.slot c.args.place c.args.route (ring_push.Overflowing (overflowing_push.Begun c.args.limit c.args.value)) c.args.delivery) lane in
-    let run0 : PublisherStrode p lane 0 c.args.seat.now.me at0 = subst (PublisherStrode p lane 0 c.args.seat.now.me) (at_first lane (publishing.Pushing c.args.slot c.args.place c.args.route (ring_push.Overflowing (overflowing_push.Begun c.args.limit c.args.value)) c.args.delivery) (publishing.Pushing c.args.slot c.args.place c.args.route (ring_push.Overflowing (overflowing_push.Begun c.args.limit c.args.value)) c.args.delivery) c.requires.call refl) (strode_none c.args.seat.now.me lane c.requires.seat.0 c.requires.stands) in
-    let at1 : PublisherLaneState = called (publishing.Pushing c.args.slot c.args.place c.args.route (ring_push.Overflowing (overflowing_push.SawWrite c.args.limit c.args.value c.load_ahead-write.result c.saturating_add-next.result)) c.args.delivery) lane in
-    let run1 : PublisherStrode p lane 1 c.load_ahead-write.new.seat.me at1 = subst (PublisherStrode p lane 1 c.load_ahead-write.new.seat.me) (ap (λ (n : ℕ). called (publishing.Pushing c.args.slot c.args.place c.args.route (ring_push.Overflowing (overflowing_push.SawWrite c.args.limit c.args.value c.load_ahead-write.result n)) c.args.delivery) lane) (sym c.saturating_add-next.ensures)) (c.load_ahead-write.ensures.strode p lane 0 run0) in
-    run1.stands
-
-pub store_ahead-requires-clause-seat : goal.store_ahead-requires-clause-seat
-store_ahead-requires-clause-seat g c =
-    let p : Port = port_of c.args.seat.now.me in
-    let lane : PublisherLaneState = c.args.lane.now in
-    let at0 : PublisherLaneState = called (publishing.Pushing c.args.slot c.args.place c.args.route (ring_push.Overflowing (overflowing_push.Begun c.args.limit c.args.value)) c.args.delivery) lane in
-    let run0 : PublisherStrode p lane 0 c.args.seat.now.me at0 = subst (PublisherStrode p lane 0 c.args.seat.now.me) (at_first lane (publishing.Pushing c.args.slot c.args.place c.args.route (ring_push.Overflowing (overflowing_push.Begun c.args.limit c.args.value)) c.args.delivery) (publishing.Pushing c.args.slot c.args.place c.args.route (ring_push.Overflowing (overflowing_push.Begun c.args.limit c.args.value)) c.args.delivery) c.requires.call refl) (strode_none c.args.seat.now.me lane c.requires.seat.0 c.requires.stands) in
-    let at1 : PublisherLaneState = called (publishing.Pushing c.args.slot c.args.place c.args.route (ring_push.Overflowing (overflowing_push.SawWrite c.args.limit c.args.value c.load_ahead-write.result c.saturating_add-next.result)) c.args.delivery) lane in
-    let run1 : PublisherStrode p lane 1 c.load_ahead-write.new.seat.me at1 = subst (PublisherStrode p lane 1 c.load_ahead-write.new.seat.me) (ap (λ (n : ℕ). called (publishing.Pushing c.args.slot c.args.place c.args.route (ring_push.Overflowing (overflowing_push.SawWrite c.args.limit c.args.value c.load_ahead-write.result n)) c.args.delivery) lane) (sym c.saturating_add-next.ensures)) (c.load_ahead-write.ensures.strode p lane 0 run0) in
-    let at2 : PublisherLaneState = called (publishing.Pushing c.args.slot c.args.place c.args.route (ring_push.Overflowing (overflowing_push.SawRead c.args.limit c.args.value c.load_ahead-write.result c.saturating_add-next.result c.load_ahead-read.result)) c.args.delivery) lane in
-    let run2 : PublisherStrode p lane 2 c.load_ahead-read.new.seat.me at2 = c.load_ahead-read.ensures.strode p lane 1 run1 in
-    same_sizes p lane 2 c.load_ahead-read.new.seat.me at2 c.args.sizes.now run2 c.requires.seat.1
-
-pub store_ahead-requires-clause-stands : goal.store_ahead-requires-clause-stands
-store_ahead-requires-clause-stands g c =
-    let p : Port = port_of c.args.seat.now.me in
-    let lane : PublisherLaneState = c.args.lane.now in
-    let at0 : PublisherLaneState = called (publishing.Pushing c.args.slot c.args.place c.args.route (ring_push.Overflowing (overflowing_push.Begun c.args.limit c.args.value)) c.args.delivery) lane in
-    let run0 : PublisherStrode p lane 0 c.args.seat.now.me at0 = subst (PublisherStrode p lane 0 c.args.seat.now.me) (at_first lane (publishing.Pushing c.args.slot c.args.place c.args.route (ring_push.Overflowing (overflowing_push.Begun c.args.limit c.args.value)) c.args.delivery) (publishing.Pushing c.args.slot c.args.place c.args.route (ring_push.Overflowing (overflowing_push.Begun c.args.limit c.args.value)) c.args.delivery) c.requires.call refl) (strode_none c.args.seat.now.me lane c.requires.seat.0 c.requires.stands) in
-    let at1 : PublisherLaneState = called (publishing.Pushing c.args.slot c.args.place c.args.route (ring_push.Overflowing (overflowing_push.SawWrite c.args.limit c.args.value c.load_ahead-write.result c.saturating_add-next.result)) c.args.delivery) lane in
-    let run1 : PublisherStrode p lane 1 c.load_ahead-write.new.seat.me at1 = subst (PublisherStrode p lane 1 c.load_ahead-write.new.seat.me) (ap (λ (n : ℕ). called (publishing.Pushing c.args.slot c.args.place c.args.route (ring_push.Overflowing (overflowing_push.SawWrite c.args.limit c.args.value c.load_ahead-write.result n)) c.args.delivery) lane) (sym c.saturating_add-next.ensures)) (c.load_ahead-write.ensures.strode p lane 0 run0) in
-    let at2 : PublisherLaneState = called (publishing.Pushing c.args.slot c.args.place c.args.route (ring_push.Overflowing (overflowing_push.SawRead c.args.limit c.args.value c.load_ahead-write.result c.saturating_add-next.result c.load_ahead-read.result)) c.args.delivery) lane in
-    let run2 : PublisherStrode p lane 2 c.load_ahead-read.new.seat.me at2 = c.load_ahead-read.ensures.strode p lane 1 run1 in
-    run2.stands
-
-pub store_ahead-requires-2-clause-seat : goal.store_ahead-requires-2-clause-seat
-store_ahead-requires-2-clause-seat g c =
-    let p : Port = port_of c.args.seat.now.me in
-    let lane : PublisherLaneState = c.args.lane.now in
-    let at0 : PublisherLaneState = called (publishing.Pushing c.args.slot c.args.place c.args.route (ring_push.Overflowing (overflowing_push.Begun c.args.limit c.args.value)) c.args.delivery) lane in
-    let run0 : PublisherStrode p lane 0 c.args.seat.now.me at0 = subst (PublisherStrode p lane 0 c.args.seat.now.me) (at_first lane (publishing.Pushing c.args.slot c.args.place c.args.route (ring_push.Overflowing (overflowing_push.Begun c.args.limit c.args.value)) c.args.delivery) (publishing.Pushing c.args.slot c.args.place c.args.route (ring_push.Overflowing (overflowing_push.Begun c.args.limit c.args.value)) c.args.delivery) c.requires.call refl) (strode_none c.args.seat.now.me lane c.requires.seat.0 c.requires.stands) in
-    let at1 : PublisherLaneState = called (publishing.Pushing c.args.slot c.args.place c.args.route (ring_push.Overflowing (overflowing_push.SawWrite c.args.limit c.args.value c.load_ahead-write.result c.saturating_add-next.result)) c.args.delivery) lane in
-    let run1 : PublisherStrode p lane 1 c.load_ahead-write.new.seat.me at1 = subst (PublisherStrode p lane 1 c.load_ahead-write.new.seat.me) (ap (λ (n : ℕ). called (publishing.Pushing c.args.slot c.args.place c.args.route (ring_push.Overflowing (overflowing_push.SawWrite c.args.limit c.args.value c.load_ahead-write.result n)) c.args.delivery) lane) (sym c.saturating_add-next.ensures)) (c.load_ahead-write.ensures.strode p lane 0 run0) in
-    let at2 : PublisherLaneState = called (publishing.Pushing c.args.slot c.args.place c.args.route (ring_push.Overflowing (overflowing_push.SawRead c.args.limit c.args.value c.load_ahead-write.result c.saturating_add-next.result c.load_ahead-read.result)) c.args.delivery) lane in
-    let run2 : PublisherStrode p lane 2 c.load_ahead-read.new.seat.me at2 = c.load_ahead-read.ensures.strode p lane 1 run1 in
-    let at3 : PublisherLaneState = called (publishing.Pushing c.args.slot c.args.place c.args.route (ring_push.Overflowing (overflowing_push.Filled c.args.limit c.args.value c.load_ahead-write.result c.saturating_add-next.result c.load_ahead-read.result)) c.args.delivery) lane in
-    let run3 : PublisherStrode p lane 3 c.store_ahead.new.seat.me at3 = c.store_ahead.ensures.strode p lane 2 run2 in
-    same_sizes p lane 3 c.store_ahead.new.seat.me at3 c.args.sizes.now run3 c.requires.seat.1
-
-pub store_ahead-requires-2-clause-stands : goal.store_ahead-requires-2-clause-stands
-store_ahead-requires-2-clause-stands g c =
-    let p : Port = port_of c.args.seat.now.me in
-    let lane : PublisherLaneState = c.args.lane.now in
-    let at0 : PublisherLaneState = called (publishing.Pushing c.args.slot c.args.place c.args.route (ring_push.Overflowing (overflowing_push.Begun c.args.limit c.args.value)) c.args.delivery) lane in
-    let run0 : PublisherStrode p lane 0 c.args.seat.now.me at0 = subst (PublisherStrode p lane 0 c.args.seat.now.me) (at_first lane (publishing.Pushing c.args.slot c.args.place c.args.route (ring_push.Overflowing (overflowing_push.Begun c.args.limit c.args.value)) c.args.delivery) (publishing.Pushing c.args.slot c.args.place c.args.route (ring_push.Overflowing (overflowing_push.Begun c.args.limit c.args.value)) c.args.delivery) c.requires.call refl) (strode_none c.args.seat.now.me lane c.requires.seat.0 c.requires.stands) in
-    let at1 : PublisherLaneState = called (publishing.Pushing c.args.slot c.args.place c.args.route (ring_push.Overflowing (overflowing_push.SawWrite c.args.limit c.args.value c.load_ahead-write.result c.saturating_add-next.result)) c.args.delivery) lane in
-    let run1 : PublisherStrode p lane 1 c.load_ahead-write.new.seat.me at1 = subst (PublisherStrode p lane 1 c.load_ahead-write.new.seat.me) (ap (λ (n : ℕ). called (publishing.Pushing c.args.slot c.args.place c.args.route (ring_push.Overflowing (overflowing_push.SawWrite c.args.limit c.args.value c.load_ahead-write.result n)) c.args.delivery) lane) (sym c.saturating_add-next.ensures)) (c.load_ahead-write.ensures.strode p lane 0 run0) in
-    let at2 : PublisherLaneState = called (publishing.Pushing c.args.slot c.args.place c.args.route (ring_push.Overflowing (overflowing_push.SawRead c.args.limit c.args.value c.load_ahead-write.result c.saturating_add-next.result c.load_ahead-read.result)) c.args.delivery) lane in
-    let run2 : PublisherStrode p lane 2 c.load_ahead-read.new.seat.me at2 = c.load_ahead-read.ensures.strode p lane 1 run1 in
-    let at3 : PublisherLaneState = called (publishing.Pushing c.args.slot c.args.place c.args.route (ring_push.Overflowing (overflowing_push.Filled c.args.limit c.args.value c.load_ahead-write.result c.saturating_add-next.result c.load_ahead-read.result)) c.args.delivery) lane in
-    let run3 : PublisherStrode p lane 3 c.store_ahead.new.seat.me at3 = c.store_ahead.ensures.strode p lane 2 run2 in
-    run3.stands
 
 pub returns-clause-strode : goal.returns-clause-strode
 returns-clause-strode g c =
-    let p : Port = port_of c.args.seat.now.me in
-    let lane : PublisherLaneState = c.args.lane.now in
-    let at0 : PublisherLaneState = called (publishing.Pushing c.args.slot c.args.place c.args.route (ring_push.Overflowing (overflowing_push.Begun c.args.limit c.args.value)) c.args.delivery) lane in
-    let run0 : PublisherStrode p lane 0 c.args.seat.now.me at0 = subst (PublisherStrode p lane 0 c.args.seat.now.me) (at_first lane (publishing.Pushing c.args.slot c.args.place c.args.route (ring_push.Overflowing (overflowing_push.Begun c.args.limit c.args.value)) c.args.delivery) (publishing.Pushing c.args.slot c.args.place c.args.route (ring_push.Overflowing (overflowing_push.Begun c.args.limit c.args.value)) c.args.delivery) c.requires.call refl) (strode_none c.args.seat.now.me lane c.requires.seat.0 c.requires.stands) in
-    let at1 : PublisherLaneState = called (publishing.Pushing c.args.slot c.args.place c.args.route (ring_push.Overflowing (overflowing_push.SawWrite c.args.limit c.args.value c.load_ahead-write.result c.saturating_add-next.result)) c.args.delivery) lane in
-    let run1 : PublisherStrode p lane 1 c.load_ahead-write.new.seat.me at1 = subst (PublisherStrode p lane 1 c.load_ahead-write.new.seat.me) (ap (λ (n : ℕ). called (publishing.Pushing c.args.slot c.args.place c.args.route (ring_push.Overflowing (overflowing_push.SawWrite c.args.limit c.args.value c.load_ahead-write.result n)) c.args.delivery) lane) (sym c.saturating_add-next.ensures)) (c.load_ahead-write.ensures.strode p lane 0 run0) in
-    let at2 : PublisherLaneState = called (publishing.Pushing c.args.slot c.args.place c.args.route (ring_push.Overflowing (overflowing_push.SawRead c.args.limit c.args.value c.load_ahead-write.result c.saturating_add-next.result c.load_ahead-read.result)) c.args.delivery) lane in
-    let run2 : PublisherStrode p lane 2 c.load_ahead-read.new.seat.me at2 = c.load_ahead-read.ensures.strode p lane 1 run1 in
-    let at3 : PublisherLaneState = called (publishing.Pushing c.args.slot c.args.place c.args.route (ring_push.Overflowing (overflowing_push.Filled c.args.limit c.args.value c.load_ahead-write.result c.saturating_add-next.result c.load_ahead-read.result)) c.args.delivery) lane in
-    let run3 : PublisherStrode p lane 3 c.store_ahead.new.seat.me at3 = c.store_ahead.ensures.strode p lane 2 run2 in
-    subst (PublisherStrode p lane 4 c.store_ahead-2.new.seat.me) (sym c.go_on_from.ensures) (c.store_ahead-2.ensures.strode p lane 3 run3)
+    let p = port_of c.args.seat.now.me in
+    let lane = c.args.lane.now in
+    let run0 = strode_begun c.goes_ahead.ensures c.args.seat.now.me lane (g.C.RingCall.stage c.args.call (overflowing_push.Begun c.args.limit c.args.value)) c.requires.call c.requires.seat.0 c.requires.stands in
+    let run1 = subst (λ n. StrodeBy g.L.Ahead.kind p lane 1 c.load_at-write.new.seat.me (g.L.Ahead.kind.called (g.C.RingCall.stage c.args.call (overflowing_push.SawWrite c.args.limit c.args.value c.load_at-write.result n)) lane)) (sym c.saturating_add-next.ensures) (c.load_at-write.ensures.goes_on p lane 0 run0 refl) in
+    let run2 = c.load_at-read.ensures.goes_on p lane 1 run1 refl in
+    let run3 = c.store_at.ensures.goes_on p lane 2 run2 tt refl in
+    subst (StrodeBy g.L.Ahead.kind p lane 4 c.store_at-2.new.seat.me) (sym (c.go_on_from.ensures ∙ ap (λ stage. g.L.Ahead.kind.after 0 (g.L.Ahead.kind.called stage lane)) c.stage.ensures)) (c.store_at-2.ensures.strode p lane 3 run3)

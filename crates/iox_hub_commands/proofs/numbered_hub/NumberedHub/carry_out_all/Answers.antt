@@ -1,13 +1,12 @@
-use Rattle.std.proofs.Common.{arith, rules, inr, ◌+◌, ◌≡◌, [], ◌∷◌, ◌++◌, length, ap, subst, ◌∙◌, append_assoc}
+use Rattle.std.proofs.Common.{arith, rules, inr, ◌+◌, ◌≡◌, [], ◌∷◌, ◌++◌, length, ap, ◌∙◌, append_assoc}
 use Rattle.std.specs.Vec.Iter.{into_iter_items}
 use Rattle.std.proofs.lemmas.List.{length-append}
 use Rattle.iox_delivery.specs.DescribeBase.Detail.{detail}
 use Rattle.iox_delivery.specs.DescribeBase.declared.type_detail.TypeVariant.TheVariants.{FixedSize}
 use Rattle.iox_hub_commands.specs.Asked.{types_of}
 use Rattle.iox_hub_commands.specs.CommandSteps.{Step}
-use Rattle.iox_hub_commands.specs.Room.{loans_in, samples_in, FitsAll}
 use Rattle.iox_hub_commands.proofs.PortRooms.{keeps_on}
-use Rattle.iox_hub_commands.proofs.Rooms.{at_seam, lacks_values, step_leaves_room}
+use Rattle.iox_hub_commands.proofs.Rooms.{at_seam, lacks_values}
 use Rattle.iox_hub_commands.proofs.RunLemmas.{runs_more}
 use Rattle.iox_hub_commands.proofs.numbered_hub.NumberedHub.carry_out_all.Goals as goal
 
@@ -24,13 +23,12 @@ loop-command-preserved g c =
       counts = omega (arith, at.invariant.counts, c.step.ensures.counts, longer);
       answered = omega (arith, at.invariant.answered, c.push_reserved.ensures.len, longer);
       room = omega (arith, at.invariant.room, c.push_reserved.ensures.capacity);
-      fits = step_leaves_room (detail FixedSize g.T.ZeroCopySend.name g.T.ZeroCopySend.size g.T.ZeroCopySend.alignment) (detail FixedSize g.U.ZeroCopySend.name g.U.ZeroCopySend.size g.U.ZeroCopySend.alignment) (types_of g.T.ZeroCopySend.name g.T.ZeroCopySend.size g.T.ZeroCopySend.alignment g.U.ZeroCopySend.name g.U.ZeroCopySend.size g.U.ZeroCopySend.alignment) (λ value. g.T.Default.is_default value) (λ value. g.U.Default.is_default value) g.B.PublisherHandlers.fixed (λ handlers. g.B.Degrades.degrades handlers) (λ handlers. g.B.Decides.decides handlers) g.D.SubscriberHandler.fixed (λ handler. g.D.Degrades.degrades handler) (loans_in (into_iter_items c.next.new.self)) (samples_in (into_iter_items c.next.new.self)) command at.self c.step.new.self _ c.in-Ok-step.ensures.steps (subst (λ items. FitsAll (loans_in items) (samples_in items) at.self.made) steps at.invariant.fits);
       grows = λ grown. c.step.ensures.grows (at.invariant.grows grown);
       kept = keeps_on c.args.self.now at.self c.step.new.self at.invariant.grows at.invariant.kept c.step.ensures.room;
     }
 
 pub returns-in_default-step-clause-stops : goal.returns-in_default-step-clause-stops
-returns-in_default-step-clause-stops g c = λ stopped.
+returns-in_default-step-clause-stops g c = λ (loans, samples) grown stopped.
     let at = c.loop-command in
     let command = c.in-Some.command in
     let steps : into_iter_items at.command-iterator ≡ command ∷ into_iter_items c.next.new.self = c.in-Some.ensures.steps.0 in
@@ -40,8 +38,7 @@ returns-in_default-step-clause-stops g c = λ stopped.
     inr (
       command,
       rw (← all, count) (at_seam at.yielded command (into_iter_items c.next.new.self)),
-      lacks_values (detail FixedSize g.T.ZeroCopySend.name g.T.ZeroCopySend.size g.T.ZeroCopySend.alignment) (detail FixedSize g.U.ZeroCopySend.name g.U.ZeroCopySend.size g.U.ZeroCopySend.alignment) (types_of g.T.ZeroCopySend.name g.T.ZeroCopySend.size g.T.ZeroCopySend.alignment g.U.ZeroCopySend.name g.U.ZeroCopySend.size g.U.ZeroCopySend.alignment) (λ value. g.T.Default.is_default value) (λ value. g.U.Default.is_default value) g.B.PublisherHandlers.fixed (λ handlers. g.B.Degrades.degrades handlers) (λ handlers. g.B.Decides.decides handlers) g.D.SubscriberHandler.fixed (λ handler. g.D.Degrades.degrades handler) (loans_in (into_iter_items c.next.new.self)) (samples_in (into_iter_items c.next.new.self)) command at.self c.step.new.self c.in_default-step.field-0 c.in_default-step.ensures.steps
-          (subst (λ items. FitsAll (loans_in items) (samples_in items) at.self.made) steps at.invariant.fits),
+      lacks_values command at.self c.step.new.self (c.in_default-step.ensures.lacks (at.invariant.kept.0 loans, at.invariant.kept.1 grown samples)),
     )
 
 pub returns-in_default-step-clause-room : goal.returns-in_default-step-clause-room

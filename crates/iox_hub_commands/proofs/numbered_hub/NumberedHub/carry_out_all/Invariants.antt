@@ -6,7 +6,6 @@ use Rattle.iox_hub_commands.specs.Asked.{types_of}
 use Rattle.iox_hub_commands.specs.Grown.{GrowsOn}
 use Rattle.iox_hub_commands.specs.Numbers.{numbers_used}
 use Rattle.iox_hub_commands.specs.PortRoom.{KeepsRoom}
-use Rattle.iox_hub_commands.specs.Room.{loans_in, samples_in, FitsAll}
 use Rattle.iox_hub_commands.specs.Runs.{Runs}
 use Rattle.iox_hub_commands.specs.CommandSteps.{Step}
 use Rattle.iox_hub_commands.proofs.numbered_hub.NumberedHub.carry_out_all.Given as goal
@@ -20,7 +19,6 @@ invariant-loop-command g l = record {
   counts : numbers_used l.self ≤ numbers_used l.initial.self + length l.yielded;
   answered : vec_len l.replies ≡ length l.yielded;
   room : length (into_iter_items l.initial.command-iterator) ≤ vec_capacity l.replies;
-  fits : FitsAll (loans_in (into_iter_items l.command-iterator)) (samples_in (into_iter_items l.command-iterator)) l.self.made;
   grows : GrowsOn l.initial.self.hub l.self.hub;
   kept : KeepsRoom l.initial.self l.self;
 }

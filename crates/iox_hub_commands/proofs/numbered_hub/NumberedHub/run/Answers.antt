@@ -1,10 +1,8 @@
-use Rattle.std.proofs.Common.{ap, subst, sym}
 use Rattle.iox_delivery.specs.DescribeBase.Detail.{detail}
 use Rattle.iox_delivery.specs.DescribeBase.declared.type_detail.TypeVariant.TheVariants.{FixedSize}
 use Rattle.iox_hub_commands.specs.Asked.{types_of}
 use Rattle.iox_hub_commands.proofs.AsAgreed.{are_as_agreed}
 use Rattle.iox_hub_commands.proofs.RunLemmas.{run_goes}
-use Rattle.iox_hub_commands.proofs.Rooms.{roomier_goes_on}
 use Rattle.iox_hub_commands.proofs.StepChanges.{step_changes, numbers_still, numbers_go_on, numbers_on_and_on}
 use Rattle.iox_hub_commands.proofs.StepMoves.{step_goes}
 use Rattle.iox_hub_commands.specs.Agreements.{AreOfOneAgreement}
@@ -15,26 +13,21 @@ use Rattle.iox_hub_commands.proofs.numbered_hub.NumberedHub.run.Goals as goal
 
 pub returns-clause-goes_on : goal.returns-clause-goes_on
 returns-clause-goes_on g c =
-    let (roomier, only, ran, room) = c.carry_out_in_room.ensures.ran in
-    numbers_on_and_on c.args.self.now roomier c.carry_out_in_room.new.self (roomier_goes_on c.args.self.now roomier only)
-    (run_goes (Step (detail FixedSize g.T.ZeroCopySend.name g.T.ZeroCopySend.size g.T.ZeroCopySend.alignment) (detail FixedSize g.U.ZeroCopySend.name g.U.ZeroCopySend.size g.U.ZeroCopySend.alignment) (types_of g.T.ZeroCopySend.name g.T.ZeroCopySend.size g.T.ZeroCopySend.alignment g.U.ZeroCopySend.name g.U.ZeroCopySend.size g.U.ZeroCopySend.alignment) (λ value. g.T.Default.is_default value) (λ value. g.U.Default.is_default value) g.B.PublisherHandlers.fixed (λ handlers. g.B.Degrades.degrades handlers) (λ handlers. g.B.Decides.decides handlers) g.D.SubscriberHandler.fixed (λ handler. g.D.Degrades.degrades handler)) NumbersGoOn numbers_still numbers_on_and_on
+    run_goes (Step (detail FixedSize g.T.ZeroCopySend.name g.T.ZeroCopySend.size g.T.ZeroCopySend.alignment) (detail FixedSize g.U.ZeroCopySend.name g.U.ZeroCopySend.size g.U.ZeroCopySend.alignment) (types_of g.T.ZeroCopySend.name g.T.ZeroCopySend.size g.T.ZeroCopySend.alignment g.U.ZeroCopySend.name g.U.ZeroCopySend.size g.U.ZeroCopySend.alignment) (λ value. g.T.Default.is_default value) (λ value. g.U.Default.is_default value) g.B.PublisherHandlers.fixed (λ handlers. g.B.Degrades.degrades handlers) (λ handlers. g.B.Decides.decides handlers) g.D.SubscriberHandler.fixed (λ handler. g.D.Degrades.degrades handler)) NumbersGoOn numbers_still numbers_on_and_on
     (λ command old new answer does. numbers_go_on old new (step_changes (detail FixedSize g.T.ZeroCopySend.name g.T.ZeroCopySend.size g.T.ZeroCopySend.alignment) (detail FixedSize g.U.ZeroCopySend.name g.U.ZeroCopySend.size g.U.ZeroCopySend.alignment) (types_of g.T.ZeroCopySend.name g.T.ZeroCopySend.size g.T.ZeroCopySend.alignment g.U.ZeroCopySend.name g.U.ZeroCopySend.size g.U.ZeroCopySend.alignment) (λ value. g.T.Default.is_default value) (λ value. g.U.Default.is_default value) g.B.PublisherHandlers.fixed (λ handlers. g.B.Degrades.degrades handlers) (λ handlers. g.B.Decides.decides handlers) g.D.SubscriberHandler.fixed (λ handler. g.D.Degrades.degrades handler) command old new answer does))
-    _ roomier c.carry_out_in_room.new.self _ _ ran)
+    _ c.args.self.now c.carry_out_all.new.self _ _ c.carry_out_all.ensures.ran
 
 pub returns-clause-grows : goal.returns-clause-grows
 returns-clause-grows g c =
-    let (roomier, only, ran, room) = c.carry_out_in_room.ensures.ran in
-    let same = ap (λ hub. hub.hub) only.1 in
-    subst (λ hub. GrowsOn hub c.carry_out_in_room.new.self.hub) same (run_goes (Step (detail FixedSize g.T.ZeroCopySend.name g.T.ZeroCopySend.size g.T.ZeroCopySend.alignment) (detail FixedSize g.U.ZeroCopySend.name g.U.ZeroCopySend.size g.U.ZeroCopySend.alignment) (types_of g.T.ZeroCopySend.name g.T.ZeroCopySend.size g.T.ZeroCopySend.alignment g.U.ZeroCopySend.name g.U.ZeroCopySend.size g.U.ZeroCopySend.alignment) (λ value. g.T.Default.is_default value) (λ value. g.U.Default.is_default value) g.B.PublisherHandlers.fixed (λ handlers. g.B.Degrades.degrades handlers) (λ handlers. g.B.Decides.decides handlers) g.D.SubscriberHandler.fixed (λ handler. g.D.Degrades.degrades handler)) (λ old new. GrowsOn old.hub new.hub) (λ one grown. grown) (λ old mid new first second grown. second (first grown))
+    run_goes (Step (detail FixedSize g.T.ZeroCopySend.name g.T.ZeroCopySend.size g.T.ZeroCopySend.alignment) (detail FixedSize g.U.ZeroCopySend.name g.U.ZeroCopySend.size g.U.ZeroCopySend.alignment) (types_of g.T.ZeroCopySend.name g.T.ZeroCopySend.size g.T.ZeroCopySend.alignment g.U.ZeroCopySend.name g.U.ZeroCopySend.size g.U.ZeroCopySend.alignment) (λ value. g.T.Default.is_default value) (λ value. g.U.Default.is_default value) g.B.PublisherHandlers.fixed (λ handlers. g.B.Degrades.degrades handlers) (λ handlers. g.B.Decides.decides handlers) g.D.SubscriberHandler.fixed (λ handler. g.D.Degrades.degrades handler)) (λ old new. GrowsOn old.hub new.hub) (λ one grown. grown) (λ old mid new first second grown. second (first grown))
     (λ command old new answer does. let ((id, moves), agrees) = step_goes (detail FixedSize g.T.ZeroCopySend.name g.T.ZeroCopySend.size g.T.ZeroCopySend.alignment) (detail FixedSize g.U.ZeroCopySend.name g.U.ZeroCopySend.size g.U.ZeroCopySend.alignment) (types_of g.T.ZeroCopySend.name g.T.ZeroCopySend.size g.T.ZeroCopySend.alignment g.U.ZeroCopySend.name g.U.ZeroCopySend.size g.U.ZeroCopySend.alignment) (λ value. g.T.Default.is_default value) (λ value. g.U.Default.is_default value) g.B.PublisherHandlers.fixed (λ handlers. g.B.Degrades.degrades handlers) (λ handlers. g.B.Decides.decides handlers) g.D.SubscriberHandler.fixed (λ handler. g.D.Degrades.degrades handler) command old new answer does in moves.1)
-    _ roomier c.carry_out_in_room.new.self _ _ ran)
+    _ c.args.self.now c.carry_out_all.new.self _ _ c.carry_out_all.ensures.ran
 
 pub returns-clause-agreed : goal.returns-clause-agreed
-returns-clause-agreed g c = λ grown. are_as_agreed c.carry_out_in_room.new.self.hub.services.domains (returns-clause-grows g c grown)
+returns-clause-agreed g c = λ grown. are_as_agreed c.carry_out_all.new.self.hub.services.domains (returns-clause-grows g c grown)
 
 pub returns-clause-one_agreement : goal.returns-clause-one_agreement
 returns-clause-one_agreement g c =
-    let (roomier, only, ran, room) = c.carry_out_in_room.ensures.ran in
-    λ are. run_goes (Step (detail FixedSize g.T.ZeroCopySend.name g.T.ZeroCopySend.size g.T.ZeroCopySend.alignment) (detail FixedSize g.U.ZeroCopySend.name g.U.ZeroCopySend.size g.U.ZeroCopySend.alignment) (types_of g.T.ZeroCopySend.name g.T.ZeroCopySend.size g.T.ZeroCopySend.alignment g.U.ZeroCopySend.name g.U.ZeroCopySend.size g.U.ZeroCopySend.alignment) (λ value. g.T.Default.is_default value) (λ value. g.U.Default.is_default value) g.B.PublisherHandlers.fixed (λ handlers. g.B.Degrades.degrades handlers) (λ handlers. g.B.Decides.decides handlers) g.D.SubscriberHandler.fixed (λ handler. g.D.Degrades.degrades handler)) (λ old new. AreOfOneAgreement old.factories.made old.hub → AreOfOneAgreement new.factories.made new.hub) (λ one are. are) (λ old mid new first second are. second (first are))
+    run_goes (Step (detail FixedSize g.T.ZeroCopySend.name g.T.ZeroCopySend.size g.T.ZeroCopySend.alignment) (detail FixedSize g.U.ZeroCopySend.name g.U.ZeroCopySend.size g.U.ZeroCopySend.alignment) (types_of g.T.ZeroCopySend.name g.T.ZeroCopySend.size g.T.ZeroCopySend.alignment g.U.ZeroCopySend.name g.U.ZeroCopySend.size g.U.ZeroCopySend.alignment) (λ value. g.T.Default.is_default value) (λ value. g.U.Default.is_default value) g.B.PublisherHandlers.fixed (λ handlers. g.B.Degrades.degrades handlers) (λ handlers. g.B.Decides.decides handlers) g.D.SubscriberHandler.fixed (λ handler. g.D.Degrades.degrades handler)) (λ old new. AreOfOneAgreement old.factories.made old.hub → AreOfOneAgreement new.factories.made new.hub) (λ one are. are) (λ old mid new first second are. second (first are))
     (λ command old new answer does. let (serves, agrees) = step_goes (detail FixedSize g.T.ZeroCopySend.name g.T.ZeroCopySend.size g.T.ZeroCopySend.alignment) (detail FixedSize g.U.ZeroCopySend.name g.U.ZeroCopySend.size g.U.ZeroCopySend.alignment) (types_of g.T.ZeroCopySend.name g.T.ZeroCopySend.size g.T.ZeroCopySend.alignment g.U.ZeroCopySend.name g.U.ZeroCopySend.size g.U.ZeroCopySend.alignment) (λ value. g.T.Default.is_default value) (λ value. g.U.Default.is_default value) g.B.PublisherHandlers.fixed (λ handlers. g.B.Degrades.degrades handlers) (λ handlers. g.B.Decides.decides handlers) g.D.SubscriberHandler.fixed (λ handler. g.D.Degrades.degrades handler) command old new answer does in agrees)
-    _ roomier c.carry_out_in_room.new.self _ _ ran (subst (λ hub. AreOfOneAgreement hub.factories.made hub.hub) (sym only.1) are)
+    _ c.args.self.now c.carry_out_all.new.self _ _ c.carry_out_all.ensures.ran

@@ -1,0 +1,26 @@
+-- What a domain does when a publisher leaves is what the machine's service does.
+use Rattle.std.specs.Prelude.{ℕ, ◌≡◌, ◌≢◌, Bool, true, List}
+use Rattle.iox_command.specs.NegotiateBase.DescribeBase.declared.message_type.MessageTypeDetails.{MessageTypeDetails}
+use Rattle.iox_command.specs.declared.command.Command.TheVariants as command
+use Rattle.iox_command.specs.declared.port.PortNumber.TheVariants as port
+use Rattle.iox_domain.specs.DomainPorts.declared.attached.Taken.{Taken}
+use Rattle.iox_domain.specs.PortLawsLaws.{IsSound}
+use Rattle.iox_domain.specs.Rolls.{may_change}
+use Rattle.iox_domain.specs.Steps.{PublisherLeaves}
+use Rattle.iox_domain.specs.declared.ports.service_ports.ServicePorts.{ServicePorts}
+use Rattle.iox_domain_machine.specs.Laws.{Matches, done_or_skipped}
+use Rattle.iox_domain_machine.specs.Naming.{Naming}
+use Rattle.iox_domain_machine.specs.Standing.{StandsFor}
+use Rattle.iox_domain_machine.specs.Tables.{LentSlot}
+use Rattle.iox_machine.specs.Service.{Service}
+use Rattle.iox_machine.specs.State.{State}
+
+-- A publisher leaves, of ports that are sound: so they are after any calls, as `HeldStays` says. One change more of the list of
+-- publishers can be counted.
+abbrev pub PublisherLeaveMatches : (T U : Type 0) → (T → Type 0) → Type 0
+PublisherLeaveMatches T U IsDefault = (types : MessageTypeDetails) (buffer : ℕ) (names : Naming) (lent : List (ℕ × LentSlot))
+    (held : List (ℕ × Taken)) (old new : ServicePorts T U) (service : Service T) (state : State T) (number : ℕ) (answer : Bool)
+    → StandsFor names lent held buffer old service → IsSound old → names.publisher number ≢ 0 → may_change old.publisher_list ≡ true
+    → PublisherLeaves number old answer new
+    → Matches T U IsDefault types buffer (command.Leave (port.Publisher (names.publisher number))) (done_or_skipped answer) state
+    service names lent held new

@@ -1,0 +1,10 @@
+pub mod Naming
+pub mod Publishers
+pub mod Mailboxes
+pub mod Subscribers
+pub mod Tables
+pub mod Standing
+pub mod Laws
+pub mod ReleaseLaws
+pub mod LeaveLaws
+pub mod LendingLaws

@@ -1,0 +1,69 @@
+-- Which mailboxes of the machine the connections of a publisher are.
+use Rattle.std.specs.Prelude.{ℕ, ◌≤◌, ◌≡◌, ◌≢◌, true, false, [], List, get_or, is_some, map, Option, None, Some}
+use Rattle.iox_domain.specs.DomainPorts.Messages as domain
+use Rattle.iox_domain.specs.DomainPorts.Ports.{connection_of, is_live}
+use Rattle.iox_domain.specs.DomainPorts.Subscribing.{attached_at}
+use Rattle.iox_domain.specs.DomainPorts.declared.publisher_port.PublisherPort.{PublisherPort}
+use Rattle.iox_domain.specs.DomainPorts.declared.reader.Reader.{Reader}
+use Rattle.iox_domain.specs.DomainPorts.declared.subscriber_port.SubscriberPort.{SubscriberPort}
+use Rattle.iox_domain.specs.DomainSlots.Counting.{times}
+use Rattle.iox_domain.specs.DomainSlots.Uses.{held_by, is_there}
+use Rattle.iox_domain.specs.DomainSlots.declared.stage.Stage.TheVariants as stage
+use Rattle.iox_domain.specs.Subscribers.{subscriber_of}
+use Rattle.iox_domain_machine.specs.Naming.{message_as, mailbox_as}
+use Rattle.iox_machine.specs.Mailbox.{Mailbox}
+use Rattle.iox_machine.specs.Service.{Subscriber}
+use Rattle.iox_machine.specs.Table.{at}
+
+-- how often a slot waits or is borrowed at a connection
+abbrev pub times_held : {T U : Type 0} → ℕ → ℕ → PublisherPort T U → ℕ
+times_held slot index port = times slot (map (λ (message : domain.Message _ _). message.slot) (held_by (connection_of index port)))
+
+-- no connection of a publisher is that of a subscriber with this name
+abbrev pub JoinsNobody : {T U : Type 0} → (ℕ → ℕ) → ℕ → PublisherPort T U → Type 0
+JoinsNobody reader name port = (index : ℕ) → is_there (connection_of index port) ≡ true → reader index ≢ name
+
+-- What the connections of a publisher are to the machine, by the names of its messages and of its subscribers.
+pub record MailboxesStandFor {T U : Type 0} (name reader subscriber_name : ℕ → ℕ) (port : PublisherPort T U)
+    (mailboxes : ℕ → Option (Mailbox T)) (subscribers : List (ℕ × Subscriber)) : Type 0 where
+  -- one that goes on is the mailbox of its subscriber
+  pub live : (index : ℕ) → is_live index port ≡ true → mailboxes (reader index) ≡ Some (mailbox_as name (connection_of index port))
+  -- of one that ended as much is borrowed; what waits there nobody gets, and while the publisher stands nothing does, and its subscriber
+  -- left
+  pub ended : (index : ℕ) → (connection_of index port).stage ≡ stage.Ended
+      → (box : Mailbox T) × (mailboxes (reader index) ≡ Some box)
+      × (box.borrowed ≡ map (message_as name) (connection_of index port).borrowed)
+      × (port.stands ≡ true → (box.waiting ≡ [])
+      × ((one : Subscriber) → at (reader index) subscribers ≡ Some one → one.stands ≡ false))
+  -- and nothing waits there in the domain
+  pub quiet : (index : ℕ) → (connection_of index port).stage ≡ stage.Ended → (connection_of index port).waiting ≡ []
+  -- of another mailbox nothing is borrowed; while the publisher stands nothing waits there either
+  pub others : (other : ℕ) → JoinsNobody reader other port → (box : Mailbox T) → mailboxes other ≡ Some box
+      → (box.borrowed ≡ []) × (port.stands ≡ true → box.waiting ≡ [])
+  -- and while both stand there is none
+  pub none : (other : ℕ) → JoinsNobody reader other port → port.stands ≡ true → (one : Subscriber) → at other subscribers ≡ Some one
+      → one.stands ≡ true → mailboxes other ≡ None
+  -- each connection is that of a subscriber, and no two are those of one
+  pub known : (index : ℕ) → is_there (connection_of index port) ≡ true → is_some (at (reader index) subscribers) ≡ true
+  pub apart : (one other : ℕ) → is_there (connection_of one port) ≡ true → is_there (connection_of other port) ≡ true
+      → reader one ≡ reader other → one ≡ other
+  -- one that goes on leads to somebody
+  pub led : (index : ℕ) → is_live index port ≡ true → is_some (get_or port.readers index None) ≡ true
+  -- and that is whose connection it is
+  pub read : (index : ℕ) (to : Reader) → get_or port.readers index None ≡ Some to
+      → (reader index ≡ subscriber_name to.subscriber) × (subscriber_name to.subscriber ≢ 0)
+  -- of one that no place is tied to nothing waits or is borrowed, while the publisher stands
+  pub unmet : port.stands ≡ true → (index : ℕ) → is_live index port ≡ true
+      → ((place : ℕ) → get_or port.ties.items place None ≢ Some index) → held_by (connection_of index port) ≡ []
+  -- no message waits or is borrowed there twice
+  pub once : (index slot : ℕ) → times_held slot index port ≤ 1
+  -- and none of a send that is still to come there
+  pub due : (message : domain.Message T U) → port.sender.uses.sending ≡ Some message → (place index : ℕ) → port.progress.place ≤ place
+      → get_or port.ties.items place None ≡ Some index → times_held message.slot index port ≡ 0
+
+-- who reads at a connection stands, and has a key for it
+abbrev pub IsKeyed : {T U : Type 0} → ℕ → PublisherPort T U → List (ℕ × SubscriberPort) → Type 0
+IsKeyed number port subscribers =
+    (index : ℕ) (to : Reader) → get_or port.readers index None ≡ Some to → to.attached ≡ true
+    → (subscriber : SubscriberPort) × (subscriber_of to.subscriber subscribers ≡ Some subscriber) × (subscriber.stands ≡ true)
+    × (key : ℕ) × (attached_at key subscriber ≡ Some (record { publisher = number; index = index }))

@@ -1,0 +1,63 @@
+-- Which publisher of the machine one of a domain is.
+use Rattle.std.specs.Prelude.{ℕ, ◌+◌, ◌<◌, ◌≤◌, ◌≡◌, false, List, length, drop, map, nat_le, Option, None, Some, option_map}
+use Rattle.iox_domain.specs.DomainPorts.Messages as domain
+use Rattle.iox_domain.specs.DomainPorts.MessagesSending.{slots_of}
+use Rattle.iox_domain.specs.DomainPorts.Places.{reached}
+use Rattle.iox_domain.specs.DomainPorts.Progress.{ProgressState}
+use Rattle.iox_domain.specs.DomainPorts.declared.publisher_port.PublisherPort.{PublisherPort}
+use Rattle.iox_domain.specs.DomainSlots.Counting.{times}
+use Rattle.iox_domain.specs.DomainSlots.Uses.{Uses, in_use}
+use Rattle.iox_domain.specs.Making.{segments_of}
+use Rattle.iox_domain_machine.specs.Naming.{message_as}
+use Rattle.iox_machine.specs.PortList.{those}
+use Rattle.iox_machine.specs.Service.{Publisher, Send}
+
+-- A send that waits has this message, goes to those who are connected at the places that are left, and was taken by as many so far.
+pub record SendStandsFor {T U : Type 0} (name : ℕ → ℕ) (connected : List (Option ℕ)) (progress : ProgressState)
+    (sent : domain.Message T U) (send : Send T) : Type 0 where
+  pub message : send.message ≡ message_as name sent
+  pub left : send.left ≡ those (drop progress.place connected)
+  pub delivered : send.delivered ≡ progress.delivered
+  pub fails : send.fails ≡ progress.fails
+
+-- a send waits of both, or of neither
+abbrev pub BlockedStandsFor : {T U : Type 0} → (ℕ → ℕ) → List (Option ℕ) → ProgressState → Option (domain.Message T U) → Option (Send T)
+    → Type 0
+BlockedStandsFor name connected progress None blocked = blocked ≡ None
+BlockedStandsFor {T} name connected progress (Some message) blocked =
+    (send : Send T) × (blocked ≡ Some send) × SendStandsFor name connected progress message send
+
+-- The messages of a publisher that are in use have names by their slots, each its own, below the one that the next message gets. One is
+-- of the current segment by its name exactly if it is by its slot, and no slot lies behind that. A slot that is lent has no other use.
+-- And the next message is one of the current segment.
+pub record NamesSlots (name : ℕ → ℕ) (uses : Uses ℕ ℕ) (first next : ℕ) : Type 0 where
+  pub apart : (one other : ℕ) → 0 < times one (in_use uses) → 0 < times other (in_use uses) → name one ≡ name other → one ≡ other
+  pub below : (slot : ℕ) → 0 < times slot (in_use uses) → name slot < next
+  pub current : (slot : ℕ) → 0 < times slot (in_use uses) → nat_le first (name slot) ≡ nat_le uses.first slot
+  pub within : (slot : ℕ) → 0 < times slot (in_use uses) → slot < uses.first + uses.size
+  pub sole : (slot : ℕ) → 0 < times slot uses.loans → times slot (in_use uses) ≡ 1
+  pub ahead : first ≤ next
+
+-- A publisher of a domain is this one of the machine, where its messages have these names by their slots, and its subscribers by the
+-- indices of their connections; so many may be listed. No message is in its history twice, its values are counted one by one, no send
+-- waits of one that left, and there is a slot for each loan that may be out.
+pub record PublisherStandsFor {T U : Type 0} (name reader : ℕ → ℕ) (most_subscribers : ℕ) (port : PublisherPort T U)
+    (publisher : Publisher T) : Type 0 where
+  pub factory : publisher.factory ≡ port.owner.number
+  pub stands : publisher.stands ≡ port.stands
+  pub max_loaned_samples : publisher.max_loaned_samples ≡ port.sender.uses.most_loans
+  pub allocation : publisher.allocation ≡ port.allocation
+  pub slots : publisher.slots ≡ port.sender.uses.size
+  pub room : publisher.room ≡ port.sender.room
+  pub segments : publisher.segments ≡ port.sender.segments
+  pub history : publisher.history ≡ map (message_as name) port.sender.uses.history
+  pub once : (slot : ℕ) → times slot (slots_of port.sender).history ≤ 1
+  pub seen : publisher.seen ≡ port.seen
+  pub connected : publisher.connected ≡ map (option_map reader) (reached most_subscribers port.ties.items)
+  pub ties : length port.ties.items ≤ most_subscribers
+  pub blocked : BlockedStandsFor name publisher.connected port.progress port.sender.uses.sending publisher.blocked
+  pub left : port.stands ≡ false → port.sender.uses.sending ≡ None
+  pub named : NamesSlots name (slots_of port.sender) publisher.first publisher.next
+  pub unit : port.unit ≡ 1
+  pub most_segments : port.sender.most_segments ≡ segments_of port.allocation
+  pub ample : port.sender.uses.most_loans ≤ port.sender.uses.size

@@ -1,0 +1,86 @@
+-- Which service of the machine the ports of a domain are.
+use Rattle.std.specs.Prelude.{ℕ, ◌≡◌, ◌≤◌, true, false, List, get_or, is_some, Option, None, Some}
+use Rattle.std.specs.Map.{keys_of}
+use Rattle.iox_domain.specs.Container.declared.container.Member.{Member}
+use Rattle.iox_domain.specs.DomainPorts.Publishers.{port_of}
+use Rattle.iox_domain.specs.DomainPorts.declared.attached.Taken.{Taken}
+use Rattle.iox_domain.specs.DomainPorts.declared.publisher_entry.PublisherEntry.{PublisherEntry}
+use Rattle.iox_domain.specs.DomainPorts.declared.publisher_port.PublisherPort.{PublisherPort}
+use Rattle.iox_domain.specs.DomainPorts.declared.subscriber_entry.SubscriberEntry.{SubscriberEntry}
+use Rattle.iox_domain.specs.DomainPorts.declared.subscriber_port.SubscriberPort.{SubscriberPort}
+use Rattle.iox_domain.specs.Sizes.{sizes}
+use Rattle.iox_domain.specs.Subscribers.{subscriber_of}
+use Rattle.iox_domain.specs.Tries.{how_often}
+use Rattle.iox_domain.specs.declared.ports.service_ports.ServicePorts.{ServicePorts}
+use Rattle.iox_domain_machine.specs.Mailboxes.{MailboxesStandFor, IsKeyed}
+use Rattle.iox_domain_machine.specs.Naming.{Naming, NamesPorts, list_as}
+use Rattle.iox_domain_machine.specs.Publishers.{PublisherStandsFor}
+use Rattle.iox_domain_machine.specs.Subscribers.{SubscriberStandsFor}
+use Rattle.iox_domain_machine.specs.Tables.{LentSlot, LoansStandFor, SamplesStandFor}
+use Rattle.iox_machine.specs.Service.{Publisher, Subscriber, Service}
+use Rattle.iox_machine.specs.Table.{at}
+
+-- a publisher of a domain, by its number: the machine has it under its name, with its mailboxes
+abbrev pub PublisherIs : {T U : Type 0} → Naming → ServicePorts T U → Service T → ℕ → PublisherPort T U → Type 0
+PublisherIs {T} names ports service number port =
+    (publisher : Publisher T) × (at (names.publisher number) service.publishers ≡ Some publisher)
+    × PublisherStandsFor (names.message number) (names.reader number) ports.sizes.max_subscribers port publisher
+    × MailboxesStandFor (names.message number) (names.reader number) names.subscriber port (service.mailboxes (names.publisher number))
+    service.subscribers
+
+-- a publisher that stands is listed at its place
+abbrev pub IsListedAt : {T U : Type 0} → List (Option (Member PublisherEntry)) → ℕ → PublisherPort T U → Type 0
+IsListedAt places number port =
+    port.stands ≡ true
+    → (member : Member PublisherEntry) × (get_or places port.place None ≡ Some member) × (member.value.publisher ≡ number)
+
+-- a subscriber of a domain, by its number: the machine has it under its name
+abbrev pub SubscriberIs : {T U : Type 0} → Naming → ServicePorts T U → Service T → ℕ → SubscriberPort → Type 0
+SubscriberIs names ports service number port =
+    (subscriber : Subscriber) × (at (names.subscriber number) service.subscribers ≡ Some subscriber)
+    × SubscriberStandsFor names.publisher ports.sizes.max_publishers ports.sizes.expired_connections port subscriber
+
+-- The ports of a domain, with the loans and samples that go by numbers, stand for this service of the machine, by these names. A
+-- subscriber keeps at least so many connections to publishers that left.
+pub record StandsFor {T U : Type 0} (names : Naming) (lent : List (ℕ × LentSlot)) (held : List (ℕ × Taken)) (buffer : ℕ)
+    (ports : ServicePorts T U) (service : Service T) : Type 0 where
+  -- it allows as much
+  pub sizes : ports.sizes ≡ sizes buffer service.settings
+  -- the same ports are listed
+  pub publisher_list : service.publisher_list ≡ list_as (λ (entry : PublisherEntry). names.publisher entry.publisher) ports.publisher_list
+  pub subscriber_list : service.subscriber_list ≡ list_as (λ (entry : SubscriberEntry). names.subscriber entry.subscriber)
+      ports.subscriber_list
+  -- who ever came has a name, and nobody else
+  pub named_publishers : NamesPorts names.publisher service.publishers
+  pub named_subscribers : NamesPorts names.subscriber service.subscribers
+  pub unnamed : (number : ℕ) → ports.next_port ≤ number → (names.publisher number ≡ 0) × (names.subscriber number ≡ 0)
+  -- each publisher is one of the machine, and where it stands, and just then, it is listed, at its place; who isn't there any longer left
+  pub publishers : (number : ℕ) (port : PublisherPort T U) → port_of number ports.publishers ≡ Some port
+      → PublisherIs names ports service number port
+  pub listed : (number : ℕ) (port : PublisherPort T U) → port_of number ports.publishers ≡ Some port
+      → IsListedAt ports.publisher_list.places number port
+  pub present : (place : ℕ) (member : Member PublisherEntry) → get_or ports.publisher_list.places place None ≡ Some member
+      → (port : PublisherPort T U) × (port_of member.value.publisher ports.publishers ≡ Some port) × (port.stands ≡ true)
+      × (port.place ≡ place)
+  pub gone_publishers : (number : ℕ) (publisher : Publisher T) → port_of number ports.publishers ≡ None
+      → at (names.publisher number) service.publishers ≡ Some publisher → publisher.stands ≡ false
+  pub once : (number : ℕ) → how_often number (keys_of ports.publishers) ≤ 1
+  pub once_subscribers : (number : ℕ) → how_often number (keys_of ports.subscribers) ≤ 1
+  -- who reads at a connection stands, and has a key for it
+  pub keyed : (number : ℕ) (port : PublisherPort T U) → port_of number ports.publishers ≡ Some port → IsKeyed number port ports.subscribers
+  -- each subscriber is one of the machine; who isn't there any longer left
+  pub subscribers : (number : ℕ) (port : SubscriberPort) → subscriber_of number ports.subscribers ≡ Some port
+      → SubscriberIs names ports service number port
+  pub gone_subscribers : (number : ℕ) (subscriber : Subscriber) → subscriber_of number ports.subscribers ≡ None
+      → at (names.subscriber number) service.subscribers ≡ Some subscriber → subscriber.stands ≡ false
+  -- who is listed stands, and as many messages may wait as the list says
+  pub sized : (place : ℕ) (member : Member SubscriberEntry) → get_or ports.subscriber_list.places place None ≡ Some member
+      → (subscriber : Subscriber) × (at (names.subscriber member.value.subscriber) service.subscribers ≡ Some subscriber)
+      × (subscriber.stands ≡ true) × (subscriber.buffer_size ≡ member.value.buffer_size)
+      × (member.value.buffer_size ≤ ports.sizes.subscriber_max_buffer_size)
+  -- each mailbox is that of a publisher and a subscriber that came
+  pub joined : (one other : ℕ) → is_some (service.mailboxes one other) ≡ true
+      → (is_some (at one service.publishers) ≡ true) × (is_some (at other service.subscribers) ≡ true)
+  -- loans and samples are the same
+  pub loans : LoansStandFor names ports lent service.loans
+  pub samples : SamplesStandFor names ports held service.samples

@@ -1,0 +1,24 @@
+-- Which subscriber of the machine one of a domain is.
+use Rattle.std.specs.Prelude.{ℕ, ◌≡◌, map, option_map}
+use Rattle.std.specs.Option.{option_map_or}
+use Rattle.iox_domain.specs.DomainPorts.Places.{reached}
+use Rattle.iox_domain.specs.DomainPorts.Subscribing.{attached_at}
+use Rattle.iox_domain.specs.DomainPorts.declared.subscriber_port.SubscriberPort.{SubscriberPort}
+use Rattle.iox_machine.specs.Service.{Subscriber}
+
+-- the publisher that a key leads to, by its name; 0 without one
+abbrev pub publisher_by : (ℕ → ℕ) → SubscriberPort → ℕ → ℕ
+publisher_by name port key = option_map_or (λ attached. name attached.publisher) (attached_at key port) 0
+
+-- A subscriber of a domain is this one of the machine, where publishers have these names; so many may be listed, and so many connections
+-- to publishers that left are kept.
+pub record SubscriberStandsFor (name : ℕ → ℕ) (most_publishers most_expired : ℕ) (port : SubscriberPort) (subscriber : Subscriber)
+    : Type 0 where
+  pub factory : subscriber.factory ≡ port.owner.number
+  pub stands : subscriber.stands ≡ port.stands
+  pub buffer_size : subscriber.buffer_size ≡ port.buffer_size
+  pub seen : subscriber.seen ≡ port.seen
+  pub again : subscriber.again ≡ port.again
+  pub connected : subscriber.connected ≡ map (option_map (publisher_by name port)) (reached most_publishers port.places.items)
+  pub expired : subscriber.expired ≡ map (publisher_by name port) port.expired.items
+  pub room : port.expired.room ≡ most_expired

@@ -1,0 +1,86 @@
+-- Which loans and samples of the machine are those of a domain that go by numbers.
+use Rattle.std.specs.Prelude.{ℕ, ◌==◌, ◌&&◌, ◌≡◌, ◌≤◌, List, [], filter, map, count_by, Option, None, Some}
+use Rattle.std.specs.List.{All}
+use Rattle.std.specs.Map.{keys_of}
+use Rattle.std.specs.Option.{option_map_or}
+use Rattle.iox_domain.specs.DomainPorts.Messages as domain
+use Rattle.iox_domain.specs.DomainPorts.MessagesSending.{slots_of}
+use Rattle.iox_domain.specs.DomainPorts.Publishers.{port_of, connection_in}
+use Rattle.iox_domain.specs.DomainPorts.declared.attached.Taken.{Taken}
+use Rattle.iox_domain.specs.DomainPorts.declared.publisher_port.PublisherPort.{PublisherPort}
+use Rattle.iox_domain.specs.DomainPorts.declared.subscriber_port.SubscriberPort.{SubscriberPort}
+use Rattle.iox_domain.specs.Lending.{loan_in}
+use Rattle.iox_domain.specs.Reading.{sample_in}
+use Rattle.iox_domain.specs.Subscribers.{subscriber_of}
+use Rattle.iox_domain.specs.Tries.{how_often}
+use Rattle.iox_domain.specs.declared.ports.service_ports.ServicePorts.{ServicePorts}
+use Rattle.iox_domain_machine.specs.Naming.{Naming}
+use Rattle.iox_machine.specs.Message.{Loan, Sample}
+
+-- a loan of a domain: whose, and in which slot
+pub record LentSlot : Type 0 where
+  pub publisher : ℕ
+  pub slot : ℕ
+
+-- the slots of the loans that go by numbers and are those of a publisher
+abbrev pub slots_lent_by : ℕ → List (ℕ × LentSlot) → List ℕ
+slots_lent_by publisher lent =
+    map (λ (entry : ℕ × LentSlot). entry.1.slot)
+    (filter (λ (entry : ℕ × LentSlot). entry.1.publisher == publisher) lent)
+
+-- the slots of the samples that go by numbers and came from a connection
+abbrev pub slots_held_of : ℕ → ℕ → List (ℕ × Taken) → List ℕ
+slots_held_of publisher index held =
+    map (λ (entry : ℕ × Taken). entry.1.slot)
+    (filter (λ (entry : ℕ × Taken). (entry.1.publisher == publisher) && (entry.1.index == index)) held)
+
+-- how many samples that go by numbers a subscriber received
+abbrev pub samples_held_by : ℕ → List (ℕ × Taken) → ℕ
+samples_held_by subscriber held = count_by (λ (entry : ℕ × Taken). entry.1.subscriber == subscriber) held
+
+-- the slots of the loans of a publisher; none without one
+abbrev pub loans_at_port : {T U : Type 0} → Option (PublisherPort T U) → List ℕ
+loans_at_port None = []
+loans_at_port (Some port) = (slots_of port.sender).loans
+
+-- how many samples of a subscriber are held; none without one
+abbrev pub held_at_port : Option SubscriberPort → ℕ
+held_at_port None = 0
+held_at_port (Some port) = port.held
+
+module _ {T U : Type 0} (names : Naming) (ports : ServicePorts T U) where
+  -- a loan by its names
+  abbrev pub loan_as : LentSlot → Loan T
+  loan_as lent = record {
+    publisher = names.publisher lent.publisher;
+    number = names.message lent.publisher lent.slot;
+    values = option_map_or (λ (loan : domain.Loan T U). loan.values) (loan_in lent.publisher lent.slot ports) [];
+  }
+
+  -- a sample by its names
+  abbrev pub sample_as : Taken → Sample T
+  sample_as taken = record {
+    publisher = names.publisher taken.publisher;
+    subscriber = names.subscriber taken.subscriber;
+    message = record {
+      number = names.message taken.publisher taken.slot;
+      values = option_map_or (λ (message : domain.Message T U). message.values) (sample_in taken ports) [];
+    };
+  }
+
+  -- The loans of the machine are those that go by numbers. Each of these has its own number, and they are the loans of the publishers.
+  pub record LoansStandFor (lent : List (ℕ × LentSlot)) (loans : List (ℕ × Loan T)) : Type 0 where
+    pub same : loans ≡ map (λ (entry : ℕ × LentSlot). (entry.0, loan_as entry.1)) lent
+    pub once : (number : ℕ) → how_often number (keys_of lent) ≤ 1
+    pub all : (publisher : ℕ) → slots_lent_by publisher lent ≡ loans_at_port (port_of publisher ports.publishers)
+
+  -- The samples of the machine are those that go by numbers. Each of these has its own number; they are what is borrowed of the
+  -- connections, each by the subscriber whose connection it is; and as many of a subscriber are counted.
+  pub record SamplesStandFor (held : List (ℕ × Taken)) (samples : List (ℕ × Sample T)) : Type 0 where
+    pub same : samples ≡ map (λ (entry : ℕ × Taken). (entry.0, sample_as entry.1)) held
+    pub once : (number : ℕ) → how_often number (keys_of held) ≤ 1
+    pub all : (publisher index : ℕ)
+        → slots_held_of publisher index held
+        ≡ map (λ (message : domain.Message T U). message.slot) (connection_in publisher index ports.publishers).borrowed
+    pub whose : All (λ (entry : ℕ × Taken). names.reader entry.1.publisher entry.1.index ≡ names.subscriber entry.1.subscriber) held
+    pub counted : (subscriber : ℕ) → samples_held_by subscriber held ≡ held_at_port (subscriber_of subscriber ports.subscribers)

@@ -1,0 +1,2 @@
+-- How the services of a run of commands get their numbers.
+mod Told

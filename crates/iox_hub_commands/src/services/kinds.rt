@@ -1,0 +1,102 @@
+//! The patterns of the services that commands create and open, and how the errors of each are told.
+ghost use Rattle.std.specs.Prelude.{◌≡◌};
+ghost use Rattle.iox_command.specs.declared.refusal.Refusal.{Refusal};
+
+use iox_command::Refusal;
+use iox_describe::pattern::{Event, PublishSubscribe, RequestResponse};
+use iox_negotiate::Negotiated;
+use iox_negotiate_base::errors::{
+    EventCreateError, EventOpenError, EventOpenOrCreateError, PublishSubscribeCreateError,
+    PublishSubscribeOpenError, PublishSubscribeOpenOrCreateError, RequestResponseCreateError,
+    RequestResponseOpenError, RequestResponseOpenOrCreateError,
+};
+
+/// A pattern whose services commands create and open.
+pub(crate) trait CommandPattern: Negotiated {
+    // the refusal of a service that isn't created
+    ghost create_refusal: { Self.CreateError → Refusal };
+
+    // the refusal of a service that isn't opened
+    ghost open_refusal: { Self.OpenError → Refusal };
+
+    // the refusal of a service that is neither opened nor created
+    ghost either_refusal: { Self.OpenOrCreateError → Refusal };
+
+    /// The refusal of a service that isn't created.
+    fn create_refusal(error: Self::CreateError) -> Refusal
+        ensures { result ≡ create_refusal error };
+
+    /// The refusal of a service that isn't opened.
+    fn open_refusal(error: Self::OpenError) -> Refusal
+        ensures { result ≡ open_refusal error };
+
+    /// The refusal of a service that is neither opened nor created.
+    fn either_refusal(error: Self::OpenOrCreateError) -> Refusal
+        ensures { result ≡ either_refusal error };
+}
+
+impl CommandPattern for PublishSubscribe {
+    ghost use Rattle.iox_command.specs.declared.refusal.Refusal.TheVariants as refusal;
+
+    ghost create_refusal = { refusal.PublishSubscribeCreate };
+
+    ghost open_refusal = { refusal.PublishSubscribeOpen };
+
+    ghost either_refusal = { refusal.PublishSubscribeOpenOrCreate };
+
+    fn create_refusal(error: PublishSubscribeCreateError) -> Refusal {
+        Refusal::PublishSubscribeCreate(error)
+    }
+
+    fn open_refusal(error: PublishSubscribeOpenError) -> Refusal {
+        Refusal::PublishSubscribeOpen(error)
+    }
+
+    fn either_refusal(error: PublishSubscribeOpenOrCreateError) -> Refusal {
+        Refusal::PublishSubscribeOpenOrCreate(error)
+    }
+}
+
+impl CommandPattern for Event {
+    ghost use Rattle.iox_command.specs.declared.refusal.Refusal.TheVariants as refusal;
+
+    ghost create_refusal = { refusal.EventCreate };
+
+    ghost open_refusal = { refusal.EventOpen };
+
+    ghost either_refusal = { refusal.EventOpenOrCreate };
+
+    fn create_refusal(error: EventCreateError) -> Refusal {
+        Refusal::EventCreate(error)
+    }
+
+    fn open_refusal(error: EventOpenError) -> Refusal {
+        Refusal::EventOpen(error)
+    }
+
+    fn either_refusal(error: EventOpenOrCreateError) -> Refusal {
+        Refusal::EventOpenOrCreate(error)
+    }
+}
+
+impl CommandPattern for RequestResponse {
+    ghost use Rattle.iox_command.specs.declared.refusal.Refusal.TheVariants as refusal;
+
+    ghost create_refusal = { refusal.RequestResponseCreate };
+
+    ghost open_refusal = { refusal.RequestResponseOpen };
+
+    ghost either_refusal = { refusal.RequestResponseOpenOrCreate };
+
+    fn create_refusal(error: RequestResponseCreateError) -> Refusal {
+        Refusal::RequestResponseCreate(error)
+    }
+
+    fn open_refusal(error: RequestResponseOpenError) -> Refusal {
+        Refusal::RequestResponseOpen(error)
+    }
+
+    fn either_refusal(error: RequestResponseOpenOrCreateError) -> Refusal {
+        Refusal::RequestResponseOpenOrCreate(error)
+    }
+}

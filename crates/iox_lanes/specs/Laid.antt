@@ -1,0 +1,111 @@
+-- What is found of a domain that becomes lanes.
+use Rattle.std.specs.Prelude.{ℕ, zero, suc, ◌+◌, ◌-◌, ◌^◌, min, Bool, List, [], ◌∷◌, ◌++◌, flat_map, length, slice_get, slice_index, Option, None, Some}
+use Rattle.iox_domain.specs.DomainPorts.Messages.{Message}
+use Rattle.iox_domain.specs.DomainPorts.Ports.{connection_of}
+use Rattle.iox_domain.specs.DomainPorts.declared.publisher_port.PublisherPort.{PublisherPort}
+use Rattle.iox_domain.specs.DomainPorts.Publishers.{port_of}
+use Rattle.iox_domain.specs.DomainPorts.declared.subscriber_port.SubscriberPort.{SubscriberPort}
+use Rattle.iox_domain.specs.DomainValues.declared.handlers.Handlers.{Handlers}
+use Rattle.iox_domain.specs.Kept.{kept_under}
+use Rattle.iox_domain.specs.Subscribers.{subscriber_of}
+use Rattle.iox_domain.specs.declared.domain.Domain.{Domain}
+use Rattle.iox_lanes_machine.specs.LanesBase.declared.words.word.SlotWord.TheVariants.{Header, UserHeader, Payload}
+use Rattle.iox_lanes_machine.specs.LanesParties.Parties.{PublisherLaneState}
+use Rattle.iox_lanes_machine.specs.Made.{listed}
+use Rattle.iox_lanes_machine.specs.World.{World}
+use Rattle.iox_lanes_machine.specs.declared.found.Found.{Found}
+use Rattle.iox_lanes_machine.specs.declared.found.Found.TheVariants as found
+use Rattle.iox_lanes_opening.specs.Deciding.{would_fail}
+use Rattle.iox_lanes.specs.Behind.{behind_findings, behind_finding}
+use Rattle.iox_lanes.specs.Tied.{tie_for}
+
+-- the number that a slot of a publisher has in the lanes, where the publisher's slots begin at this one; at most the largest number
+abbrev pub slot_in : ℕ → ℕ → ℕ
+slot_in first slot = min (first + slot) (2 ^ 64 - 1)
+
+-- that the words of a user header, so many, are in a slot
+abbrev pub header_findings : {U : Type 0} → (U → List ℕ) → ℕ → ℕ → U → List Found
+header_findings words count slot user_header = listed (λ word. found.Held slot (UserHeader word) (slice_index (words user_header) word)) count
+
+-- that the words of a value, so many, are the payload of a slot
+abbrev pub value_findings : {T : Type 0} → (T → List ℕ) → ℕ → ℕ → T → List Found
+value_findings words count slot value = listed (λ word. found.Held slot (Payload word) (slice_index (words value) word)) count
+
+-- so it is of the first value
+abbrev pub payload_findings : {T : Type 0} → (T → List ℕ) → ℕ → ℕ → List T → List Found
+payload_findings words count slot [] = []
+payload_findings words count slot (value ∷ rest) = value_findings words count slot value
+
+-- that a slot has the words of a header, a user header and a payload
+abbrev pub words_findings : {T U : Type 0} → (T → List ℕ) → (U → List ℕ) → ℕ → ℕ → ℕ → ℕ → ℕ → ℕ → U → List T → List Found
+words_findings payload_words header_words payload_count header_count slot node number elements user_header values =
+    found.Held slot (Header 0) node ∷ found.Held slot (Header 1) number ∷ found.Held slot (Header 2) elements
+    ∷ (header_findings header_words header_count slot user_header ++ payload_findings payload_words payload_count slot values)
+
+-- that the words of a message of a publisher are in its slot, where the publisher's slots begin at this one
+abbrev pub message_findings : {T U : Type 0} → (T → List ℕ) → (U → List ℕ) → ℕ → ℕ → ℕ → PublisherPort T U → Message T U → List Found
+message_findings payload_words header_words payload_count header_count first port message =
+    words_findings payload_words header_words payload_count header_count (slot_in first message.slot) port.owner.node_id port.number message.elements message.user_header message.values
+
+-- that these are the messages of the history of the publisher at a place, oldest first: of each its words, and that it is the newest then
+abbrev pub history_findings : {T U : Type 0} → (T → List ℕ) → (U → List ℕ) → ℕ → ℕ → ℕ → ℕ → PublisherPort T U → List (Message T U)
+    → List Found
+history_findings payload_words header_words payload_count header_count place first port messages =
+    flat_map (λ message. message_findings payload_words header_words payload_count header_count first port message ++ found.Newest place (slot_in first message.slot) ∷ []) messages
+
+-- that these messages wait at the connection of the publisher at a place to the subscriber at another, oldest first: of each its words,
+-- and that it waits behind those before it
+abbrev pub waiting_findings : {T U : Type 0} → (T → List ℕ) → (U → List ℕ) → ℕ → ℕ → ℕ → ℕ → ℕ → PublisherPort T U
+    → List (Message T U) → List Found
+waiting_findings payload_words header_words payload_count header_count place other first port messages =
+    flat_map (λ message. message_findings payload_words header_words payload_count header_count first port message ++ found.Waiting place other (slot_in first message.slot) ∷ []) messages
+
+-- that as many may wait at the connection of the publisher at a place to the subscriber at another as at the one of this index in the
+-- domain, and that the messages do that wait there
+abbrev pub link_findings : {T U : Type 0} → (T → List ℕ) → (U → List ℕ) → ℕ → ℕ → ℕ → ℕ → ℕ → PublisherPort T U → ℕ → List Found
+link_findings payload_words header_words payload_count header_count place other first port index =
+    found.Buffer place other (connection_of index port).limit
+    ∷ waiting_findings payload_words header_words payload_count header_count place other first port (connection_of index port).waiting
+
+-- the lists at 0, 1 and so on, so many of them, one behind the other
+abbrev pub flat_listed : {X : Type 0} → (ℕ → List X) → ℕ → List X
+flat_listed f zero = []
+flat_listed f (suc count) = flat_listed f count ++ f count
+
+-- the number of the first slot of a publisher of lanes; 0 without one
+abbrev pub first_slot : Option PublisherLaneState → ℕ
+first_slot None = 0
+first_slot (Some lane) = lane.port.book.first
+
+-- lanes behind what they find of the publisher at a place but for its messages: how many slots and loans it has, its node and number,
+-- and whether its sends fail
+abbrev pub sender_behind : {T U : Type 0} → World → ℕ → Bool → PublisherPort T U → World
+sender_behind m place fails port =
+    behind_finding (behind_finding m (found.Slots place (min (port.sender.uses.first + port.sender.uses.size) (2 ^ 64 - 1)) port.sender.uses.most_loans))
+    (found.Sender place port.owner.node_id port.number fails)
+
+-- and behind the messages of its history, and those at its connections to the subscribers of these numbers, where its slots begin at
+-- this one
+abbrev pub messages_behind : {T U : Type 0} → (T → List ℕ) → (U → List ℕ) → ℕ → ℕ → List (ℕ × SubscriberPort) → List ℕ → ℕ
+    → PublisherPort T U → ℕ → World → World
+messages_behind payload_words header_words payload_count header_count readers subscribers place port first m =
+    behind_findings (behind_findings m (history_findings payload_words header_words payload_count header_count place first port port.sender.uses.history))
+    (flat_listed (λ other. link_findings payload_words header_words payload_count header_count place other first port (tie_for port (subscriber_of (slice_index subscribers other) readers))) (length subscribers))
+
+-- so it is of a whole publisher, if it is in the domain
+abbrev pub publisher_behind : {T U : Type 0} → (T → List ℕ) → (U → List ℕ) → ℕ → ℕ → List (ℕ × SubscriberPort) → List ℕ → World → ℕ
+    → Bool → Option (PublisherPort T U) → World
+publisher_behind payload_words header_words payload_count header_count readers subscribers m place fails None = m
+publisher_behind payload_words header_words payload_count header_count readers subscribers m place fails (Some port) =
+    messages_behind payload_words header_words payload_count header_count readers subscribers place port
+    (first_slot (slice_get (sender_behind m place fails port).publishers place)) (sender_behind m place fails port)
+
+-- and of the publishers of these numbers, the first so many, each at its place
+abbrev pub publishers_behind : {T U X Y D : Type 0} {F : X → Type 0} {G : Y → Type 0} → (T → List ℕ) → (U → List ℕ) → ℕ → ℕ
+    → Domain T U (Handlers X Y F G) D → List ℕ → List ℕ → World → ℕ → World
+publishers_behind payload_words header_words payload_count header_count domain publishers subscribers m zero = m
+publishers_behind payload_words header_words payload_count header_count domain publishers subscribers m (suc count) =
+    publisher_behind payload_words header_words payload_count header_count domain.state.ports.subscribers subscribers
+    (publishers_behind payload_words header_words payload_count header_count domain publishers subscribers m count) count
+    (would_fail (kept_under (slice_index publishers count) domain.state.publisher_handlers))
+    (port_of (slice_index publishers count) domain.state.ports.publishers)

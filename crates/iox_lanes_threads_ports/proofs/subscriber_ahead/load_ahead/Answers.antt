@@ -1,6 +1,0 @@
-use Rattle.iox_lanes_threads_ports.proofs.SubscriberStriding.{strode_load}
-use Rattle.iox_lanes_threads_ports.proofs.subscriber_ahead.load_ahead.Goals as goal
-
-pub returns-clause-strode : goal.returns-clause-strode
-returns-clause-strode g c p begun run =
-    strode_load p begun c.args.seat.now.me c.load_as.new.seat.me c.args.lane.now c.args.call c.args.word c.load_as.result c.requires.next run c.load_as.ensures.told c.load_as.ensures.port

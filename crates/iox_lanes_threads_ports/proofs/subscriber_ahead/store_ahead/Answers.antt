@@ -1,6 +1,0 @@
-use Rattle.iox_lanes_threads_ports.proofs.SubscriberStriding.{strode_store}
-use Rattle.iox_lanes_threads_ports.proofs.subscriber_ahead.store_ahead.Goals as goal
-
-pub returns-clause-strode : goal.returns-clause-strode
-returns-clause-strode g c p begun run =
-    strode_store p begun c.args.seat.now.me c.store_as.new.seat.me c.args.lane.now c.args.call c.args.word c.args.new c.requires.next run c.store_as.ensures.port

@@ -1,0 +1,24 @@
+-- The words of a slot that a write or a send stores one after the other.
+use Rattle.std.specs.Prelude.{ℕ, List}
+use Rattle.iox_lanes_machine.specs.LanesBase.Publishing.{header_word, write_at, head_at}
+use Rattle.iox_lanes_machine.specs.LanesBase.declared.calls.publisher.PublisherCall.{PublisherCall}
+use Rattle.iox_lanes_machine.specs.LanesBase.declared.calls.publisher.PublisherCall.TheVariants.{Writing, Heading}
+use Rattle.iox_lanes_machine.specs.LanesBase.declared.words.word.SlotWord.{SlotWord}
+use Rattle.iox_lanes_machine.specs.LanesBase.declared.words.word.SlotWord.TheVariants as own
+use Rattle.iox_lanes_threads_ports.specs.declared.strides.SlotPart.{SlotPart}
+use Rattle.iox_lanes_threads_ports.specs.declared.strides.SlotPart.TheVariants.{Payload, Head}
+
+-- a call that stores this word of a part next
+abbrev pub storing : SlotPart → ℕ → ℕ → ℕ → PublisherCall
+storing Payload slot word value = Writing slot word value
+storing Head slot word value = Heading slot word value
+
+-- a call that stores the words of a part, at one of them
+abbrev pub storing_at : SlotPart → List ℕ → ℕ → ℕ → PublisherCall
+storing_at Payload words slot word = write_at words slot word
+storing_at Head words slot word = head_at words slot word
+
+-- a word of a part
+abbrev pub part_word : SlotPart → ℕ → SlotWord
+part_word Payload word = own.Payload word
+part_word Head word = header_word word

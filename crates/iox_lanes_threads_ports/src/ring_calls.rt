@@ -1,0 +1,343 @@
+//! Calls of ports inside a pop or a push on a ring, by the stages of that.
+ghost use Rattle.std.specs.Prelude.{◌≡◌, ◌<◌, ℕ, false};
+ghost use Rattle.iox_lanes_machine.specs.LanesBase.Words.{in_ring, on_ring};
+ghost use Rattle.iox_lanes_machine.specs.LanesBase.declared.words.word.ConnectionRing.TheVariants as own_ring;
+ghost use Rattle.iox_lanes_machine.specs.LanesBase.declared.calls.publisher.PublisherCall.TheVariants as publishing;
+ghost use Rattle.iox_lanes_machine.specs.LanesBase.declared.calls.subscriber.SubscriberCall.TheVariants as subscribing;
+ghost use Rattle.iox_lanes_machine.specs.QueuesSteps.declared.rings.ends.Push.TheVariants as ring_push;
+ghost use Rattle.iox_lanes_machine.specs.QueuesSteps.declared.rings.ends.Pop.TheVariants as ring_pop;
+ghost use Rattle.iox_lanes_threads_ports.specs.declared.ring_calls.RouteRing.{RouteRing};
+ghost use Rattle.iox_lanes_threads_ports.specs.Strides.{KeepsPositions};
+ghost use Rattle.iox_lanes_threads_ports.specs.RingCalls as calls;
+
+use crate::ahead::Ahead;
+use iox_lanes_base::calls::{Delivery, PublisherCall, Route, SubscriberCall};
+use iox_lanes_base::words::{ConnectionRing, SharedWord};
+use iox_lanes_parties::{PublisherLane, SubscriberLane};
+use iox_queues_steps::rings::overflowing::{Pop as OverflowingPop, Push as OverflowingPush};
+use iox_queues_steps::rings::refusing::{Pop as RefusingPop, Push as RefusingPush};
+use iox_queues_steps::rings::{Pop, Push};
+use iox_queues_steps::{End, Word};
+
+/// A ring of a connection, and how many cells it has.
+#[derive(Clone, Copy)]
+pub(crate) struct RouteRing {
+    connection: u64,
+    ring: ConnectionRing,
+    cells: u64,
+}
+
+impl RouteRing {
+    #[inline(always)]
+    fn submission(route: Route) -> RouteRing
+        ensures { result ≡ record { connection = route.connection; ring = own_ring.Submission; cells = route.submission_cells } }
+    {
+        RouteRing {
+            connection: route.connection,
+            ring: ConnectionRing::Submission,
+            cells: route.submission_cells,
+        }
+    }
+
+    #[inline(always)]
+    fn completion(route: Route) -> RouteRing
+        ensures { result ≡ record { connection = route.connection; ring = own_ring.Completion; cells = route.completion_cells } }
+    {
+        RouteRing {
+            connection: route.connection,
+            ring: ConnectionRing::Completion,
+            cells: route.completion_cells,
+        }
+    }
+
+    /// A word of the ring, as a word of its connection: positions go round its cells.
+    #[inline(always)]
+    pub(crate) fn word(self, word: Word) -> SharedWord
+        requires { 0 < self.cells }
+        ensures { result ≡ in_ring self.connection self.ring self.cells word }
+    {
+        let word = match word {
+            Word::Write => Word::Write,
+            Word::Read => Word::Read,
+            Word::Cell(position) => Word::Cell(position % self.cells),
+        };
+        SharedWord::Ring {
+            connection: self.connection,
+            ring: self.ring,
+            word,
+        }
+    }
+}
+
+/// A call of a lane inside a pop or a push on a ring.
+pub(crate) trait RingCall<L: Ahead, S: End>: Copy {
+    // where the call stands at this stage of the pop or push
+    ghost stage: { Self → S → L.Call };
+
+    // the ring
+    ghost ring: { Self → RouteRing };
+
+    /// Where the call stands at this stage of the pop or push.
+    fn stage(self, state: S) -> L::Call
+        ensures { result ≡ stage self state };
+
+    /// The ring.
+    fn ring(self) -> RouteRing
+        ensures { result ≡ ring self };
+
+    // the call makes the accesses of the pop or push, on its ring
+    ghost accesses: { (call : Self) (state : S)
+        → L.kind.next (stage call state) ≡ on_ring (ring call).connection (ring call).ring (ring call).cells (S.asks state) };
+
+    // until the pop or push is over, or moves a position, an answer takes the call from one of its stages to the next
+    ghost goes_on: { (lane : L) (call : Self) (state : S) (answer : ℕ) → KeepsPositions (S.asks state)
+        → S.over (S.takes state answer) ≡ false
+        → L.kind.after answer (L.kind.called (stage call state) lane) ≡ L.kind.called (stage call (S.takes state answer)) lane };
+}
+
+/// A loan that takes back at a connection.
+#[derive(Clone, Copy)]
+pub(crate) struct LoanReclaims {
+    pub(crate) place: u64,
+    pub(crate) route: Route,
+}
+
+impl RingCall<PublisherLane, RefusingPop> for LoanReclaims {
+    ghost use Rattle.std.proofs.Common.{refl};
+
+    ghost stage = { λ call pop. publishing.LoanReclaims call.place call.route pop };
+
+    ghost ring = { λ call. record { connection = call.route.connection; ring = own_ring.Completion; cells = call.route.completion_cells } };
+
+    #[inline(always)]
+    fn stage(self, pop: RefusingPop) -> PublisherCall {
+        let LoanReclaims { place, route } = self;
+        PublisherCall::LoanReclaims { place, route, pop }
+    }
+
+    #[inline(always)]
+    fn ring(self) -> RouteRing {
+        RouteRing::completion(self.route)
+    }
+
+    ghost accesses = { λ call pop. refl };
+
+    ghost goes_on = { λ lane call pop answer keeps going. calls.loan_goes_on lane call.place call.route pop answer going };
+}
+
+/// A send that takes back at a connection.
+#[derive(Clone, Copy)]
+pub(crate) struct SendReclaims {
+    pub(crate) slot: u64,
+    pub(crate) place: u64,
+    pub(crate) route: Route,
+}
+
+impl RingCall<PublisherLane, RefusingPop> for SendReclaims {
+    ghost use Rattle.std.proofs.Common.{refl};
+
+    ghost stage = { λ call pop. publishing.SendReclaims call.slot call.place call.route pop };
+
+    ghost ring = { λ call. record { connection = call.route.connection; ring = own_ring.Completion; cells = call.route.completion_cells } };
+
+    #[inline(always)]
+    fn stage(self, pop: RefusingPop) -> PublisherCall {
+        let SendReclaims { slot, place, route } = self;
+        PublisherCall::SendReclaims {
+            slot,
+            place,
+            route,
+            pop,
+        }
+    }
+
+    #[inline(always)]
+    fn ring(self) -> RouteRing {
+        RouteRing::completion(self.route)
+    }
+
+    ghost accesses = { λ call pop. refl };
+
+    ghost goes_on = { λ lane call pop answer keeps going. calls.sweep_goes_on lane call.slot call.place call.route pop answer going };
+}
+
+/// A send that pushes at a connection.
+#[derive(Clone, Copy)]
+pub(crate) struct Pushes {
+    pub(crate) slot: u64,
+    pub(crate) place: u64,
+    pub(crate) route: Route,
+    pub(crate) delivery: Delivery,
+}
+
+impl RingCall<PublisherLane, RefusingPush> for Pushes {
+    ghost use Rattle.std.proofs.Common.{refl};
+
+    ghost stage = { λ call push. publishing.Pushing call.slot call.place call.route (ring_push.Refusing push) call.delivery };
+
+    ghost ring = { λ call. record { connection = call.route.connection; ring = own_ring.Submission; cells = call.route.submission_cells } };
+
+    #[inline(always)]
+    fn stage(self, push: RefusingPush) -> PublisherCall {
+        let Pushes {
+            slot,
+            place,
+            route,
+            delivery,
+        } = self;
+        PublisherCall::Pushing {
+            slot,
+            place,
+            route,
+            push: Push::Refusing(push),
+            delivery,
+        }
+    }
+
+    #[inline(always)]
+    fn ring(self) -> RouteRing {
+        RouteRing::submission(self.route)
+    }
+
+    ghost accesses = { λ call push. refl };
+
+    ghost goes_on = { λ lane call push answer keeps going.
+        calls.push_goes_on lane call.slot call.place call.route call.delivery push answer keeps going };
+}
+
+impl RingCall<PublisherLane, OverflowingPush> for Pushes {
+    ghost use Rattle.std.proofs.Common.{refl};
+
+    ghost stage = { λ call push. publishing.Pushing call.slot call.place call.route (ring_push.Overflowing push) call.delivery };
+
+    ghost ring = { λ call. record { connection = call.route.connection; ring = own_ring.Submission; cells = call.route.submission_cells } };
+
+    #[inline(always)]
+    fn stage(self, push: OverflowingPush) -> PublisherCall {
+        let Pushes {
+            slot,
+            place,
+            route,
+            delivery,
+        } = self;
+        PublisherCall::Pushing {
+            slot,
+            place,
+            route,
+            push: Push::Overflowing(push),
+            delivery,
+        }
+    }
+
+    #[inline(always)]
+    fn ring(self) -> RouteRing {
+        RouteRing::submission(self.route)
+    }
+
+    ghost accesses = { λ call push. refl };
+
+    ghost goes_on = { λ lane call push answer keeps going.
+        calls.push_over_goes_on lane call.slot call.place call.route call.delivery push answer keeps going };
+}
+
+/// A receive that pops at a connection.
+#[derive(Clone, Copy)]
+pub(crate) struct Receives {
+    pub(crate) place: u64,
+    pub(crate) route: Route,
+    pub(crate) waits: bool,
+}
+
+impl RingCall<SubscriberLane, RefusingPop> for Receives {
+    ghost use Rattle.std.proofs.Common.{refl};
+
+    ghost stage = { λ call pop. subscribing.Receiving call.place call.route (ring_pop.Refusing pop) call.waits };
+
+    ghost ring = { λ call. record { connection = call.route.connection; ring = own_ring.Submission; cells = call.route.submission_cells } };
+
+    #[inline(always)]
+    fn stage(self, pop: RefusingPop) -> SubscriberCall {
+        let Receives {
+            place,
+            route,
+            waits,
+        } = self;
+        SubscriberCall::Receiving {
+            place,
+            route,
+            pop: Pop::Refusing(pop),
+            waits,
+        }
+    }
+
+    #[inline(always)]
+    fn ring(self) -> RouteRing {
+        RouteRing::submission(self.route)
+    }
+
+    ghost accesses = { λ call pop. refl };
+
+    ghost goes_on = { λ lane call pop answer keeps going. calls.pop_goes_on lane call.place call.route call.waits pop answer going };
+}
+
+impl RingCall<SubscriberLane, OverflowingPop> for Receives {
+    ghost use Rattle.std.proofs.Common.{refl};
+
+    ghost stage = { λ call pop. subscribing.Receiving call.place call.route (ring_pop.Overflowing pop) call.waits };
+
+    ghost ring = { λ call. record { connection = call.route.connection; ring = own_ring.Submission; cells = call.route.submission_cells } };
+
+    #[inline(always)]
+    fn stage(self, pop: OverflowingPop) -> SubscriberCall {
+        let Receives {
+            place,
+            route,
+            waits,
+        } = self;
+        SubscriberCall::Receiving {
+            place,
+            route,
+            pop: Pop::Overflowing(pop),
+            waits,
+        }
+    }
+
+    #[inline(always)]
+    fn ring(self) -> RouteRing {
+        RouteRing::submission(self.route)
+    }
+
+    ghost accesses = { λ call pop. refl };
+
+    ghost goes_on = { λ lane call pop answer keeps going. calls.pop_over_goes_on lane call.place call.route call.waits pop answer going };
+}
+
+/// A release that pushes at a connection.
+#[derive(Clone, Copy)]
+pub(crate) struct Releases {
+    pub(crate) place: u64,
+    pub(crate) route: Route,
+}
+
+impl RingCall<SubscriberLane, RefusingPush> for Releases {
+    ghost use Rattle.std.proofs.Common.{refl};
+
+    ghost stage = { λ call push. subscribing.Releasing call.place call.route push };
+
+    ghost ring = { λ call. record { connection = call.route.connection; ring = own_ring.Completion; cells = call.route.completion_cells } };
+
+    #[inline(always)]
+    fn stage(self, push: RefusingPush) -> SubscriberCall {
+        let Releases { place, route } = self;
+        SubscriberCall::Releasing { place, route, push }
+    }
+
+    #[inline(always)]
+    fn ring(self) -> RouteRing {
+        RouteRing::completion(self.route)
+    }
+
+    ghost accesses = { λ call push. refl };
+
+    ghost goes_on = { λ lane call push answer keeps going. calls.release_goes_on lane call.place call.route push answer keeps going };
+}

@@ -1,0 +1,5 @@
+mod Beginning
+mod Seats
+mod Limits
+mod Acting
+mod Acted

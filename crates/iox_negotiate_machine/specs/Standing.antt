@@ -1,0 +1,92 @@
+-- Which phases of the machine those in a table of services are.
+use Rattle.std.specs.Prelude.{ℕ, ◌≡◌, ◌<◌, ◌≤◌, List, [], ◌∷◌, ◌++◌, length, map, filter, Some, None}
+use Rattle.std.specs.List.{IsAmong}
+use Rattle.iox_command.specs.NegotiateBase.Describe.Line.{line}
+use Rattle.iox_command.specs.NegotiateBase.Describe.Within.{IsWithinLimits}
+use Rattle.iox_command.specs.NegotiateBase.DescribeBase.Hash.{service_hash_of}
+use Rattle.iox_command.specs.NegotiateBase.DescribeBase.declared.pattern.MessagingPattern.{MessagingPattern}
+use Rattle.iox_command.specs.NegotiateBase.DescribeSettings.Agreement.{Agreement as Description, agreement, max_nodes_of, pattern_of}
+use Rattle.iox_machine.specs.Agreement.{Agreement}
+use Rattle.iox_machine.specs.AgreementLaws.{life_of}
+use Rattle.iox_machine.specs.Phase.{Node, Own, Foreign, Phase, Absent, BeingMade, Published, Emptied, same_node}
+use Rattle.iox_machine.specs.State.{State}
+use Rattle.iox_negotiate.specs.Histories.{IsReached}
+use Rattle.iox_negotiate_table.specs.Contents.{Contents, entry_at, segment_at}
+use Rattle.iox_negotiate_table.specs.Nodes.{Nodes, count_in}
+use Rattle.iox_negotiate_table.specs.declared.entry.Entry.TheVariants.{Locked, Described}
+use Rattle.iox_negotiate_table.specs.declared.node.Node.{Node as TableNode}
+use Rattle.iox_negotiate_table.specs.declared.node.Node.TheVariants as table_node
+use Rattle.iox_negotiate_table.specs.declared.segment.Segment.TheVariants as segment
+
+-- the node of a table that one of the machine is
+abbrev pub table_node_of : Node → TableNode
+table_node_of (Own number) = table_node.Own number
+table_node_of (Foreign number) = table_node.Foreign number
+
+-- the nodes that are in, as the machine has them: an own one with as many factories as are counted, one outside the hub with one
+abbrev pub seats_of : Nodes → List (Node × ℕ)
+seats_of seated = map (λ (entry : ℕ × ℕ). (Own entry.0, entry.1)) seated.own ++ map (λ (number : ℕ). (Foreign number, 1)) seated.foreign
+
+-- with how many factories each entry of a list has a node
+abbrev pub counts_of : Node → List (Node × ℕ) → List ℕ
+counts_of node nodes = map (λ (entry : Node × ℕ). entry.1) (filter (λ (entry : Node × ℕ). same_node entry.0 node) nodes)
+
+-- The nodes in a segment are those in a phase, each with as many factories, and each once; their order may differ.
+pub record NodesStand (seated : Nodes) (nodes : List (Node × ℕ)) : Type 0 where
+  pub same : (node : Node) → counts_of node nodes ≡ counts_of node (seats_of seated)
+  pub once : (node : Node) → length (counts_of node nodes) ≤ 1
+  pub many : length nodes ≡ count_in seated
+
+-- The numbers that were taken under a hash, the last one first: each is below the one that was taken next.
+abbrev pub AreFalling : ℕ → List ℕ → Type 0
+AreFalling next [] = Unit {0}
+AreFalling next (number ∷ before) = (number < next) × AreFalling number before
+
+-- some number was taken, and the last one is so
+abbrev pub IsLast : (ℕ → Type 0) → List ℕ → Type 0
+IsLast So [] = ⊥
+IsLast So (number ∷ before) = So number
+
+module _ (pattern : MessagingPattern) (name : List ℕ) where
+  -- what nodes agree on, as the description of the service of this pattern and name
+  abbrev pub description_of : Agreement → Description
+  description_of agreed = agreement name (service_hash_of pattern name) agreed.settings agreed.attributes
+
+  module _ (table : Contents) where
+    -- What nodes agree on is published under a number: its line lies under the hash, is within the limits, and has the pattern.
+    pub record IsDescribed (agreed : Agreement) (number : ℕ) : Type 0 where
+      pub described : entry_at (service_hash_of pattern name) table ≡ Some (Described number (line (description_of agreed)))
+      pub kind : pattern_of agreed.settings ≡ pattern
+      pub within : IsWithinLimits (description_of agreed)
+
+    -- The segment of a number is open, and has room for as many nodes as are agreed on; these are in it.
+    pub record IsOpenTo (agreed : Agreement) (nodes : List (Node × ℕ)) (number : ℕ) : Type 0 where
+      pub seated : Nodes
+      pub stands : segment_at (service_hash_of pattern name) number table ≡ Some (segment.Open seated)
+      pub nodes_stand : NodesStand seated nodes
+      pub room : seated.max_nodes ≡ max_nodes_of agreed.settings
+
+    -- What lies under the hash, where these numbers were taken: nothing; a lock of the last number; or the description of the last
+    -- number, with its segment open, or emptied by the node that left last.
+    abbrev pub Lies : Phase → List ℕ → Type 0
+    Lies (Absent lives) taken = entry_at (service_hash_of pattern name) table ≡ None
+    Lies (BeingMade life by) taken =
+        IsLast (λ number. entry_at (service_hash_of pattern name) table ≡ Some (Locked (table_node_of by) number)) taken
+    Lies (Published life agreed nodes) taken = IsLast (λ number. IsDescribed agreed number × IsOpenTo agreed nodes number) taken
+    Lies (Emptied life agreed by) taken =
+        IsLast (λ number. IsDescribed agreed number
+        × (segment_at (service_hash_of pattern name) number table ≡ Some (segment.Emptied (table_node_of by)))) taken
+
+    -- The table has this phase under the hash of this pattern and name, after these numbers were taken there: one a life.
+    pub record PhaseStands (taken : List ℕ) (phase : Phase) : Type 0 where
+      pub lives : life_of phase ≡ length taken
+      pub falling : AreFalling table.next taken
+      pub lies : Lies phase taken
+
+-- The table of services stands for the phases of a state, for these names, in each pattern; these numbers were taken for
+-- each. It is a table that can be reached.
+pub record TableStands {T : Type 0} (names : List (List ℕ)) (taken : MessagingPattern → List ℕ → List ℕ) (table : Contents)
+    (state : State T) : Type 0 where
+  pub reached : IsReached table
+  pub phases : (pattern : MessagingPattern) (name : List ℕ) → IsAmong names name
+      → PhaseStands pattern name table (taken pattern name) (state.phases pattern name)
