@@ -36,17 +36,22 @@ module _ {V : Type 0} (service : V → ℕ) (mine : ℕ → Bool) where
   abbrev pub AllOf : NumberTable V → Type 0
   AllOf table = (n : ℕ) (value : V) → value_at table n ≡ Some value → mine (service value) ≡ true
 
-  none_there : (one other : NumberTable V) (n : ℕ) (found : Option V) → value_at other n ≡ found → value_at one n ≡ None → SameOf service mine one other → AllOf other → FoundMine mine None (option_map service found)
+  none_there : (one other : NumberTable V) (n : ℕ) (found : Option V) → value_at other n ≡ found → value_at one n ≡ None
+      → SameOf service mine one other → AllOf other → FoundMine mine None (option_map service found)
   none_there one other n None is none same all = tt
   none_there one other n (Some value) is none same all =
       absurd (nothing value (sym none ∙ (found_as_before service (service value) one other (same.0 (service value) (all n value is)) n value refl).1 is))
 
-  found_there : (one other : NumberTable V) (n : ℕ) (found : Option V) → value_at one n ≡ found → SameOf service mine one other → AllOf other → NumberFound mine (option_map service found) → FoundMine mine (option_map service found) (option_map service (value_at other n))
+  found_there : (one other : NumberTable V) (n : ℕ) (found : Option V) → value_at one n ≡ found → SameOf service mine one other
+      → AllOf other → NumberFound mine (option_map service found)
+      → FoundMine mine (option_map service found) (option_map service (value_at other n))
   found_there one other n None is same all of = none_there one other n (value_at other n) refl is same all
   found_there one other n (Some value) is same all of = of
 
   -- where the one hub has nothing under a number, the other has nothing either
-  pub concerns_at : (one other : NumberTable V) (n : ℕ) → SameOf service mine one other → AllOf other → NumberFound mine (option_map service (value_at one n)) → FoundMine mine (option_map service (value_at one n)) (option_map service (value_at other n))
+  pub concerns_at : (one other : NumberTable V) (n : ℕ) → SameOf service mine one other → AllOf other
+      → NumberFound mine (option_map service (value_at one n))
+      → FoundMine mine (option_map service (value_at one n)) (option_map service (value_at other n))
   concerns_at one other n same all of = found_there one other n (value_at one n) refl same all of
 
   -- so it is where nothing goes by numbers
@@ -62,7 +67,8 @@ module _ {V : Type 0} (service : V → ℕ) (mine : ℕ → Bool) where
       decide false is = all n value ((found_as_before service (service value) old new (left (service value) is) n value refl).1 found)
 
   -- the one changed, but nothing of the service; in the other numbers were passed over
-  pub passed_same : (one new other : NumberTable V) → SameOf service mine one other → ((number : ℕ) → mine number ≡ true → AllLeft service number one new) → SameOf service mine new (passed new.next other)
+  pub passed_same : (one new other : NumberTable V) → SameOf service mine one other
+      → ((number : ℕ) → mine number ≡ true → AllLeft service number one new) → SameOf service mine new (passed new.next other)
   passed_same one new other same left = (λ number of n. same.0 number of n ∙ sym (left number of n), refl)
 
 -- ---- the table of services
@@ -75,7 +81,8 @@ below_later next later number more below = omega (arith, more, below)
 
 pub passed_is_table : (next : ℕ) (table : Contents) → table.next ≤ next → IsTable table → IsTable (passed_table next table)
 passed_is_table next table more is = record {
-  below = weaker (λ e. number_of e.1 < table.next) (λ e. number_of e.1 < next) (λ e below. below_later table.next next (number_of e.1) more below) table.entries is.below;
+  below = weaker (λ e. number_of e.1 < table.next) (λ e. number_of e.1 < next)
+      (λ e below. below_later table.next next (number_of e.1) more below) table.entries is.below;
   keys = is.keys;
   numbers = is.numbers;
   few = is.few;

@@ -52,7 +52,8 @@ pub record Among {T U B D : Type 0} (hash : ServiceHash) (mine : ℕ → Bool) (
   pub stands : Stands hub
   pub owners : hub.hub.factories ≤ 2 ^ 64 - 1
   pub own : (entry : Entry) → entry_at hash hub.hub.table ≡ Some entry → mine (number_of entry) ≡ true
-  pub others : (other : ServiceHash) → hash ≢ other → (entry : Entry) → entry_at other hub.hub.table ≡ Some entry → mine (number_of entry) ≡ false
+  pub others : (other : ServiceHash) → hash ≢ other → (entry : Entry) → entry_at other hub.hub.table ≡ Some entry
+      → mine (number_of entry) ≡ false
 
 -- What holds of a hub without: all in it is of the service.
 pub record Alone {T U B D : Type 0} (mine : ℕ → Bool) (hub : NumberedHub T U B D) : Type 0 where
@@ -74,7 +75,9 @@ pub other_apart : (hash : ServiceHash) → hash ≢ other_than hash
 other_apart hash = λ same. longer_apart hash.digest (ap (λ h. h.digest) same)
 
 -- a number that is of the service or not, as the lives that it may be of
-pub from_is : (mine : ℕ → Bool) (is : Bool) (under : ServiceHash) (old new : Contents) → ((entry : Entry) → entry_at under old ≡ Some entry → mine (number_of entry) ≡ is) → LivesBegin mine is old new → (n : ℕ) → IsFrom under old new n → mine n ≡ is
+pub from_is : (mine : ℕ → Bool) (is : Bool) (under : ServiceHash) (old new : Contents)
+    → ((entry : Entry) → entry_at under old ≡ Some entry → mine (number_of entry) ≡ is) → LivesBegin mine is old new → (n : ℕ)
+    → IsFrom under old new n → mine n ≡ is
 from_is mine is under old new lay begins n (inl (entry, stood, same)) = subst (λ m. mine m ≡ is) same (lay entry stood)
 from_is mine is under old new lay begins n (inr (low, high)) = begins n low high
 
@@ -154,16 +157,21 @@ not_there entry e = cc
 at_most : (n other : ℕ) → other ≡ n → (later : ℕ) → n ≤ later → other ≤ later
 at_most n other same later more = subst (λ m. m ≤ later) (sym same) more
 
-module _ {T U B D : Type 0} (hash : ServiceHash) (mine : ℕ → Bool) (payload user_header : Detail) (types : MessageTypeDetails) (is_default : T → Type 0) (is_default_header : U → Type 0)
+module _ {T U B D : Type 0} (hash : ServiceHash) (mine : ℕ → Bool) (payload user_header : Detail) (types : MessageTypeDetails)
+    (is_default : T → Type 0) (is_default_header : U → Type 0)
     (fixed : BackpressureStrategy → Option BackpressureAction → DegradationAction → B) (degrades : B → DegradationCause → DegradationInfo → DegradationAction → Type 0) (decides : B → BackpressureInfo → BackpressureDecision → Type 0)
     (fixed_reader : DegradationAction → D) (reader_degrades : D → DegradationCause → DegradationInfo → DegradationAction → Type 0) where
   abbrev each : Command T → NumberedHub T U B D → Result (Reply T) AllocError → NumberedHub T U B D → Type 0
-  each asked old answer new = Step payload user_header types is_default is_default_header fixed degrades decides fixed_reader reader_degrades asked old answer new
+  each asked old answer new = Step payload user_header types is_default is_default_header fixed degrades decides fixed_reader
+      reader_degrades asked old answer new
 
   go_on : (asked : Command T) (old new : NumberedHub T U B D) (reply : Reply T) → each asked old (Ok reply) new → NumbersGoOn old new
-  go_on asked old new reply step = numbers_go_on old new (step_changes payload user_header types is_default is_default_header fixed degrades decides fixed_reader reader_degrades asked old new (Ok reply) step)
+  go_on asked old new reply step = numbers_go_on old new
+      (step_changes payload user_header types is_default is_default_header fixed degrades decides fixed_reader reader_degrades asked old
+      new (Ok reply) step)
 
-  stands_on : (asked : Command T) (old new : NumberedHub T U B D) (reply : Reply T) → each asked old (Ok reply) new → Stands old → Stands new
+  stands_on : (asked : Command T) (old new : NumberedHub T U B D) (reply : Reply T) → each asked old (Ok reply) new → Stands old
+      → Stands new
   stands_on asked old new reply step stands =
       let goes = step_goes_on payload user_header types is_default is_default_header fixed degrades decides fixed_reader reader_degrades asked old new (Ok reply) step in
       let (f, p, s, l, m) = go_on asked old new reply step in
@@ -175,24 +183,37 @@ module _ {T U B D : Type 0} (hash : ServiceHash) (mine : ℕ → Bool) (payload 
         counts = goes.counts stands.counts;
       }
 
-  owners_on : (asked : Command T) (old new : NumberedHub T U B D) (reply : Reply T) → each asked old (Ok reply) new → old.hub.factories ≤ 2 ^ 64 - 1 → (old.hub.factories ≤ new.hub.factories) × (new.hub.factories ≤ 2 ^ 64 - 1)
-  owners_on asked old new reply step few = more_owners old.hub.factories new.hub.factories few (step_goes_on payload user_header types is_default is_default_header fixed degrades decides fixed_reader reader_degrades asked old new (Ok reply) step).owners
+  owners_on : (asked : Command T) (old new : NumberedHub T U B D) (reply : Reply T) → each asked old (Ok reply) new
+      → old.hub.factories ≤ 2 ^ 64 - 1 → (old.hub.factories ≤ new.hub.factories) × (new.hub.factories ≤ 2 ^ 64 - 1)
+  owners_on asked old new reply step few
+      = more_owners old.hub.factories new.hub.factories few
+      (step_goes_on payload user_header types is_default is_default_header fixed degrades decides fixed_reader reader_degrades asked old
+      new (Ok reply) step).owners
 
-  follow : (asked : Command T) (old new : NumberedHub T U B D) (reply : Reply T) → each asked old (Ok reply) new → Stands old → (under : ServiceHash) (entry : Entry) → entry_at under new.hub.table ≡ Some entry → IsFrom under old.hub.table new.hub.table (number_of entry)
-  follow asked old new reply step stands under entry found = past_follows under old.hub.table new.hub.table stands.table (step_goes_on payload user_header types is_default is_default_header fixed degrades decides fixed_reader reader_degrades asked old new (Ok reply) step).past entry found
+  follow : (asked : Command T) (old new : NumberedHub T U B D) (reply : Reply T) → each asked old (Ok reply) new → Stands old
+      → (under : ServiceHash) (entry : Entry) → entry_at under new.hub.table ≡ Some entry
+      → IsFrom under old.hub.table new.hub.table (number_of entry)
+  follow asked old new reply step stands under entry found
+      = past_follows under old.hub.table new.hub.table stands.table
+      (step_goes_on payload user_header types is_default is_default_header fixed degrades decides fixed_reader reader_degrades asked old
+      new (Ok reply) step).past entry found
 
   -- ---- a command of the service
 
-  pub kept_among : (asked : Command T) (one new : NumberedHub T U B D) (reply : Reply T) → Among hash mine one → OfService hash mine each asked one reply new → Among hash mine new
+  pub kept_among : (asked : Command T) (one new : NumberedHub T U B D) (reply : Reply T) → Among hash mine one
+      → OfService hash mine each asked one reply new → Among hash mine new
   kept_among asked one new reply among (step, (named, found), begins, wanted) = record {
     stands = stands_on asked one new reply step among.stands;
     owners = (owners_on asked one new reply step among.owners).1;
-    own = λ entry lies. from_is mine true hash one.hub.table new.hub.table among.own begins (number_of entry) (follow asked one new reply step among.stands hash entry lies);
+    own = λ entry lies. from_is mine true hash one.hub.table new.hub.table among.own begins (number_of entry)
+        (follow asked one new reply step among.stands hash entry lies);
     others = λ other differ entry lies. among.others other differ entry
         (sym (untouched payload user_header types is_default is_default_header fixed degrades decides fixed_reader reader_degrades asked one new (Ok reply) among.stands.rises among.stands.table other (hash_apart hash other (hash_asked asked one) named differ) step).entry ∙ lies);
   }
 
-  kept_alone : (asked : Command T) (one new other after : NumberedHub T U B D) (reply : Reply T) → Among hash mine one → Alone mine other → AgreeOn hash mine one other → AgreeOn hash mine new after → OfService hash mine each asked one reply new → each asked other (Ok reply) after → Alone mine after
+  kept_alone : (asked : Command T) (one new other after : NumberedHub T U B D) (reply : Reply T) → Among hash mine one
+      → Alone mine other → AgreeOn hash mine one other → AgreeOn hash mine new after → OfService hash mine each asked one reply new
+      → each asked other (Ok reply) after → Alone mine after
   kept_alone asked one new other after reply among alone agree agree_after (step, (named, found), begins, wanted) there =
       let concerned = concerns hash mine one other agree alone.all asked found in
       let named_there : HashFound hash (hash_asked asked other) = subst (λ it. HashFound hash it) (sym (hash_there hash mine one other agree asked concerned)) named in
@@ -207,39 +228,54 @@ module _ {T U B D : Type 0} (hash : ServiceHash) (mine : ℕ → Bool) (payload 
       record {
         stands = stands_on asked other after reply there alone.stands;
         all = record {
-          factories = all_of_on service_of mine other.factories.made after.factories.made alone.all.factories (λ n not. (beside n not).factories);
-          publishers = all_of_on publisher_service mine other.made.publishers after.made.publishers alone.all.publishers (λ n not. (beside n not).made.publishers);
-          subscribers = all_of_on service_at mine other.made.subscribers after.made.subscribers alone.all.subscribers (λ n not. (beside n not).made.subscribers);
+          factories = all_of_on service_of mine other.factories.made after.factories.made alone.all.factories
+              (λ n not. (beside n not).factories);
+          publishers = all_of_on publisher_service mine other.made.publishers after.made.publishers alone.all.publishers
+              (λ n not. (beside n not).made.publishers);
+          subscribers = all_of_on service_at mine other.made.subscribers after.made.subscribers alone.all.subscribers
+              (λ n not. (beside n not).made.subscribers);
           loans = all_of_on loan_service mine other.made.loans after.made.loans alone.all.loans (λ n not. (beside n not).made.loans);
-          samples = all_of_on sample_service mine other.made.samples after.made.samples alone.all.samples (λ n not. (beside n not).made.samples);
+          samples = all_of_on sample_service mine other.made.samples after.made.samples alone.all.samples
+              (λ n not. (beside n not).made.samples);
         };
       }
 
   -- ---- a command of others
 
-  pub others_among : (asked : Command T) (one new : NumberedHub T U B D) (reply : Reply T) → Among hash mine one → OfOthers hash mine each asked one reply new → Among hash mine new
+  pub others_among : (asked : Command T) (one new : NumberedHub T U B D) (reply : Reply T) → Among hash mine one
+      → OfOthers hash mine each asked one reply new → Among hash mine new
   others_among asked one new reply among (step, (named, apart, no_node), begins) = record {
     stands = stands_on asked one new reply step among.stands;
     owners = (owners_on asked one new reply step among.owners).1;
-    own = λ entry lies. among.own entry (sym (untouched payload user_header types is_default is_default_header fixed degrades decides fixed_reader reader_degrades asked one new (Ok reply) among.stands.rises among.stands.table hash named step).entry ∙ lies);
-    others = λ other differ entry lies. from_is mine false other one.hub.table new.hub.table (among.others other differ) begins (number_of entry) (follow asked one new reply step among.stands other entry lies);
+    own = λ entry lies. among.own entry
+        (sym (untouched payload user_header types is_default is_default_header fixed degrades decides fixed_reader reader_degrades asked
+        one new (Ok reply) among.stands.rises among.stands.table hash named step).entry ∙ lies);
+    others = λ other differ entry lies. from_is mine false other one.hub.table new.hub.table (among.others other differ) begins
+        (number_of entry) (follow asked one new reply step among.stands other entry lies);
   }
 
-  later_than : (asked : Command T) (one new other : NumberedHub T U B D) (reply : Reply T) → Among hash mine one → AgreeOn hash mine one other → each asked one (Ok reply) new → IsLater other new
+  later_than : (asked : Command T) (one new other : NumberedHub T U B D) (reply : Reply T) → Among hash mine one
+      → AgreeOn hash mine one other → each asked one (Ok reply) new → IsLater other new
   later_than asked one new other reply among agree step =
       let (f, p, s, l, m) = go_on asked one new reply step in
       let (rf, rp, rs, rl, rm) = among.stands.rises in
       record {
-        lives = at_most one.hub.table.next other.hub.table.next agree.hubs.lives new.hub.table.next (past_rises one.hub.table new.hub.table (step_goes_on payload user_header types is_default is_default_header fixed degrades decides fixed_reader reader_degrades asked one new (Ok reply) step).past);
-        owners = at_most one.hub.factories other.hub.factories agree.hubs.owners new.hub.factories (owners_on asked one new reply step among.owners).0;
+        lives = at_most one.hub.table.next other.hub.table.next agree.hubs.lives new.hub.table.next
+            (past_rises one.hub.table new.hub.table
+            (step_goes_on payload user_header types is_default is_default_header fixed degrades decides fixed_reader reader_degrades
+            asked one new (Ok reply) step).past);
+        owners = at_most one.hub.factories other.hub.factories agree.hubs.owners new.hub.factories
+            (owners_on asked one new reply step among.owners).0;
         factories = at_most one.factories.made.next other.factories.made.next agree.factories.1 new.factories.made.next (f rf).1;
         publishers = at_most one.made.publishers.next other.made.publishers.next agree.made.publishers.1 new.made.publishers.next (p rp).1;
-        subscribers = at_most one.made.subscribers.next other.made.subscribers.next agree.made.subscribers.1 new.made.subscribers.next (s rs).1;
+        subscribers = at_most one.made.subscribers.next other.made.subscribers.next agree.made.subscribers.1 new.made.subscribers.next
+            (s rs).1;
         loans = at_most one.made.loans.next other.made.loans.next agree.made.loans.1 new.made.loans.next (l rl).1;
         samples = at_most one.made.samples.next other.made.samples.next agree.made.samples.1 new.made.samples.next (m rm).1;
       }
 
-  others_agree : (asked : Command T) (one new other : NumberedHub T U B D) (reply : Reply T) → Among hash mine one → AgreeOn hash mine one other → OfOthers hash mine each asked one reply new → AgreeOn hash mine new (pass new other)
+  others_agree : (asked : Command T) (one new other : NumberedHub T U B D) (reply : Reply T) → Among hash mine one
+      → AgreeOn hash mine one other → OfOthers hash mine each asked one reply new → AgreeOn hash mine new (pass new other)
   others_agree asked one new other reply among agree (step, (named, apart, no_node), begins) =
       let rises = among.stands.rises in
       let table = among.stands.table in
@@ -259,20 +295,27 @@ module _ {T U B D : Type 0} (hash : ServiceHash) (mine : ℕ → Bool) (payload 
           table_id = agree.hubs.table_id ∙ sym (past_id one.hub.table new.hub.table goes.on.past);
           buffer = agree.hubs.buffer ∙ sym goes.on.buffer;
         };
-        factories = passed_same service_of mine one.factories.made new.factories.made other.factories.made agree.factories (λ n own. (beside n own).factories);
+        factories = passed_same service_of mine one.factories.made new.factories.made other.factories.made agree.factories
+            (λ n own. (beside n own).factories);
         made = record {
-          publishers = passed_same publisher_service mine one.made.publishers new.made.publishers other.made.publishers agree.made.publishers (λ n own. (beside n own).made.publishers);
-          subscribers = passed_same service_at mine one.made.subscribers new.made.subscribers other.made.subscribers agree.made.subscribers (λ n own. (beside n own).made.subscribers);
-          loans = passed_same loan_service mine one.made.loans new.made.loans other.made.loans agree.made.loans (λ n own. (beside n own).made.loans);
-          samples = passed_same sample_service mine one.made.samples new.made.samples other.made.samples agree.made.samples (λ n own. (beside n own).made.samples);
+          publishers = passed_same publisher_service mine one.made.publishers new.made.publishers other.made.publishers
+              agree.made.publishers (λ n own. (beside n own).made.publishers);
+          subscribers = passed_same service_at mine one.made.subscribers new.made.subscribers other.made.subscribers
+              agree.made.subscribers (λ n own. (beside n own).made.subscribers);
+          loans = passed_same loan_service mine one.made.loans new.made.loans other.made.loans agree.made.loans
+              (λ n own. (beside n own).made.loans);
+          samples = passed_same sample_service mine one.made.samples new.made.samples other.made.samples agree.made.samples
+              (λ n own. (beside n own).made.samples);
         };
       }
 
   -- ---- one after the other
 
-  alone_runs : (commands : List (Bool × Command T)) (one new other : NumberedHub T U B D) (replies : List (Reply T)) → Among hash mine one → Alone mine other → AgreeOn hash mine one other → RunsAmongOthers hash mine each commands one replies new
+  alone_runs : (commands : List (Bool × Command T)) (one new other : NumberedHub T U B D) (replies : List (Reply T))
+      → Among hash mine one → Alone mine other → AgreeOn hash mine one other → RunsAmongOthers hash mine each commands one replies new
       → (after : NumberedHub T U B D) × RunsAlone (StepWithMemory each) commands other replies after × AgreeOn hash mine new after
-  alone_runs [] one new other replies among alone agree (none, same) = (other, (none, refl), subst (λ hub. AgreeOn hash mine hub other) (sym same) agree)
+  alone_runs [] one new other replies among alone agree (none, same)
+      = (other, (none, refl), subst (λ hub. AgreeOn hash mine hub other) (sym same) agree)
   alone_runs ((true, asked) ∷ commands) one new other replies among alone agree (reply, mid, rest, does, go, is) =
       let (between, there, agree_mid) = kept hash mine payload user_header types is_default is_default_header fixed degrades decides fixed_reader reader_degrades asked one mid other reply among.stands alone.stands alone.all among.own agree does in
       let (after, later, agree_after) =
@@ -344,9 +387,11 @@ module _ {T U B D : Type 0} (config : HubConfig) (mine : ℕ → Bool) where
         };
       }
 
-module _ {T U B D : Type 0} (payload user_header : Detail) (types : MessageTypeDetails) (is_default : T → Type 0) (is_default_header : U → Type 0)
+module _ {T U B D : Type 0} (payload user_header : Detail) (types : MessageTypeDetails) (is_default : T → Type 0)
+    (is_default_header : U → Type 0)
     (fixed : BackpressureStrategy → Option BackpressureAction → DegradationAction → B) (degrades : B → DegradationCause → DegradationInfo → DegradationAction → Type 0) (decides : B → BackpressureInfo → BackpressureDecision → Type 0)
     (fixed_reader : DegradationAction → D) (reader_degrades : D → DegradationCause → DegradationInfo → DegradationAction → Type 0) where
-  pub is_as_if_alone : IsAsIfAlone (Step {T = T} {U = U} payload user_header types is_default is_default_header fixed degrades decides fixed_reader reader_degrades)
+  pub is_as_if_alone : IsAsIfAlone (Step {T = T} {U = U} payload user_header types is_default is_default_header fixed degrades decides
+      fixed_reader reader_degrades)
   is_as_if_alone config hash mine commands first alone new replies is_first is_alone go =
       alone_runs hash mine payload user_header types is_default is_default_header fixed degrades decides fixed_reader reader_degrades commands first new alone replies (new_among config mine hash first is_first) (new_alone config mine alone is_alone) (new_agree config mine hash first alone is_first is_alone) go

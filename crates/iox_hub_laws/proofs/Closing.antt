@@ -64,7 +64,8 @@ once_distinct : {X : Type 0} (entries : List (ℕ × X)) → EachOnce entries �
 once_distinct [] once = tt
 once_distinct (entry ∷ entries) once = (once.0, once_distinct entries once.1)
 
-gone_here : {X Y : Type 0} (read : Option X → Y) (number n : ℕ) (is : Bool) → nat_eq number n ≡ is → (one other : List (ℕ × X)) → EachOnce one → EachOnce other
+gone_here : {X Y : Type 0} (read : Option X → Y) (number n : ℕ) (is : Bool) → nat_eq number n ≡ is → (one other : List (ℕ × X))
+    → EachOnce one → EachOnce other
     → read (lookup (is_at (nat_cmp n)) other) ≡ read (lookup (is_at (nat_cmp n)) one)
     → read (lookup (is_at (nat_cmp n)) (remove_entry (is_at (nat_cmp number)) other)) ≡ read (lookup (is_at (nat_cmp n)) (remove_entry (is_at (nat_cmp number)) one))
 gone_here read number n true is one other once other_once same =
@@ -86,10 +87,12 @@ abbrev count_of : Option ℕ → ℕ
 count_of found = unwrap_or found 0
 
 module _ {T U B D : Type 0} (hash : ServiceHash) (mine : ℕ → Bool) where
-  last_same : (number : ℕ) → mine number ≡ true → (one other : Hub T U B D) → HubsAgree hash mine one other → is_last number other.factory_counts ≡ is_last number one.factory_counts
+  last_same : (number : ℕ) → mine number ≡ true → (one other : Hub T U B D) → HubsAgree hash mine one other
+      → is_last number other.factory_counts ≡ is_last number one.factory_counts
   last_same number of one other agree = ap (λ count. nat_le count 1) (agree.counts number of)
 
-  use_same : (number owner : ℕ) → mine number ≡ true → (one other : Hub T U B D) → HubsAgree hash mine one other → in_use number owner other ≡ in_use number owner one
+  use_same : (number owner : ℕ) → mine number ≡ true → (one other : Hub T U B D) → HubsAgree hash mine one other
+      → in_use number owner other ≡ in_use number owner one
   use_same number owner of one other agree =
       ap (λ last. lives_in (who_counts last owner) (presence_of number other.services.domains)) (last_same number of one other agree)
       ∙ ap (λ found. lives_in (who_counts (is_last number one.factory_counts) owner) found) (agree.presence number of)
@@ -108,18 +111,23 @@ module _ {T U B D : Type 0} where
 itself : (number : ℕ) → is_at (nat_cmp number) number ≡ true
 itself number = unsigned_tied number number ∙ eq-eqb number number refl
 
-put_there : {X : Type 0} (number key : ℕ) (x w : X) (rest later : List (ℕ × X)) (o : Ordering) → nat_cmp number key ≡ o → lookup (is_at (nat_cmp number)) later ≡ Some w
+put_there : {X : Type 0} (number key : ℕ) (x w : X) (rest later : List (ℕ × X)) (o : Ordering) → nat_cmp number key ≡ o
+    → lookup (is_at (nat_cmp number)) later ≡ Some w
     → lookup (is_at (nat_cmp number)) (match_ordering o ((number, w) ∷ (key, x) ∷ rest) ((key, w) ∷ rest) ((key, x) ∷ later)) ≡ Some w
 put_there number key x w rest later Less is found = rw (itself number) refl
 put_there number key x w rest later Equal is found = rw is refl
 put_there number key x w rest later Greater is found = rw is found
 
 -- what is put under a number is found
-pub put_found : {X : Type 0} (number : ℕ) (values : List (ℕ × X)) (w : X) → lookup (is_at (nat_cmp number)) (insert_entry nat_cmp values number w) ≡ Some w
+pub put_found : {X : Type 0} (number : ℕ) (values : List (ℕ × X)) (w : X)
+    → lookup (is_at (nat_cmp number)) (insert_entry nat_cmp values number w) ≡ Some w
 put_found number [] w = rw (itself number) refl
-put_found number (value ∷ values) w = put_there number value.0 value.1 w values (insert_entry nat_cmp values number w) (nat_cmp number value.0) refl (put_found number values w)
+put_found number (value ∷ values) w
+    = put_there number value.0 value.1 w values (insert_entry nat_cmp values number w) (nat_cmp number value.0) refl
+    (put_found number values w)
 
-pub put_count : (number n w w_there : ℕ) (is : Bool) → nat_eq number n ≡ is → (one other : List (ℕ × ℕ)) → w_there ≡ w → factories_of n other ≡ factories_of n one → factories_of n (kept number w_there other) ≡ factories_of n (kept number w one)
+pub put_count : (number n w w_there : ℕ) (is : Bool) → nat_eq number n ≡ is → (one other : List (ℕ × ℕ)) → w_there ≡ w
+    → factories_of n other ≡ factories_of n one → factories_of n (kept number w_there other) ≡ factories_of n (kept number w one)
 put_count number n w w_there true is one other same agree =
     subst (λ m. factories_of m (kept number w_there other) ≡ factories_of m (kept number w one)) (eqb-true number n is)
     (ap count_of (put_found number other w_there) ∙ same ∙ sym (ap count_of (put_found number one w)))
@@ -128,10 +136,12 @@ put_count number n w w_there false is one other same agree =
     ap count_of (others_beside number n other w_there differ) ∙ agree ∙ sym (ap count_of (others_beside number n one w differ))
 
 module _ {T U B D : Type 0} (hash : ServiceHash) (mine : ℕ → Bool) where
-  less_agree : (last : Bool) (number : ℕ) → mine number ≡ true → (one other : Hub T U B D) → HubsAgree hash mine one other → NumbersOnce one → NumbersOnce other → HubsAgree hash mine (less_by last number one) (less_by last number other)
+  less_agree : (last : Bool) (number : ℕ) → mine number ≡ true → (one other : Hub T U B D) → HubsAgree hash mine one other
+      → NumbersOnce one → NumbersOnce other → HubsAgree hash mine (less_by last number one) (less_by last number other)
   less_agree true number of one other agree once other_once = record {
     named = agree.named;
-    presence = λ n own. gone_both (λ found. found) number n one.services.domains other.services.domains once.0 other_once.0 (agree.presence n own);
+    presence = λ n own. gone_both (λ found. found) number n one.services.domains other.services.domains once.0 other_once.0
+        (agree.presence n own);
     counts = λ n own. gone_both count_of number n one.factory_counts other.factory_counts once.1 other_once.1 (agree.counts n own);
     nodes = agree.nodes;
     lives = agree.lives;
@@ -143,7 +153,9 @@ module _ {T U B D : Type 0} (hash : ServiceHash) (mine : ℕ → Bool) where
   less_agree false number of one other agree once other_once = record {
     named = agree.named;
     presence = agree.presence;
-    counts = λ n own. put_count number n (factories_of number one.factory_counts - 1) (factories_of number other.factory_counts - 1) (nat_eq number n) refl one.factory_counts other.factory_counts (ap (λ count. count - 1) (agree.counts number of)) (agree.counts n own);
+    counts = λ n own. put_count number n (factories_of number one.factory_counts - 1) (factories_of number other.factory_counts - 1)
+        (nat_eq number n) refl one.factory_counts other.factory_counts (ap (λ count. count - 1) (agree.counts number of))
+        (agree.counts n own);
     nodes = agree.nodes;
     lives = agree.lives;
     owners = agree.owners;
@@ -152,23 +164,28 @@ module _ {T U B D : Type 0} (hash : ServiceHash) (mine : ℕ → Bool) where
     buffer = agree.buffer;
   }
 
-  less_one_agree : (number : ℕ) → mine number ≡ true → (one other : Hub T U B D) → HubsAgree hash mine one other → NumbersOnce one → NumbersOnce other → HubsAgree hash mine (less_one number one) (less_one number other)
+  less_one_agree : (number : ℕ) → mine number ≡ true → (one other : Hub T U B D) → HubsAgree hash mine one other → NumbersOnce one
+      → NumbersOnce other → HubsAgree hash mine (less_one number one) (less_one number other)
   less_one_agree number of one other agree once other_once =
       subst (λ last. HubsAgree hash mine (less_one number one) (less_by last number other)) (sym (last_same hash mine number of one other agree))
       (less_agree (is_last number one.factory_counts) number of one other agree once other_once)
 
-  module _ (one other : Hub T U B D) (agree : HubsAgree hash mine one other) (first : IsTable one.table) (second : IsTable other.table) (once : NumbersOnce one) (other_once : NumbersOnce other)
+  module _ (one other : Hub T U B D) (agree : HubsAgree hash mine one other) (first : IsTable one.table) (second : IsTable other.table)
+      (once : NumbersOnce one) (other_once : NumbersOnce other)
       (table other_table : FactoryTable) (same : SameOf service_of mine table other_table) (rises : Rises 1 table.entries table.next) (other_rises : Rises 1 other_table.entries other_table.next) where
     -- so it is in the other hub, too, with its factories
     abbrev GoesSo : (FactoryTable → Hub T U B D → FactoryTable → Hub T U B D → Type 0) → FactoryTable → Hub T U B D → Type 0
-    GoesSo does after new = (there : FactoryTable) × (hub : Hub T U B D) × does other_table other there hub × SameOf service_of mine after there × HubsAgree hash mine new hub
+    GoesSo does after new = (there : FactoryTable) × (hub : Hub T U B D) × does other_table other there hub
+        × SameOf service_of mine after there × HubsAgree hash mine new hub
 
     same_still : (after : FactoryTable) → after ≡ table → SameOf service_of mine after other_table
     same_still after is = subst (λ it. SameOf service_of mine it other_table) (sym is) same
 
-    closes_unless : (used : Bool) (n : ℕ) (member : Membership) (answer : Option (Result (Unit {0}) CloseError)) (after : FactoryTable) (new : Hub T U B D) → member.service.description.service_hash ≡ hash → mine member.service.number ≡ true
+    closes_unless : (used : Bool) (n : ℕ) (member : Membership) (answer : Option (Result (Unit {0}) CloseError)) (after : FactoryTable)
+        (new : Hub T U B D) → member.service.description.service_hash ≡ hash → mine member.service.number ≡ true
         → ClosesUnless used n member table one answer after new → GoesSo (λ t old a h. ClosesUnless used n member t old answer a h) after new
-    closes_unless true n member answer after new under of (is, unchanged, still) = (other_table, other, (is, refl, refl), same_still after unchanged, agree_still hash mine one new other agree still)
+    closes_unless true n member answer after new under of (is, unchanged, still)
+        = (other_table, other, (is, refl, refl), same_still after unchanged, agree_still hash mine one new other agree still)
     closes_unless false n member answer after new under of (closed, (does, less), is, gone) =
         let number = member.service.number in
         let all_under : AllUnder hash does.made =
@@ -180,28 +197,36 @@ module _ {T U B D : Type 0} (hash : ServiceHash) (mine : ℕ → Bool) where
           removed other_table n,
           hub,
           (closed, (record { made = does.made; went = subst (λ it. Went Sight other.table does.made it) (sym is_table) went; told = does.told }, ap (λ it. less_one number (record other { table = it })) (sym is_table)), is, refl),
-          subst (λ it. SameOf service_of mine it (removed other_table n)) (sym gone) (removed_both service_of mine table other_table rises other_rises n same),
-          agree_still hash mine (less_one number (record one { table = new.table })) new hub (less_one_agree number of (record one { table = new.table }) (record other { table = later }) before once other_once) less,
+          subst (λ it. SameOf service_of mine it (removed other_table n)) (sym gone)
+              (removed_both service_of mine table other_table rises other_rises n same),
+          agree_still hash mine (less_one number (record one { table = new.table })) new hub
+              (less_one_agree number of (record one { table = new.table }) (record other { table = later }) before once other_once) less,
         )
 
-    closes_if_of : (of_hub : Bool) (n : ℕ) (made : MadeFactory) (answer : Option (Result (Unit {0}) CloseError)) (after : FactoryTable) (new : Hub T U B D) → (carried_by made).service_hash ≡ hash → mine (service_of made) ≡ true
+    closes_if_of : (of_hub : Bool) (n : ℕ) (made : MadeFactory) (answer : Option (Result (Unit {0}) CloseError)) (after : FactoryTable)
+        (new : Hub T U B D) → (carried_by made).service_hash ≡ hash → mine (service_of made) ≡ true
         → ClosesIfOf of_hub n made table one answer after new → GoesSo (λ t old a h. ClosesIfOf of_hub n made t old answer a h) after new
-    closes_if_of false n made answer after new under of (is, unchanged, still) = (other_table, other, (is, refl, refl), same_still after unchanged, agree_still hash mine one new other agree still)
+    closes_if_of false n made answer after new under of (is, unchanged, still)
+        = (other_table, other, (is, refl, refl), same_still after unchanged, agree_still hash mine one new other agree still)
     closes_if_of true n made answer after new under of closes =
         let number = service_of made in
         let owner = (parts_of made).1 in
         let (there, hub, done, tables, hubs) = closes_unless (in_use number owner one) n (parts_of made).0 answer after new under of closes in
         (there, hub, subst (λ used. ClosesUnless used n (parts_of made).0 other_table other answer there hub) (sym (use_same hash mine number owner of one other agree)) done, tables, hubs)
 
-    closes_numbered : (n : ℕ) (found : Option MadeFactory) (answer : Option (Result (Unit {0}) CloseError)) (after : FactoryTable) (new : Hub T U B D) → IsOf service_of mine found → HashFound hash (option_map (λ made. (carried_by made).service_hash) found)
+    closes_numbered : (n : ℕ) (found : Option MadeFactory) (answer : Option (Result (Unit {0}) CloseError)) (after : FactoryTable)
+        (new : Hub T U B D) → IsOf service_of mine found → HashFound hash (option_map (λ made. (carried_by made).service_hash) found)
         → ClosesNumbered n found table one answer after new → GoesSo (λ t old a h. ClosesNumbered n found t old answer a h) after new
-    closes_numbered n None answer after new of under (is, unchanged, still) = (other_table, other, (is, refl, refl), same_still after unchanged, agree_still hash mine one new other agree still)
+    closes_numbered n None answer after new of under (is, unchanged, still)
+        = (other_table, other, (is, refl, refl), same_still after unchanged, agree_still hash mine one new other agree still)
     closes_numbered n (Some made) answer after new of under closes =
         let (there, hub, done, tables, hubs) = closes_if_of (nat_eq (parts_of made).0.storage one.table.id) n made answer after new under of closes in
         (there, hub, subst (λ id. ClosesIfOf (nat_eq (parts_of made).0.storage id) n made other_table other answer there hub) (sym agree.table_id) done, tables, hubs)
 
 module _ {T U B D : Type 0} (hash : ServiceHash) (mine : ℕ → Bool) where
-  pub close_alike : (factory : ℕ) (one new other : NumberedHub T U B D) (reply : Reply T) → IsTable one.hub.table → IsTable other.hub.table → NumbersRise one → NumbersRise other → NumbersOnce one.hub → NumbersOnce other.hub → AgreeOn hash mine one other
+  pub close_alike : (factory : ℕ) (one new other : NumberedHub T U B D) (reply : Reply T) → IsTable one.hub.table
+      → IsTable other.hub.table → NumbersRise one → NumbersRise other → NumbersOnce one.hub → NumbersOnce other.hub
+      → AgreeOn hash mine one other
       → FoundMine mine (option_map service_of (value_at one.factories.made factory)) (option_map service_of (value_at other.factories.made factory)) → HashFound hash (option_map (λ made. (carried_by made).service_hash) (value_at one.factories.made factory))
       → Closes factory one reply new → (after : NumberedHub T U B D) × Closes factory other reply after × AgreeOn hash mine new after
   close_alike factory one new other reply first second rises other_rises once other_once agree named under (closed, closes, unchanged, is) =
@@ -214,10 +239,14 @@ module _ {T U B D : Type 0} (hash : ServiceHash) (mine : ℕ → Bool) where
         record { hubs = hubs; factories = tables; made = made_still mine one.made new.made other.made agree.made unchanged },
       )
 
-module _ {T U B D : Type 0} (payload user_header : Detail) (types : MessageTypeDetails) (is_default : T → Type 0) (is_default_header : U → Type 0)
+module _ {T U B D : Type 0} (payload user_header : Detail) (types : MessageTypeDetails) (is_default : T → Type 0)
+    (is_default_header : U → Type 0)
     (fixed : BackpressureStrategy → Option BackpressureAction → DegradationAction → B) (degrades : B → DegradationCause → DegradationInfo → DegradationAction → Type 0) (decides : B → BackpressureInfo → BackpressureDecision → Type 0)
     (fixed_reader : DegradationAction → D) (reader_degrades : D → DegradationCause → DegradationInfo → DegradationAction → Type 0) where
-  pub close_answers_alike : CloseAnswersAlike (Step {T = T} {U = U} payload user_header types is_default is_default_header fixed degrades decides fixed_reader reader_degrades)
-  close_answers_alike hash mine (command.Close factory) one new other reply kind reached_one reached_other rises other_rises once other_once agree named under step =
+  pub close_answers_alike : CloseAnswersAlike
+      (Step {T = T} {U = U} payload user_header types is_default is_default_header fixed degrades decides fixed_reader reader_degrades)
+  close_answers_alike hash mine (command.Close factory) one new other reply kind reached_one reached_other rises other_rises once
+      other_once agree named under step =
       close_alike hash mine factory one new other reply (reached one.hub.table reached_one) (reached other.hub.table reached_other) rises other_rises once other_once agree named under step
-  close_answers_alike hash mine asked one new other reply kind reached_one reached_other rises other_rises once other_once agree named under step = absurd kind
+  close_answers_alike hash mine asked one new other reply kind reached_one reached_other rises other_rises once other_once agree named
+      under step = absurd kind

@@ -21,7 +21,8 @@ pub record AllMine {T U B D : Type 0} (mine : ℕ → Bool) (hub : NumberedHub T
   pub loans : AllOf loan_service mine hub.made.loans
   pub samples : AllOf sample_service mine hub.made.samples
 
-module _ {T U B D : Type 0} (hash : ServiceHash) (mine : ℕ → Bool) (one other : NumberedHub T U B D) (agree : AgreeOn hash mine one other) where
+module _ {T U B D : Type 0} (hash : ServiceHash) (mine : ℕ → Bool) (one other : NumberedHub T U B D)
+    (agree : AgreeOn hash mine one other) where
   -- a command asks nothing of any other service: so it is in the hub that has no other, too
   pub concerns : AllMine mine other → (asked : Command T) → NumberFound mine (number_asked asked one) → Concerns mine asked one other
   concerns all command.Node found = tt
@@ -29,26 +30,46 @@ module _ {T U B D : Type 0} (hash : ServiceHash) (mine : ℕ → Bool) (one othe
   concerns all (command.Open node name options requirements steps) found = tt
   concerns all (command.OpenOrCreate node name options requirements steps) found = tt
   concerns all (command.Foreign pattern name steps) found = tt
-  concerns all (command.Close factory) found = concerns_at service_of mine one.factories.made other.factories.made factory agree.factories all.factories found
-  concerns all (command.Publisher factory options) found = concerns_at service_of mine one.factories.made other.factories.made factory agree.factories all.factories found
-  concerns all (command.Subscriber factory options) found = concerns_at service_of mine one.factories.made other.factories.made factory agree.factories all.factories found
-  concerns all (command.Loan publisher length) found = concerns_at publisher_service mine one.made.publishers other.made.publishers publisher agree.made.publishers all.publishers found
-  concerns all (command.LoanUninit publisher length) found = concerns_at publisher_service mine one.made.publishers other.made.publishers publisher agree.made.publishers all.publishers found
-  concerns all (command.Set loan place value) found = concerns_at loan_service mine one.made.loans other.made.loans loan agree.made.loans all.loans found
-  concerns all (command.Fill loan values) found = concerns_at loan_service mine one.made.loans other.made.loans loan agree.made.loans all.loans found
-  concerns all (command.Drop loan) found = concerns_at loan_service mine one.made.loans other.made.loans loan agree.made.loans all.loans found
-  concerns all (command.Send loan) found = concerns_at loan_service mine one.made.loans other.made.loans loan agree.made.loans all.loans found
-  concerns all (command.Put publisher values) found = concerns_at publisher_service mine one.made.publishers other.made.publishers publisher agree.made.publishers all.publishers found
-  concerns all (command.Retry publisher nanoseconds) found = concerns_at publisher_service mine one.made.publishers other.made.publishers publisher agree.made.publishers all.publishers found
-  concerns all (command.GiveUp publisher) found = concerns_at publisher_service mine one.made.publishers other.made.publishers publisher agree.made.publishers all.publishers found
-  concerns all (command.Receive subscriber) found = concerns_at service_at mine one.made.subscribers other.made.subscribers subscriber agree.made.subscribers all.subscribers found
-  concerns all (command.Read sample) found = concerns_at sample_service mine one.made.samples other.made.samples sample agree.made.samples all.samples found
-  concerns all (command.Release sample) found = concerns_at sample_service mine one.made.samples other.made.samples sample agree.made.samples all.samples found
-  concerns all (command.Update (port.Publisher publisher)) found = concerns_at publisher_service mine one.made.publishers other.made.publishers publisher agree.made.publishers all.publishers found
-  concerns all (command.Update (port.Subscriber subscriber)) found = concerns_at service_at mine one.made.subscribers other.made.subscribers subscriber agree.made.subscribers all.subscribers found
-  concerns all (command.Leave (port.Publisher publisher)) found = concerns_at publisher_service mine one.made.publishers other.made.publishers publisher agree.made.publishers all.publishers found
-  concerns all (command.Leave (port.Subscriber subscriber)) found = concerns_at service_at mine one.made.subscribers other.made.subscribers subscriber agree.made.subscribers all.subscribers found
-  concerns all (command.Has subscriber) found = concerns_at service_at mine one.made.subscribers other.made.subscribers subscriber agree.made.subscribers all.subscribers found
+  concerns all (command.Close factory) found
+      = concerns_at service_of mine one.factories.made other.factories.made factory agree.factories all.factories found
+  concerns all (command.Publisher factory options) found
+      = concerns_at service_of mine one.factories.made other.factories.made factory agree.factories all.factories found
+  concerns all (command.Subscriber factory options) found
+      = concerns_at service_of mine one.factories.made other.factories.made factory agree.factories all.factories found
+  concerns all (command.Loan publisher length) found
+      = concerns_at publisher_service mine one.made.publishers other.made.publishers publisher agree.made.publishers all.publishers found
+  concerns all (command.LoanUninit publisher length) found
+      = concerns_at publisher_service mine one.made.publishers other.made.publishers publisher agree.made.publishers all.publishers found
+  concerns all (command.Set loan place value) found
+      = concerns_at loan_service mine one.made.loans other.made.loans loan agree.made.loans all.loans found
+  concerns all (command.Fill loan values) found
+      = concerns_at loan_service mine one.made.loans other.made.loans loan agree.made.loans all.loans found
+  concerns all (command.Drop loan) found
+      = concerns_at loan_service mine one.made.loans other.made.loans loan agree.made.loans all.loans found
+  concerns all (command.Send loan) found
+      = concerns_at loan_service mine one.made.loans other.made.loans loan agree.made.loans all.loans found
+  concerns all (command.Put publisher values) found
+      = concerns_at publisher_service mine one.made.publishers other.made.publishers publisher agree.made.publishers all.publishers found
+  concerns all (command.Retry publisher nanoseconds) found
+      = concerns_at publisher_service mine one.made.publishers other.made.publishers publisher agree.made.publishers all.publishers found
+  concerns all (command.GiveUp publisher) found
+      = concerns_at publisher_service mine one.made.publishers other.made.publishers publisher agree.made.publishers all.publishers found
+  concerns all (command.Receive subscriber) found
+      = concerns_at service_at mine one.made.subscribers other.made.subscribers subscriber agree.made.subscribers all.subscribers found
+  concerns all (command.Read sample) found
+      = concerns_at sample_service mine one.made.samples other.made.samples sample agree.made.samples all.samples found
+  concerns all (command.Release sample) found
+      = concerns_at sample_service mine one.made.samples other.made.samples sample agree.made.samples all.samples found
+  concerns all (command.Update (port.Publisher publisher)) found
+      = concerns_at publisher_service mine one.made.publishers other.made.publishers publisher agree.made.publishers all.publishers found
+  concerns all (command.Update (port.Subscriber subscriber)) found
+      = concerns_at service_at mine one.made.subscribers other.made.subscribers subscriber agree.made.subscribers all.subscribers found
+  concerns all (command.Leave (port.Publisher publisher)) found
+      = concerns_at publisher_service mine one.made.publishers other.made.publishers publisher agree.made.publishers all.publishers found
+  concerns all (command.Leave (port.Subscriber subscriber)) found
+      = concerns_at service_at mine one.made.subscribers other.made.subscribers subscriber agree.made.subscribers all.subscribers found
+  concerns all (command.Has subscriber) found
+      = concerns_at service_at mine one.made.subscribers other.made.subscribers subscriber agree.made.subscribers all.subscribers found
 
   -- and it names the same there
   pub number_there : (asked : Command T) → Concerns mine asked one other → number_asked asked other ≡ number_asked asked one
@@ -57,26 +78,66 @@ module _ {T U B D : Type 0} (hash : ServiceHash) (mine : ℕ → Bool) (one othe
   number_there (command.Open node name options requirements steps) named = refl
   number_there (command.OpenOrCreate node name options requirements steps) named = refl
   number_there (command.Foreign pattern name steps) named = refl
-  number_there (command.Close factory) named = ap (λ found. option_map service_of found) (named_alike service_of mine one.factories.made other.factories.made factory agree.factories named).0
-  number_there (command.Publisher factory options) named = ap (λ found. option_map service_of found) (named_alike service_of mine one.factories.made other.factories.made factory agree.factories named).0
-  number_there (command.Subscriber factory options) named = ap (λ found. option_map service_of found) (named_alike service_of mine one.factories.made other.factories.made factory agree.factories named).0
-  number_there (command.Loan publisher length) named = ap (λ found. option_map publisher_service found) (named_alike publisher_service mine one.made.publishers other.made.publishers publisher agree.made.publishers named).0
-  number_there (command.LoanUninit publisher length) named = ap (λ found. option_map publisher_service found) (named_alike publisher_service mine one.made.publishers other.made.publishers publisher agree.made.publishers named).0
-  number_there (command.Set loan place value) named = ap (λ found. option_map loan_service found) (named_alike loan_service mine one.made.loans other.made.loans loan agree.made.loans named).0
-  number_there (command.Fill loan values) named = ap (λ found. option_map loan_service found) (named_alike loan_service mine one.made.loans other.made.loans loan agree.made.loans named).0
-  number_there (command.Drop loan) named = ap (λ found. option_map loan_service found) (named_alike loan_service mine one.made.loans other.made.loans loan agree.made.loans named).0
-  number_there (command.Send loan) named = ap (λ found. option_map loan_service found) (named_alike loan_service mine one.made.loans other.made.loans loan agree.made.loans named).0
-  number_there (command.Put publisher values) named = ap (λ found. option_map publisher_service found) (named_alike publisher_service mine one.made.publishers other.made.publishers publisher agree.made.publishers named).0
-  number_there (command.Retry publisher nanoseconds) named = ap (λ found. option_map publisher_service found) (named_alike publisher_service mine one.made.publishers other.made.publishers publisher agree.made.publishers named).0
-  number_there (command.GiveUp publisher) named = ap (λ found. option_map publisher_service found) (named_alike publisher_service mine one.made.publishers other.made.publishers publisher agree.made.publishers named).0
-  number_there (command.Receive subscriber) named = ap (λ found. option_map service_at found) (named_alike service_at mine one.made.subscribers other.made.subscribers subscriber agree.made.subscribers named).0
-  number_there (command.Read sample) named = ap (λ found. option_map sample_service found) (named_alike sample_service mine one.made.samples other.made.samples sample agree.made.samples named).0
-  number_there (command.Release sample) named = ap (λ found. option_map sample_service found) (named_alike sample_service mine one.made.samples other.made.samples sample agree.made.samples named).0
-  number_there (command.Update (port.Publisher publisher)) named = ap (λ found. option_map publisher_service found) (named_alike publisher_service mine one.made.publishers other.made.publishers publisher agree.made.publishers named).0
-  number_there (command.Update (port.Subscriber subscriber)) named = ap (λ found. option_map service_at found) (named_alike service_at mine one.made.subscribers other.made.subscribers subscriber agree.made.subscribers named).0
-  number_there (command.Leave (port.Publisher publisher)) named = ap (λ found. option_map publisher_service found) (named_alike publisher_service mine one.made.publishers other.made.publishers publisher agree.made.publishers named).0
-  number_there (command.Leave (port.Subscriber subscriber)) named = ap (λ found. option_map service_at found) (named_alike service_at mine one.made.subscribers other.made.subscribers subscriber agree.made.subscribers named).0
-  number_there (command.Has subscriber) named = ap (λ found. option_map service_at found) (named_alike service_at mine one.made.subscribers other.made.subscribers subscriber agree.made.subscribers named).0
+  number_there (command.Close factory) named
+      = ap (λ found. option_map service_of found)
+      (named_alike service_of mine one.factories.made other.factories.made factory agree.factories named).0
+  number_there (command.Publisher factory options) named
+      = ap (λ found. option_map service_of found)
+      (named_alike service_of mine one.factories.made other.factories.made factory agree.factories named).0
+  number_there (command.Subscriber factory options) named
+      = ap (λ found. option_map service_of found)
+      (named_alike service_of mine one.factories.made other.factories.made factory agree.factories named).0
+  number_there (command.Loan publisher length) named
+      = ap (λ found. option_map publisher_service found)
+      (named_alike publisher_service mine one.made.publishers other.made.publishers publisher agree.made.publishers named).0
+  number_there (command.LoanUninit publisher length) named
+      = ap (λ found. option_map publisher_service found)
+      (named_alike publisher_service mine one.made.publishers other.made.publishers publisher agree.made.publishers named).0
+  number_there (command.Set loan place value) named
+      = ap (λ found. option_map loan_service found)
+      (named_alike loan_service mine one.made.loans other.made.loans loan agree.made.loans named).0
+  number_there (command.Fill loan values) named
+      = ap (λ found. option_map loan_service found)
+      (named_alike loan_service mine one.made.loans other.made.loans loan agree.made.loans named).0
+  number_there (command.Drop loan) named
+      = ap (λ found. option_map loan_service found)
+      (named_alike loan_service mine one.made.loans other.made.loans loan agree.made.loans named).0
+  number_there (command.Send loan) named
+      = ap (λ found. option_map loan_service found)
+      (named_alike loan_service mine one.made.loans other.made.loans loan agree.made.loans named).0
+  number_there (command.Put publisher values) named
+      = ap (λ found. option_map publisher_service found)
+      (named_alike publisher_service mine one.made.publishers other.made.publishers publisher agree.made.publishers named).0
+  number_there (command.Retry publisher nanoseconds) named
+      = ap (λ found. option_map publisher_service found)
+      (named_alike publisher_service mine one.made.publishers other.made.publishers publisher agree.made.publishers named).0
+  number_there (command.GiveUp publisher) named
+      = ap (λ found. option_map publisher_service found)
+      (named_alike publisher_service mine one.made.publishers other.made.publishers publisher agree.made.publishers named).0
+  number_there (command.Receive subscriber) named
+      = ap (λ found. option_map service_at found)
+      (named_alike service_at mine one.made.subscribers other.made.subscribers subscriber agree.made.subscribers named).0
+  number_there (command.Read sample) named
+      = ap (λ found. option_map sample_service found)
+      (named_alike sample_service mine one.made.samples other.made.samples sample agree.made.samples named).0
+  number_there (command.Release sample) named
+      = ap (λ found. option_map sample_service found)
+      (named_alike sample_service mine one.made.samples other.made.samples sample agree.made.samples named).0
+  number_there (command.Update (port.Publisher publisher)) named
+      = ap (λ found. option_map publisher_service found)
+      (named_alike publisher_service mine one.made.publishers other.made.publishers publisher agree.made.publishers named).0
+  number_there (command.Update (port.Subscriber subscriber)) named
+      = ap (λ found. option_map service_at found)
+      (named_alike service_at mine one.made.subscribers other.made.subscribers subscriber agree.made.subscribers named).0
+  number_there (command.Leave (port.Publisher publisher)) named
+      = ap (λ found. option_map publisher_service found)
+      (named_alike publisher_service mine one.made.publishers other.made.publishers publisher agree.made.publishers named).0
+  number_there (command.Leave (port.Subscriber subscriber)) named
+      = ap (λ found. option_map service_at found)
+      (named_alike service_at mine one.made.subscribers other.made.subscribers subscriber agree.made.subscribers named).0
+  number_there (command.Has subscriber) named
+      = ap (λ found. option_map service_at found)
+      (named_alike service_at mine one.made.subscribers other.made.subscribers subscriber agree.made.subscribers named).0
 
   -- under the same hash
   pub hash_there : (asked : Command T) → Concerns mine asked one other → hash_asked asked other ≡ hash_asked asked one
@@ -85,7 +146,9 @@ module _ {T U B D : Type 0} (hash : ServiceHash) (mine : ℕ → Bool) (one othe
   hash_there (command.Open node name options requirements steps) named = refl
   hash_there (command.OpenOrCreate node name options requirements steps) named = refl
   hash_there (command.Foreign pattern name steps) named = refl
-  hash_there (command.Close factory) named = ap (λ found. option_map (λ made. (carried_by made).service_hash) found) (named_alike service_of mine one.factories.made other.factories.made factory agree.factories named).0
+  hash_there (command.Close factory) named
+      = ap (λ found. option_map (λ made. (carried_by made).service_hash) found)
+      (named_alike service_of mine one.factories.made other.factories.made factory agree.factories named).0
   hash_there (command.Publisher factory options) named = refl
   hash_there (command.Subscriber factory options) named = refl
   hash_there (command.Loan publisher length) named = refl

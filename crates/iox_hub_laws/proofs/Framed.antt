@@ -77,7 +77,8 @@ pub record Framed {T U B D : Type 0} (old new : Hub T U B D) : Type 0 where
   pub id : new.services.hub ≡ old.services.hub
   pub domains : Rising nat_cmp old.services.domains → Rising nat_cmp new.services.domains
 
-replied : {T : Type 0} (P : Type 0) (does : Reply T → Type 0) (answer : Result (Reply T) AllocError) → ((reply : Reply T) → does reply → P) → IsReplied does answer → P
+replied : {T : Type 0} (P : Type 0) (does : Reply T → Type 0) (answer : Result (Reply T) AllocError)
+    → ((reply : Reply T) → does reply → P) → IsReplied does answer → P
 replied P does (Ok reply) goes done = goes reply done
 replied P does (Err lacking) goes done = absurd done
 
@@ -96,15 +97,20 @@ module _ {T U B D : Type 0} where
     domains = λ rising. second.domains (first.domains rising);
   }
 
-  stepped_id : (found : Option (Domain T U B D)) (number : ℕ) (step : Domain T U B D → Domain T U B D) (services : OpenServices T U B D) → (stepped_if found number step services).hub ≡ services.hub
+  stepped_id : (found : Option (Domain T U B D)) (number : ℕ) (step : Domain T U B D → Domain T U B D) (services : OpenServices T U B D)
+      → (stepped_if found number step services).hub ≡ services.hub
   stepped_id None number step services = refl
   stepped_id (Some domain) number step services = refl
 
-  stepped_rising : (found : Option (Domain T U B D)) (number : ℕ) (step : Domain T U B D → Domain T U B D) (services : OpenServices T U B D) → Rising nat_cmp services.domains → Rising nat_cmp (stepped_if found number step services).domains
+  stepped_rising : (found : Option (Domain T U B D)) (number : ℕ) (step : Domain T U B D → Domain T U B D)
+      (services : OpenServices T U B D) → Rising nat_cmp services.domains → Rising nat_cmp (stepped_if found number step services).domains
   stepped_rising None number step services rising = rising
-  stepped_rising (Some domain) number step services rising = set-rising nat_cmp nat_cmp_total (λ x y same. exact_unsigned x y same) (is_at (nat_cmp number)) (Here (step domain)) services.domains rising
+  stepped_rising (Some domain) number step services rising
+      = set-rising nat_cmp nat_cmp_total (λ x y same. exact_unsigned x y same) (is_at (nat_cmp number)) (Here (step domain))
+      services.domains rising
 
-  framed_moves : (id : DomainId) (step : Domain T U B D → Domain T U B D) (hub : Hub T U B D) → Framed hub (with_services hub (stepped id step hub.services))
+  framed_moves : (id : DomainId) (step : Domain T U B D → Domain T U B D) (hub : Hub T U B D)
+      → Framed hub (with_services hub (stepped id step hub.services))
   framed_moves id step hub = record {
     is = refl;
     id = stepped_id (domain_at id hub.services) id.service step hub.services;
@@ -158,13 +164,16 @@ module _ {T U B D : Type 0} where
 
   -- ---- the commands of services
 
-  opens_rising : (payload user_header : Detail) (buffer number : ℕ) (settings : Settings) (old new : OpenServices T U B D) → ServiceOpens payload user_header buffer number settings old (Ok tt) new
+  opens_rising : (payload user_header : Detail) (buffer number : ℕ) (settings : Settings) (old new : OpenServices T U B D)
+      → ServiceOpens payload user_header buffer number settings old (Ok tt) new
       → (new.hub ≡ old.hub) × (Rising nat_cmp old.domains → Rising nat_cmp new.domains)
-  opens_rising payload user_header buffer number settings old new (inl (why, same)) = (ap (λ s. s.hub) same, λ rising. subst (λ s. Rising nat_cmp s.domains) (sym same) rising)
+  opens_rising payload user_header buffer number settings old new (inl (why, same))
+      = (ap (λ s. s.hub) same, λ rising. subst (λ s. Rising nat_cmp s.domains) (sym same) rising)
   opens_rising payload user_header buffer number settings old new (inr (closed, fits, (domain, is_new, is))) =
       (ap (λ s. s.hub) is, λ rising. subst (λ s. Rising nat_cmp s.domains) (sym is) (insert-rising nat_cmp nat_cmp_total (λ x y same. exact_unsigned x y same) number (Here domain) old.domains rising))
 
-  entered_goes : (payload user_header : Detail) (member : Membership) (entered : Result Made Bool) (old new : Hub T U B D) → Enters payload user_header member old entered new → GoesBy old new
+  entered_goes : (payload user_header : Detail) (member : Membership) (entered : Result Made Bool) (old new : Hub T U B D)
+      → Enters payload user_header member old entered new → GoesBy old new
   entered_goes payload user_header member (Ok made) old new (is_made, opens, is) =
       let (hub, rising) = opens_rising payload user_header old.expired_connection_buffer member.service.number member.service.description.settings old.services new.services opens in
       record {
@@ -179,13 +188,18 @@ module _ {T U B D : Type 0} where
         };
         nodes = ap (λ hub. hub.nodes) is;
       }
-  entered_goes payload user_header member (Err was_new) old new (is_new, ((closed, does), is)) = by_table old new (went-past does.made old.table new.table does.went) is
+  entered_goes payload user_header member (Err was_new) old new (is_new, ((closed, does), is))
+      = by_table old new (went-past does.made old.table new.table does.went) is
 
-  settled_goes : {E : Type 0} (payload user_header : Detail) (lacking : Bool → E) (answer : Result Membership E) (result : Result Made E) (old new : Hub T U B D) → Settles payload user_header lacking answer old result new → GoesBy old new
+  settled_goes : {E : Type 0} (payload user_header : Detail) (lacking : Bool → E) (answer : Result Membership E)
+      (result : Result Made E) (old new : Hub T U B D) → Settles payload user_header lacking answer old result new → GoesBy old new
   settled_goes payload user_header lacking (Err error) result old new (is, same) = by_same old new same
-  settled_goes payload user_header lacking (Ok member) result old new (entered, enters, is) = entered_goes payload user_header member entered old new enters
+  settled_goes payload user_header lacking (Ok member) result old new (entered, enters, is)
+      = entered_goes payload user_header member entered old new enters
 
-  gets_goes : {E : Type 0} (hash : ServiceHash) (payload user_header : Detail) (lacking : Bool → E) (negotiates : Steps → Result Membership E → Steps → Type 0) → IsNegotiation hash negotiates → (lists : List (List ForeignStep)) (pattern : MessagingPattern) (refusal : E → Refusal)
+  gets_goes : {E : Type 0} (hash : ServiceHash) (payload user_header : Detail) (lacking : Bool → E)
+      (negotiates : Steps → Result Membership E → Steps → Type 0) → IsNegotiation hash negotiates
+      → (lists : List (List ForeignStep)) (pattern : MessagingPattern) (refusal : E → Refusal)
       (reply : Result ℕ Refusal) (table after : FactoryTable) (old new : Hub T U B D) → GetsNumber pattern refusal (λ before made later. OpensInHub payload user_header lacking negotiates lists before made later) table old reply after new → GoesBy old new
   gets_goes hash payload user_header lacking negotiates is lists pattern refusal reply table after old new (made, opens, numbers) =
       let start : Steps = record { table = old.table; lists = lists } in
@@ -205,7 +219,8 @@ module _ {T U B D : Type 0} where
           past = no-past hub.table hub.table refl;
           owners = inl refl;
           domains = λ rising. rising;
-          counts = λ rising. insert-rising nat_cmp nat_cmp_total (λ x y same. exact_unsigned x y same) number (factories_of number hub.factory_counts - 1) hub.factory_counts rising;
+          counts = λ rising. insert-rising nat_cmp nat_cmp_total (λ x y same. exact_unsigned x y same) number
+              (factories_of number hub.factory_counts - 1) hub.factory_counts rising;
         };
         nodes = refl;
       })
@@ -215,33 +230,41 @@ module _ {T U B D : Type 0} where
           id = refl;
           past = no-past hub.table hub.table refl;
           owners = inl refl;
-          domains = λ rising. remove-rising nat_cmp nat_cmp_total (λ x y same. exact_unsigned x y same) (is_at (nat_cmp number)) hub.services.domains rising;
-          counts = λ rising. remove-rising nat_cmp nat_cmp_total (λ x y same. exact_unsigned x y same) (is_at (nat_cmp number)) hub.factory_counts rising;
+          domains = λ rising. remove-rising nat_cmp nat_cmp_total (λ x y same. exact_unsigned x y same) (is_at (nat_cmp number))
+              hub.services.domains rising;
+          counts = λ rising. remove-rising nat_cmp nat_cmp_total (λ x y same. exact_unsigned x y same) (is_at (nat_cmp number))
+              hub.factory_counts rising;
         };
         nodes = refl;
       })
 
-  closes_unless : (used : Bool) (one : ℕ) (member : Membership) (table after : FactoryTable) (old new : Hub T U B D) (answer : Option (Result (Unit {0}) CloseError)) → ClosesUnless used one member table old answer after new → GoesBy old new
+  closes_unless : (used : Bool) (one : ℕ) (member : Membership) (table after : FactoryTable) (old new : Hub T U B D)
+      (answer : Option (Result (Unit {0}) CloseError)) → ClosesUnless used one member table old answer after new → GoesBy old new
   closes_unless true one member table after old new answer closes = by_same old new closes.2
   closes_unless false one member table after old new answer (closed, (does, is), is_answer, is_after) =
       let before : Hub T U B D = record old { table = new.table } in
       after_table old new new.table (went-past does.made old.table new.table does.went) (subst (λ hub. GoesBy before hub) (sym is) (less_one_goes member.service.number before))
 
-  closes_if : (is_of : Bool) (one : ℕ) (made : MadeFactory) (table after : FactoryTable) (old new : Hub T U B D) (answer : Option (Result (Unit {0}) CloseError)) → ClosesIfOf is_of one made table old answer after new → GoesBy old new
+  closes_if : (is_of : Bool) (one : ℕ) (made : MadeFactory) (table after : FactoryTable) (old new : Hub T U B D)
+      (answer : Option (Result (Unit {0}) CloseError)) → ClosesIfOf is_of one made table old answer after new → GoesBy old new
   closes_if false one made table after old new answer closes = by_same old new closes.2
   closes_if true one made table after old new answer closes = closes_unless _ one (parts_of made).0 table after old new answer closes
 
-  close_goes : (one : ℕ) (found : Option MadeFactory) (table after : FactoryTable) (old new : Hub T U B D) (answer : Option (Result (Unit {0}) CloseError)) → ClosesNumbered one found table old answer after new → GoesBy old new
+  close_goes : (one : ℕ) (found : Option MadeFactory) (table after : FactoryTable) (old new : Hub T U B D)
+      (answer : Option (Result (Unit {0}) CloseError)) → ClosesNumbered one found table old answer after new → GoesBy old new
   close_goes one None table after old new answer closes = by_same old new closes.2
   close_goes one (Some made) table after old new answer closes = closes_if _ one made table after old new answer closes
 
-  foreign_goes : (pattern : MessagingPattern) (name : List ℕ) (types : MessageTypeDetails) (steps : List Named) (old new : Hub T U B D) (answer : Result (Unit {0}) HubError) → ActsNamed pattern name types steps old answer new → GoesBy old new
-  foreign_goes pattern name types steps old new answer (inl ((happened, acts, told), is)) = by_table old new (acts-ran _ _ old.table new.table happened acts) is
+  foreign_goes : (pattern : MessagingPattern) (name : List ℕ) (types : MessageTypeDetails) (steps : List Named) (old new : Hub T U B D)
+      (answer : Result (Unit {0}) HubError) → ActsNamed pattern name types steps old answer new → GoesBy old new
+  foreign_goes pattern name types steps old new answer (inl ((happened, acts, told), is))
+      = by_table old new (acts-ran _ _ old.table new.table happened acts) is
   foreign_goes pattern name types steps old new answer (inr (some, is_answer, is)) = by_same old new is
 
   -- ---- each command
 
-  node_goes : (old new : NumberedHub T U B D) (nodes : ℕ) → new ≡ record old { hub = record old.hub { nodes = nodes } } → GoesOn old.hub new.hub
+  node_goes : (old new : NumberedHub T U B D) (nodes : ℕ) → new ≡ record old { hub = record old.hub { nodes = nodes } }
+      → GoesOn old.hub new.hub
   node_goes old new nodes is = record {
     buffer = ap (λ numbered. numbered.hub.expired_connection_buffer) is;
     id = ap (λ numbered. numbered.hub.services.hub) is;
@@ -255,16 +278,19 @@ module _ {T U B D : Type 0} where
       (fixed : BackpressureStrategy → Option BackpressureAction → DegradationAction → B) (degrades : B → DegradationCause → DegradationInfo → DegradationAction → Type 0) (decides : B → BackpressureInfo → BackpressureDecision → Type 0)
       (fixed_reader : DegradationAction → D) (reader_degrades : D → DegradationCause → DegradationInfo → DegradationAction → Type 0) where
     abbrev each : Command T → NumberedHub T U B D → Result (Reply T) AllocError → NumberedHub T U B D → Type 0
-    each asked old answer new = Step payload user_header types is_default is_default_header fixed degrades decides fixed_reader reader_degrades asked old answer new
+    each asked old answer new = Step payload user_header types is_default is_default_header fixed degrades decides fixed_reader
+        reader_degrades asked old answer new
 
-    opening : (hash : ServiceHash) (asked : Command T) (old new : NumberedHub T U B D) (answer : Result (Reply T) AllocError) → IsOpening asked → hash_asked asked old ≡ Some hash → each asked old answer new → GoesBy old.hub new.hub
+    opening : (hash : ServiceHash) (asked : Command T) (old new : NumberedHub T U B D) (answer : Result (Reply T) AllocError)
+        → IsOpening asked → hash_asked asked old ≡ Some hash → each asked old answer new → GoesBy old.hub new.hub
     opening hash asked old new answer kind named step =
         (opening_goes hash payload user_header (λ table after before later. GoesBy before later) (λ table after before later same is. by_same before later is) (λ table roomy after before later same goes. goes)
         (λ E lacking negotiates is lists pattern refusal reply table after before later gets. gets_goes hash payload user_header lacking negotiates is lists pattern refusal reply table after before later gets)
         types is_default is_default_header fixed degrades decides fixed_reader reader_degrades asked old new answer kind named step).0
 
     -- a command that makes no node
-    pub step_goes_by : (asked : Command T) (old new : NumberedHub T U B D) (answer : Result (Reply T) AllocError) → (IsNode asked → ⊥) → each asked old answer new → GoesBy old.hub new.hub
+    pub step_goes_by : (asked : Command T) (old new : NumberedHub T U B D) (answer : Result (Reply T) AllocError) → (IsNode asked → ⊥)
+        → each asked old answer new → GoesBy old.hub new.hub
     step_goes_by asked old new answer other step = kept asked other step
       where
         ports : (command : Command T) → (OfServices command → Framed old.hub new.hub) → each command old answer new → GoesBy old.hub new.hub
@@ -273,14 +299,22 @@ module _ {T U B D : Type 0} where
 
         kept : (command : Command T) → (IsNode command → ⊥) → each command old answer new → GoesBy old.hub new.hub
         kept command.Node other does = absurd (other tt)
-        kept (command.Create node name options attributes steps) other does = opening (hash_of name options) (command.Create node name options attributes steps) old new answer tt refl does
-        kept (command.Open node name options requirements steps) other does = opening (hash_of name options) (command.Open node name options requirements steps) old new answer tt refl does
-        kept (command.OpenOrCreate node name options requirements steps) other does = opening (hash_of name options) (command.OpenOrCreate node name options requirements steps) old new answer tt refl does
-        kept (command.Foreign pattern name steps) other does = replied _ _ answer (λ reply goes. let (acted, acts, same, is) = goes in foreign_goes pattern name types steps old.hub new.hub acted acts) does
-        kept (command.Close factory) other does = replied _ _ answer (λ reply goes. let (closed, closes, same, is) = goes in close_goes factory _ old.factories.made new.factories.made old.hub new.hub closed closes) does
+        kept (command.Create node name options attributes steps) other does
+            = opening (hash_of name options) (command.Create node name options attributes steps) old new answer tt refl does
+        kept (command.Open node name options requirements steps) other does
+            = opening (hash_of name options) (command.Open node name options requirements steps) old new answer tt refl does
+        kept (command.OpenOrCreate node name options requirements steps) other does
+            = opening (hash_of name options) (command.OpenOrCreate node name options requirements steps) old new answer tt refl does
+        kept (command.Foreign pattern name steps) other does
+            = replied _ _ answer (λ reply goes. let (acted, acts, same, is)
+            = goes in foreign_goes pattern name types steps old.hub new.hub acted acts) does
+        kept (command.Close factory) other does
+            = replied _ _ answer (λ reply goes. let (closed, closes, same, is)
+            = goes in close_goes factory _ old.factories.made new.factories.made old.hub new.hub closed closes) does
         kept asked other does = ports asked (λ kind. absurd kind) does
 
     -- any command
-    pub step_goes_on : (asked : Command T) (old new : NumberedHub T U B D) (answer : Result (Reply T) AllocError) → each asked old answer new → GoesOn old.hub new.hub
+    pub step_goes_on : (asked : Command T) (old new : NumberedHub T U B D) (answer : Result (Reply T) AllocError)
+        → each asked old answer new → GoesOn old.hub new.hub
     step_goes_on command.Node old new answer step = replied _ _ answer (λ reply does. node_goes old new _ does.1) step
     step_goes_on asked old new answer step = (step_goes_by asked old new answer (λ node. node) step).on

@@ -45,26 +45,33 @@ pub stands_once : {T U B D : Type 0} (hub : NumberedHub T U B D) → Stands hub 
 stands_once hub stands =
     (rising_once hub.hub.services.domains (from_rising hub.hub.services.domains stands.domains), rising_once hub.hub.factory_counts (from_rising hub.hub.factory_counts stands.counts))
 
-of_life : (mine : ℕ → Bool) (found : Option Entry) → ((entry : Entry) → found ≡ Some entry → mine (number_of entry) ≡ true) → IsOfLife mine found
+of_life : (mine : ℕ → Bool) (found : Option Entry) → ((entry : Entry) → found ≡ Some entry → mine (number_of entry) ≡ true)
+    → IsOfLife mine found
 of_life mine None each = tt
 of_life mine (Some entry) each = each entry refl
 
-module _ {T U B D : Type 0} (hash : ServiceHash) (mine : ℕ → Bool) (payload user_header : Detail) (types : MessageTypeDetails) (is_default : T → Type 0) (is_default_header : U → Type 0)
+module _ {T U B D : Type 0} (hash : ServiceHash) (mine : ℕ → Bool) (payload user_header : Detail) (types : MessageTypeDetails)
+    (is_default : T → Type 0) (is_default_header : U → Type 0)
     (fixed : BackpressureStrategy → Option BackpressureAction → DegradationAction → B) (degrades : B → DegradationCause → DegradationInfo → DegradationAction → Type 0) (decides : B → BackpressureInfo → BackpressureDecision → Type 0)
     (fixed_reader : DegradationAction → D) (reader_degrades : D → DegradationCause → DegradationInfo → DegradationAction → Type 0) where
   abbrev each : Command T → NumberedHub T U B D → Result (Reply T) AllocError → NumberedHub T U B D → Type 0
-  each asked old answer new = Step payload user_header types is_default is_default_header fixed degrades decides fixed_reader reader_degrades asked old answer new
+  each asked old answer new = Step payload user_header types is_default is_default_header fixed degrades decides fixed_reader
+      reader_degrades asked old answer new
 
   -- what the one may reply, the other may reply, and then they agree again
-  pub kept : (asked : Command T) (one new other : NumberedHub T U B D) (reply : Reply T) → Stands one → Stands other → AllMine mine other → ((entry : Entry) → entry_at hash one.hub.table ≡ Some entry → mine (number_of entry) ≡ true)
+  pub kept : (asked : Command T) (one new other : NumberedHub T U B D) (reply : Reply T) → Stands one → Stands other
+      → AllMine mine other → ((entry : Entry) → entry_at hash one.hub.table ≡ Some entry → mine (number_of entry) ≡ true)
       → AgreeOn hash mine one other → OfService hash mine each asked one reply new → (after : NumberedHub T U B D) × each asked other (Ok reply) after × AgreeOn hash mine new after
-  kept (command.Create node name options attributes steps) one new other reply stands stands_there all own agree (step, (named, found), begins, wanted) =
+  kept (command.Create node name options attributes steps) one new other reply stands stands_there all own agree
+      (step, (named, found), begins, wanted) =
       opens_tables_alike payload user_header types is_default is_default_header fixed degrades decides fixed_reader reader_degrades hash mine (command.Create node name options attributes steps) one new other reply tt stands.table stands_there.table stands.rises.0 stands_there.rises.0 agree
       (ap (λ h. Some h) named) (of_life mine (entry_at hash one.hub.table) own, begins) wanted step
-  kept (command.Open node name options requirements steps) one new other reply stands stands_there all own agree (step, (named, found), begins, wanted) =
+  kept (command.Open node name options requirements steps) one new other reply stands stands_there all own agree
+      (step, (named, found), begins, wanted) =
       opens_tables_alike payload user_header types is_default is_default_header fixed degrades decides fixed_reader reader_degrades hash mine (command.Open node name options requirements steps) one new other reply tt stands.table stands_there.table stands.rises.0 stands_there.rises.0 agree
       (ap (λ h. Some h) named) (of_life mine (entry_at hash one.hub.table) own, begins) wanted step
-  kept (command.OpenOrCreate node name options requirements steps) one new other reply stands stands_there all own agree (step, (named, found), begins, wanted) =
+  kept (command.OpenOrCreate node name options requirements steps) one new other reply stands stands_there all own agree
+      (step, (named, found), begins, wanted) =
       opens_tables_alike payload user_header types is_default is_default_header fixed degrades decides fixed_reader reader_degrades hash mine (command.OpenOrCreate node name options requirements steps) one new other reply tt stands.table stands_there.table stands.rises.0 stands_there.rises.0 agree
       (ap (λ h. Some h) named) (of_life mine (entry_at hash one.hub.table) own, begins) wanted step
   kept (command.Foreign pattern name steps) one new other reply stands stands_there all own agree (step, (named, found), begins, wanted) =

@@ -17,7 +17,8 @@ use Rattle.iox_hub_laws.proofs.LocalityNames.{set_at, insert_at}
 
 -- The number is of what lay under the hash, or of a life that began since.
 abbrev pub IsFrom : ServiceHash → Contents → Contents → ℕ → Type 0
-IsFrom hash old new number = ((entry : Entry) × (entry_at hash old ≡ Some entry) × (number_of entry ≡ number)) ⊎ ((old.next ≤ number) × (number < new.next))
+IsFrom hash old new number = ((entry : Entry) × (entry_at hash old ≡ Some entry) × (number_of entry ≡ number))
+    ⊎ ((old.next ≤ number) × (number < new.next))
 
 -- What lies under the hash later is of such a life.
 abbrev pub Follows : ServiceHash → Contents → Contents → Type 0
@@ -36,7 +37,8 @@ module _ (hash : ServiceHash) (old new : Contents) where
   follows_none : entry_at hash new ≡ None → Follows hash old new
   follows_none none entry found = absurd (not_there entry (sym none ∙ found))
 
-  follows_described : (before : Entry) (number : ℕ) (bytes : List ℕ) → entry_at hash old ≡ Some before → number_of before ≡ number → entry_at hash new ≡ Some (Described number bytes) → Follows hash old new
+  follows_described : (before : Entry) (number : ℕ) (bytes : List ℕ) → entry_at hash old ≡ Some before → number_of before ≡ number
+      → entry_at hash new ≡ Some (Described number bytes) → Follows hash old new
   follows_described before number bytes stood of is entry found =
       inl (before, stood, of ∙ ap number_of (entry_is (Described number bytes) entry (sym is ∙ found)))
 
@@ -73,7 +75,8 @@ next_rises (event ∷ events) old new (mid, does, ran) =
     let second : mid.next ≤ new.next = next_rises events mid new ran in
     omega (arith, first, second)
 
-module _ (hash : ServiceHash) (old mid new : Contents) (first : old.next ≤ mid.next) (second : mid.next ≤ new.next) (follows : Follows hash old mid) where
+module _ (hash : ServiceHash) (old mid new : Contents) (first : old.next ≤ mid.next) (second : mid.next ≤ new.next)
+    (follows : Follows hash old mid) where
   from_on : (number : ℕ) → IsFrom hash mid new number → IsFrom hash old new number
   from_on number (inl (entry, stood, of)) = longer number (subst (λ n. IsFrom hash old mid n) of (follows entry stood))
     where
@@ -110,7 +113,8 @@ change_id event hash old new (Removal number is) = ap (λ t. t.id) is
 
 ran_id : (events : List Event) (old new : Contents) → Ran old events new → new.id ≡ old.id
 ran_id [] old new ran = ap (λ t. t.id) ran
-ran_id (event ∷ events) old new (mid, does, ran) = ran_id events mid new ran ∙ change_id event (hash_of event) old mid (changes old mid event does)
+ran_id (event ∷ events) old new (mid, does, ran)
+    = ran_id events mid new ran ∙ change_id event (hash_of event) old mid (changes old mid event does)
 
 pub past_id : (old new : Contents) → Past old new → new.id ≡ old.id
 past_id old new past = ran_id past.events old new past.ran

@@ -43,7 +43,8 @@ use Rattle.iox_hub_laws.proofs.Negotiate.Tables.{IsTable, digest-exact, place-ex
 -- ---- one key of a map
 
 module _ {K X : Type 0} (test : K → Bool) where
-  set_there : (e : K × X) (es : List (K × X)) (w : X) (b : Bool) → test e.0 ≡ b → lookup test (set_value test es w) ≡ option_map (λ x. w) (lookup test es)
+  set_there : (e : K × X) (es : List (K × X)) (w : X) (b : Bool) → test e.0 ≡ b
+      → lookup test (set_value test es w) ≡ option_map (λ x. w) (lookup test es)
       → lookup test (cond b ((e.0, w) ∷ es) (e ∷ set_value test es w)) ≡ option_map (λ x. w) (cond b (Some e.1) (lookup test es))
   set_there e es w true is later = rw is refl
   set_there e es w false is later = rw is later
@@ -86,7 +87,8 @@ module _ (hash : ServiceHash) where
   still one new other agree is = subst (λ table. TablesAgree hash table other) (sym is) agree
 
   at_digest : (x y : List ℕ) → is_at (digest_cmp hash.digest) x ≡ true → is_at (digest_cmp hash.digest) y ≡ true → x ≡ y
-  at_digest x y a b = sym (digest-exact hash.digest x (equal-of (digest_cmp hash.digest x) a)) ∙ digest-exact hash.digest y (equal-of (digest_cmp hash.digest y) b)
+  at_digest x y a b = sym (digest-exact hash.digest x (equal-of (digest_cmp hash.digest x) a)) ∙ digest-exact hash.digest y
+      (equal-of (digest_cmp hash.digest y) b)
 
   at_place : (place x y : List ℕ × ℕ) → is_at (place_cmp place) x ≡ true → is_at (place_cmp place) y ≡ true → x ≡ y
   at_place place x y a b = sym (place-exact place x (equal-of (place_cmp place x) a)) ∙ place-exact place y (equal-of (place_cmp place y) b)
@@ -94,14 +96,18 @@ module _ (hash : ServiceHash) where
   other_place : (number n : ℕ) → number ≢ n → ◌≢◌ {A = List ℕ × ℕ} (hash.digest, number) (hash.digest, n)
   other_place number n differ same = differ (ap (λ p. p.1) same)
 
-  segment_here : (number n : ℕ) (is : Bool) (one other : Contents) → nat_eq number n ≡ is → segment_at hash number other ≡ segment_at hash number one → (number ≢ n → segment_at hash n other ≡ segment_at hash n one) → segment_at hash n other ≡ segment_at hash n one
-  segment_here number n true one other is own others = subst (λ m. segment_at hash m other ≡ segment_at hash m one) (eqb-true number n is) own
+  segment_here : (number n : ℕ) (is : Bool) (one other : Contents) → nat_eq number n ≡ is
+      → segment_at hash number other ≡ segment_at hash number one → (number ≢ n → segment_at hash n other ≡ segment_at hash n one)
+      → segment_at hash n other ≡ segment_at hash n one
+  segment_here number n true one other is own others
+      = subst (λ m. segment_at hash m other ≡ segment_at hash m one) (eqb-true number n is) own
   segment_here number n false one other is own others = others (λ same. no (sym is ∙ eq-eqb number n same))
 
   module _ (one other : Contents) (agree : TablesAgree hash one other) where
     lock_both : (node : Node) → TablesAgree hash (with_lock hash node one) (with_lock hash node other)
     lock_both node = record {
-      entry = insert_at digest_cmp hash.digest (Locked node other.next) (digest-self hash.digest) other.entries ∙ ap (λ n. Some (Locked node n)) agree.next
+      entry = insert_at digest_cmp hash.digest (Locked node other.next) (digest-self hash.digest) other.entries ∙ ap
+          (λ n. Some (Locked node n)) agree.next
           ∙ sym (insert_at digest_cmp hash.digest (Locked node one.next) (digest-self hash.digest) one.entries);
       segments = agree.segments;
       next = ap (λ n. n + 1) agree.next;
@@ -110,7 +116,8 @@ module _ (hash : ServiceHash) where
 
     entry_both : (entry : Entry) → TablesAgree hash (with_entry hash entry one) (with_entry hash entry other)
     entry_both entry = record {
-      entry = set_at (is_at (digest_cmp hash.digest)) other.entries entry ∙ ap (λ found. option_map (λ e. entry) found) agree.entry ∙ sym (set_at (is_at (digest_cmp hash.digest)) one.entries entry);
+      entry = set_at (is_at (digest_cmp hash.digest)) other.entries entry ∙ ap (λ found. option_map (λ e. entry) found) agree.entry ∙
+          sym (set_at (is_at (digest_cmp hash.digest)) one.entries entry);
       segments = agree.segments;
       next = agree.next;
       id = agree.id;
@@ -118,17 +125,20 @@ module _ (hash : ServiceHash) where
 
     without_both : IsTable one → IsTable other → TablesAgree hash (without_entry hash one) (without_entry hash other)
     without_both first second = record {
-      entry = remove-same (is_at (digest_cmp hash.digest)) at_digest other.entries second.keys ∙ sym (remove-same (is_at (digest_cmp hash.digest)) at_digest one.entries first.keys);
+      entry = remove-same (is_at (digest_cmp hash.digest)) at_digest other.entries second.keys ∙ sym
+          (remove-same (is_at (digest_cmp hash.digest)) at_digest one.entries first.keys);
       segments = agree.segments;
       next = agree.next;
       id = agree.id;
     }
 
-    new_segment_both : (number : ℕ) (segment : Segment) → TablesAgree hash (with_new_segment hash number segment one) (with_new_segment hash number segment other)
+    new_segment_both : (number : ℕ) (segment : Segment)
+        → TablesAgree hash (with_new_segment hash number segment one) (with_new_segment hash number segment other)
     new_segment_both number segment =
         record {
           entry = agree.entry;
-          segments = λ n. segment_here number n (nat_eq number n) (with_new_segment hash number segment one) (with_new_segment hash number segment other) refl
+          segments = λ n. segment_here number n (nat_eq number n) (with_new_segment hash number segment one)
+              (with_new_segment hash number segment other) refl
               (insert_at place_cmp (hash.digest, number) segment (same-place (hash.digest, number)) other.segments ∙ sym (insert_at place_cmp (hash.digest, number) segment (same-place (hash.digest, number)) one.segments))
               (λ differ. insert-apart place_cmp (hash.digest, number) segment (is_at (place_cmp (hash.digest, n))) (place-away (hash.digest, number) (hash.digest, n) (other_place number n differ)) place-exact other.segments
               ∙ agree.segments n
@@ -137,10 +147,12 @@ module _ (hash : ServiceHash) where
           id = agree.id;
         }
 
-    segment_both : (number : ℕ) (segment : Segment) → TablesAgree hash (with_segment hash number segment one) (with_segment hash number segment other)
+    segment_both : (number : ℕ) (segment : Segment)
+        → TablesAgree hash (with_segment hash number segment one) (with_segment hash number segment other)
     segment_both number segment = record {
       entry = agree.entry;
-      segments = λ n. segment_here number n (nat_eq number n) (with_segment hash number segment one) (with_segment hash number segment other) refl
+      segments = λ n. segment_here number n (nat_eq number n) (with_segment hash number segment one)
+          (with_segment hash number segment other) refl
           (set_at (is_at (place_cmp (hash.digest, number))) other.segments segment ∙ ap (λ found. option_map (λ e. segment) found) (agree.segments number) ∙ sym (set_at (is_at (place_cmp (hash.digest, number))) one.segments segment))
           (λ differ. set-apart (is_at (place_cmp (hash.digest, number))) (is_at (place_cmp (hash.digest, n))) (place-apart (hash.digest, number) (hash.digest, n) (other_place number n differ)) other.segments segment
           ∙ agree.segments n
@@ -149,7 +161,8 @@ module _ (hash : ServiceHash) where
       id = agree.id;
     }
 
-    without_segment_both : (number : ℕ) → IsTable one → IsTable other → TablesAgree hash (without_segment hash number one) (without_segment hash number other)
+    without_segment_both : (number : ℕ) → IsTable one → IsTable other
+        → TablesAgree hash (without_segment hash number one) (without_segment hash number other)
     without_segment_both number first second = record {
       entry = agree.entry;
       segments = λ n. segment_here number n (nat_eq number n) (without_segment hash number one) (without_segment hash number other) refl
@@ -172,26 +185,30 @@ module _ (hash : ServiceHash) where
     as_before : new ≡ one → TablesAgree hash new other
     as_before is = still one new other agree is
 
-    locks_free : (b : Bool) (node : Node) (answer : LockAnswer) → LocksFree b hash node one answer new → Goes (λ old after. LocksFree b hash node old answer after) other new
+    locks_free : (b : Bool) (node : Node) (answer : LockAnswer) → LocksFree b hash node one answer new
+        → Goes (λ old after. LocksFree b hash node old answer after) other new
     locks_free true node answer h = (other, (h.0, refl), as_before h.1)
     locks_free false node answer (inl h) = (with_lock hash node other, inl (h.0 ∙ ap (λ n. lock.Taken n) (sym agree.next), refl), still (with_lock hash node one) new (with_lock hash node other) (lock_both one other agree node) h.1)
     locks_free false node answer (inr h) = (other, inr (h.0, refl), as_before h.1)
 
-    locks_at : (found : Option Entry) (node : Node) (answer : LockAnswer) → LocksAt found hash node one answer new → Goes (λ old after. LocksAt found hash node old answer after) other new
+    locks_at : (found : Option Entry) (node : Node) (answer : LockAnswer) → LocksAt found hash node one answer new
+        → Goes (λ old after. LocksAt found hash node old answer after) other new
     locks_at None node answer h =
         let (after, there, later) = locks_free (nat_eq one.next (2 ^ 64 - 1)) node answer h in
         (after, subst (λ n. LocksFree (nat_eq n (2 ^ 64 - 1)) hash node other answer after) (sym agree.next) there, later)
     locks_at (Some (Locked by number)) node answer h = (other, (h.0, refl), as_before h.1)
     locks_at (Some (Described number bytes)) node answer h = (other, (h.0, refl), as_before h.1)
 
-    makes : (number node max_nodes : ℕ) (answer : MakeSegmentAnswer) (b : Bool) → Makes b hash number node max_nodes one answer new → Goes (λ old after. Makes b hash number node max_nodes old answer after) other new
+    makes : (number node max_nodes : ℕ) (answer : MakeSegmentAnswer) (b : Bool) → Makes b hash number node max_nodes one answer new
+        → Goes (λ old after. Makes b hash number node max_nodes old answer after) other new
     makes number node max_nodes answer true (inl h) =
         let segment = Open (first_node node max_nodes) in
         (with_new_segment hash number segment other, inl (h.0, refl), still (with_new_segment hash number segment one) new (with_new_segment hash number segment other) (new_segment_both one other agree number segment) h.1)
     makes number node max_nodes answer true (inr h) = (other, inr (h.0, refl), as_before h.1)
     makes number node max_nodes answer false h = (other, (h.0, refl), as_before h.1)
 
-    publishes : (number : ℕ) (bytes : List ℕ) (answer : PublishAnswer) (b : Bool) → Publishes b hash number bytes one answer new → Goes (λ old after. Publishes b hash number bytes old answer after) other new
+    publishes : (number : ℕ) (bytes : List ℕ) (answer : PublishAnswer) (b : Bool) → Publishes b hash number bytes one answer new
+        → Goes (λ old after. Publishes b hash number bytes old answer after) other new
     publishes number bytes answer true (inl h) =
         let entry = Described number bytes in
         (with_entry hash entry other, inl (h.0, refl), still (with_entry hash entry one) new (with_entry hash entry other) (entry_both one other agree entry) h.1)
@@ -202,20 +219,24 @@ module _ (hash : ServiceHash) where
     unlocks true h = (without_entry hash other, refl, still (without_entry hash one) new (without_entry hash other) (without_both one other agree first second) h)
     unlocks false h = (other, refl, as_before h)
 
-    opens : (number node : ℕ) (answer : OpenSegmentAnswer) (b : Bool) (found : Option Segment) → OpensAt b found hash number node one answer new → Goes (λ old after. OpensAt b found hash number node old answer after) other new
+    opens : (number node : ℕ) (answer : OpenSegmentAnswer) (b : Bool) (found : Option Segment)
+        → OpensAt b found hash number node one answer new → Goes (λ old after. OpensAt b found hash number node old answer after) other new
     opens number node answer true (Some segment) (turned, turns, is) =
         (with_segment hash number turned other, (turned, turns, refl), still (with_segment hash number turned one) new (with_segment hash number turned other) (segment_both one other agree number turned) is)
     opens number node answer true None h = (other, (h.0, refl), as_before h.1)
     opens number node answer false found h = (other, (h.0, refl), as_before h.1)
 
-    leaves : (number node : ℕ) (answer : LeaveAnswer) (b : Bool) (found : Option Segment) → LeavesAt b found hash number node one answer new → Goes (λ old after. LeavesAt b found hash number node old answer after) other new
+    leaves : (number node : ℕ) (answer : LeaveAnswer) (b : Bool) (found : Option Segment)
+        → LeavesAt b found hash number node one answer new
+        → Goes (λ old after. LeavesAt b found hash number node old answer after) other new
     leaves number node answer true (Some segment) h =
         let turned = after_leave node segment in
         (with_segment hash number turned other, (h.0, refl), still (with_segment hash number turned one) new (with_segment hash number turned other) (segment_both one other agree number turned) h.1)
     leaves number node answer true None h = (other, (h.0, refl), as_before h.1)
     leaves number node answer false found h = (other, (h.0, refl), as_before h.1)
 
-    removes : (answer : RemoveAnswer) (b : Bool) (gone gone_there : Contents) → TablesAgree hash gone gone_there → Removes b gone one answer new → Goes (λ old after. Removes b gone_there old answer after) other new
+    removes : (answer : RemoveAnswer) (b : Bool) (gone gone_there : Contents) → TablesAgree hash gone gone_there
+        → Removes b gone one answer new → Goes (λ old after. Removes b gone_there old answer after) other new
     removes answer true gone gone_there same h = (gone_there, (h.0, refl), still gone new gone_there same h.1)
     removes answer false gone gone_there same h = (other, (h.0, refl), as_before h.1)
 
@@ -223,9 +244,11 @@ module _ (hash : ServiceHash) where
     published_same number = ap (is_description_of number) agree.entry
 
 -- an access under its hash
-pub sight_alike : (access : Access) (one new other : Contents) → TablesAgree (hash_of (Accesses access)) one other → IsTable one → IsTable other → Sight one access new
+pub sight_alike : (access : Access) (one new other : Contents) → TablesAgree (hash_of (Accesses access)) one other → IsTable one
+    → IsTable other → Sight one access new
     → (after : Contents) × Sight other access after × TablesAgree (hash_of (Accesses access)) new after
-sight_alike (Look hash answer) one new other agree first second h = (other, (subst (λ found. Looks found answer) (sym agree.entry) h.0, refl), still hash one new other agree h.1)
+sight_alike (Look hash answer) one new other agree first second h
+    = (other, (subst (λ found. Looks found answer) (sym agree.entry) h.0, refl), still hash one new other agree h.1)
 sight_alike (Lock hash node answer) one new other agree first second h =
     let (after, there, later) = locks_at hash one new other agree first second (entry_at hash one) (Own node) answer h in
     (after, subst (λ found. LocksAt found hash (Own node) other answer after) (sym agree.entry) there, later)
@@ -248,14 +271,16 @@ sight_alike (Unlock hash number) one new other agree first second h =
 sight_alike (OpenSegment hash number node answer) one new other agree first second h =
     let (after, there, later) = opens hash one new other agree first second number node answer (is_published hash number one) (segment_at hash number one) h in (
       after,
-      subst (λ b. OpensAt b (segment_at hash number other) hash number node other answer after) (sym (published_same hash one new other agree first second number))
+      subst (λ b. OpensAt b (segment_at hash number other) hash number node other answer after)
+          (sym (published_same hash one new other agree first second number))
           (subst (λ found. OpensAt (is_published hash number one) found hash number node other answer after) (sym (agree.segments number)) there),
       later,
     )
 sight_alike (Leave hash number node answer) one new other agree first second h =
     let (after, there, later) = leaves hash one new other agree first second number node answer (is_published hash number one) (segment_at hash number one) h in (
       after,
-      subst (λ b. LeavesAt b (segment_at hash number other) hash number node other answer after) (sym (published_same hash one new other agree first second number))
+      subst (λ b. LeavesAt b (segment_at hash number other) hash number node other answer after)
+          (sym (published_same hash one new other agree first second number))
           (subst (λ found. LeavesAt (is_published hash number one) found hash number node other answer after) (sym (agree.segments number)) there),
       later,
     )
@@ -272,18 +297,23 @@ sight_alike (RemoveSegment hash number answer) one new other agree first second 
 
 -- ---- steps of foreign nodes
 
-module _ (hash : ServiceHash) (one new other : Contents) (agree : TablesAgree hash one other) (first : IsTable one) (second : IsTable other) where
-  done_or_lacking : (b : Bool) (done done_there : Contents) → TablesAgree hash done done_there → (result : Result (Unit {0}) AllocError) → DoneOrLacking b done one result new → Goes hash (λ old after. DoneOrLacking b done_there old result after) other new
+module _ (hash : ServiceHash) (one new other : Contents) (agree : TablesAgree hash one other) (first : IsTable one)
+    (second : IsTable other) where
+  done_or_lacking : (b : Bool) (done done_there : Contents) → TablesAgree hash done done_there → (result : Result (Unit {0}) AllocError)
+      → DoneOrLacking b done one result new → Goes hash (λ old after. DoneOrLacking b done_there old result after) other new
   done_or_lacking true done done_there same (Ok happened) h = (done_there, refl, still hash done new done_there same h)
   done_or_lacking true done done_there same (Err lacking) h = (other, refl, still hash one new other agree h)
   done_or_lacking false done done_there same (Ok happened) h = (other, refl, still hash one new other agree h)
   done_or_lacking false done done_there same (Err lacking) h = absurd h
 
-  gives_up : (b : Bool) (result : Result (Unit {0}) AllocError) → Done b (without_entry hash one) one result new → Goes hash (λ old after. Done b (without_entry hash other) old result after) other new
+  gives_up : (b : Bool) (result : Result (Unit {0}) AllocError) → Done b (without_entry hash one) one result new
+      → Goes hash (λ old after. Done b (without_entry hash other) old result after) other new
   gives_up true result h = (without_entry hash other, (h.0, refl), still hash (without_entry hash one) new (without_entry hash other) (without_both hash one other agree first second) h.1)
   gives_up false result h = (other, (h.0, refl), still hash one new other agree h.1)
 
-  publishes_foreign : (found : Option ℕ) (node : ℕ) (agreed : Agreement) (result : Result (Unit {0}) AllocError) → PublishesForeign found hash node agreed one result new → Goes hash (λ old after. PublishesForeign found hash node agreed old result after) other new
+  publishes_foreign : (found : Option ℕ) (node : ℕ) (agreed : Agreement) (result : Result (Unit {0}) AllocError)
+      → PublishesForeign found hash node agreed one result new
+      → Goes hash (λ old after. PublishesForeign found hash node agreed old result after) other new
   publishes_foreign None node agreed result h = (other, (h.0, refl), still hash one new other agree h.1)
   publishes_foreign (Some number) node agreed result (fits, may, done) =
       let segment = Open (first_foreign node (max_nodes_of agreed.settings)) in
@@ -292,18 +322,23 @@ module _ (hash : ServiceHash) (one new other : Contents) (agree : TablesAgree ha
       let (after, there, later) = done_or_lacking fits (with_service hash number node agreed one) (with_service hash number node agreed other) same result done in
       (after, (fits, may, there), later)
 
-  registers_at : (found : Option Segment) (number node : ℕ) (result : Result (Unit {0}) AllocError) → RegistersAt found hash number node one result new → Goes hash (λ old after. RegistersAt found hash number node old result after) other new
+  registers_at : (found : Option Segment) (number node : ℕ) (result : Result (Unit {0}) AllocError)
+      → RegistersAt found hash number node one result new
+      → Goes hash (λ old after. RegistersAt found hash number node old result after) other new
   registers_at (Some segment) number node result (turned, registers, is) =
       (with_segment hash number turned other, (turned, registers, refl), still hash (with_segment hash number turned one) new (with_segment hash number turned other) (segment_both hash one other agree number turned) is)
   registers_at None number node result h = (other, (h.0, refl), still hash one new other agree h.1)
 
-  registers_foreign : (found : Option ℕ) (node : ℕ) (result : Result (Unit {0}) AllocError) → RegistersForeign found hash node one result new → Goes hash (λ old after. RegistersForeign found hash node old result after) other new
+  registers_foreign : (found : Option ℕ) (node : ℕ) (result : Result (Unit {0}) AllocError)
+      → RegistersForeign found hash node one result new
+      → Goes hash (λ old after. RegistersForeign found hash node old result after) other new
   registers_foreign None node result h = (other, (h.0, refl), still hash one new other agree h.1)
   registers_foreign (Some number) node result h =
       let (after, there, later) = registers_at (segment_at hash number one) number node result h in
       (after, subst (λ found. RegistersAt found hash number node other result after) (sym (agree.segments number)) there, later)
 
-  left_both : (found : Option Segment) (number node : ℕ) → TablesAgree hash (left_at found hash number node one) (left_at found hash number node other)
+  left_both : (found : Option Segment) (number node : ℕ)
+      → TablesAgree hash (left_at found hash number node one) (left_at found hash number node other)
   left_both (Some segment) number node = segment_both hash one other agree number (after_foreign_leave node segment)
   left_both None number node = agree
 
@@ -312,7 +347,9 @@ module _ (hash : ServiceHash) (one new other : Contents) (agree : TablesAgree ha
   leaving_both (Some number) node =
       subst (λ found. TablesAgree hash (left_at (segment_at hash number one) hash number node one) (left_at found hash number node other)) (sym (agree.segments number)) (left_both (segment_at hash number one) number node)
 
-  removed_if_both : (b : Bool) (number : ℕ) → TablesAgree hash (if b then without_segment hash number (without_entry hash one) else one) (if b then without_segment hash number (without_entry hash other) else other)
+  removed_if_both : (b : Bool) (number : ℕ)
+      → TablesAgree hash (if b then without_segment hash number (without_entry hash one) else one)
+      (if b then without_segment hash number (without_entry hash other) else other)
   removed_if_both true number =
       without_segment_both hash (without_entry hash one) (without_entry hash other) (without_both hash one other agree first second) number (without-table hash one first) (without-table hash other second)
   removed_if_both false number = agree
@@ -324,7 +361,8 @@ module _ (hash : ServiceHash) (one new other : Contents) (agree : TablesAgree ha
       (sym (agree.segments number)) (removed_if_both (is_left_by node (segment_at hash number one)) number)
 
   -- a step of a foreign node under the hash
-  acts_alike : (step : ForeignStep) (result : Result (Unit {0}) AllocError) → Acts hash step one result new → Goes hash (λ old after. Acts hash step old result after) other new
+  acts_alike : (step : ForeignStep) (result : Result (Unit {0}) AllocError) → Acts hash step one result new
+      → Goes hash (λ old after. Acts hash step old result after) other new
   acts_alike (step.Lock node) result h =
       let may = not (is_some (entry_at hash one)) && not (nat_eq one.next (2 ^ 64 - 1)) in
       let (after, there, later) = done_or_lacking may (with_lock hash (Foreign node) one) (with_lock hash (Foreign node) other) (lock_both hash one other agree (Foreign node)) result h in
@@ -344,19 +382,22 @@ module _ (hash : ServiceHash) (one new other : Contents) (agree : TablesAgree ha
       let before = published_number (entry_at hash one) in (
         after_leaving (published_number (entry_at hash other)) hash node other,
         (h.0, refl),
-        subst (λ found. TablesAgree hash new (after_leaving (published_number found) hash node other)) (sym agree.entry) (still hash (after_leaving before hash node one) new (after_leaving before hash node other) (leaving_both before node) h.1),
+        subst (λ found. TablesAgree hash new (after_leaving (published_number found) hash node other)) (sym agree.entry)
+            (still hash (after_leaving before hash node one) new (after_leaving before hash node other) (leaving_both before node) h.1),
       )
   acts_alike (step.Remove node) result h =
       let before = published_number (entry_at hash one) in (
         after_removal (published_number (entry_at hash other)) hash node other,
         (h.0, refl),
-        subst (λ found. TablesAgree hash new (after_removal (published_number found) hash node other)) (sym agree.entry) (still hash (after_removal before hash node one) new (after_removal before hash node other) (removal_both before node) h.1),
+        subst (λ found. TablesAgree hash new (after_removal (published_number found) hash node other)) (sym agree.entry)
+            (still hash (after_removal before hash node one) new (after_removal before hash node other) (removal_both before node) h.1),
       )
 
 -- ---- one after the other
 
 -- steps of foreign nodes under a hash
-pub acts_all_alike : (hash : ServiceHash) (steps : List ForeignStep) (one new other : Contents) (result : Result (Unit {0}) AllocError) → TablesAgree hash one other → IsTable one → IsTable other → ActsAll hash steps one result new
+pub acts_all_alike : (hash : ServiceHash) (steps : List ForeignStep) (one new other : Contents) (result : Result (Unit {0}) AllocError)
+    → TablesAgree hash one other → IsTable one → IsTable other → ActsAll hash steps one result new
     → (after : Contents) × ActsAll hash steps other result after × TablesAgree hash new after
 acts_all_alike hash [] one new other result agree first second h = (other, (h.0, refl), still hash one new other agree h.1)
 acts_all_alike hash (step ∷ steps) one new other result agree first second (mid, happened, does, goes_on) =
@@ -364,14 +405,18 @@ acts_all_alike hash (step ∷ steps) one new other result agree first second (mi
     goes happened between does_there agree_between goes_on
     (λ more. acts_all_alike hash steps mid new between result agree_between (acts one mid first hash step happened does) (acts other between second hash step happened does_there) more)
   where
-    goes : (happened : Result (Unit {0}) AllocError) (between : Contents) → Acts hash step other happened between → TablesAgree hash mid between → GoesOn happened (ActsAll hash steps mid result new) ((result ≡ happened) × (new ≡ mid))
+    goes : (happened : Result (Unit {0}) AllocError) (between : Contents) → Acts hash step other happened between
+        → TablesAgree hash mid between → GoesOn happened (ActsAll hash steps mid result new) ((result ≡ happened) × (new ≡ mid))
         → (ActsAll hash steps mid result new → (after : Contents) × ActsAll hash steps between result after × TablesAgree hash new after)
         → (after : Contents) × ActsAll hash (step ∷ steps) other result after × TablesAgree hash new after
-    goes (Ok done) between does_there same more later = let (after, there, agree_after) = later more in (after, (between, Ok done, does_there, there), agree_after)
-    goes (Err lacking) between does_there same ends later = (between, (between, Err lacking, does_there, (ends.0, refl)), still hash mid new between same ends.1)
+    goes (Ok done) between does_there same more later = let (after, there, agree_after)
+        = later more in (after, (between, Ok done, does_there, there), agree_after)
+    goes (Err lacking) between does_there same ends later
+        = (between, (between, Err lacking, does_there, (ends.0, refl)), still hash mid new between same ends.1)
 
 -- accesses under a hash, without foreign steps
-pub went_alike : (hash : ServiceHash) (made : List Access) (one new other : Contents) → AllUnder hash made → TablesAgree hash one other → IsTable one → IsTable other → Went Sight one made new
+pub went_alike : (hash : ServiceHash) (made : List Access) (one new other : Contents) → AllUnder hash made → TablesAgree hash one other
+    → IsTable one → IsTable other → Went Sight one made new
     → (after : Contents) × Went Sight other made after × TablesAgree hash new after
 went_alike hash [] one new other under agree first second went = (other, refl, still hash one new other agree went)
 went_alike hash (access ∷ made) one new other (own, under) agree first second (mid, sees_one, rest) =

@@ -29,22 +29,29 @@ use Rattle.iox_hub_laws.proofs.Stepped.{StepsAgree, stepped_went_alike}
 
 -- The service of a factory stands under the hash, and is of it.
 abbrev pub StandsAs : ServiceHash → Membership → Contents → Type 0
-StandsAs hash member table = (bytes : List ℕ) × (entry_at hash table ≡ Some (Described member.service.number bytes)) × (member.service.description.service_hash ≡ hash)
+StandsAs hash member table = (bytes : List ℕ) × (entry_at hash table ≡ Some (Described member.service.number bytes))
+    × (member.service.description.service_hash ≡ hash)
 
 -- What is negotiated, with its answer: accesses under a hash alone. So it may be negotiated with the same answer in each other
 -- table that has the same under the hash; and the service that a node came into stands under it.
 pub record IsNegotiation {E : Type 0} (hash : ServiceHash) (negotiates : Steps → Result Membership E → Steps → Type 0) : Type 0 where
-  pub alike : (one new other : Steps) (came : Result Membership E) → StepsAgree hash one other → IsTable one.table → IsTable other.table → negotiates one came new
+  pub alike : (one new other : Steps) (came : Result Membership E) → StepsAgree hash one other → IsTable one.table → IsTable other.table
+      → negotiates one came new
       → (after : Steps) × negotiates other came after × StepsAgree hash new after
-  pub goes : (old new : Steps) (came : Result Membership E) → negotiates old came new → (made : List Access) × AllUnder hash made × Went SteppedSight old made new
+  pub goes : (old new : Steps) (came : Result Membership E) → negotiates old came new → (made : List Access) × AllUnder hash made
+      × Went SteppedSight old made new
   pub stands : (old new : Steps) (member : Membership) → IsTable old.table → negotiates old (Ok member) new → StandsAs hash member new.table
 
 -- the same negotiation, of a hash that is the same
-pub of_hash : {E : Type 0} {negotiates : Steps → Result Membership E → Steps → Type 0} (under hash : ServiceHash) → under ≡ hash → IsNegotiation under negotiates → IsNegotiation hash negotiates
+pub of_hash : {E : Type 0} {negotiates : Steps → Result Membership E → Steps → Type 0} (under hash : ServiceHash) → under ≡ hash
+    → IsNegotiation under negotiates → IsNegotiation hash negotiates
 of_hash {negotiates = negotiates} under hash same is = subst (λ h. IsNegotiation h negotiates) same is
 
-member_is : {E F : Type 0} (storage node : ℕ) (error : F → E) (result : Result Opened F) (member : Membership) → Ok member ≡ result_map_both (membership storage node) error result → (service : Opened) × (result ≡ Ok service) × (service ≡ member.service)
-member_is {E} storage node error (Ok service) member is = (service, refl, ap (λ m. m.service) (sym (same-good {E = E} member (membership storage node service) is)))
+member_is : {E F : Type 0} (storage node : ℕ) (error : F → E) (result : Result Opened F) (member : Membership)
+    → Ok member ≡ result_map_both (membership storage node) error result → (service : Opened) × (result ≡ Ok service)
+    × (service ≡ member.service)
+member_is {E} storage node error (Ok service) member is
+    = (service, refl, ap (λ m. m.service) (sym (same-good {E = E} member (membership storage node service) is)))
 member_is {E} storage node error (Err failure) member is = absurd (not-bad member (error failure) is)
 
 -- no factory is open
@@ -52,7 +59,9 @@ alone : (table : Contents) → IsTable table → World [] table
 alone table is = record { is = is; stand = λ factory among. absurd among }
 
 -- the newest factory stands
-newest : (node : ℕ) (hash : ServiceHash) (service : Opened) (member : Membership) (table : Contents) → World (factory_of node service ∷ []) table → service.description.service_hash ≡ hash → service ≡ member.service → StandsAs hash member table
+newest : (node : ℕ) (hash : ServiceHash) (service : Opened) (member : Membership) (table : Contents)
+    → World (factory_of node service ∷ []) table → service.description.service_hash ≡ hash → service ≡ member.service
+    → StandsAs hash member table
 newest node hash service member table world of same =
     let is_open = (world.stand (factory_of node service) (inl refl)).is_open in
     subst (λ s. (bytes : List ℕ) × (entry_at hash table ≡ Some (Described s.number bytes)) × (s.description.service_hash ≡ hash)) same
@@ -74,7 +83,8 @@ module _ {E : Type 0} (node : ℕ) where
             negotiated = record {
               answer = creates.negotiated.answer;
               done = record { made = done.made; went = went; told = done.told };
-              told = subst (λ id. came ≡ result_map_both (membership id node) error creates.negotiated.answer) (sym agree.tables.id) creates.negotiated.told;
+              told = subst (λ id. came ≡ result_map_both (membership id node) error creates.negotiated.answer) (sym agree.tables.id)
+                  creates.negotiated.told;
             };
           },
           later,
@@ -109,7 +119,8 @@ module _ {E : Type 0} (node : ℕ) where
         newest node hash service member new.table (opens-ends hash node verdict [] done.made service old new (alone old.table table) told done.went) (opens-met V hash node verdict done.made service told).0 same;
   }
 
-  pub either : {V : Type 0} (verdict : Agreement → Result (Unit {0}) V) (agreed : Agreement) (limits is_too_long : Type 0) (error : OpenOrCreateFailure V → E)
+  pub either : {V : Type 0} (verdict : Agreement → Result (Unit {0}) V) (agreed : Agreement) (limits is_too_long : Type 0)
+      (error : OpenOrCreateFailure V → E)
       → IsNegotiation agreed.service_hash (λ before came after. Either SteppedSight before.table.id agreed.service_hash node verdict agreed limits is_too_long error before came after)
   either {V} verdict agreed limits is_too_long error = record {
     alike = λ one new other came agree first second either.
@@ -124,7 +135,8 @@ module _ {E : Type 0} (node : ℕ) where
             negotiated = record {
               answer = either.negotiated.answer;
               done = record { made = done.made; went = went; told = done.told };
-              told = subst (λ id. came ≡ result_map_both (membership id node) error either.negotiated.answer) (sym agree.tables.id) either.negotiated.told;
+              told = subst (λ id. came ≡ result_map_both (membership id node) error either.negotiated.answer) (sym agree.tables.id)
+                  either.negotiated.told;
             };
           },
           later,

@@ -69,24 +69,33 @@ not_lacking answer lacking e = cc
 
 module _ {T U B D : Type 0} (hash : ServiceHash) (mine : ℕ → Bool) where
   -- the ports of the service are the same
-  ports_at_same : (id : DomainId) (one other : Hub T U B D) → mine id.service ≡ true → HubsAgree hash mine one other → hub_ports id other ≡ hub_ports id one
+  ports_at_same : (id : DomainId) (one other : Hub T U B D) → mine id.service ≡ true → HubsAgree hash mine one other
+      → hub_ports id other ≡ hub_ports id one
   ports_at_same id one other of agree = ports_same hash mine id of one other agree
 
-  loan_same : (found : Option MadeLoan) → IsOf loan_service mine found → (one other : Hub T U B D) → HubsAgree hash mine one other → loan_under hub_ports found other ≡ loan_under hub_ports found one
+  loan_same : (found : Option MadeLoan) → IsOf loan_service mine found → (one other : Hub T U B D) → HubsAgree hash mine one other
+      → loan_under hub_ports found other ≡ loan_under hub_ports found one
   loan_same None of one other agree = refl
   loan_same (Some made) of one other agree = ap (loan_found made.port.number made.slot) (ports_at_same made.port.domain one other of agree)
 
-  filled_same : (values : List T) (found : Option MadeLoan) → IsOf loan_service mine found → (one other : Hub T U B D) → HubsAgree hash mine one other → is_filled hub_ports values found other ≡ is_filled hub_ports values found one
+  filled_same : (values : List T) (found : Option MadeLoan) → IsOf loan_service mine found → (one other : Hub T U B D)
+      → HubsAgree hash mine one other → is_filled hub_ports values found other ≡ is_filled hub_ports values found one
   filled_same values None of one other agree = refl
-  filled_same values (Some made) of one other agree = ap (fits_in values made.port.number made.slot) (ports_at_same made.port.domain one other of agree)
+  filled_same values (Some made) of one other agree
+      = ap (fits_in values made.port.number made.slot) (ports_at_same made.port.domain one other of agree)
 
-  held_same : (found : Option MadeSample) → IsOf sample_service mine found → (one other : Hub T U B D) → HubsAgree hash mine one other → is_held hub_ports found other ≡ is_held hub_ports found one
+  held_same : (found : Option MadeSample) → IsOf sample_service mine found → (one other : Hub T U B D) → HubsAgree hash mine one other
+      → is_held hub_ports found other ≡ is_held hub_ports found one
   held_same None of one other agree = refl
-  held_same (Some held) of one other agree = ap (holds_message held.port.number held.taken) (ports_at_same held.port.domain one other of agree)
+  held_same (Some held) of one other agree
+      = ap (holds_message held.port.number held.taken) (ports_at_same held.port.domain one other of agree)
 
-  values_same : (found : Option MadeSample) → IsOf sample_service mine found → (one other : Hub T U B D) → HubsAgree hash mine one other → values_under hub_ports found other ≡ values_under hub_ports found one
+  values_same : (found : Option MadeSample) → IsOf sample_service mine found → (one other : Hub T U B D) → HubsAgree hash mine one other
+      → values_under hub_ports found other ≡ values_under hub_ports found one
   values_same None of one other agree = refl
-  values_same (Some held) of one other agree = ap (λ ports. option_map (λ message. message.values) (message_found held.taken ports)) (ports_at_same held.port.domain one other of agree)
+  values_same (Some held) of one other agree
+      = ap (λ ports. option_map (λ message. message.values) (message_found held.taken ports))
+      (ports_at_same held.port.domain one other of agree)
 
   -- ---- the commands that lend and receive
 
@@ -95,12 +104,15 @@ module _ {T U B D : Type 0} (hash : ServiceHash) (mine : ℕ → Bool) where
   Goes does other_made other answer after new =
       (there : Made) × (later : Hub T U B D) × does other_made other answer there later × MadeAgree mine after there × HubsAgree hash mine new later
 
-  loan_alike : (is_default : T → Type 0) (publisher elements : ℕ) (one_made after other_made : Made) (one new other : Hub T U B D) (reply : Reply T) → MadeRises one_made → MadeRises other_made → MadeAgree mine one_made other_made → HubsAgree hash mine one other
+  loan_alike : (is_default : T → Type 0) (publisher elements : ℕ) (one_made after other_made : Made) (one new other : Hub T U B D)
+      (reply : Reply T) → MadeRises one_made → MadeRises other_made → MadeAgree mine one_made other_made → HubsAgree hash mine one other
       → (value_at other_made.publishers publisher ≡ value_at one_made.publishers publisher) × IsOf publisher_service mine (value_at one_made.publishers publisher)
       → LoanStep hub_ports with_hub_ports is_default publisher elements one_made one (Ok reply) after new
       → Goes (LoanStep hub_ports with_hub_ports is_default publisher elements) other_made other (Ok reply) after new
-  loan_alike is_default publisher elements one_made after other_made one new other reply rises other_rises agree hubs found (value, is_value, Err lacking, grows, is) = absurd (not_lacking reply lacking is)
-  loan_alike is_default publisher elements one_made after other_made one new other reply rises other_rises agree hubs found (value, is_value, Ok lent, (roomier, is_roomier, (came, at, numbers)), is) =
+  loan_alike is_default publisher elements one_made after other_made one new other reply rises other_rises agree hubs found
+      (value, is_value, Err lacking, grows, is) = absurd (not_lacking reply lacking is)
+  loan_alike is_default publisher elements one_made after other_made one new other reply rises other_rises agree hubs found
+      (value, is_value, Ok lent, (roomier, is_roomier, (came, at, numbers)), is) =
       let named = lender elements (value_at one_made.publishers publisher) in
       let named_of = lender_of mine elements (value_at one_made.publishers publisher) found.1 in
       let (later, at_there, hubs_after) = at_port_alike hash mine (LendsWritten hub_ports with_hub_ports elements value) (λ port own. lends_written_alike hash mine elements value port own) (ready hub_ports named one) (ready_of hash mine named one named_of) one new other came hubs at in
@@ -117,7 +129,8 @@ module _ {T U B D : Type 0} (hash : ServiceHash) (mine : ℕ → Bool) where
           (
             other_made,
             same_room other_made,
-            subst (λ port. LendsWrittenNumbered hub_ports with_hub_ports elements value port other_made other lent there later) (sym same) (came, at_there, numbers_there),
+            subst (λ port. LendsWrittenNumbered hub_ports with_hub_ports elements value port other_made other lent there later)
+                (sym same) (came, at_there, numbers_there),
           ),
           is,
         ),
@@ -125,12 +138,15 @@ module _ {T U B D : Type 0} (hash : ServiceHash) (mine : ℕ → Bool) where
         hubs_after,
       )
 
-  loan_uninit_alike : (publisher elements : ℕ) (one_made after other_made : Made) (one new other : Hub T U B D) (reply : Reply T) → MadeRises one_made → MadeRises other_made → MadeAgree mine one_made other_made → HubsAgree hash mine one other
+  loan_uninit_alike : (publisher elements : ℕ) (one_made after other_made : Made) (one new other : Hub T U B D) (reply : Reply T)
+      → MadeRises one_made → MadeRises other_made → MadeAgree mine one_made other_made → HubsAgree hash mine one other
       → (value_at other_made.publishers publisher ≡ value_at one_made.publishers publisher) × IsOf publisher_service mine (value_at one_made.publishers publisher)
       → LoanUninitStep {T = T} {U = U} hub_ports with_hub_ports publisher elements one_made one (Ok reply) after new
       → Goes (LoanUninitStep {T = T} {U = U} hub_ports with_hub_ports publisher elements) other_made other (Ok reply) after new
-  loan_uninit_alike publisher elements one_made after other_made one new other reply rises other_rises agree hubs found (Err lacking, grows, is) = absurd (not_lacking reply lacking is)
-  loan_uninit_alike publisher elements one_made after other_made one new other reply rises other_rises agree hubs found (Ok lent, (roomier, is_roomier, (came, at, numbers)), is) =
+  loan_uninit_alike publisher elements one_made after other_made one new other reply rises other_rises agree hubs found
+      (Err lacking, grows, is) = absurd (not_lacking reply lacking is)
+  loan_uninit_alike publisher elements one_made after other_made one new other reply rises other_rises agree hubs found
+      (Ok lent, (roomier, is_roomier, (came, at, numbers)), is) =
       let named = lender elements (value_at one_made.publishers publisher) in
       let named_of = lender_of mine elements (value_at one_made.publishers publisher) found.1 in
       let (later, at_there, hubs_after) = at_port_alike hash mine (Lends hub_ports with_hub_ports elements) (λ port own. lends_alike hash mine elements port own) named named_of one new other came hubs at in
@@ -143,7 +159,8 @@ module _ {T U B D : Type 0} (hash : ServiceHash) (mine : ℕ → Bool) where
           (
             other_made,
             same_room other_made,
-            subst (λ it. LendsNumbered hub_ports with_hub_ports elements (lender elements it) other_made other lent there later) (sym found.0) (came, at_there, numbers_there),
+            subst (λ it. LendsNumbered hub_ports with_hub_ports elements (lender elements it) other_made other lent there later)
+                (sym found.0) (came, at_there, numbers_there),
           ),
           is,
         ),
@@ -152,7 +169,9 @@ module _ {T U B D : Type 0} (hash : ServiceHash) (mine : ℕ → Bool) where
       )
 
   -- what is replied of a sample that came
-  told_alike : (port : Option PortId) (taken : Option (Result (Option Taken) ReceiveError)) (received : Option (Result (Option ℕ) ReceiveError)) (one_made after other_made there : Made) (new later : Hub T U B D) (reply : Reply T)
+  told_alike : (port : Option PortId) (taken : Option (Result (Option Taken) ReceiveError))
+      (received : Option (Result (Option ℕ) ReceiveError)) (one_made after other_made there : Made) (new later : Hub T U B D)
+      (reply : Reply T)
       → IsOf service_at mine port → MadeRises one_made → MadeRises other_made → MadeAgree mine one_made other_made → HubsAgree hash mine new later
       → NumbersSample port taken one_made received after → NumbersSample port taken other_made received there
       → IsReceiveReply (λ sample. values_under hub_ports (value_at after.samples sample) new) received reply
@@ -160,14 +179,18 @@ module _ {T U B D : Type 0} (hash : ServiceHash) (mine : ℕ → Bool) where
   told_alike port None received one_made after other_made there new later reply of rises other_rises agree hubs numbers numbers_there told =
       let back = subst (λ answer. IsReceiveReply (λ sample. values_under hub_ports (value_at after.samples sample) new) answer reply) numbers.0 told in
       subst (λ answer. IsReceiveReply (λ sample. values_under hub_ports (value_at there.samples sample) later) answer reply) (sym numbers.0) back
-  told_alike port (Some (Err error)) received one_made after other_made there new later reply of rises other_rises agree hubs numbers numbers_there told =
+  told_alike port (Some (Err error)) received one_made after other_made there new later reply of rises other_rises agree hubs numbers
+      numbers_there told =
       let back = subst (λ answer. IsReceiveReply (λ sample. values_under hub_ports (value_at after.samples sample) new) answer reply) numbers.0 told in
       subst (λ answer. IsReceiveReply (λ sample. values_under hub_ports (value_at there.samples sample) later) answer reply) (sym numbers.0) back
-  told_alike port (Some (Ok None)) received one_made after other_made there new later reply of rises other_rises agree hubs numbers numbers_there told =
+  told_alike port (Some (Ok None)) received one_made after other_made there new later reply of rises other_rises agree hubs numbers
+      numbers_there told =
       let back = subst (λ answer. IsReceiveReply (λ sample. values_under hub_ports (value_at after.samples sample) new) answer reply) numbers.0 told in
       subst (λ answer. IsReceiveReply (λ sample. values_under hub_ports (value_at there.samples sample) later) answer reply) (sym numbers.0) back
-  told_alike None (Some (Ok (Some taken))) received one_made after other_made there new later reply of rises other_rises agree hubs numbers numbers_there told = absurd numbers
-  told_alike (Some port) (Some (Ok (Some taken))) received one_made after other_made there new later reply of rises other_rises agree hubs numbers numbers_there told =
+  told_alike None (Some (Ok (Some taken))) received one_made after other_made there new later reply of rises other_rises agree hubs
+      numbers numbers_there told = absurd numbers
+  told_alike (Some port) (Some (Ok (Some taken))) received one_made after other_made there new later reply of rises other_rises agree
+      hubs numbers numbers_there told =
       let sample : MadeSample = record { port = port; taken = taken } in
       let n = one_made.samples.next in
       let here : value_at after.samples n ≡ Some sample = ap (λ (made : Made). value_at made.samples n) numbers.1 ∙ (found_and_gone MadeSample).put one_made.samples sample rises.3 in
@@ -179,12 +202,16 @@ module _ {T U B D : Type 0} (hash : ServiceHash) (mine : ℕ → Bool) where
       subst (λ answer. IsReceiveReply (λ one. values_under hub_ports (value_at after.samples one) new) answer reply) numbers.0 told in
       subst (λ answer. IsReceiveReply (λ one. values_under hub_ports (value_at there.samples one) later) answer reply) (sym numbers.0) (subst (λ values. IsArrival n values reply) (sym same) back)
 
-  receive_alike : (degrades : D → DegradationCause → DegradationInfo → DegradationAction → Type 0) (subscriber : ℕ) (one_made after other_made : Made) (one new other : Hub T U B D) (reply : Reply T) → MadeRises one_made → MadeRises other_made → MadeAgree mine one_made other_made → HubsAgree hash mine one other
+  receive_alike : (degrades : D → DegradationCause → DegradationInfo → DegradationAction → Type 0) (subscriber : ℕ)
+      (one_made after other_made : Made) (one new other : Hub T U B D) (reply : Reply T) → MadeRises one_made → MadeRises other_made
+      → MadeAgree mine one_made other_made → HubsAgree hash mine one other
       → (value_at other_made.subscribers subscriber ≡ value_at one_made.subscribers subscriber) × IsOf service_at mine (value_at one_made.subscribers subscriber)
       → ReceiveStep hub_ports with_hub_ports (subscriber_may_degrade degrades) subscriber one_made one (Ok reply) after new
       → Goes (ReceiveStep hub_ports with_hub_ports (subscriber_may_degrade degrades) subscriber) other_made other (Ok reply) after new
-  receive_alike degrades subscriber one_made after other_made one new other reply rises other_rises agree hubs found (Err lacking, grows, is) = absurd (not_lacking reply lacking is)
-  receive_alike degrades subscriber one_made after other_made one new other reply rises other_rises agree hubs found (Ok received, (roomier, is_roomier, (came, at, numbers)), told) =
+  receive_alike degrades subscriber one_made after other_made one new other reply rises other_rises agree hubs found
+      (Err lacking, grows, is) = absurd (not_lacking reply lacking is)
+  receive_alike degrades subscriber one_made after other_made one new other reply rises other_rises agree hubs found
+      (Ok received, (roomier, is_roomier, (came, at, numbers)), told) =
       let port = value_at one_made.subscribers subscriber in
       let (later, at_there, hubs_after) = at_port_alike hash mine (Receives hub_ports with_hub_ports (subscriber_may_degrade degrades)) (λ it own. receives_alike hash mine degrades it own) port found.1 one new other came hubs at in
       let roomier_rise = roomier_rises one_made roomier is_roomier rises in
@@ -197,9 +224,11 @@ module _ {T U B D : Type 0} (hash : ServiceHash) (mine : ℕ → Bool) where
           (
             other_made,
             same_room other_made,
-            subst (λ it. ReceivesNumbered hub_ports with_hub_ports (subscriber_may_degrade degrades) it other_made other received there later) (sym found.0) (came, at_there, numbers_there),
+            subst (λ it. ReceivesNumbered hub_ports with_hub_ports (subscriber_may_degrade degrades) it other_made other received there
+                later) (sym found.0) (came, at_there, numbers_there),
           ),
-          told_alike port came received roomier after other_made there new later reply found.1 roomier_rise other_rises roomier_agree hubs_after numbers numbers_there told,
+          told_alike port came received roomier after other_made there new later reply found.1 roomier_rise other_rises roomier_agree
+              hubs_after numbers numbers_there told,
         ),
         agree_after,
         hubs_after,
@@ -209,11 +238,13 @@ module _ {T U B D : Type 0} (hash : ServiceHash) (mine : ℕ → Bool) where
 
 module _ {T U B D : Type 0} (hash : ServiceHash) (mine : ℕ → Bool) where
   -- so it is in the other hub, too, and then they agree again
-  abbrev pub Answers : (NumberedHub T U B D → Reply T → NumberedHub T U B D → Type 0) → NumberedHub T U B D → NumberedHub T U B D → Reply T → Type 0
+  abbrev pub Answers : (NumberedHub T U B D → Reply T → NumberedHub T U B D → Type 0) → NumberedHub T U B D → NumberedHub T U B D
+      → Reply T → Type 0
   Answers does other new reply = (after : NumberedHub T U B D) × does other reply after × AgreeOn hash mine new after
 
   -- the hub changed, and what goes by numbers, and no factory
-  agree_after : (one new other : NumberedHub T U B D) (made : Made) (hub : Hub T U B D) → AgreeOn hash mine one other → new.factories ≡ one.factories → MadeAgree mine new.made made → HubsAgree hash mine new.hub hub
+  agree_after : (one new other : NumberedHub T U B D) (made : Made) (hub : Hub T U B D) → AgreeOn hash mine one other
+      → new.factories ≡ one.factories → MadeAgree mine new.made made → HubsAgree hash mine new.hub hub
       → AgreeOn hash mine new (record other { hub = hub; made = made })
   agree_after one new other made hub agree same mades hubs = record {
     hubs = hubs;
@@ -222,7 +253,8 @@ module _ {T U B D : Type 0} (hash : ServiceHash) (mine : ℕ → Bool) where
   }
 
   -- the hub changed alone
-  pub agree_in_hub : (one new other : NumberedHub T U B D) (hub : Hub T U B D) → AgreeOn hash mine one other → new ≡ record one { hub = new.hub } → HubsAgree hash mine new.hub hub → AgreeOn hash mine new (record other { hub = hub })
+  pub agree_in_hub : (one new other : NumberedHub T U B D) (hub : Hub T U B D) → AgreeOn hash mine one other
+      → new ≡ record one { hub = new.hub } → HubsAgree hash mine new.hub hub → AgreeOn hash mine new (record other { hub = hub })
   agree_in_hub one new other hub agree is hubs =
       agree_after one new other other.made hub agree (ap (λ numbered. numbered.factories) is) (made_still mine one.made new.made other.made agree.made (ap (λ numbered. numbered.made) is)) hubs
 
@@ -230,7 +262,8 @@ module _ {T U B D : Type 0} (hash : ServiceHash) (mine : ℕ → Bool) where
   agree_as_before : (one new other : NumberedHub T U B D) → AgreeOn hash mine one other → new ≡ one → AgreeOn hash mine new other
   agree_as_before one new other agree is = subst (λ numbered. AgreeOn hash mine numbered other) (sym is) agree
 
-  node_alike : (one new other : NumberedHub T U B D) (reply : Reply T) → AgreeOn hash mine one other → NodeMakes one reply new → Answers NodeMakes other new reply
+  node_alike : (one new other : NumberedHub T U B D) (reply : Reply T) → AgreeOn hash mine one other → NodeMakes one reply new
+      → Answers NodeMakes other new reply
   node_alike one new other reply agree (is, same) =
       let hub = record other.hub { nodes = one_more other.hub.nodes } in
       let nodes : one_more other.hub.nodes ≡ one_more one.hub.nodes = ap one_more agree.hubs.nodes in
@@ -252,32 +285,42 @@ module _ {T U B D : Type 0} (hash : ServiceHash) (mine : ℕ → Bool) where
       )
 
   -- what is named is found alike
-  publisher_found : (n : ℕ) (one other : NumberedHub T U B D) → AgreeOn hash mine one other → FoundMine mine (option_map publisher_service (value_at one.made.publishers n)) (option_map publisher_service (value_at other.made.publishers n))
+  publisher_found : (n : ℕ) (one other : NumberedHub T U B D) → AgreeOn hash mine one other
+      → FoundMine mine (option_map publisher_service (value_at one.made.publishers n))
+      (option_map publisher_service (value_at other.made.publishers n))
       → (value_at other.made.publishers n ≡ value_at one.made.publishers n) × IsOf publisher_service mine (value_at one.made.publishers n)
-  publisher_found n one other agree named = named_alike publisher_service mine one.made.publishers other.made.publishers n agree.made.publishers named
+  publisher_found n one other agree named
+      = named_alike publisher_service mine one.made.publishers other.made.publishers n agree.made.publishers named
 
-  subscriber_found : (n : ℕ) (one other : NumberedHub T U B D) → AgreeOn hash mine one other → FoundMine mine (option_map service_at (value_at one.made.subscribers n)) (option_map service_at (value_at other.made.subscribers n))
+  subscriber_found : (n : ℕ) (one other : NumberedHub T U B D) → AgreeOn hash mine one other
+      → FoundMine mine (option_map service_at (value_at one.made.subscribers n)) (option_map service_at (value_at other.made.subscribers n))
       → (value_at other.made.subscribers n ≡ value_at one.made.subscribers n) × IsOf service_at mine (value_at one.made.subscribers n)
-  subscriber_found n one other agree named = named_alike service_at mine one.made.subscribers other.made.subscribers n agree.made.subscribers named
+  subscriber_found n one other agree named
+      = named_alike service_at mine one.made.subscribers other.made.subscribers n agree.made.subscribers named
 
-  loan_found_alike : (n : ℕ) (one other : NumberedHub T U B D) → AgreeOn hash mine one other → FoundMine mine (option_map loan_service (value_at one.made.loans n)) (option_map loan_service (value_at other.made.loans n))
+  loan_found_alike : (n : ℕ) (one other : NumberedHub T U B D) → AgreeOn hash mine one other
+      → FoundMine mine (option_map loan_service (value_at one.made.loans n)) (option_map loan_service (value_at other.made.loans n))
       → (value_at other.made.loans n ≡ value_at one.made.loans n) × IsOf loan_service mine (value_at one.made.loans n)
   loan_found_alike n one other agree named = named_alike loan_service mine one.made.loans other.made.loans n agree.made.loans named
 
-  sample_found : (n : ℕ) (one other : NumberedHub T U B D) → AgreeOn hash mine one other → FoundMine mine (option_map sample_service (value_at one.made.samples n)) (option_map sample_service (value_at other.made.samples n))
+  sample_found : (n : ℕ) (one other : NumberedHub T U B D) → AgreeOn hash mine one other
+      → FoundMine mine (option_map sample_service (value_at one.made.samples n)) (option_map sample_service (value_at other.made.samples n))
       → (value_at other.made.samples n ≡ value_at one.made.samples n) × IsOf sample_service mine (value_at one.made.samples n)
   sample_found n one other agree named = named_alike sample_service mine one.made.samples other.made.samples n agree.made.samples named
 
-  factory_found : (n : ℕ) (one other : NumberedHub T U B D) → AgreeOn hash mine one other → FoundMine mine (option_map service_of (value_at one.factories.made n)) (option_map service_of (value_at other.factories.made n))
+  factory_found : (n : ℕ) (one other : NumberedHub T U B D) → AgreeOn hash mine one other
+      → FoundMine mine (option_map service_of (value_at one.factories.made n)) (option_map service_of (value_at other.factories.made n))
       → (value_at other.factories.made n ≡ value_at one.factories.made n) × IsOf service_of mine (value_at one.factories.made n)
   factory_found n one other agree named = named_alike service_of mine one.factories.made other.factories.made n agree.factories named
 
   -- ---- ports that come
 
-  publisher_opened : (is_default : U → Type 0) (fixed : BackpressureStrategy → Option BackpressureAction → DegradationAction → B) (degrades : B → DegradationCause → DegradationInfo → DegradationAction → Type 0) (opened : Opened) (options : PublisherOptions)
+  publisher_opened : (is_default : U → Type 0) (fixed : BackpressureStrategy → Option BackpressureAction → DegradationAction → B)
+      (degrades : B → DegradationCause → DegradationInfo → DegradationAction → Type 0) (opened : Opened) (options : PublisherOptions)
       (one new other : NumberedHub T U B D) (reply : Reply T) → mine (domain_of_factory opened).service ≡ true → MadeRises one.made → MadeRises other.made → AgreeOn hash mine one other
       → PublisherComes is_default fixed degrades (Some opened) options one reply new → Answers (PublisherComes is_default fixed degrades (Some opened) options) other new reply
-  publisher_opened is_default fixed degrades opened options one new other reply of rises other_rises agree ((user_header, is_header, came, (roomier, is_roomier, (outcome, comes, numbers)), is), same) =
+  publisher_opened is_default fixed degrades opened options one new other reply of rises other_rises agree
+      ((user_header, is_header, came, (roomier, is_roomier, (outcome, comes, numbers)), is), same) =
       let id = domain_of_factory opened in
       let handlers = publisher_handlers fixed options in
       let (hub, comes_there, hubs_after) =
@@ -289,19 +332,27 @@ module _ {T U B D : Type 0} (hash : ServiceHash) (mine : ℕ → Bool) where
         agree_after one new other made hub agree same mades_after hubs_after,
       )
 
-  publisher_of : (is_default : U → Type 0) (fixed : BackpressureStrategy → Option BackpressureAction → DegradationAction → B) (degrades : B → DegradationCause → DegradationInfo → DegradationAction → Type 0) (found : Option MadeFactory) (options : PublisherOptions)
+  publisher_of : (is_default : U → Type 0) (fixed : BackpressureStrategy → Option BackpressureAction → DegradationAction → B)
+      (degrades : B → DegradationCause → DegradationInfo → DegradationAction → Type 0) (found : Option MadeFactory)
+      (options : PublisherOptions)
       (one new other : NumberedHub T U B D) (reply : Reply T) → IsOf service_of mine found → MadeRises one.made → MadeRises other.made → AgreeOn hash mine one other
       → PublisherComes is_default fixed degrades (publish_subscribe_in found) options one reply new → Answers (PublisherComes is_default fixed degrades (publish_subscribe_in found) options) other new reply
-  publisher_of is_default fixed degrades None options one new other reply of rises other_rises agree comes = (other, (comes.0, refl), agree_as_before one new other agree comes.1)
-  publisher_of is_default fixed degrades (Some (made.PublishSubscribe factory)) options one new other reply of rises other_rises agree comes =
+  publisher_of is_default fixed degrades None options one new other reply of rises other_rises agree comes
+      = (other, (comes.0, refl), agree_as_before one new other agree comes.1)
+  publisher_of is_default fixed degrades (Some (made.PublishSubscribe factory)) options one new other reply of rises other_rises agree
+      comes =
       publisher_opened is_default fixed degrades (factory.service.membership, factory.owner) options one new other reply of rises other_rises agree comes
-  publisher_of is_default fixed degrades (Some (made.Event factory)) options one new other reply of rises other_rises agree comes = (other, (comes.0, refl), agree_as_before one new other agree comes.1)
-  publisher_of is_default fixed degrades (Some (made.RequestResponse factory)) options one new other reply of rises other_rises agree comes = (other, (comes.0, refl), agree_as_before one new other agree comes.1)
+  publisher_of is_default fixed degrades (Some (made.Event factory)) options one new other reply of rises other_rises agree comes
+      = (other, (comes.0, refl), agree_as_before one new other agree comes.1)
+  publisher_of is_default fixed degrades (Some (made.RequestResponse factory)) options one new other reply of rises other_rises agree
+      comes = (other, (comes.0, refl), agree_as_before one new other agree comes.1)
 
-  subscriber_opened : (fixed : DegradationAction → D) (degrades : D → DegradationCause → DegradationInfo → DegradationAction → Type 0) (opened : Opened) (options : SubscriberOptions)
+  subscriber_opened : (fixed : DegradationAction → D) (degrades : D → DegradationCause → DegradationInfo → DegradationAction → Type 0)
+      (opened : Opened) (options : SubscriberOptions)
       (one new other : NumberedHub T U B D) (reply : Reply T) → mine (domain_of_factory opened).service ≡ true → MadeRises one.made → MadeRises other.made → AgreeOn hash mine one other
       → SubscriberComes fixed degrades (Some opened) options one reply new → Answers (SubscriberComes fixed degrades (Some opened) options) other new reply
-  subscriber_opened fixed degrades opened options one new other reply of rises other_rises agree ((came, (roomier, is_roomier, (outcome, comes, numbers)), is), same) =
+  subscriber_opened fixed degrades opened options one new other reply of rises other_rises agree
+      ((came, (roomier, is_roomier, (outcome, comes, numbers)), is), same) =
       let id = domain_of_factory opened in
       let handler = subscriber_handler fixed options in
       let (hub, comes_there, hubs_after) =
@@ -313,18 +364,23 @@ module _ {T U B D : Type 0} (hash : ServiceHash) (mine : ℕ → Bool) where
         agree_after one new other made hub agree same mades_after hubs_after,
       )
 
-  subscriber_of : (fixed : DegradationAction → D) (degrades : D → DegradationCause → DegradationInfo → DegradationAction → Type 0) (found : Option MadeFactory) (options : SubscriberOptions)
+  subscriber_of : (fixed : DegradationAction → D) (degrades : D → DegradationCause → DegradationInfo → DegradationAction → Type 0)
+      (found : Option MadeFactory) (options : SubscriberOptions)
       (one new other : NumberedHub T U B D) (reply : Reply T) → IsOf service_of mine found → MadeRises one.made → MadeRises other.made → AgreeOn hash mine one other
       → SubscriberComes fixed degrades (publish_subscribe_in found) options one reply new → Answers (SubscriberComes fixed degrades (publish_subscribe_in found) options) other new reply
-  subscriber_of fixed degrades None options one new other reply of rises other_rises agree comes = (other, (comes.0, refl), agree_as_before one new other agree comes.1)
+  subscriber_of fixed degrades None options one new other reply of rises other_rises agree comes
+      = (other, (comes.0, refl), agree_as_before one new other agree comes.1)
   subscriber_of fixed degrades (Some (made.PublishSubscribe factory)) options one new other reply of rises other_rises agree comes =
       subscriber_opened fixed degrades (factory.service.membership, factory.owner) options one new other reply of rises other_rises agree comes
-  subscriber_of fixed degrades (Some (made.Event factory)) options one new other reply of rises other_rises agree comes = (other, (comes.0, refl), agree_as_before one new other agree comes.1)
-  subscriber_of fixed degrades (Some (made.RequestResponse factory)) options one new other reply of rises other_rises agree comes = (other, (comes.0, refl), agree_as_before one new other agree comes.1)
+  subscriber_of fixed degrades (Some (made.Event factory)) options one new other reply of rises other_rises agree comes
+      = (other, (comes.0, refl), agree_as_before one new other agree comes.1)
+  subscriber_of fixed degrades (Some (made.RequestResponse factory)) options one new other reply of rises other_rises agree comes
+      = (other, (comes.0, refl), agree_as_before one new other agree comes.1)
 
   -- ---- messages
 
-  set_alike : (n place : ℕ) (value : T) (one new other : NumberedHub T U B D) (reply : Reply T) → AgreeOn hash mine one other → (value_at other.made.loans n ≡ value_at one.made.loans n) × IsOf loan_service mine (value_at one.made.loans n)
+  set_alike : (n place : ℕ) (value : T) (one new other : NumberedHub T U B D) (reply : Reply T) → AgreeOn hash mine one other
+      → (value_at other.made.loans n ≡ value_at one.made.loans n) × IsOf loan_service mine (value_at one.made.loans n)
       → SetStep hub_ports with_hub_ports n place value one.made one.hub reply new.hub × (new ≡ record one { hub = new.hub })
       → Answers (λ old answer after. SetStep hub_ports with_hub_ports n place value old.made old.hub answer after.hub × (after ≡ record old { hub = after.hub })) other new reply
   set_alike n place value one new other reply agree (found, of) ((done, is_done, is_new, is), same) =
@@ -332,14 +388,18 @@ module _ {T U B D : Type 0} (hash : ServiceHash) (mine : ℕ → Bool) where
       let hub = if done then changed_under hub_ports with_hub_ports (set_in place value) named other.hub else other.hub in (
         record other { hub = hub },
         (
-          subst (λ it. (was : Bool) × (was ≡ is_set place (loan_under hub_ports it other.hub)) × (hub ≡ (if was then changed_under hub_ports with_hub_ports (set_in place value) it other.hub else other.hub)) × (reply ≡ done_reply was)) (sym found)
+          subst (λ it. (was : Bool) × (was ≡ is_set place (loan_under hub_ports it other.hub))
+              × (hub ≡ (if was then changed_under hub_ports with_hub_ports (set_in place value) it other.hub else other.hub))
+              × (reply ≡ done_reply was)) (sym found)
               (done, is_done ∙ sym (ap (is_set place) (loan_same hash mine named of one.hub other.hub agree.hubs)), refl, is),
           refl,
         ),
-        agree_in_hub one new other hub agree same (changed_alike hash mine done (set_in place value) named of one.hub new.hub other.hub agree.hubs is_new),
+        agree_in_hub one new other hub agree same
+            (changed_alike hash mine done (set_in place value) named of one.hub new.hub other.hub agree.hubs is_new),
       )
 
-  fill_alike : (n : ℕ) (values : List T) (one new other : NumberedHub T U B D) (reply : Reply T) → AgreeOn hash mine one other → (value_at other.made.loans n ≡ value_at one.made.loans n) × IsOf loan_service mine (value_at one.made.loans n)
+  fill_alike : (n : ℕ) (values : List T) (one new other : NumberedHub T U B D) (reply : Reply T) → AgreeOn hash mine one other
+      → (value_at other.made.loans n ≡ value_at one.made.loans n) × IsOf loan_service mine (value_at one.made.loans n)
       → FillStep hub_ports with_hub_ports n values one.made one.hub reply new.hub × (new ≡ record one { hub = new.hub })
       → Answers (λ old answer after. FillStep hub_ports with_hub_ports n values old.made old.hub answer after.hub × (after ≡ record old { hub = after.hub })) other new reply
   fill_alike n values one new other reply agree (found, of) ((done, is_done, is_new, is), same) =
@@ -347,14 +407,18 @@ module _ {T U B D : Type 0} (hash : ServiceHash) (mine : ℕ → Bool) where
       let hub = changed_under hub_ports with_hub_ports (filled_in values) named other.hub in (
         record other { hub = hub },
         (
-          subst (λ it. (was : Bool) × (was ≡ is_filled hub_ports values it other.hub) × (hub ≡ changed_under hub_ports with_hub_ports (filled_in values) it other.hub) × (reply ≡ done_reply was)) (sym found)
+          subst (λ it. (was : Bool) × (was ≡ is_filled hub_ports values it other.hub)
+              × (hub ≡ changed_under hub_ports with_hub_ports (filled_in values) it other.hub) × (reply ≡ done_reply was)) (sym found)
               (done, is_done ∙ sym (filled_same hash mine values named of one.hub other.hub agree.hubs), refl, is),
           refl,
         ),
-        agree_in_hub one new other hub agree same (changed_alike hash mine true (filled_in values) named of one.hub new.hub other.hub agree.hubs is_new),
+        agree_in_hub one new other hub agree same
+            (changed_alike hash mine true (filled_in values) named of one.hub new.hub other.hub agree.hubs is_new),
       )
 
-  drop_alike : (n : ℕ) (one new other : NumberedHub T U B D) (reply : Reply T) → MadeRises one.made → MadeRises other.made → AgreeOn hash mine one other → (value_at other.made.loans n ≡ value_at one.made.loans n) × IsOf loan_service mine (value_at one.made.loans n)
+  drop_alike : (n : ℕ) (one new other : NumberedHub T U B D) (reply : Reply T) → MadeRises one.made → MadeRises other.made
+      → AgreeOn hash mine one other → (value_at other.made.loans n ≡ value_at one.made.loans n)
+      × IsOf loan_service mine (value_at one.made.loans n)
       → DropStep hub_ports with_hub_ports n one.made one.hub reply new.made new.hub × (new.factories ≡ one.factories)
       → Answers (λ old answer after. DropStep hub_ports with_hub_ports n old.made old.hub answer after.made after.hub × (after.factories ≡ old.factories)) other new reply
   drop_alike n one new other reply rises other_rises agree (found, of) ((done, is_done, is_new, is_made, is), same) =
@@ -363,15 +427,20 @@ module _ {T U B D : Type 0} (hash : ServiceHash) (mine : ℕ → Bool) where
       let made = removed_if done (without_loan n) other.made in (
         record other { hub = hub; made = made },
         (
-          subst (λ it. (was : Bool) × (was ≡ is_some (loan_under hub_ports it other.hub)) × (hub ≡ (if was then changed_under hub_ports with_hub_ports gave_up_in it other.hub else other.hub)) × (made ≡ removed_if was (without_loan n) other.made) × (reply ≡ done_reply was)) (sym found)
+          subst (λ it. (was : Bool) × (was ≡ is_some (loan_under hub_ports it other.hub))
+              × (hub ≡ (if was then changed_under hub_ports with_hub_ports gave_up_in it other.hub else other.hub))
+              × (made ≡ removed_if was (without_loan n) other.made) × (reply ≡ done_reply was)) (sym found)
               (done, is_done ∙ sym (ap is_some (loan_same hash mine named of one.hub other.hub agree.hubs)), refl, refl, is),
           refl,
         ),
-        agree_after one new other made hub agree same (loans_spent mine done n one.made new.made other.made rises other_rises agree.made is_made)
+        agree_after one new other made hub agree same
+            (loans_spent mine done n one.made new.made other.made rises other_rises agree.made is_made)
             (changed_alike hash mine done gave_up_in named of one.hub new.hub other.hub agree.hubs is_new),
       )
 
-  release_alike : (n : ℕ) (one new other : NumberedHub T U B D) (reply : Reply T) → MadeRises one.made → MadeRises other.made → AgreeOn hash mine one other → (value_at other.made.samples n ≡ value_at one.made.samples n) × IsOf sample_service mine (value_at one.made.samples n)
+  release_alike : (n : ℕ) (one new other : NumberedHub T U B D) (reply : Reply T) → MadeRises one.made → MadeRises other.made
+      → AgreeOn hash mine one other → (value_at other.made.samples n ≡ value_at one.made.samples n)
+      × IsOf sample_service mine (value_at one.made.samples n)
       → ReleaseStep hub_ports with_hub_ports n one.made one.hub reply new.made new.hub × (new.factories ≡ one.factories)
       → Answers (λ old answer after. ReleaseStep hub_ports with_hub_ports n old.made old.hub answer after.made after.hub × (after.factories ≡ old.factories)) other new reply
   release_alike n one new other reply rises other_rises agree (found, of) ((done, is_done, releases, is_made, is), same) =
@@ -380,14 +449,18 @@ module _ {T U B D : Type 0} (hash : ServiceHash) (mine : ℕ → Bool) where
       let made = removed_if done (without_sample n) other.made in (
         record other { hub = hub; made = made },
         (
-          subst (λ it. (was : Bool) × (was ≡ is_held hub_ports it other.hub) × ReleasesUnder hub_ports with_hub_ports it other.hub was hub × (made ≡ removed_if was (without_sample n) other.made) × (reply ≡ done_reply was)) (sym found)
+          subst (λ it. (was : Bool) × (was ≡ is_held hub_ports it other.hub)
+              × ReleasesUnder hub_ports with_hub_ports it other.hub was hub × (made ≡ removed_if was (without_sample n) other.made)
+              × (reply ≡ done_reply was)) (sym found)
               (done, is_done ∙ sym (held_same hash mine named of one.hub other.hub agree.hubs), releases_there, refl, is),
           refl,
         ),
-        agree_after one new other made hub agree same (samples_spent mine done n one.made new.made other.made rises other_rises agree.made is_made) hubs_after,
+        agree_after one new other made hub agree same
+            (samples_spent mine done n one.made new.made other.made rises other_rises agree.made is_made) hubs_after,
       )
 
-  read_alike : (n : ℕ) (one new other : NumberedHub T U B D) (reply : Reply T) → AgreeOn hash mine one other → (value_at other.made.samples n ≡ value_at one.made.samples n) × IsOf sample_service mine (value_at one.made.samples n)
+  read_alike : (n : ℕ) (one new other : NumberedHub T U B D) (reply : Reply T) → AgreeOn hash mine one other
+      → (value_at other.made.samples n ≡ value_at one.made.samples n) × IsOf sample_service mine (value_at one.made.samples n)
       → ReadStep hub_ports n one.made one.hub (Ok reply) × (new ≡ one) → Answers (λ old answer after. ReadStep hub_ports n old.made old.hub (Ok answer) × (after ≡ old)) other new reply
   read_alike n one new other reply agree (found, of) (reads, same) = (
     other,
@@ -396,7 +469,9 @@ module _ {T U B D : Type 0} (hash : ServiceHash) (mine : ℕ → Bool) where
   )
 
   -- a call at a port, after which nothing but the hub has changed
-  call_alike : {A : Type 0} (does : PortId → Hub T U B D → Option A → Hub T U B D → Type 0) → ((port : PortId) → mine (service_at port) ≡ true → Alike {T = T} {U = U} {B = B} {D = D} hash mine (does port)) → (told : Option A → Reply T)
+  call_alike : {A : Type 0} (does : PortId → Hub T U B D → Option A → Hub T U B D → Type 0)
+      → ((port : PortId) → mine (service_at port) ≡ true → Alike {T = T} {U = U} {B = B} {D = D} hash mine (does port))
+      → (told : Option A → Reply T)
       → (port there : Option PortId) (one new other : NumberedHub T U B D) (reply : Reply T) → AgreeOn hash mine one other → IsOf service_at mine port → there ≡ port
       → ((outcome : Option A) × AtPort does port one.hub outcome new.hub × (reply ≡ told outcome)) × (new ≡ record one { hub = new.hub })
       → Answers (λ old answer after. ((outcome : Option A) × AtPort does there old.hub outcome after.hub × (answer ≡ told outcome)) × (after ≡ record old { hub = after.hub })) other new reply
@@ -408,7 +483,9 @@ module _ {T U B D : Type 0} (hash : ServiceHash) (mine : ℕ → Bool) where
       )
 
   -- a loan is sent
-  send_alike : (degrades : B → DegradationCause → DegradationInfo → DegradationAction → Type 0) (decides : B → BackpressureInfo → BackpressureDecision → Type 0) (n : ℕ) (one new other : NumberedHub T U B D) (reply : Reply T) → MadeRises one.made → MadeRises other.made → AgreeOn hash mine one other
+  send_alike : (degrades : B → DegradationCause → DegradationInfo → DegradationAction → Type 0)
+      (decides : B → BackpressureInfo → BackpressureDecision → Type 0) (n : ℕ) (one new other : NumberedHub T U B D) (reply : Reply T)
+      → MadeRises one.made → MadeRises other.made → AgreeOn hash mine one other
       → (value_at other.made.loans n ≡ value_at one.made.loans n) × IsOf loan_service mine (value_at one.made.loans n)
       → SendStep hub_ports with_hub_ports (publisher_may_degrade degrades) (publisher_may_decide decides) n one.made one.hub reply new.made new.hub × (new.factories ≡ one.factories)
       → Answers (λ old answer after. SendStep hub_ports with_hub_ports (publisher_may_degrade degrades) (publisher_may_decide decides) n old.made old.hub answer after.made after.hub × (after.factories ≡ old.factories)) other new reply
@@ -418,10 +495,12 @@ module _ {T U B D : Type 0} (hash : ServiceHash) (mine : ℕ → Bool) where
       let made = removed_if (is_some sent) (without_loan n) other.made in (
         record other { hub = hub; made = made },
         ((sent, subst (λ it. SendsUnder hub_ports with_hub_ports (publisher_may_degrade degrades) (publisher_may_decide decides) it other.hub sent hub) (sym found) sends_there, refl, is), refl),
-        agree_after one new other made hub agree same (loans_spent mine (is_some sent) n one.made new.made other.made rises other_rises agree.made is_made) hubs_after,
+        agree_after one new other made hub agree same
+            (loans_spent mine (is_some sent) n one.made new.made other.made rises other_rises agree.made is_made) hubs_after,
       )
 
-  leave_publisher_alike : (n : ℕ) (one new other : NumberedHub T U B D) (reply : Reply T) → MadeRises one.made → MadeRises other.made → AgreeOn hash mine one other
+  leave_publisher_alike : (n : ℕ) (one new other : NumberedHub T U B D) (reply : Reply T) → MadeRises one.made → MadeRises other.made
+      → AgreeOn hash mine one other
       → (value_at other.made.publishers n ≡ value_at one.made.publishers n) × IsOf publisher_service mine (value_at one.made.publishers n)
       → LeaveStep hub_ports with_hub_ports without_hub_publisher without_hub_subscriber (port_number.Publisher n) one.made one.hub reply new.made new.hub × (new.factories ≡ one.factories)
       → Answers (λ old answer after. LeaveStep hub_ports with_hub_ports without_hub_publisher without_hub_subscriber (port_number.Publisher n) old.made old.hub answer after.made after.hub × (after.factories ≡ old.factories)) other new reply
@@ -431,10 +510,12 @@ module _ {T U B D : Type 0} (hash : ServiceHash) (mine : ℕ → Bool) where
       let made = removed_if done (without_publisher n) other.made in (
         record other { hub = hub; made = made },
         ((done, subst (λ it. AtPortIf (PublisherGoes hub_ports with_hub_ports without_hub_publisher) (port_under it) other.hub done hub) (sym found) at_there, refl, is), refl),
-        agree_after one new other made hub agree same (publishers_spent mine done n one.made new.made other.made rises other_rises agree.made is_made) hubs_after,
+        agree_after one new other made hub agree same
+            (publishers_spent mine done n one.made new.made other.made rises other_rises agree.made is_made) hubs_after,
       )
 
-  leave_subscriber_alike : (n : ℕ) (one new other : NumberedHub T U B D) (reply : Reply T) → MadeRises one.made → MadeRises other.made → AgreeOn hash mine one other
+  leave_subscriber_alike : (n : ℕ) (one new other : NumberedHub T U B D) (reply : Reply T) → MadeRises one.made → MadeRises other.made
+      → AgreeOn hash mine one other
       → (value_at other.made.subscribers n ≡ value_at one.made.subscribers n) × IsOf service_at mine (value_at one.made.subscribers n)
       → LeaveStep hub_ports with_hub_ports without_hub_publisher without_hub_subscriber (port_number.Subscriber n) one.made one.hub reply new.made new.hub × (new.factories ≡ one.factories)
       → Answers (λ old answer after. LeaveStep hub_ports with_hub_ports without_hub_publisher without_hub_subscriber (port_number.Subscriber n) old.made old.hub answer after.made after.hub × (after.factories ≡ old.factories)) other new reply
@@ -444,14 +525,17 @@ module _ {T U B D : Type 0} (hash : ServiceHash) (mine : ℕ → Bool) where
       let made = removed_if done (without_subscriber n) other.made in (
         record other { hub = hub; made = made },
         ((done, subst (λ it. AtPortIf (SubscriberGoes hub_ports with_hub_ports without_hub_subscriber) it other.hub done hub) (sym found) at_there, refl, is), refl),
-        agree_after one new other made hub agree same (subscribers_spent mine done n one.made new.made other.made rises other_rises agree.made is_made) hubs_after,
+        agree_after one new other made hub agree same
+            (subscribers_spent mine done n one.made new.made other.made rises other_rises agree.made is_made) hubs_after,
       )
 
   -- what a command lends or receives, with the factories as they were
-  lends_in : (does : Made → Hub T U B D → Made → Hub T U B D → Type 0) (one new other : NumberedHub T U B D) → AgreeOn hash mine one other → new.factories ≡ one.factories
+  lends_in : (does : Made → Hub T U B D → Made → Hub T U B D → Type 0) (one new other : NumberedHub T U B D)
+      → AgreeOn hash mine one other → new.factories ≡ one.factories
       → ((there : Made) × (later : Hub T U B D) × does other.made other.hub there later × MadeAgree mine new.made there × HubsAgree hash mine new.hub later)
       → (after : NumberedHub T U B D) × (does other.made other.hub after.made after.hub × (after.factories ≡ other.factories)) × AgreeOn hash mine new after
-  lends_in does one new other agree same (there, later, done, mades, hubs) = (record other { hub = later; made = there }, (done, refl), agree_after one new other there later agree same mades hubs)
+  lends_in does one new other agree same (there, later, done, mades, hubs)
+      = (record other { hub = later; made = there }, (done, refl), agree_after one new other there later agree same mades hubs)
 
   module _ (payload user_header : Detail) (types : MessageTypeDetails) (is_default : T → Type 0) (is_default_header : U → Type 0)
       (fixed : BackpressureStrategy → Option BackpressureAction → DegradationAction → B) (degrades : B → DegradationCause → DegradationInfo → DegradationAction → Type 0) (decides : B → BackpressureInfo → BackpressureDecision → Type 0)
@@ -459,12 +543,14 @@ module _ {T U B D : Type 0} (hash : ServiceHash) (mine : ℕ → Bool) where
     abbrev Steps : Command T → NumberedHub T U B D → Result (Reply T) AllocError → NumberedHub T U B D → Type 0
     Steps = Step payload user_header types is_default is_default_header fixed degrades decides fixed_reader reader_degrades
 
-    pub step_alike : (asked : Command T) (one new other : NumberedHub T U B D) (reply : Reply T) → IsOfPorts asked → MadeRises one.made → MadeRises other.made → AgreeOn hash mine one other → Concerns mine asked one other
+    pub step_alike : (asked : Command T) (one new other : NumberedHub T U B D) (reply : Reply T) → IsOfPorts asked → MadeRises one.made
+        → MadeRises other.made → AgreeOn hash mine one other → Concerns mine asked one other
         → Steps asked one (Ok reply) new → (after : NumberedHub T U B D) × Steps asked other (Ok reply) after × AgreeOn hash mine new after
     step_alike command.Node one new other reply kind rises other_rises agree named step = node_alike one new other reply agree step
     step_alike (command.Create node name options attributes steps) one new other reply kind rises other_rises agree named step = absurd kind
     step_alike (command.Open node name options requirements steps) one new other reply kind rises other_rises agree named step = absurd kind
-    step_alike (command.OpenOrCreate node name options requirements steps) one new other reply kind rises other_rises agree named step = absurd kind
+    step_alike (command.OpenOrCreate node name options requirements steps) one new other reply kind rises other_rises agree named step
+        = absurd kind
     step_alike (command.Foreign pattern name steps) one new other reply kind rises other_rises agree named step = absurd kind
     step_alike (command.Close factory) one new other reply kind rises other_rises agree named step = absurd kind
     step_alike (command.Publisher factory options) one new other reply kind rises other_rises agree named step =
@@ -481,10 +567,14 @@ module _ {T U B D : Type 0} (hash : ServiceHash) (mine : ℕ → Bool) where
     step_alike (command.LoanUninit publisher elements) one new other reply kind rises other_rises agree named (step, same) =
         lends_in (λ made old after new. LoanUninitStep hub_ports with_hub_ports publisher elements made old (Ok reply) after new) one new other agree same
         (loan_uninit_alike hash mine publisher elements one.made new.made other.made one.hub new.hub other.hub reply rises other_rises agree.made agree.hubs (publisher_found publisher one other agree named) step)
-    step_alike (command.Set loan place value) one new other reply kind rises other_rises agree named step = set_alike loan place value one new other reply agree (loan_found_alike loan one other agree named) step
-    step_alike (command.Fill loan values) one new other reply kind rises other_rises agree named step = fill_alike loan values one new other reply agree (loan_found_alike loan one other agree named) step
-    step_alike (command.Drop loan) one new other reply kind rises other_rises agree named step = drop_alike loan one new other reply rises other_rises agree (loan_found_alike loan one other agree named) step
-    step_alike (command.Send loan) one new other reply kind rises other_rises agree named step = send_alike degrades decides loan one new other reply rises other_rises agree (loan_found_alike loan one other agree named) step
+    step_alike (command.Set loan place value) one new other reply kind rises other_rises agree named step
+        = set_alike loan place value one new other reply agree (loan_found_alike loan one other agree named) step
+    step_alike (command.Fill loan values) one new other reply kind rises other_rises agree named step
+        = fill_alike loan values one new other reply agree (loan_found_alike loan one other agree named) step
+    step_alike (command.Drop loan) one new other reply kind rises other_rises agree named step
+        = drop_alike loan one new other reply rises other_rises agree (loan_found_alike loan one other agree named) step
+    step_alike (command.Send loan) one new other reply kind rises other_rises agree named step
+        = send_alike degrades decides loan one new other reply rises other_rises agree (loan_found_alike loan one other agree named) step
     step_alike (command.Put publisher values) one new other reply kind rises other_rises agree named step =
         let (found, of) = publisher_found publisher one other agree named in
         let by = lender (length values) (value_at one.made.publishers publisher) in
@@ -503,8 +593,10 @@ module _ {T U B D : Type 0} (hash : ServiceHash) (mine : ℕ → Bool) where
     step_alike (command.Receive subscriber) one new other reply kind rises other_rises agree named (step, same) =
         lends_in (λ made old after new. ReceiveStep hub_ports with_hub_ports (subscriber_may_degrade reader_degrades) subscriber made old (Ok reply) after new) one new other agree same
         (receive_alike hash mine reader_degrades subscriber one.made new.made other.made one.hub new.hub other.hub reply rises other_rises agree.made agree.hubs (subscriber_found subscriber one other agree named) step)
-    step_alike (command.Read sample) one new other reply kind rises other_rises agree named step = read_alike sample one new other reply agree (sample_found sample one other agree named) step
-    step_alike (command.Release sample) one new other reply kind rises other_rises agree named step = release_alike sample one new other reply rises other_rises agree (sample_found sample one other agree named) step
+    step_alike (command.Read sample) one new other reply kind rises other_rises agree named step
+        = read_alike sample one new other reply agree (sample_found sample one other agree named) step
+    step_alike (command.Release sample) one new other reply kind rises other_rises agree named step
+        = release_alike sample one new other reply rises other_rises agree (sample_found sample one other agree named) step
     step_alike (command.Update (port_number.Publisher n)) one new other reply kind rises other_rises agree named step =
         let (found, of) = publisher_found n one other agree named in
         call_alike (Follows hub_ports with_hub_ports (publisher_may_degrade degrades)) (λ port own. follows_alike hash mine degrades decides port own) updated_reply
@@ -513,16 +605,20 @@ module _ {T U B D : Type 0} (hash : ServiceHash) (mine : ℕ → Bool) where
         let (found, of) = subscriber_found n one other agree named in
         call_alike (FollowsPublishers hub_ports with_hub_ports (subscriber_may_degrade reader_degrades)) (λ port own. follows_publishers_alike hash mine reader_degrades port own) updated_reply
         (value_at one.made.subscribers n) (value_at other.made.subscribers n) one new other reply agree of found step
-    step_alike (command.Leave (port_number.Publisher n)) one new other reply kind rises other_rises agree named step = leave_publisher_alike n one new other reply rises other_rises agree (publisher_found n one other agree named) step
-    step_alike (command.Leave (port_number.Subscriber n)) one new other reply kind rises other_rises agree named step = leave_subscriber_alike n one new other reply rises other_rises agree (subscriber_found n one other agree named) step
+    step_alike (command.Leave (port_number.Publisher n)) one new other reply kind rises other_rises agree named step
+        = leave_publisher_alike n one new other reply rises other_rises agree (publisher_found n one other agree named) step
+    step_alike (command.Leave (port_number.Subscriber n)) one new other reply kind rises other_rises agree named step
+        = leave_subscriber_alike n one new other reply rises other_rises agree (subscriber_found n one other agree named) step
     step_alike (command.Has subscriber) one new other reply kind rises other_rises agree named step =
         let (found, of) = subscriber_found subscriber one other agree named in
         call_alike (Tells hub_ports with_hub_ports (subscriber_may_degrade reader_degrades)) (λ port own. tells_alike hash mine reader_degrades port own) has_reply
         (value_at one.made.subscribers subscriber) (value_at other.made.subscribers subscriber) one new other reply agree of found step
 
-module _ {T U B D : Type 0} (payload user_header : Detail) (types : MessageTypeDetails) (is_default : T → Type 0) (is_default_header : U → Type 0)
+module _ {T U B D : Type 0} (payload user_header : Detail) (types : MessageTypeDetails) (is_default : T → Type 0)
+    (is_default_header : U → Type 0)
     (fixed : BackpressureStrategy → Option BackpressureAction → DegradationAction → B) (degrades : B → DegradationCause → DegradationInfo → DegradationAction → Type 0) (decides : B → BackpressureInfo → BackpressureDecision → Type 0)
     (fixed_reader : DegradationAction → D) (reader_degrades : D → DegradationCause → DegradationInfo → DegradationAction → Type 0) where
-  pub ports_answer_alike : PortsAnswerAlike (Step {T = T} {U = U} payload user_header types is_default is_default_header fixed degrades decides fixed_reader reader_degrades)
+  pub ports_answer_alike : PortsAnswerAlike
+      (Step {T = T} {U = U} payload user_header types is_default is_default_header fixed degrades decides fixed_reader reader_degrades)
   ports_answer_alike hash mine asked one new other reply kind rises other_rises agree named step =
       step_alike hash mine payload user_header types is_default is_default_header fixed degrades decides fixed_reader reader_degrades asked one new other reply kind (rises.1, rises.2, rises.3, rises.4) (other_rises.1, other_rises.2, other_rises.3, other_rises.4) agree named step

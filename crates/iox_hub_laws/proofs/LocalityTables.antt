@@ -18,12 +18,16 @@ module _ {V : Type 0} (service : V → ℕ) (mine : ℕ → Bool) where
   none_either None of = refl
   none_either (Some value) of = absurd of
 
-  named_at : (one other : NumberTable V) (n : ℕ) (found : Option V) → value_at one n ≡ found → SameOf service mine one other → FoundMine mine (option_map service found) (option_map service (value_at other n)) → (value_at other n ≡ found) × IsOf found
+  named_at : (one other : NumberTable V) (n : ℕ) (found : Option V) → value_at one n ≡ found → SameOf service mine one other
+      → FoundMine mine (option_map service found) (option_map service (value_at other n)) → (value_at other n ≡ found) × IsOf found
   named_at one other n None is same of = (none_either (value_at other n) of, tt)
-  named_at one other n (Some value) is same of = ((found_as_before service (service value) one other (same.0 (service value) of) n value refl).0 is, of)
+  named_at one other n (Some value) is same of
+      = ((found_as_before service (service value) one other (same.0 (service value) of) n value refl).0 is, of)
 
   -- what is named goes by its number in both tables
-  pub named_alike : (one other : NumberTable V) (n : ℕ) → SameOf service mine one other → FoundMine mine (option_map service (value_at one n)) (option_map service (value_at other n)) → (value_at other n ≡ value_at one n) × IsOf (value_at one n)
+  pub named_alike : (one other : NumberTable V) (n : ℕ) → SameOf service mine one other
+      → FoundMine mine (option_map service (value_at one n)) (option_map service (value_at other n))
+      → (value_at other n ≡ value_at one n) × IsOf (value_at one n)
   named_alike one other n same of = named_at one other n (value_at one n) refl same of
 
 module _ {V : Type 0} (service : V → ℕ) (number : ℕ) where
@@ -33,7 +37,8 @@ module _ {V : Type 0} (service : V → ℕ) (number : ℕ) where
       differ : false ≡ true → ⊥
       differ e = cc
 
-  inserted_here : (n : ℕ) (is : Bool) (one other : NumberTable V) (value : V) → nat_eq n one.next ≡ is → Rises 1 one.entries one.next → Rises 1 other.entries other.next → other.next ≡ one.next → AllLeft service number one other
+  inserted_here : (n : ℕ) (is : Bool) (one other : NumberTable V) (value : V) → nat_eq n one.next ≡ is → Rises 1 one.entries one.next
+      → Rises 1 other.entries other.next → other.next ≡ one.next → AllLeft service number one other
       → if_of service number (value_at (inserted other value) n) ≡ if_of service number (value_at (inserted one value) n)
   inserted_here n true one other value is rises other_rises next left =
       let here : n ≡ one.next = eqb-true n one.next is in
@@ -47,10 +52,13 @@ module _ {V : Type 0} (service : V → ℕ) (number : ℕ) where
       ∙ left n ∙ sym (ap (if_of service number) ((found_and_gone V).put_others one value n off))
 
   -- the same comes in both
-  inserted_one : (one other : NumberTable V) (value : V) → Rises 1 one.entries one.next → Rises 1 other.entries other.next → other.next ≡ one.next → AllLeft service number one other → AllLeft service number (inserted one value) (inserted other value)
-  inserted_one one other value rises other_rises next left n = inserted_here n (nat_eq n one.next) one other value refl rises other_rises next left
+  inserted_one : (one other : NumberTable V) (value : V) → Rises 1 one.entries one.next → Rises 1 other.entries other.next
+      → other.next ≡ one.next → AllLeft service number one other → AllLeft service number (inserted one value) (inserted other value)
+  inserted_one one other value rises other_rises next left n
+      = inserted_here n (nat_eq n one.next) one other value refl rises other_rises next left
 
-  removed_here : (n gone : ℕ) (is : Bool) (one other : NumberTable V) → nat_eq n gone ≡ is → Rises 1 one.entries one.next → Rises 1 other.entries other.next → AllLeft service number one other
+  removed_here : (n gone : ℕ) (is : Bool) (one other : NumberTable V) → nat_eq n gone ≡ is → Rises 1 one.entries one.next
+      → Rises 1 other.entries other.next → AllLeft service number one other
       → if_of service number (value_at (removed other gone) n) ≡ if_of service number (value_at (removed one gone) n)
   removed_here n gone true one other is rises other_rises left =
       let here : n ≡ gone = eqb-true n gone is in
@@ -63,10 +71,12 @@ module _ {V : Type 0} (service : V → ℕ) (number : ℕ) where
       ∙ left n ∙ sym (ap (if_of service number) ((found_and_gone V).gone_others one gone n off))
 
   -- what goes by a number goes in both
-  removed_one : (one other : NumberTable V) (gone : ℕ) → Rises 1 one.entries one.next → Rises 1 other.entries other.next → AllLeft service number one other → AllLeft service number (removed one gone) (removed other gone)
+  removed_one : (one other : NumberTable V) (gone : ℕ) → Rises 1 one.entries one.next → Rises 1 other.entries other.next
+      → AllLeft service number one other → AllLeft service number (removed one gone) (removed other gone)
   removed_one one other gone rises other_rises left n = removed_here n gone (nat_eq n gone) one other refl rises other_rises left
 
-module _ {V : Type 0} (service : V → ℕ) (mine : ℕ → Bool) (one other : NumberTable V) (rises : Rises 1 one.entries one.next) (other_rises : Rises 1 other.entries other.next) where
+module _ {V : Type 0} (service : V → ℕ) (mine : ℕ → Bool) (one other : NumberTable V) (rises : Rises 1 one.entries one.next)
+    (other_rises : Rises 1 other.entries other.next) where
   -- the same comes in both, under the same number
   pub inserted_both : (value : V) → SameOf service mine one other → SameOf service mine (inserted one value) (inserted other value)
   inserted_both value same = (λ number of. inserted_one service number one other value rises other_rises same.1 (same.0 number of), ap (λ n. n + 1) same.1)

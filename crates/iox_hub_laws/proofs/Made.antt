@@ -32,7 +32,8 @@ pub same_room : (made : Made) → IsRoomier made made
 same_room made =
     ((refl, refl, at_most_itself made.publishers.room), (refl, refl, at_most_itself made.subscribers.room), (refl, refl, at_most_itself made.loans.room), (refl, refl, at_most_itself made.samples.room))
 
-pub rises_as : {V : Type 0} (table roomier : NumberTable V) → roomier.entries ≡ table.entries → roomier.next ≡ table.next → Rises 1 table.entries table.next → Rises 1 roomier.entries roomier.next
+pub rises_as : {V : Type 0} (table roomier : NumberTable V) → roomier.entries ≡ table.entries → roomier.next ≡ table.next
+    → Rises 1 table.entries table.next → Rises 1 roomier.entries roomier.next
 rises_as {V} table roomier same next rises =
     subst (λ (entries : List (ℕ × V)). Rises 1 entries roomier.next) (sym same) (subst (λ n. Rises 1 table.entries n) (sym next) rises)
 
@@ -45,7 +46,8 @@ roomier_rises made roomier ((p, p_next, p_room), (s, s_next, s_room), (l, l_next
 )
 
 -- a table with more room has the same
-pub roomier_same : {V : Type 0} (service : V → ℕ) (mine : ℕ → Bool) (one roomier other : NumberTable V) → roomier.entries ≡ one.entries → roomier.next ≡ one.next → SameOf service mine one other → SameOf service mine roomier other
+pub roomier_same : {V : Type 0} (service : V → ℕ) (mine : ℕ → Bool) (one roomier other : NumberTable V) → roomier.entries ≡ one.entries
+    → roomier.next ≡ one.next → SameOf service mine one other → SameOf service mine roomier other
 roomier_same service mine one roomier other same next agree =
     (λ number of n. agree.0 number of n ∙ sym (same_left service number one roomier same n), agree.1 ∙ sym next)
 
@@ -66,25 +68,29 @@ module _ (mine : ℕ → Bool) where
 
   -- ---- a number is spent in both
 
-  pub publishers_spent : (done : Bool) (n : ℕ) (one after other : Made) → MadeRises one → MadeRises other → MadeAgree mine one other → after ≡ removed_if done (without_publisher n) one → MadeAgree mine after (removed_if done (without_publisher n) other)
+  pub publishers_spent : (done : Bool) (n : ℕ) (one after other : Made) → MadeRises one → MadeRises other → MadeAgree mine one other
+      → after ≡ removed_if done (without_publisher n) one → MadeAgree mine after (removed_if done (without_publisher n) other)
   publishers_spent false n one after other rises other_rises agree is = made_still one after other agree is
   publishers_spent true n one after other rises other_rises agree is =
       made_still (without_publisher n one) after (without_publisher n other)
       (record { publishers = removed_both publisher_service mine one.publishers other.publishers rises.0 other_rises.0 n agree.publishers; subscribers = agree.subscribers; loans = agree.loans; samples = agree.samples }) is
 
-  pub subscribers_spent : (done : Bool) (n : ℕ) (one after other : Made) → MadeRises one → MadeRises other → MadeAgree mine one other → after ≡ removed_if done (without_subscriber n) one → MadeAgree mine after (removed_if done (without_subscriber n) other)
+  pub subscribers_spent : (done : Bool) (n : ℕ) (one after other : Made) → MadeRises one → MadeRises other → MadeAgree mine one other
+      → after ≡ removed_if done (without_subscriber n) one → MadeAgree mine after (removed_if done (without_subscriber n) other)
   subscribers_spent false n one after other rises other_rises agree is = made_still one after other agree is
   subscribers_spent true n one after other rises other_rises agree is =
       made_still (without_subscriber n one) after (without_subscriber n other)
       (record { publishers = agree.publishers; subscribers = removed_both service_at mine one.subscribers other.subscribers rises.1 other_rises.1 n agree.subscribers; loans = agree.loans; samples = agree.samples }) is
 
-  pub loans_spent : (done : Bool) (n : ℕ) (one after other : Made) → MadeRises one → MadeRises other → MadeAgree mine one other → after ≡ removed_if done (without_loan n) one → MadeAgree mine after (removed_if done (without_loan n) other)
+  pub loans_spent : (done : Bool) (n : ℕ) (one after other : Made) → MadeRises one → MadeRises other → MadeAgree mine one other
+      → after ≡ removed_if done (without_loan n) one → MadeAgree mine after (removed_if done (without_loan n) other)
   loans_spent false n one after other rises other_rises agree is = made_still one after other agree is
   loans_spent true n one after other rises other_rises agree is =
       made_still (without_loan n one) after (without_loan n other)
       (record { publishers = agree.publishers; subscribers = agree.subscribers; loans = removed_both loan_service mine one.loans other.loans rises.2 other_rises.2 n agree.loans; samples = agree.samples }) is
 
-  pub samples_spent : (done : Bool) (n : ℕ) (one after other : Made) → MadeRises one → MadeRises other → MadeAgree mine one other → after ≡ removed_if done (without_sample n) one → MadeAgree mine after (removed_if done (without_sample n) other)
+  pub samples_spent : (done : Bool) (n : ℕ) (one after other : Made) → MadeRises one → MadeRises other → MadeAgree mine one other
+      → after ≡ removed_if done (without_sample n) one → MadeAgree mine after (removed_if done (without_sample n) other)
   samples_spent false n one after other rises other_rises agree is = made_still one after other agree is
   samples_spent true n one after other rises other_rises agree is =
       made_still (without_sample n one) after (without_sample n other)
@@ -92,10 +98,13 @@ module _ (mine : ℕ → Bool) where
 
   -- ---- something gets the same number in both
 
-  pub loans_numbered : (port : Option PortId) (lent answer : Option (Result ℕ LoanError)) (one after other : Made) → MadeRises one → MadeRises other → MadeAgree mine one other → NumbersLoan port lent one answer after
+  pub loans_numbered : (port : Option PortId) (lent answer : Option (Result ℕ LoanError)) (one after other : Made) → MadeRises one
+      → MadeRises other → MadeAgree mine one other → NumbersLoan port lent one answer after
       → (there : Made) × NumbersLoan port lent other answer there × MadeAgree mine after there
-  loans_numbered port None answer one after other rises other_rises agree numbers = (other, (numbers.0, refl), made_still one after other agree numbers.1)
-  loans_numbered port (Some (Err error)) answer one after other rises other_rises agree numbers = (other, (numbers.0, refl), made_still one after other agree numbers.1)
+  loans_numbered port None answer one after other rises other_rises agree numbers
+      = (other, (numbers.0, refl), made_still one after other agree numbers.1)
+  loans_numbered port (Some (Err error)) answer one after other rises other_rises agree numbers
+      = (other, (numbers.0, refl), made_still one after other agree numbers.1)
   loans_numbered None (Some (Ok slot)) answer one after other rises other_rises agree numbers = absurd numbers
   loans_numbered (Some port) (Some (Ok slot)) answer one after other rises other_rises agree numbers =
       let loan : MadeLoan = record { port = port; slot = slot } in (
@@ -105,11 +114,16 @@ module _ (mine : ℕ → Bool) where
             (record { publishers = agree.publishers; subscribers = agree.subscribers; loans = inserted_both loan_service mine one.loans other.loans rises.2 other_rises.2 loan agree.loans; samples = agree.samples }) numbers.1,
       )
 
-  pub samples_numbered : (port : Option PortId) (received : Option (Result (Option Taken) ReceiveError)) (answer : Option (Result (Option ℕ) ReceiveError)) (one after other : Made) → MadeRises one → MadeRises other → MadeAgree mine one other
+  pub samples_numbered : (port : Option PortId) (received : Option (Result (Option Taken) ReceiveError))
+      (answer : Option (Result (Option ℕ) ReceiveError)) (one after other : Made) → MadeRises one → MadeRises other
+      → MadeAgree mine one other
       → NumbersSample port received one answer after → (there : Made) × NumbersSample port received other answer there × MadeAgree mine after there
-  samples_numbered port None answer one after other rises other_rises agree numbers = (other, (numbers.0, refl), made_still one after other agree numbers.1)
-  samples_numbered port (Some (Err error)) answer one after other rises other_rises agree numbers = (other, (numbers.0, refl), made_still one after other agree numbers.1)
-  samples_numbered port (Some (Ok None)) answer one after other rises other_rises agree numbers = (other, (numbers.0, refl), made_still one after other agree numbers.1)
+  samples_numbered port None answer one after other rises other_rises agree numbers
+      = (other, (numbers.0, refl), made_still one after other agree numbers.1)
+  samples_numbered port (Some (Err error)) answer one after other rises other_rises agree numbers
+      = (other, (numbers.0, refl), made_still one after other agree numbers.1)
+  samples_numbered port (Some (Ok None)) answer one after other rises other_rises agree numbers
+      = (other, (numbers.0, refl), made_still one after other agree numbers.1)
   samples_numbered None (Some (Ok (Some taken))) answer one after other rises other_rises agree numbers = absurd numbers
   samples_numbered (Some port) (Some (Ok (Some taken))) answer one after other rises other_rises agree numbers =
       let sample : MadeSample = record { port = port; taken = taken } in (
@@ -119,10 +133,13 @@ module _ (mine : ℕ → Bool) where
             (record { publishers = agree.publishers; subscribers = agree.subscribers; loans = agree.loans; samples = inserted_both sample_service mine one.samples other.samples rises.3 other_rises.3 sample agree.samples }) numbers.1,
       )
 
-  pub publishers_numbered : {E : Type 0} (domain : DomainId) (next other_next : ℕ) (came answer : Option (Result ℕ E)) (one after other : Made) → other_next ≡ next → MadeRises one → MadeRises other → MadeAgree mine one other
+  pub publishers_numbered : {E : Type 0} (domain : DomainId) (next other_next : ℕ) (came answer : Option (Result ℕ E))
+      (one after other : Made) → other_next ≡ next → MadeRises one → MadeRises other → MadeAgree mine one other
       → NumbersPort (with_publisher domain true) next came one answer after → (there : Made) × NumbersPort (with_publisher domain true) other_next came other answer there × MadeAgree mine after there
-  publishers_numbered domain next other_next None answer one after other same rises other_rises agree numbers = (other, (numbers.0, refl), made_still one after other agree numbers.1)
-  publishers_numbered domain next other_next (Some (Err error)) answer one after other same rises other_rises agree numbers = (other, (numbers.0, refl), made_still one after other agree numbers.1)
+  publishers_numbered domain next other_next None answer one after other same rises other_rises agree numbers
+      = (other, (numbers.0, refl), made_still one after other agree numbers.1)
+  publishers_numbered domain next other_next (Some (Err error)) answer one after other same rises other_rises agree numbers
+      = (other, (numbers.0, refl), made_still one after other agree numbers.1)
   publishers_numbered domain next other_next (Some (Ok n)) answer one after other same rises other_rises agree numbers =
       let made : MadePublisher = record { port = record { domain = domain; number = n }; holds_slices = true } in (
         with_publisher domain true n other,
@@ -131,10 +148,13 @@ module _ (mine : ℕ → Bool) where
             (record { publishers = inserted_both publisher_service mine one.publishers other.publishers rises.0 other_rises.0 made agree.publishers; subscribers = agree.subscribers; loans = agree.loans; samples = agree.samples }) numbers.1,
       )
 
-  pub subscribers_numbered : {E : Type 0} (domain : DomainId) (next other_next : ℕ) (came answer : Option (Result ℕ E)) (one after other : Made) → other_next ≡ next → MadeRises one → MadeRises other → MadeAgree mine one other
+  pub subscribers_numbered : {E : Type 0} (domain : DomainId) (next other_next : ℕ) (came answer : Option (Result ℕ E))
+      (one after other : Made) → other_next ≡ next → MadeRises one → MadeRises other → MadeAgree mine one other
       → NumbersPort (with_subscriber domain) next came one answer after → (there : Made) × NumbersPort (with_subscriber domain) other_next came other answer there × MadeAgree mine after there
-  subscribers_numbered domain next other_next None answer one after other same rises other_rises agree numbers = (other, (numbers.0, refl), made_still one after other agree numbers.1)
-  subscribers_numbered domain next other_next (Some (Err error)) answer one after other same rises other_rises agree numbers = (other, (numbers.0, refl), made_still one after other agree numbers.1)
+  subscribers_numbered domain next other_next None answer one after other same rises other_rises agree numbers
+      = (other, (numbers.0, refl), made_still one after other agree numbers.1)
+  subscribers_numbered domain next other_next (Some (Err error)) answer one after other same rises other_rises agree numbers
+      = (other, (numbers.0, refl), made_still one after other agree numbers.1)
   subscribers_numbered domain next other_next (Some (Ok n)) answer one after other same rises other_rises agree numbers =
       let made : PortId = record { domain = domain; number = n } in (
         with_subscriber domain n other,

@@ -61,35 +61,46 @@ module _ (by : Renaming) where
     same_as (renamed_made_sample by) old.samples new.samples samples,
   )
 
-  pub port_under_as : (found : Option MadePublisher) → port_under (option_map (renamed_made_publisher by) found) ≡ option_map (renamed_port by) (port_under found)
+  pub port_under_as : (found : Option MadePublisher)
+      → port_under (option_map (renamed_made_publisher by) found) ≡ option_map (renamed_port by) (port_under found)
   port_under_as None = refl
   port_under_as (Some made) = refl
 
-  lender_if : (may : Bool) (port : PortId) → (if may then Some (renamed_port by port) else None) ≡ option_map (renamed_port by) (if may then Some port else None)
+  lender_if : (may : Bool) (port : PortId)
+      → (if may then Some (renamed_port by port) else None) ≡ option_map (renamed_port by) (if may then Some port else None)
   lender_if true port = refl
   lender_if false port = refl
 
-  lender_found : (elements : ℕ) (found : Option MadePublisher) → lender elements (option_map (renamed_made_publisher by) found) ≡ option_map (renamed_port by) (lender elements found)
+  lender_found : (elements : ℕ) (found : Option MadePublisher)
+      → lender elements (option_map (renamed_made_publisher by) found) ≡ option_map (renamed_port by) (lender elements found)
   lender_found elements None = refl
   lender_found elements (Some made) = lender_if _ made.port
 
-  pub publisher_as : (made : Made) (number : ℕ) → port_under (value_at (own made).publishers number) ≡ option_map (renamed_port by) (port_under (value_at made.publishers number))
-  publisher_as made number = ap port_under (under_as (renamed_made_publisher by) made.publishers number) ∙ port_under_as (value_at made.publishers number)
+  pub publisher_as : (made : Made) (number : ℕ)
+      → port_under (value_at (own made).publishers number) ≡ option_map (renamed_port by) (port_under (value_at made.publishers number))
+  publisher_as made number = ap port_under (under_as (renamed_made_publisher by) made.publishers number) ∙ port_under_as
+      (value_at made.publishers number)
 
-  pub lender_as : (made : Made) (elements number : ℕ) → lender elements (value_at (own made).publishers number) ≡ option_map (renamed_port by) (lender elements (value_at made.publishers number))
-  lender_as made elements number = ap (lender elements) (under_as (renamed_made_publisher by) made.publishers number) ∙ lender_found elements (value_at made.publishers number)
+  pub lender_as : (made : Made) (elements number : ℕ)
+      → lender elements (value_at (own made).publishers number)
+      ≡ option_map (renamed_port by) (lender elements (value_at made.publishers number))
+  lender_as made elements number = ap (lender elements) (under_as (renamed_made_publisher by) made.publishers number) ∙ lender_found
+      elements (value_at made.publishers number)
 
   -- ---- numbers that are spent
 
-  pub removed_if_as : (done : Bool) (without : Made → Made) → ((made : Made) → without (own made) ≡ own (without made)) → (made : Made) → removed_if done without (own made) ≡ own (removed_if done without made)
+  pub removed_if_as : (done : Bool) (without : Made → Made) → ((made : Made) → without (own made) ≡ own (without made)) → (made : Made)
+      → removed_if done without (own made) ≡ own (removed_if done without made)
   removed_if_as false without same made = refl
   removed_if_as true without same made = same made
 
   pub publisher_gone : (number : ℕ) (made : Made) → without_publisher number (own made) ≡ own (without_publisher number made)
-  publisher_gone number made = ap (λ table. record (own made) { publishers = table }) (removed_as (renamed_made_publisher by) made.publishers number)
+  publisher_gone number made = ap (λ table. record (own made) { publishers = table })
+      (removed_as (renamed_made_publisher by) made.publishers number)
 
   pub subscriber_gone : (number : ℕ) (made : Made) → without_subscriber number (own made) ≡ own (without_subscriber number made)
-  subscriber_gone number made = ap (λ table. record (own made) { subscribers = table }) (removed_as (renamed_port by) made.subscribers number)
+  subscriber_gone number made = ap (λ table. record (own made) { subscribers = table })
+      (removed_as (renamed_port by) made.subscribers number)
 
   pub loan_gone : (number : ℕ) (made : Made) → without_loan number (own made) ≡ own (without_loan number made)
   loan_gone number made = ap (λ table. record (own made) { loans = table }) (removed_as (renamed_made_loan by) made.loans number)
@@ -99,26 +110,36 @@ module _ (by : Renaming) where
 
   -- ---- numbers that are given
 
-  pub publisher_numbered : (id : DomainId) (holds_slices : Bool) (number : ℕ) (made : Made) → with_publisher (renamed_id by id) holds_slices number (own made) ≡ own (with_publisher id holds_slices number made)
+  pub publisher_numbered : (id : DomainId) (holds_slices : Bool) (number : ℕ) (made : Made)
+      → with_publisher (renamed_id by id) holds_slices number (own made) ≡ own (with_publisher id holds_slices number made)
   publisher_numbered id holds_slices number made =
       ap (λ table. record (own made) { publishers = table }) (inserted_as (renamed_made_publisher by) made.publishers (record { port = record { domain = id; number = number }; holds_slices = holds_slices }))
 
-  pub subscriber_numbered : (id : DomainId) (number : ℕ) (made : Made) → with_subscriber (renamed_id by id) number (own made) ≡ own (with_subscriber id number made)
-  subscriber_numbered id number made = ap (λ table. record (own made) { subscribers = table }) (inserted_as (renamed_port by) made.subscribers (record { domain = id; number = number }))
+  pub subscriber_numbered : (id : DomainId) (number : ℕ) (made : Made)
+      → with_subscriber (renamed_id by id) number (own made) ≡ own (with_subscriber id number made)
+  subscriber_numbered id number made = ap (λ table. record (own made) { subscribers = table })
+      (inserted_as (renamed_port by) made.subscribers (record { domain = id; number = number }))
 
-  loan_numbered : (port : PortId) (slot : ℕ) (made : Made) → with_loan (renamed_port by port) slot (own made) ≡ own (with_loan port slot made)
-  loan_numbered port slot made = ap (λ table. record (own made) { loans = table }) (inserted_as (renamed_made_loan by) made.loans (record { port = port; slot = slot }))
+  loan_numbered : (port : PortId) (slot : ℕ) (made : Made)
+      → with_loan (renamed_port by port) slot (own made) ≡ own (with_loan port slot made)
+  loan_numbered port slot made = ap (λ table. record (own made) { loans = table })
+      (inserted_as (renamed_made_loan by) made.loans (record { port = port; slot = slot }))
 
-  sample_numbered : (port : PortId) (taken : Taken) (made : Made) → with_sample (renamed_port by port) taken (own made) ≡ own (with_sample port taken made)
-  sample_numbered port taken made = ap (λ table. record (own made) { samples = table }) (inserted_as (renamed_made_sample by) made.samples (record { port = port; taken = taken }))
+  sample_numbered : (port : PortId) (taken : Taken) (made : Made)
+      → with_sample (renamed_port by port) taken (own made) ≡ own (with_sample port taken made)
+  sample_numbered port taken made = ap (λ table. record (own made) { samples = table })
+      (inserted_as (renamed_made_sample by) made.samples (record { port = port; taken = taken }))
 
-  pub numbers_port : {E : Type 0} (numbered other : ℕ → Made → Made) → ((number : ℕ) (made : Made) → other number (own made) ≡ own (numbered number made)) → (next : ℕ) (came : Option (Result ℕ E)) (old new : Made) (answer : Option (Result ℕ E))
+  pub numbers_port : {E : Type 0} (numbered other : ℕ → Made → Made)
+      → ((number : ℕ) (made : Made) → other number (own made) ≡ own (numbered number made))
+      → (next : ℕ) (came : Option (Result ℕ E)) (old new : Made) (answer : Option (Result ℕ E))
       → NumbersPort numbered next came old answer new → NumbersPort other next came (own old) answer (own new)
   numbers_port numbered other same next None old new answer (is, stays) = (is, ap own stays)
   numbers_port numbered other same next (Some (Err error)) old new answer (is, stays) = (is, ap own stays)
   numbers_port numbered other same next (Some (Ok number)) old new answer (is, goes) = (is, ap own goes ∙ sym (same number old))
 
-  pub numbers_loan : (port : Option PortId) (lent : Option (Result ℕ LoanError)) (old new : Made) (answer : Option (Result ℕ LoanError)) → NumbersLoan port lent old answer new → NumbersLoan (option_map (renamed_port by) port) lent (own old) answer (own new)
+  pub numbers_loan : (port : Option PortId) (lent : Option (Result ℕ LoanError)) (old new : Made) (answer : Option (Result ℕ LoanError))
+      → NumbersLoan port lent old answer new → NumbersLoan (option_map (renamed_port by) port) lent (own old) answer (own new)
   numbers_loan None None old new answer (is, stays) = (is, ap own stays)
   numbers_loan (Some port) None old new answer (is, stays) = (is, ap own stays)
   numbers_loan None (Some (Err error)) old new answer (is, stays) = (is, ap own stays)
@@ -126,7 +147,8 @@ module _ (by : Renaming) where
   numbers_loan None (Some (Ok slot)) old new answer never = never
   numbers_loan (Some port) (Some (Ok slot)) old new answer (is, goes) = (is, ap own goes ∙ sym (loan_numbered port slot old))
 
-  pub numbers_sample : (port : Option PortId) (received : Option (Result (Option Taken) ReceiveError)) (old new : Made) (answer : Option (Result (Option ℕ) ReceiveError))
+  pub numbers_sample : (port : Option PortId) (received : Option (Result (Option Taken) ReceiveError)) (old new : Made)
+      (answer : Option (Result (Option ℕ) ReceiveError))
       → NumbersSample port received old answer new → NumbersSample (option_map (renamed_port by) port) received (own old) answer (own new)
   numbers_sample None None old new answer (is, stays) = (is, ap own stays)
   numbers_sample (Some port) None old new answer (is, stays) = (is, ap own stays)
@@ -143,11 +165,14 @@ module _ (by : Renaming) where
   abbrev pub opened_as : Opened → Opened
   opened_as (member, owner) = (renamed_member by.services member, by.owners owner)
 
-  factory_found : (found : Option MadeFactory) → publish_subscribe_in (option_map (renamed_factory by) found) ≡ option_map opened_as (publish_subscribe_in found)
+  factory_found : (found : Option MadeFactory)
+      → publish_subscribe_in (option_map (renamed_factory by) found) ≡ option_map opened_as (publish_subscribe_in found)
   factory_found None = refl
   factory_found (Some (made_factory.PublishSubscribe factory)) = refl
   factory_found (Some (made_factory.Event factory)) = refl
   factory_found (Some (made_factory.RequestResponse factory)) = refl
 
-  pub factory_as : (table : NumberTable MadeFactory) (number : ℕ) → publish_subscribe_in (value_at (mapped (renamed_factory by) table) number) ≡ option_map opened_as (publish_subscribe_in (value_at table number))
+  pub factory_as : (table : NumberTable MadeFactory) (number : ℕ)
+      → publish_subscribe_in (value_at (mapped (renamed_factory by) table) number)
+      ≡ option_map opened_as (publish_subscribe_in (value_at table number))
   factory_as table number = ap publish_subscribe_in (under_as (renamed_factory by) table number) ∙ factory_found (value_at table number)

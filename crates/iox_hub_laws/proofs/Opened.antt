@@ -41,7 +41,8 @@ use Rattle.iox_hub_laws.specs.Locality.{IsOpening}
 use Rattle.iox_hub_laws.proofs.Foreign.{hash_named}
 use Rattle.iox_hub_laws.proofs.LocalityNegotiated.{IsNegotiation, of_hash, creating, opening, either}
 
-module _ {T U B D : Type 0} (hash : ServiceHash) (payload user_header : Detail) (P : FactoryTable → FactoryTable → Hub T U B D → Hub T U B D → Type 0)
+module _ {T U B D : Type 0} (hash : ServiceHash) (payload user_header : Detail)
+    (P : FactoryTable → FactoryTable → Hub T U B D → Hub T U B D → Type 0)
     (skip : (table after : FactoryTable) (old new : Hub T U B D) → SameNumbers table after → new ≡ old → P table after old new)
     (roomier : (table roomy after : FactoryTable) (old new : Hub T U B D) → SameNumbers table roomy → P roomy after old new → P table after old new)
     (gets : (E : Type 0) (lacking : Bool → E) (negotiates : Steps → Result Membership E → Steps → Type 0) → IsNegotiation hash negotiates → (lists : List (List ForeignStep)) (pattern : MessagingPattern) (refusal : E → Refusal) (reply : Result ℕ Refusal)
@@ -49,7 +50,9 @@ module _ {T U B D : Type 0} (hash : ServiceHash) (payload user_header : Detail) 
   skipped : (table after : FactoryTable) (old new : Hub T U B D) → after ≡ table → new ≡ old → P table after old new
   skipped table after old new unchanged still = skip table after old new (ap (λ t. t.entries) unchanged, ap (λ t. t.next) unchanged) still
 
-  create_as : (named : ServiceOptions) (types : MessageTypeDetails) (node : ℕ) (name : List ℕ) (attributes : List Attribute) (lists : List (List ForeignStep)) (table after : FactoryTable) (old new : Hub T U B D) (reply : Result ℕ Refusal) → hash_of name named ≡ hash
+  create_as : (named : ServiceOptions) (types : MessageTypeDetails) (node : ℕ) (name : List ℕ) (attributes : List Attribute)
+      (lists : List (List ForeignStep)) (table after : FactoryTable) (old new : Hub T U B D) (reply : Result ℕ Refusal)
+      → hash_of name named ≡ hash
       → CreatesAs named payload user_header types node name attributes lists table old reply after new → P table after old new
   create_as (options.PublishSubscribe named) types node name attributes lists table after old new reply under does =
       gets _ _ _ (of_hash (hash_of name (options.PublishSubscribe named)) hash under (creating node (agreed_of name (options.PublishSubscribe named) types attributes) _ _ _)) lists _ _ reply table after old new does
@@ -58,7 +61,9 @@ module _ {T U B D : Type 0} (hash : ServiceHash) (payload user_header : Detail) 
   create_as (options.RequestResponse named) types node name attributes lists table after old new reply under does =
       gets _ _ _ (of_hash (hash_of name (options.RequestResponse named)) hash under (creating node (agreed_of name (options.RequestResponse named) types attributes) _ _ _)) lists _ _ reply table after old new does
 
-  open_as : (named : ServiceOptions) (types : MessageTypeDetails) (node : ℕ) (name : List ℕ) (attributes : Required) (lists : List (List ForeignStep)) (table after : FactoryTable) (old new : Hub T U B D) (reply : Result ℕ Refusal) → hash_of name named ≡ hash
+  open_as : (named : ServiceOptions) (types : MessageTypeDetails) (node : ℕ) (name : List ℕ) (attributes : Required)
+      (lists : List (List ForeignStep)) (table after : FactoryTable) (old new : Hub T U B D) (reply : Result ℕ Refusal)
+      → hash_of name named ≡ hash
       → OpensAs named payload user_header types node name attributes lists table old reply after new → P table after old new
   open_as (options.PublishSubscribe named) types node name attributes lists table after old new reply under does =
       gets _ _ _ (of_hash (hash_of name (options.PublishSubscribe named)) hash under (opening node (hash_of name (options.PublishSubscribe named)) _ _)) lists _ _ reply table after old new does
@@ -67,7 +72,9 @@ module _ {T U B D : Type 0} (hash : ServiceHash) (payload user_header : Detail) 
   open_as (options.RequestResponse named) types node name attributes lists table after old new reply under does =
       gets _ _ _ (of_hash (hash_of name (options.RequestResponse named)) hash under (opening node (hash_of name (options.RequestResponse named)) _ _)) lists _ _ reply table after old new does
 
-  either_as : (named : ServiceOptions) (types : MessageTypeDetails) (node : ℕ) (name : List ℕ) (attributes : Required) (lists : List (List ForeignStep)) (table after : FactoryTable) (old new : Hub T U B D) (reply : Result ℕ Refusal) → hash_of name named ≡ hash
+  either_as : (named : ServiceOptions) (types : MessageTypeDetails) (node : ℕ) (name : List ℕ) (attributes : Required)
+      (lists : List (List ForeignStep)) (table after : FactoryTable) (old new : Hub T U B D) (reply : Result ℕ Refusal)
+      → hash_of name named ≡ hash
       → EitherAs named payload user_header types node name attributes lists table old reply after new → P table after old new
   either_as (options.PublishSubscribe named) types node name attributes lists table after old new reply under does =
       gets _ _ _ (of_hash (hash_of name (options.PublishSubscribe named)) hash under (either node _ (required_agreement name (options.PublishSubscribe named) types attributes) _ _ _)) lists _ _ reply table after old new does
@@ -76,42 +83,57 @@ module _ {T U B D : Type 0} (hash : ServiceHash) (payload user_header : Detail) 
   either_as (options.RequestResponse named) types node name attributes lists table after old new reply under does =
       gets _ _ _ (of_hash (hash_of name (options.RequestResponse named)) hash under (either node _ (required_agreement name (options.RequestResponse named) types attributes) _ _ _)) lists _ _ reply table after old new does
 
-  create_goes : (is_node : Bool) (types : MessageTypeDetails) (asked : ServiceAsked) (attributes : List Attribute) (steps : List StepBefore) (table after : FactoryTable) (old new : Hub T U B D) (answer : Option (Result ℕ Refusal)) → hash_of asked.name asked.options ≡ hash
+  create_goes : (is_node : Bool) (types : MessageTypeDetails) (asked : ServiceAsked) (attributes : List Attribute)
+      (steps : List StepBefore) (table after : FactoryTable) (old new : Hub T U B D) (answer : Option (Result ℕ Refusal))
+      → hash_of asked.name asked.options ≡ hash
       → CreatesNumbered is_node payload user_header types asked attributes steps table old answer after new → P table after old new
-  create_goes false types asked attributes steps table after old new answer under (is, unchanged, still) = skipped table after old new unchanged still
-  create_goes true types asked attributes steps table after old new answer under (Err lacking, roomy, reply, (numbers, full), (is_reply, unchanged, still), is) =
+  create_goes false types asked attributes steps table after old new answer under (is, unchanged, still)
+      = skipped table after old new unchanged still
+  create_goes true types asked attributes steps table after old new answer under
+      (Err lacking, roomy, reply, (numbers, full), (is_reply, unchanged, still), is) =
       roomier table roomy after old new numbers (skipped roomy after old new unchanged still)
-  create_goes true types asked attributes steps table after old new answer under (Ok lists, roomy, reply, (numbers, is_lists, room), does, is) =
+  create_goes true types asked attributes steps table after old new answer under
+      (Ok lists, roomy, reply, (numbers, is_lists, room), does, is) =
       roomier table roomy after old new numbers (create_as asked.options types asked.node asked.name attributes lists roomy after old new reply under does)
 
-  open_goes : (is_node : Bool) (types : MessageTypeDetails) (asked : ServiceAsked) (attributes : Required) (steps : List StepBefore) (table after : FactoryTable) (old new : Hub T U B D) (answer : Option (Result ℕ Refusal)) → hash_of asked.name asked.options ≡ hash
+  open_goes : (is_node : Bool) (types : MessageTypeDetails) (asked : ServiceAsked) (attributes : Required) (steps : List StepBefore)
+      (table after : FactoryTable) (old new : Hub T U B D) (answer : Option (Result ℕ Refusal)) → hash_of asked.name asked.options ≡ hash
       → OpensNumbered is_node payload user_header types asked attributes steps table old answer after new → P table after old new
-  open_goes false types asked attributes steps table after old new answer under (is, unchanged, still) = skipped table after old new unchanged still
-  open_goes true types asked attributes steps table after old new answer under (Err lacking, roomy, reply, (numbers, full), (is_reply, unchanged, still), is) =
+  open_goes false types asked attributes steps table after old new answer under (is, unchanged, still)
+      = skipped table after old new unchanged still
+  open_goes true types asked attributes steps table after old new answer under
+      (Err lacking, roomy, reply, (numbers, full), (is_reply, unchanged, still), is) =
       roomier table roomy after old new numbers (skipped roomy after old new unchanged still)
-  open_goes true types asked attributes steps table after old new answer under (Ok lists, roomy, reply, (numbers, is_lists, room), does, is) =
+  open_goes true types asked attributes steps table after old new answer under
+      (Ok lists, roomy, reply, (numbers, is_lists, room), does, is) =
       roomier table roomy after old new numbers (open_as asked.options types asked.node asked.name attributes lists roomy after old new reply under does)
 
-  either_goes : (is_node : Bool) (types : MessageTypeDetails) (asked : ServiceAsked) (attributes : Required) (steps : List StepBefore) (table after : FactoryTable) (old new : Hub T U B D) (answer : Option (Result ℕ Refusal)) → hash_of asked.name asked.options ≡ hash
+  either_goes : (is_node : Bool) (types : MessageTypeDetails) (asked : ServiceAsked) (attributes : Required) (steps : List StepBefore)
+      (table after : FactoryTable) (old new : Hub T U B D) (answer : Option (Result ℕ Refusal)) → hash_of asked.name asked.options ≡ hash
       → EitherNumbered is_node payload user_header types asked attributes steps table old answer after new → P table after old new
-  either_goes false types asked attributes steps table after old new answer under (is, unchanged, still) = skipped table after old new unchanged still
-  either_goes true types asked attributes steps table after old new answer under (Err lacking, roomy, reply, (numbers, full), (is_reply, unchanged, still), is) =
+  either_goes false types asked attributes steps table after old new answer under (is, unchanged, still)
+      = skipped table after old new unchanged still
+  either_goes true types asked attributes steps table after old new answer under
+      (Err lacking, roomy, reply, (numbers, full), (is_reply, unchanged, still), is) =
       roomier table roomy after old new numbers (skipped roomy after old new unchanged still)
-  either_goes true types asked attributes steps table after old new answer under (Ok lists, roomy, reply, (numbers, is_lists, room), does, is) =
+  either_goes true types asked attributes steps table after old new answer under
+      (Ok lists, roomy, reply, (numbers, is_lists, room), does, is) =
       roomier table roomy after old new numbers (either_as asked.options types asked.node asked.name attributes lists roomy after old new reply under does)
 
   -- so it is with each such command, and ports, loans and samples are as they were
   abbrev Both : NumberedHub T U B D → NumberedHub T U B D → Type 0
   Both old new = P old.factories.made new.factories.made old.hub new.hub × (new.made ≡ old.made)
 
-  replied : (does : Reply T → Type 0) (old new : NumberedHub T U B D) (answer : Result (Reply T) AllocError) → ((reply : Reply T) → does reply → Both old new) → IsReplied does answer → Both old new
+  replied : (does : Reply T → Type 0) (old new : NumberedHub T U B D) (answer : Result (Reply T) AllocError)
+      → ((reply : Reply T) → does reply → Both old new) → IsReplied does answer → Both old new
   replied does old new (Ok reply) goes done = goes reply done
   replied does old new (Err lacking) goes done = absurd done
 
   module _ (types : MessageTypeDetails) (is_default : T → Type 0) (is_default_header : U → Type 0)
       (fixed : BackpressureStrategy → Option BackpressureAction → DegradationAction → B) (degrades : B → DegradationCause → DegradationInfo → DegradationAction → Type 0) (decides : B → BackpressureInfo → BackpressureDecision → Type 0)
       (fixed_reader : DegradationAction → D) (reader_degrades : D → DegradationCause → DegradationInfo → DegradationAction → Type 0) where
-    pub opening_goes : (asked : Command T) (old new : NumberedHub T U B D) (answer : Result (Reply T) AllocError) → IsOpening asked → hash_asked asked old ≡ Some hash
+    pub opening_goes : (asked : Command T) (old new : NumberedHub T U B D) (answer : Result (Reply T) AllocError) → IsOpening asked
+        → hash_asked asked old ≡ Some hash
         → Step payload user_header types is_default is_default_header fixed degrades decides fixed_reader reader_degrades asked old answer new → Both old new
     opening_goes (command.Create node name options attributes steps) old new answer kind named step =
         replied _ old new answer (λ reply does. let (made, goes, same, is) = does in

@@ -47,10 +47,12 @@ module _ {X : Type 0} where
 pub order_once : {T U B D : Type 0} (hub : Hub T U B D) → InOrder hub → NumbersOnce hub
 order_once hub order = (rising_once hub.services.domains order.0, rising_once hub.factory_counts order.1)
 
-module _ {T U B D : Type 0} (payload user_header : Detail) (types : MessageTypeDetails) (is_default : T → Type 0) (is_default_header : U → Type 0)
+module _ {T U B D : Type 0} (payload user_header : Detail) (types : MessageTypeDetails) (is_default : T → Type 0)
+    (is_default_header : U → Type 0)
     (fixed : BackpressureStrategy → Option BackpressureAction → DegradationAction → B) (degrades : B → DegradationCause → DegradationInfo → DegradationAction → Type 0) (decides : B → BackpressureInfo → BackpressureDecision → Type 0)
     (fixed_reader : DegradationAction → D) (reader_degrades : D → DegradationCause → DegradationInfo → DegradationAction → Type 0) where
-  pub stays_in_order : StaysInOrder (Step {T = T} {U = U} payload user_header types is_default is_default_header fixed degrades decides fixed_reader reader_degrades)
+  pub stays_in_order : StaysInOrder (Step {T = T} {U = U} payload user_header types is_default is_default_header fixed degrades decides
+      fixed_reader reader_degrades)
   stays_in_order asked old new answer step order =
       let goes = step_goes_on payload user_header types is_default is_default_header fixed degrades decides fixed_reader reader_degrades asked old new answer step in (
         from_rising new.hub.services.domains (goes.domains (to_rising old.hub.services.domains order.0)),
@@ -61,7 +63,8 @@ module _ {T U B D : Type 0} (payload user_header : Detail) (types : MessageTypeD
   new_in_order config first is =
       (subst (λ services. AreRising services.domains) (sym is.hub_is_new.services) tt, subst (λ counts. AreRising counts) (sym is.hub_is_new.factory_counts) tt)
 
-  pub runs_are_in_order : RunsAreInOrder (Step {T = T} {U = U} payload user_header types is_default is_default_header fixed degrades decides fixed_reader reader_degrades)
+  pub runs_are_in_order : RunsAreInOrder
+      (Step {T = T} {U = U} payload user_header types is_default is_default_header fixed degrades decides fixed_reader reader_degrades)
   runs_are_in_order config first new commands replies stopped is run =
       let order : InOrder new.hub = run_goes (Step payload user_header types is_default is_default_header fixed degrades decides fixed_reader reader_degrades) (λ one other. InOrder one.hub → InOrder other.hub)
       (λ one order. order) (λ one mid other first_goes second_goes order. second_goes (first_goes order)) stays_in_order commands first new replies stopped run (new_in_order config first is) in

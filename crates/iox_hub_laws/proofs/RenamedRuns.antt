@@ -66,7 +66,8 @@ less_by one other one_is other_is first second less = omega (arith, first, secon
 more_by : (one one_is : ℕ) → one ≡ one_is → 0 < one → 0 < one_is
 more_by one one_is same more = omega (arith, same, more)
 
-order_counted : (start : ℕ → ℕ) (next later count : ℕ) → Below start next count → InOrder start next → InOrder (counted start next count) later
+order_counted : (start : ℕ → ℕ) (next later count : ℕ) → Below start next count → InOrder start next
+    → InOrder (counted start next count) later
 order_counted start next later count (positive, below) order one other less low here there =
     by_order other next
     (λ small.
@@ -93,7 +94,8 @@ order_skipped start next later order one other less low here there =
     (λ large. let none = skipped_above start next other large in absurd (omega (arith, none, there)))
 
 ends_in_order : (start : ℕ → ℕ) (next : ℕ) → InOrder start next → AreInOrder (skipped start next)
-ends_in_order start next order one other here there less = order_skipped start next (other + 1) order one other less (omega arith) here there
+ends_in_order start next order one other here there less
+    = order_skipped start next (other + 1) order one other less (omega arith) here there
 
 below_as : (start : ℕ → ℕ) (next count same : ℕ) → count ≡ same → Below start next count → Below start next same
 below_as start next count same is below = subst (λ n. Below start next n) is below
@@ -108,7 +110,8 @@ none_in_order next one other less low here there = absurd (omega (arith, here))
 
 next_later : (old : Contents) (next : ℕ) → IsTable old → old.next ≤ next → IsTable (record old { next = next })
 next_later old next is later = record {
-  below = weaker (λ (entry : List ℕ × Entry). number_of entry.1 < old.next) (λ (entry : List ℕ × Entry). number_of entry.1 < next) (λ entry low. omega (arith, low, later)) old.entries is.below;
+  below = weaker (λ (entry : List ℕ × Entry). number_of entry.1 < old.next) (λ (entry : List ℕ × Entry). number_of entry.1 < next)
+      (λ entry low. omega (arith, low, later)) old.entries is.below;
   keys = is.keys;
   numbers = is.numbers;
   few = is.few;
@@ -118,7 +121,8 @@ next_later old next is later = record {
 
 module _ {T U B D : Type 0} where
   table_passed : (one mid : NumberedHub T U B D) → PassesLives one mid → IsTable one.hub.table → IsTable mid.hub.table
-  table_passed one mid passes is = subst (λ (table : Contents). IsTable table) (sym (ap (λ hub. hub.table) passes.0.is)) (next_later one.hub.table mid.hub.table.next is passes.0.lives)
+  table_passed one mid passes is = subst (λ (table : Contents). IsTable table) (sym (ap (λ hub. hub.table) passes.0.is))
+      (next_later one.hub.table mid.hub.table.next is passes.0.lives)
 
   -- What there is in a hub is of lives and factories with other numbers; so many fewer were given of each.
   record Stands (by : Renaming) (fewer next without count : ℕ) (one : NumberedHub T U B D) : Type 0 where
@@ -146,7 +150,8 @@ module _ {T U B D : Type 0} where
     stands.factories,
   )
 
-  as_stands : (by : Renaming) (end fewer next last without count : ℕ) (one : NumberedHub T U B D) → GoesBy by end fewer next last without count one → Stands by fewer next without count one
+  as_stands : (by : Renaming) (end fewer next last without count : ℕ) (one : NumberedHub T U B D)
+      → GoesBy by end fewer next last without count one → Stands by fewer next without count one
   as_stands by end fewer next last without count one (goes, all) = record {
     entries = goes.table.entries;
     segments = goes.table.segments;
@@ -158,21 +163,30 @@ module _ {T U B D : Type 0} where
     owners = goes.earlier;
   }
 
-  stands_passed : (by : Renaming) (fewer next without count fewer_mid without_mid : ℕ) (one mid : NumberedHub T U B D) → PassesLives one mid → mid.hub.table.next ≡ next + fewer_mid → mid.hub.factories ≡ count + without_mid → Stands by fewer next without count one
+  stands_passed : (by : Renaming) (fewer next without count fewer_mid without_mid : ℕ) (one mid : NumberedHub T U B D)
+      → PassesLives one mid → mid.hub.table.next ≡ next + fewer_mid → mid.hub.factories ≡ count + without_mid
+      → Stands by fewer next without count one
       → Stands by fewer_mid next without_mid count mid
   stands_passed by fewer next without count fewer_mid without_mid one mid passes lives owners stands = record {
-    entries = subst (λ (es : List (List ℕ × Entry)). AllByRecursion (λ entry. 0 < by.services (number_of entry.1)) es) (sym (ap (λ hub. hub.table.entries) passes.0.is)) stands.entries;
-    segments = subst (λ (es : List ((List ℕ × ℕ) × Segment)). AllByRecursion (λ segment. 0 < by.services segment.0.1) es) (sym (ap (λ hub. hub.table.segments) passes.0.is)) stands.segments;
-    domains = subst (λ (services : OpenServices T U B D). HaveNumbers by services.domains) (sym (ap (λ hub. hub.services) passes.0.is)) stands.domains;
+    entries = subst (λ (es : List (List ℕ × Entry)). AllByRecursion (λ entry. 0 < by.services (number_of entry.1)) es)
+        (sym (ap (λ hub. hub.table.entries) passes.0.is)) stands.entries;
+    segments = subst (λ (es : List ((List ℕ × ℕ) × Segment)). AllByRecursion (λ segment. 0 < by.services segment.0.1) es)
+        (sym (ap (λ hub. hub.table.segments) passes.0.is)) stands.segments;
+    domains = subst (λ (services : OpenServices T U B D). HaveNumbers by services.domains) (sym (ap (λ hub. hub.services) passes.0.is))
+        stands.domains;
     counts = subst (λ (counts : List (ℕ × ℕ)). HaveNumbers by counts) (sym (ap (λ hub. hub.factory_counts) passes.0.is)) stands.counts;
-    factories = subst (λ (factories : Factories). AllByRecursion (λ entry. HasNumbers by entry.1) factories.made.entries) (sym (ap (λ (hub : NumberedHub T U B D). hub.factories) passes.1)) stands.factories;
+    factories = subst (λ (factories : Factories). AllByRecursion (λ entry. HasNumbers by entry.1) factories.made.entries)
+        (sym (ap (λ (hub : NumberedHub T U B D). hub.factories) passes.1)) stands.factories;
     positive = stands.positive;
     lives = lives;
     owners = owners;
   }
 
-  whole_passed : (by : Renaming) (next count : ℕ) (one mid : NumberedHub T U B D) → PassesLives one mid → renamed_numbered by next count mid ≡ renamed_numbered by next count one
-  whole_passed by next count one mid passes = ap (renamed_numbered by next count) passes.1 ∙ ap (λ hub. record (renamed_numbered by next count one) { hub = renamed_hub by next count hub }) passes.0.is
+  whole_passed : (by : Renaming) (next count : ℕ) (one mid : NumberedHub T U B D) → PassesLives one mid
+      → renamed_numbered by next count mid ≡ renamed_numbered by next count one
+  whole_passed by next count one mid passes
+      = ap (renamed_numbered by next count) passes.1 ∙ ap
+      (λ hub. record (renamed_numbered by next count one) { hub = renamed_hub by next count hub }) passes.0.is
 
 -- ---- a new hub
 
@@ -183,16 +197,19 @@ none_all : {A : Type 0} (P : A → Type 0) (entries : List A) → entries ≡ []
 none_all P entries none = subst (λ es. AllByRecursion P es) (sym none) tt
 
 mapped_none : {V : Type 0} (step : V → V) (table : NumberTable V) → table.entries ≡ [] → mapped step table ≡ table
-mapped_none {V} step table none = ap (λ entries. record table { entries = entries }) (map_none (λ (entry : ℕ × V). (entry.0, step entry.1)) table.entries none)
+mapped_none {V} step table none = ap (λ entries. record table { entries = entries })
+    (map_none (λ (entry : ℕ × V). (entry.0, step entry.1)) table.entries none)
 
-made_none : (by : Renaming) (made : Made) → made.publishers.entries ≡ [] → made.subscribers.entries ≡ [] → made.loans.entries ≡ [] → made.samples.entries ≡ [] → renamed_made by made ≡ made
+made_none : (by : Renaming) (made : Made) → made.publishers.entries ≡ [] → made.subscribers.entries ≡ [] → made.loans.entries ≡ []
+    → made.samples.entries ≡ [] → renamed_made by made ≡ made
 made_none by made publishers subscribers loans samples =
     ap (λ table. record (renamed_made by made) { publishers = table }) (mapped_none (renamed_made_publisher by) made.publishers publishers)
     ∙ ap (λ table. record (renamed_made by made) { publishers = made.publishers; subscribers = table }) (mapped_none (renamed_port by) made.subscribers subscribers)
     ∙ ap (λ table. record made { loans = table; samples = mapped (renamed_made_sample by) made.samples }) (mapped_none (renamed_made_loan by) made.loans loans)
     ∙ ap (λ table. record made { samples = table }) (mapped_none (renamed_made_sample by) made.samples samples)
 
-table_none : (by : Renaming) (table : Contents) → table.entries ≡ [] → table.segments ≡ [] → renamed_table by.services table.next table ≡ table
+table_none : (by : Renaming) (table : Contents) → table.entries ≡ [] → table.segments ≡ []
+    → renamed_table by.services table.next table ≡ table
 table_none by table entries segments =
     ap (λ es. record (renamed_table by.services table.next table) { entries = es }) (map_none (λ (entry : List ℕ × Entry). (entry.0, renamed_entry by.services entry.1)) table.entries entries)
     ∙ ap (λ ss. record table { segments = ss }) (map_none (λ (segment : (List ℕ × ℕ) × Segment). (renamed_place by.services segment.0, segment.1)) table.segments segments)
@@ -234,15 +251,18 @@ module _ {T U B D : Type 0} (config : HubConfig) (alone : NumberedHub T U B D) (
 
 -- ---- a run
 
-module _ {T U B D : Type 0} (payload user_header : Detail) (types : MessageTypeDetails) (is_default : T → Type 0) (is_default_header : U → Type 0)
+module _ {T U B D : Type 0} (payload user_header : Detail) (types : MessageTypeDetails) (is_default : T → Type 0)
+    (is_default_header : U → Type 0)
     (fixed : BackpressureStrategy → Option BackpressureAction → DegradationAction → B) (degrades : B → DegradationCause → DegradationInfo → DegradationAction → Type 0) (decides : B → BackpressureInfo → BackpressureDecision → Type 0)
     (fixed_reader : DegradationAction → D) (reader_degrades : D → DegradationCause → DegradationInfo → DegradationAction → Type 0) where
   abbrev each : Command T → NumberedHub T U B D → Result (Reply T) AllocError → NumberedHub T U B D → Type 0
-  each asked old answer new = Step payload user_header types is_default is_default_header fixed degrades decides fixed_reader reader_degrades asked old answer new
+  each asked old answer new = Step payload user_header types is_default is_default_header fixed degrades decides fixed_reader
+      reader_degrades asked old answer new
 
   module _ (names : Names) where
     -- so it was before
-    left : (commands : List (Bool × Command T)) (one new : NumberedHub T U B D) (replies : List (Reply T)) → RunsAnew each names commands one replies new → HasNumbersLeft new → HasNumbersLeft one
+    left : (commands : List (Bool × Command T)) (one new : NumberedHub T U B D) (replies : List (Reply T))
+        → RunsAnew each names commands one replies new → HasNumbersLeft new → HasNumbersLeft one
     left [] one new replies (is, same) few = subst (λ (hub : NumberedHub T U B D). HasNumbersLeft hub) same few
     left ((true, asked) ∷ commands) one new replies (reply, mid, rest, does, go, is) few =
         let (few_mid, few_own) = left commands mid new rest go few in
@@ -259,19 +279,24 @@ module _ {T U B D : Type 0} (payload user_header : Detail) (types : MessageTypeD
       whole by next count numbered = renamed_numbered by next count numbered
 
       -- one command, by numbers that are counted on
-      goes_one : (by : Renaming) → AreInOrder by.services → AreInOrder by.owners → (fewer next without count next_mid count_mid : ℕ) (asked : Command T) (one mid : NumberedHub T U B D) (answer : Result (Reply T) AllocError) → IsTable one.hub.table → Stands by fewer next without count one
+      goes_one : (by : Renaming) → AreInOrder by.services → AreInOrder by.owners
+          → (fewer next without count next_mid count_mid : ℕ) (asked : Command T) (one mid : NumberedHub T U B D)
+          (answer : Result (Reply T) AllocError) → IsTable one.hub.table → Stands by fewer next without count one
           → ((number : ℕ) → one.hub.table.next ≤ number → number < mid.hub.table.next → by.services number ≡ next + (number - one.hub.table.next))
           → ((number : ℕ) → one.hub.factories < number → number ≤ mid.hub.factories → by.owners number ≡ count + (number - one.hub.factories)) → mid.hub.table.next < 2 ^ 64 - 1 → mid.hub.factories < 2 ^ 64 - 1
           → mid.hub.table.next ≡ next_mid + fewer → mid.hub.factories ≡ count_mid + without → each asked one answer mid → each asked (whole by next count one) answer (whole by next_mid count_mid mid) × Stands by fewer next_mid without count_mid mid
-      goes_one by ordered ordered_own fewer next without count next_mid count_mid asked one mid answer table stands ahead ahead_own few few_own lives owners does =
+      goes_one by ordered ordered_own fewer next without count next_mid count_mid asked one mid answer table stands ahead ahead_own few
+          few_own lives owners does =
           let (later, so_many, done, goes_on) =
           any payload user_header types is_default is_default_header fixed degrades decides fixed_reader reader_degrades by ordered ordered_own mid.hub.table.next fewer next mid.hub.factories without count blind asked one mid answer table
           (as_goes by mid.hub.table.next fewer next mid.hub.factories without count one stands ahead ahead_own few few_own) (omega arith) (omega arith) does in
           let stands_later = as_stands by mid.hub.table.next fewer later mid.hub.factories without so_many mid goes_on in
           let is_next : later ≡ next_mid = let now = stands_later.lives in omega (arith, now, lives) in
           let is_count : so_many ≡ count_mid = let now = stands_later.owners in omega (arith, now, owners) in (
-            subst (λ many. each asked (whole by next count one) answer (whole by next_mid many mid)) is_count (subst (λ first. each asked (whole by next count one) answer (whole by first so_many mid)) is_next done),
-            subst (λ many. Stands by fewer next_mid without many mid) is_count (subst (λ first. Stands by fewer first without so_many mid) is_next stands_later),
+            subst (λ many. each asked (whole by next count one) answer (whole by next_mid many mid)) is_count
+                (subst (λ first. each asked (whole by next count one) answer (whole by first so_many mid)) is_next done),
+            subst (λ many. Stands by fewer next_mid without many mid) is_count
+                (subst (λ first. Stands by fewer first without so_many mid) is_next stands_later),
           )
 
       -- There are numbers of lives and of factories, as before below those that come next, by which the run goes where none is passed over.
@@ -280,7 +305,9 @@ module _ {T U B D : Type 0} (payload user_header : Detail) (types : MessageTypeD
           (by : Renaming) × SameBelow one.hub.table.next start by.services × SameBelow (one.hub.factories + 1) start_own by.owners × AreInOrder by.services × AreInOrder by.owners
           × (Stands by fewer next without count one → (later : NumberedHub T U B D) × Runs each (own_commands names commands) (whole by next count one) (map (renamed_reply names) replies) later)
 
-      goes_anew : (start start_own : ℕ → ℕ) (fewer next without count : ℕ) (commands : List (Bool × Command T)) (one new : NumberedHub T U B D) (replies : List (Reply T)) → IsTable one.hub.table → one.hub.table.next ≡ next + fewer → one.hub.factories ≡ count + without
+      goes_anew : (start start_own : ℕ → ℕ) (fewer next without count : ℕ) (commands : List (Bool × Command T))
+          (one new : NumberedHub T U B D) (replies : List (Reply T)) → IsTable one.hub.table → one.hub.table.next ≡ next + fewer
+          → one.hub.factories ≡ count + without
           → Below start one.hub.table.next next → Below start_own (one.hub.factories + 1) (count + 1) → InOrder start one.hub.table.next → InOrder start_own (one.hub.factories + 1) → HasNumbersLeft new → RunsAnew each names commands one replies new
           → GoesAnew start start_own fewer next without count commands one replies
       goes_anew start start_own fewer next without count [] one new replies table lives owners below below_own order order_own few (is, same) = (
@@ -291,7 +318,8 @@ module _ {T U B D : Type 0} (payload user_header : Detail) (types : MessageTypeD
         ends_in_order start_own (one.hub.factories + 1) order_own,
         λ stands. (whole (record { services = skipped start one.hub.table.next; owners = skipped start_own (one.hub.factories + 1) }) next count one, (ap (map (renamed_reply names)) is, refl)),
       )
-      goes_anew start start_own fewer next without count ((true, asked) ∷ commands) one new replies table lives owners below below_own order order_own few (reply, mid, rest, does, go, is) =
+      goes_anew start start_own fewer next without count ((true, asked) ∷ commands) one new replies table lives owners below below_own
+          order order_own few (reply, mid, rest, does, go, is) =
           let on = step_goes_on payload user_header types is_default is_default_header fixed degrades decides fixed_reader reader_degrades (renamed names asked) one mid (Ok (renamed_reply names reply)) does in
           let (few_mid, few_own) = left commands mid new rest go few in
           let more : one.hub.table.next ≤ mid.hub.table.next = past_rises one.hub.table mid.hub.table on.past in
@@ -319,7 +347,8 @@ module _ {T U B D : Type 0} (payload user_header : Detail) (types : MessageTypeD
                 let (last, ran) = goes stands_mid in
                 (last, (renamed_reply names reply, whole by next_mid count_mid mid, map (renamed_reply names) rest, there, ran, ap (map (renamed_reply names)) is)),
           )
-      goes_anew start start_own fewer next without count ((false, asked) ∷ commands) one new replies table lives owners below below_own order order_own few (mid, passes, go) =
+      goes_anew start start_own fewer next without count ((false, asked) ∷ commands) one new replies table lives owners below below_own
+          order order_own few (mid, passes, go) =
           let more = passes.0.lives in
           let more_own = passes.0.owners in
           let fewer_mid : ℕ = fewer + (mid.hub.table.next - one.hub.table.next) in
@@ -356,14 +385,18 @@ module _ {T U B D : Type 0} (payload user_header : Detail) (types : MessageTypeD
       (mine, told, names, last, same, among, subst (λ hub. Runs each (own_commands names told) hub (map (renamed_reply names) (replies_told told replies)) last) (new_whole config alone is_alone by) ran)
 
 -- fixed actions look at nothing
-fixed_look_at_none : LooksAtNoService FixedHandlers FixedDegradation (λ handlers cause info action. action ≡ handlers.degradation) (λ handlers info decision. decision ≡ decision_of handlers.strategy handlers.backpressure) (λ handler cause info action. action ≡ handler.action)
+fixed_look_at_none : LooksAtNoService FixedHandlers FixedDegradation (λ handlers cause info action. action ≡ handlers.degradation)
+    (λ handlers info decision. decision ≡ decision_of handlers.strategy handlers.backpressure)
+    (λ handler cause info action. action ≡ handler.action)
 fixed_look_at_none = record {
   publishers = λ handlers cause info service action is. is;
   sends = λ handlers info service decision is. is;
   subscribers = λ handler cause info service action is. is;
 }
 
-pub each_service_is_alone_by_fixed_actions : {T U : Type 0} (payload user_header : Detail) (types : MessageTypeDetails) (is_default : T → Type 0) (is_default_header : U → Type 0) → EachServiceIsAlone (FixedStep payload user_header types is_default is_default_header)
+pub each_service_is_alone_by_fixed_actions : {T U : Type 0} (payload user_header : Detail) (types : MessageTypeDetails)
+    (is_default : T → Type 0) (is_default_header : U → Type 0)
+    → EachServiceIsAlone (FixedStep payload user_header types is_default is_default_header)
 each_service_is_alone_by_fixed_actions payload user_header types is_default is_default_header =
     each_service_is_alone payload user_header types is_default is_default_header (λ strategy backpressure degradation. record { strategy = strategy; backpressure = backpressure; degradation = degradation }) (λ handlers cause info action. action ≡ handlers.degradation)
     (λ handlers info decision. decision ≡ decision_of handlers.strategy handlers.backpressure) (λ degradation. record { action = degradation }) (λ handler cause info action. action ≡ handler.action) fixed_look_at_none

@@ -73,7 +73,8 @@ module _ (by : Renaming) where
   }
 
   -- from a table with more room
-  pub goes_roomier : (one roomier new other after : Made) → IsRoomier one roomier → MadeGoes by roomier new other after → MadeGoes by one new other after
+  pub goes_roomier : (one roomier new other after : Made) → IsRoomier one roomier → MadeGoes by roomier new other after
+      → MadeGoes by one new other after
   goes_roomier one roomier new other after ((p, p_next, p_room), (s, s_next, s_room), (l, l_next, l_room), (m, m_next, m_room)) goes = record {
     renamed = goes.renamed;
     publishers = subst (λ n. Before n new.publishers other.publishers after.publishers) p_next goes.publishers;
@@ -92,7 +93,9 @@ module _ (by : Renaming) where
 
   -- ---- a number is spent
 
-  pub publishers_spent : (done : Bool) (n : ℕ) (one new other : Made) → MadeRises one → MadeRises other → MadeRenamed by one other → new ≡ removed_if done (without_publisher n) one → MadeGoes by one new other (removed_if done (without_publisher (by.publishers n)) other)
+  pub publishers_spent : (done : Bool) (n : ℕ) (one new other : Made) → MadeRises one → MadeRises other → MadeRenamed by one other
+      → new ≡ removed_if done (without_publisher n) one
+      → MadeGoes by one new other (removed_if done (without_publisher (by.publishers n)) other)
   publishers_spent false n one new other rises other_rises renamed is = goes_still one new other renamed is
   publishers_spent true n one new other rises other_rises renamed is = record {
     renamed = subst (λ made. MadeRenamed by made (without_publisher (by.publishers n) other)) (sym is) (record { publishers = removed_renamed by.publishers one.publishers other.publishers rises.0 other_rises.0 renamed.publishers n; subscribers = renamed.subscribers; loans = renamed.loans; samples = renamed.samples });
@@ -102,7 +105,9 @@ module _ (by : Renaming) where
     samples = inl (ap (λ made. made.samples.next) is, refl);
   }
 
-  pub subscribers_spent : (done : Bool) (n : ℕ) (one new other : Made) → MadeRises one → MadeRises other → MadeRenamed by one other → new ≡ removed_if done (without_subscriber n) one → MadeGoes by one new other (removed_if done (without_subscriber (by.subscribers n)) other)
+  pub subscribers_spent : (done : Bool) (n : ℕ) (one new other : Made) → MadeRises one → MadeRises other → MadeRenamed by one other
+      → new ≡ removed_if done (without_subscriber n) one
+      → MadeGoes by one new other (removed_if done (without_subscriber (by.subscribers n)) other)
   subscribers_spent false n one new other rises other_rises renamed is = goes_still one new other renamed is
   subscribers_spent true n one new other rises other_rises renamed is = record {
     renamed = subst (λ made. MadeRenamed by made (without_subscriber (by.subscribers n) other)) (sym is) (record { publishers = renamed.publishers; subscribers = removed_renamed by.subscribers one.subscribers other.subscribers rises.1 other_rises.1 renamed.subscribers n; loans = renamed.loans; samples = renamed.samples });
@@ -112,7 +117,8 @@ module _ (by : Renaming) where
     samples = inl (ap (λ made. made.samples.next) is, refl);
   }
 
-  pub loans_spent : (done : Bool) (n : ℕ) (one new other : Made) → MadeRises one → MadeRises other → MadeRenamed by one other → new ≡ removed_if done (without_loan n) one → MadeGoes by one new other (removed_if done (without_loan (by.loans n)) other)
+  pub loans_spent : (done : Bool) (n : ℕ) (one new other : Made) → MadeRises one → MadeRises other → MadeRenamed by one other
+      → new ≡ removed_if done (without_loan n) one → MadeGoes by one new other (removed_if done (without_loan (by.loans n)) other)
   loans_spent false n one new other rises other_rises renamed is = goes_still one new other renamed is
   loans_spent true n one new other rises other_rises renamed is = record {
     renamed = subst (λ made. MadeRenamed by made (without_loan (by.loans n) other)) (sym is) (record { publishers = renamed.publishers; subscribers = renamed.subscribers; loans = removed_renamed by.loans one.loans other.loans rises.2 other_rises.2 renamed.loans n; samples = renamed.samples });
@@ -122,7 +128,8 @@ module _ (by : Renaming) where
     samples = inl (ap (λ made. made.samples.next) is, refl);
   }
 
-  pub samples_spent : (done : Bool) (n : ℕ) (one new other : Made) → MadeRises one → MadeRises other → MadeRenamed by one other → new ≡ removed_if done (without_sample n) one → MadeGoes by one new other (removed_if done (without_sample (by.samples n)) other)
+  pub samples_spent : (done : Bool) (n : ℕ) (one new other : Made) → MadeRises one → MadeRises other → MadeRenamed by one other
+      → new ≡ removed_if done (without_sample n) one → MadeGoes by one new other (removed_if done (without_sample (by.samples n)) other)
   samples_spent false n one new other rises other_rises renamed is = goes_still one new other renamed is
   samples_spent true n one new other rises other_rises renamed is = record {
     renamed = subst (λ made. MadeRenamed by made (without_sample (by.samples n) other)) (sym is) (record { publishers = renamed.publishers; subscribers = renamed.subscribers; loans = renamed.loans; samples = removed_renamed by.samples one.samples other.samples rises.3 other_rises.3 renamed.samples n });
@@ -134,7 +141,8 @@ module _ (by : Renaming) where
 
   -- ---- something gets a number
 
-  loan_comes : (port : PortId) (slot : ℕ) (one new other : Made) → MadeRises one → MadeRises other → MadeRenamed by one other → MadeNew by one new other → new ≡ with_loan port slot one → MadeGoes by one new other (with_loan port slot other)
+  loan_comes : (port : PortId) (slot : ℕ) (one new other : Made) → MadeRises one → MadeRises other → MadeRenamed by one other
+      → MadeNew by one new other → new ≡ with_loan port slot one → MadeGoes by one new other (with_loan port slot other)
   loan_comes port slot one new other rises other_rises renamed news is = record {
     renamed = subst (λ made. MadeRenamed by made (with_loan port slot other)) (sym is) (record { publishers = renamed.publishers; subscribers = renamed.subscribers; loans = inserted_renamed by.loans one.loans other.loans rises.2 other_rises.2 renamed.loans (record { port = port; slot = slot }) (news.loans (ap (λ made. made.loans.next) is)); samples = renamed.samples });
     publishers = inl (ap (λ made. made.publishers.next) is, refl);
@@ -143,10 +151,13 @@ module _ (by : Renaming) where
     samples = inl (ap (λ made. made.samples.next) is, refl);
   }
 
-  pub loans_renumbered : (port : Option PortId) (lent answer : Option (Result ℕ LoanError)) (one new other : Made) → MadeRises one → MadeRises other → MadeRenamed by one other → MadeNew by one new other → NumbersLoan port lent one answer new
+  pub loans_renumbered : (port : Option PortId) (lent answer : Option (Result ℕ LoanError)) (one new other : Made) → MadeRises one
+      → MadeRises other → MadeRenamed by one other → MadeNew by one new other → NumbersLoan port lent one answer new
       → (after : Made) × NumbersLoan port lent other (renamed_answer by.loans answer) after × MadeGoes by one new other after
-  loans_renumbered port None answer one new other rises other_rises renamed news (is, same) = (other, (ap (renamed_answer by.loans) is, refl), goes_still one new other renamed same)
-  loans_renumbered port (Some (Err error)) answer one new other rises other_rises renamed news (is, same) = (other, (ap (renamed_answer by.loans) is, refl), goes_still one new other renamed same)
+  loans_renumbered port None answer one new other rises other_rises renamed news (is, same)
+      = (other, (ap (renamed_answer by.loans) is, refl), goes_still one new other renamed same)
+  loans_renumbered port (Some (Err error)) answer one new other rises other_rises renamed news (is, same)
+      = (other, (ap (renamed_answer by.loans) is, refl), goes_still one new other renamed same)
   loans_renumbered None (Some (Ok slot)) answer one new other rises other_rises renamed news numbers = absurd numbers
   loans_renumbered (Some port) (Some (Ok slot)) answer one new other rises other_rises renamed news (is, same) = (
     with_loan port slot other,
@@ -154,7 +165,8 @@ module _ (by : Renaming) where
     loan_comes port slot one new other rises other_rises renamed news same,
   )
 
-  sample_comes : (port : PortId) (taken : Taken) (one new other : Made) → MadeRises one → MadeRises other → MadeRenamed by one other → MadeNew by one new other → new ≡ with_sample port taken one → MadeGoes by one new other (with_sample port taken other)
+  sample_comes : (port : PortId) (taken : Taken) (one new other : Made) → MadeRises one → MadeRises other → MadeRenamed by one other
+      → MadeNew by one new other → new ≡ with_sample port taken one → MadeGoes by one new other (with_sample port taken other)
   sample_comes port taken one new other rises other_rises renamed news is = record {
     renamed = subst (λ made. MadeRenamed by made (with_sample port taken other)) (sym is) (record { publishers = renamed.publishers; subscribers = renamed.subscribers; loans = renamed.loans; samples = inserted_renamed by.samples one.samples other.samples rises.3 other_rises.3 renamed.samples (record { port = port; taken = taken }) (news.samples (ap (λ made. made.samples.next) is)) });
     publishers = inl (ap (λ made. made.publishers.next) is, refl);
@@ -163,11 +175,16 @@ module _ (by : Renaming) where
     samples = inr (ap (λ made. made.samples.next) is, refl);
   }
 
-  pub samples_renumbered : (port : Option PortId) (received : Option (Result (Option Taken) ReceiveError)) (answer : Option (Result (Option ℕ) ReceiveError)) (one new other : Made) → MadeRises one → MadeRises other → MadeRenamed by one other → MadeNew by one new other
+  pub samples_renumbered : (port : Option PortId) (received : Option (Result (Option Taken) ReceiveError))
+      (answer : Option (Result (Option ℕ) ReceiveError)) (one new other : Made) → MadeRises one → MadeRises other
+      → MadeRenamed by one other → MadeNew by one new other
       → NumbersSample port received one answer new → (after : Made) × NumbersSample port received other (renamed_sample by.samples answer) after × MadeGoes by one new other after
-  samples_renumbered port None answer one new other rises other_rises renamed news (is, same) = (other, (ap (renamed_sample by.samples) is, refl), goes_still one new other renamed same)
-  samples_renumbered port (Some (Err error)) answer one new other rises other_rises renamed news (is, same) = (other, (ap (renamed_sample by.samples) is, refl), goes_still one new other renamed same)
-  samples_renumbered port (Some (Ok None)) answer one new other rises other_rises renamed news (is, same) = (other, (ap (renamed_sample by.samples) is, refl), goes_still one new other renamed same)
+  samples_renumbered port None answer one new other rises other_rises renamed news (is, same)
+      = (other, (ap (renamed_sample by.samples) is, refl), goes_still one new other renamed same)
+  samples_renumbered port (Some (Err error)) answer one new other rises other_rises renamed news (is, same)
+      = (other, (ap (renamed_sample by.samples) is, refl), goes_still one new other renamed same)
+  samples_renumbered port (Some (Ok None)) answer one new other rises other_rises renamed news (is, same)
+      = (other, (ap (renamed_sample by.samples) is, refl), goes_still one new other renamed same)
   samples_renumbered None (Some (Ok (Some taken))) answer one new other rises other_rises renamed news numbers = absurd numbers
   samples_renumbered (Some port) (Some (Ok (Some taken))) answer one new other rises other_rises renamed news (is, same) = (
     with_sample port taken other,
@@ -175,7 +192,8 @@ module _ (by : Renaming) where
     sample_comes port taken one new other rises other_rises renamed news same,
   )
 
-  publisher_comes : (domain : DomainId) (n : ℕ) (one new other : Made) → MadeRises one → MadeRises other → MadeRenamed by one other → MadeNew by one new other → new ≡ with_publisher domain true n one → MadeGoes by one new other (with_publisher domain true n other)
+  publisher_comes : (domain : DomainId) (n : ℕ) (one new other : Made) → MadeRises one → MadeRises other → MadeRenamed by one other
+      → MadeNew by one new other → new ≡ with_publisher domain true n one → MadeGoes by one new other (with_publisher domain true n other)
   publisher_comes domain n one new other rises other_rises renamed news is = record {
     renamed = subst (λ made. MadeRenamed by made (with_publisher domain true n other)) (sym is) (record { publishers = inserted_renamed by.publishers one.publishers other.publishers rises.0 other_rises.0 renamed.publishers (record { port = record { domain = domain; number = n }; holds_slices = true }) (news.publishers (ap (λ made. made.publishers.next) is)); subscribers = renamed.subscribers; loans = renamed.loans; samples = renamed.samples });
     publishers = inr (ap (λ made. made.publishers.next) is, refl);
@@ -185,17 +203,21 @@ module _ (by : Renaming) where
   }
 
   -- next is the number that comes next in the one
-  pub publishers_renumbered : {E : Type 0} (domain : DomainId) (next : ℕ) (came answer : Option (Result ℕ E)) (one new other : Made) → next ≡ one.publishers.next → MadeRises one → MadeRises other → MadeRenamed by one other → MadeNew by one new other
+  pub publishers_renumbered : {E : Type 0} (domain : DomainId) (next : ℕ) (came answer : Option (Result ℕ E)) (one new other : Made)
+      → next ≡ one.publishers.next → MadeRises one → MadeRises other → MadeRenamed by one other → MadeNew by one new other
       → NumbersPort (with_publisher domain true) next came one answer new → (after : Made) × NumbersPort (with_publisher domain true) other.publishers.next came other (renamed_answer by.publishers answer) after × MadeGoes by one new other after
-  publishers_renumbered domain next None answer one new other at rises other_rises renamed news (is, same) = (other, (ap (renamed_answer by.publishers) is, refl), goes_still one new other renamed same)
-  publishers_renumbered domain next (Some (Err error)) answer one new other at rises other_rises renamed news (is, same) = (other, (ap (renamed_answer by.publishers) is, refl), goes_still one new other renamed same)
+  publishers_renumbered domain next None answer one new other at rises other_rises renamed news (is, same)
+      = (other, (ap (renamed_answer by.publishers) is, refl), goes_still one new other renamed same)
+  publishers_renumbered domain next (Some (Err error)) answer one new other at rises other_rises renamed news (is, same)
+      = (other, (ap (renamed_answer by.publishers) is, refl), goes_still one new other renamed same)
   publishers_renumbered domain next (Some (Ok n)) answer one new other at rises other_rises renamed news (is, same) = (
     with_publisher domain true n other,
     (ap (renamed_answer by.publishers) is ∙ ap (λ k. Some (Ok k)) (ap by.publishers at ∙ (news.publishers (ap (λ made. made.publishers.next) same)).is), refl),
     publisher_comes domain n one new other rises other_rises renamed news same,
   )
 
-  subscriber_comes : (domain : DomainId) (n : ℕ) (one new other : Made) → MadeRises one → MadeRises other → MadeRenamed by one other → MadeNew by one new other → new ≡ with_subscriber domain n one → MadeGoes by one new other (with_subscriber domain n other)
+  subscriber_comes : (domain : DomainId) (n : ℕ) (one new other : Made) → MadeRises one → MadeRises other → MadeRenamed by one other
+      → MadeNew by one new other → new ≡ with_subscriber domain n one → MadeGoes by one new other (with_subscriber domain n other)
   subscriber_comes domain n one new other rises other_rises renamed news is = record {
     renamed = subst (λ made. MadeRenamed by made (with_subscriber domain n other)) (sym is) (record { publishers = renamed.publishers; subscribers = inserted_renamed by.subscribers one.subscribers other.subscribers rises.1 other_rises.1 renamed.subscribers (record { domain = domain; number = n }) (news.subscribers (ap (λ made. made.subscribers.next) is)); loans = renamed.loans; samples = renamed.samples });
     publishers = inl (ap (λ made. made.publishers.next) is, refl);
@@ -204,10 +226,13 @@ module _ (by : Renaming) where
     samples = inl (ap (λ made. made.samples.next) is, refl);
   }
 
-  pub subscribers_renumbered : {E : Type 0} (domain : DomainId) (next : ℕ) (came answer : Option (Result ℕ E)) (one new other : Made) → next ≡ one.subscribers.next → MadeRises one → MadeRises other → MadeRenamed by one other → MadeNew by one new other
+  pub subscribers_renumbered : {E : Type 0} (domain : DomainId) (next : ℕ) (came answer : Option (Result ℕ E)) (one new other : Made)
+      → next ≡ one.subscribers.next → MadeRises one → MadeRises other → MadeRenamed by one other → MadeNew by one new other
       → NumbersPort (with_subscriber domain) next came one answer new → (after : Made) × NumbersPort (with_subscriber domain) other.subscribers.next came other (renamed_answer by.subscribers answer) after × MadeGoes by one new other after
-  subscribers_renumbered domain next None answer one new other at rises other_rises renamed news (is, same) = (other, (ap (renamed_answer by.subscribers) is, refl), goes_still one new other renamed same)
-  subscribers_renumbered domain next (Some (Err error)) answer one new other at rises other_rises renamed news (is, same) = (other, (ap (renamed_answer by.subscribers) is, refl), goes_still one new other renamed same)
+  subscribers_renumbered domain next None answer one new other at rises other_rises renamed news (is, same)
+      = (other, (ap (renamed_answer by.subscribers) is, refl), goes_still one new other renamed same)
+  subscribers_renumbered domain next (Some (Err error)) answer one new other at rises other_rises renamed news (is, same)
+      = (other, (ap (renamed_answer by.subscribers) is, refl), goes_still one new other renamed same)
   subscribers_renumbered domain next (Some (Ok n)) answer one new other at rises other_rises renamed news (is, same) = (
     with_subscriber domain n other,
     (ap (renamed_answer by.subscribers) is ∙ ap (λ k. Some (Ok k)) (ap by.subscribers at ∙ (news.subscribers (ap (λ made. made.subscribers.next) same)).is), refl),

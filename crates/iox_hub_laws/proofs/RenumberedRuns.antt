@@ -83,7 +83,8 @@ skipped_above start next n above = ap (λ b. if b then start n else 0) (isnt_bel
 less_as : (one other count : ℕ) → one ≡ other → other < count → one < count
 less_as one other count same less = omega (arith, same, less)
 
-pub below_counted : (start : ℕ → ℕ) (next later count : ℕ) → next ≤ later → Below start next count → Below (counted start next count) later (count + (later - next))
+pub below_counted : (start : ℕ → ℕ) (next later count : ℕ) → next ≤ later → Below start next count
+    → Below (counted start next count) later (count + (later - next))
 below_counted start next later count more (positive, below) = (
   omega (arith, positive),
   λ n low. by_order n next
@@ -99,7 +100,8 @@ below_skipped start next later count (positive, below) = (
       (λ large. let value = skipped_above start next n large in omega (arith, value, positive)),
 )
 
-beyond_counted : (start by : ℕ → ℕ) (next later count : ℕ) → next ≤ later → SameBelow later (counted start next count) by → Beyond by later (count + (later - next)) → Beyond by next count
+beyond_counted : (start by : ℕ → ℕ) (next later count : ℕ) → next ≤ later → SameBelow later (counted start next count) by
+    → Beyond by later (count + (later - next)) → Beyond by next count
 beyond_counted start by next later count more same beyond n low = by_order n later
     (λ small. let value = same n small ∙ counted_above start next count n low in inr (omega (arith, value)))
     (λ large. ways (beyond n large))
@@ -108,20 +110,26 @@ beyond_counted start by next later count more same beyond n low = by_order n lat
     ways (inl zero) = inl zero
     ways (inr far) = inr (omega (arith, far))
 
-beyond_skipped : (start by : ℕ → ℕ) (next later count : ℕ) → SameBelow later (skipped start next) by → Beyond by later count → Beyond by next count
-beyond_skipped start by next later count same beyond n low = by_order n later (λ small. inl (same n small ∙ skipped_above start next n low)) (λ large. beyond n large)
+beyond_skipped : (start by : ℕ → ℕ) (next later count : ℕ) → SameBelow later (skipped start next) by → Beyond by later count
+    → Beyond by next count
+beyond_skipped start by next later count same beyond n low
+    = by_order n later (λ small. inl (same n small ∙ skipped_above start next n low)) (λ large. beyond n large)
 
-pub same_counted : (start by : ℕ → ℕ) (next later count : ℕ) → next ≤ later → SameBelow later (counted start next count) by → SameBelow next start by
+pub same_counted : (start by : ℕ → ℕ) (next later count : ℕ) → next ≤ later → SameBelow later (counted start next count) by
+    → SameBelow next start by
 same_counted start by next later count more same n low = same n (omega (arith, low, more)) ∙ counted_below start next count n low
 
 pub same_skipped : (start by : ℕ → ℕ) (next later : ℕ) → next ≤ later → SameBelow later (skipped start next) by → SameBelow next start by
 same_skipped start by next later more same n low = same n (omega (arith, low, more)) ∙ skipped_below start next n low
 
 -- the number that comes next is the next one
-new_by : (start by : ℕ → ℕ) (next later count other_next : ℕ) → other_next ≡ count → next ≤ later → Below start next count → SameBelow later (counted start next count) by → Beyond by later (count + (later - next)) → later ≡ next + 1 → NewBy by next other_next
+new_by : (start by : ℕ → ℕ) (next later count other_next : ℕ) → other_next ≡ count → next ≤ later → Below start next count
+    → SameBelow later (counted start next count) by → Beyond by later (count + (later - next)) → later ≡ next + 1 → NewBy by next other_next
 new_by start by next later count other_next at more (positive, below) same beyond one = record {
-  is = let value : by next ≡ count + (next - next) = same next (omega (arith, one)) ∙ counted_above start next count next (omega arith) in omega (arith, value, at);
-  only = λ n is. by_order n next (λ small. absurd (low n is small)) (λ large. by_order next n (λ above. absurd (high n is above)) (λ under. omega (arith, large, under)));
+  is = let value : by next ≡ count + (next - next)
+      = same next (omega (arith, one)) ∙ counted_above start next count next (omega arith) in omega (arith, value, at);
+  only = λ n is. by_order n next (λ small. absurd (low n is small))
+      (λ large. by_order next n (λ above. absurd (high n is above)) (λ under. omega (arith, large, under)));
 }
   where
     low : (n : ℕ) → by n ≡ other_next → n < next → ⊥
@@ -138,7 +146,9 @@ new_by start by next later count other_next at more (positive, below) same beyon
         ways (inr far) = omega (arith, far, is, at, one)
 
 -- as many numbers were given out
-next_counted : (one_next new_next other_next after_next count : ℕ) → other_next ≡ count → ((new_next ≡ one_next) × (after_next ≡ other_next)) ⊎ ((new_next ≡ one_next + 1) × (after_next ≡ other_next + 1)) → after_next ≡ count + (new_next - one_next)
+next_counted : (one_next new_next other_next after_next count : ℕ) → other_next ≡ count
+    → ((new_next ≡ one_next) × (after_next ≡ other_next)) ⊎ ((new_next ≡ one_next + 1) × (after_next ≡ other_next + 1))
+    → after_next ≡ count + (new_next - one_next)
 next_counted one_next new_next other_next after_next count at (inl (same, still)) = omega (arith, at, same, still)
 next_counted one_next new_next other_next after_next count at (inr (more, grown)) = omega (arith, at, more, grown)
 
@@ -154,7 +164,8 @@ record Counts : Type 0 where
 
 -- a table in which numbers are passed over
 risen : {V : Type 0} (one mid : NumberTable V) → PassesIn one mid → Rises 1 one.entries one.next → Rises 1 mid.entries mid.next
-risen {V} one mid passes rises = subst (λ (entries : List (ℕ × V)). Rises 1 entries mid.next) (sym (ap (λ t. t.entries) passes.is)) (passed_rises mid.next one passes.later rises)
+risen {V} one mid passes rises = subst (λ (entries : List (ℕ × V)). Rises 1 entries mid.next) (sym (ap (λ t. t.entries) passes.is))
+    (passed_rises mid.next one passes.later rises)
 
 module _ {T U B D : Type 0} where
   record AllBelow (start : Renaming) (one : NumberedHub T U B D) (counts : Counts) : Type 0 where
@@ -223,16 +234,21 @@ module _ {T U B D : Type 0} where
     samples = skipped start.samples one.made.samples.next;
   }
 
-  all_counted : (start : Renaming) (one new : NumberedHub T U B D) (counts : Counts) → Later one new → AllBelow start one counts → AllBelow (counted_all start one counts) new (counts_after one new counts)
+  all_counted : (start : Renaming) (one new : NumberedHub T U B D) (counts : Counts) → Later one new → AllBelow start one counts
+      → AllBelow (counted_all start one counts) new (counts_after one new counts)
   all_counted start one new counts later below = record {
-    factories = below_counted start.factories one.factories.made.next new.factories.made.next counts.factories later.factories below.factories;
-    publishers = below_counted start.publishers one.made.publishers.next new.made.publishers.next counts.publishers later.publishers below.publishers;
-    subscribers = below_counted start.subscribers one.made.subscribers.next new.made.subscribers.next counts.subscribers later.subscribers below.subscribers;
+    factories = below_counted start.factories one.factories.made.next new.factories.made.next counts.factories later.factories
+        below.factories;
+    publishers = below_counted start.publishers one.made.publishers.next new.made.publishers.next counts.publishers later.publishers
+        below.publishers;
+    subscribers = below_counted start.subscribers one.made.subscribers.next new.made.subscribers.next counts.subscribers
+        later.subscribers below.subscribers;
     loans = below_counted start.loans one.made.loans.next new.made.loans.next counts.loans later.loans below.loans;
     samples = below_counted start.samples one.made.samples.next new.made.samples.next counts.samples later.samples below.samples;
   }
 
-  all_skipped : (start : Renaming) (one new : NumberedHub T U B D) (counts : Counts) → AllBelow start one counts → AllBelow (skipped_all start one) new counts
+  all_skipped : (start : Renaming) (one new : NumberedHub T U B D) (counts : Counts) → AllBelow start one counts
+      → AllBelow (skipped_all start one) new counts
   all_skipped start one new counts below = record {
     factories = below_skipped start.factories one.factories.made.next new.factories.made.next counts.factories below.factories;
     publishers = below_skipped start.publishers one.made.publishers.next new.made.publishers.next counts.publishers below.publishers;
@@ -241,26 +257,39 @@ module _ {T U B D : Type 0} where
     samples = below_skipped start.samples one.made.samples.next new.made.samples.next counts.samples below.samples;
   }
 
-  all_news : (start by : Renaming) (one new other : NumberedHub T U B D) (counts : Counts) → Later one new → AllBelow start one counts → AllSame new (counted_all start one counts) by → AllBeyond by new (counts_after one new counts) → Follows by one other counts → AllNew by one new other
+  all_news : (start by : Renaming) (one new other : NumberedHub T U B D) (counts : Counts) → Later one new → AllBelow start one counts
+      → AllSame new (counted_all start one counts) by → AllBeyond by new (counts_after one new counts) → Follows by one other counts
+      → AllNew by one new other
   all_news start by one new other counts later below same beyond follows = record {
-    factories = new_by start.factories by.factories one.factories.made.next new.factories.made.next counts.factories other.factories.made.next follows.factories later.factories below.factories same.factories beyond.factories;
+    factories = new_by start.factories by.factories one.factories.made.next new.factories.made.next counts.factories
+        other.factories.made.next follows.factories later.factories below.factories same.factories beyond.factories;
     made = record {
-      publishers = new_by start.publishers by.publishers one.made.publishers.next new.made.publishers.next counts.publishers other.made.publishers.next follows.publishers later.publishers below.publishers same.publishers beyond.publishers;
-      subscribers = new_by start.subscribers by.subscribers one.made.subscribers.next new.made.subscribers.next counts.subscribers other.made.subscribers.next follows.subscribers later.subscribers below.subscribers same.subscribers beyond.subscribers;
-      loans = new_by start.loans by.loans one.made.loans.next new.made.loans.next counts.loans other.made.loans.next follows.loans later.loans below.loans same.loans beyond.loans;
-      samples = new_by start.samples by.samples one.made.samples.next new.made.samples.next counts.samples other.made.samples.next follows.samples later.samples below.samples same.samples beyond.samples;
+      publishers = new_by start.publishers by.publishers one.made.publishers.next new.made.publishers.next counts.publishers
+          other.made.publishers.next follows.publishers later.publishers below.publishers same.publishers beyond.publishers;
+      subscribers = new_by start.subscribers by.subscribers one.made.subscribers.next new.made.subscribers.next counts.subscribers
+          other.made.subscribers.next follows.subscribers later.subscribers below.subscribers same.subscribers beyond.subscribers;
+      loans = new_by start.loans by.loans one.made.loans.next new.made.loans.next counts.loans other.made.loans.next follows.loans
+          later.loans below.loans same.loans beyond.loans;
+      samples = new_by start.samples by.samples one.made.samples.next new.made.samples.next counts.samples other.made.samples.next
+          follows.samples later.samples below.samples same.samples beyond.samples;
     };
   }
 
-  follows_on : (by : Renaming) (one new other after : NumberedHub T U B D) (counts : Counts) → Follows by one other counts → NumbersRise after → AllGo by one new other after → Follows by new after (counts_after one new counts)
+  follows_on : (by : Renaming) (one new other after : NumberedHub T U B D) (counts : Counts) → Follows by one other counts
+      → NumbersRise after → AllGo by one new other after → Follows by new after (counts_after one new counts)
   follows_on by one new other after counts follows rises goes = record {
     renamed_in = record { factories = goes.renamed; made = goes.made.renamed };
     rises = rises;
-    factories = next_counted one.factories.made.next new.factories.made.next other.factories.made.next after.factories.made.next counts.factories follows.factories goes.factories;
-    publishers = next_counted one.made.publishers.next new.made.publishers.next other.made.publishers.next after.made.publishers.next counts.publishers follows.publishers goes.made.publishers;
-    subscribers = next_counted one.made.subscribers.next new.made.subscribers.next other.made.subscribers.next after.made.subscribers.next counts.subscribers follows.subscribers goes.made.subscribers;
-    loans = next_counted one.made.loans.next new.made.loans.next other.made.loans.next after.made.loans.next counts.loans follows.loans goes.made.loans;
-    samples = next_counted one.made.samples.next new.made.samples.next other.made.samples.next after.made.samples.next counts.samples follows.samples goes.made.samples;
+    factories = next_counted one.factories.made.next new.factories.made.next other.factories.made.next after.factories.made.next
+        counts.factories follows.factories goes.factories;
+    publishers = next_counted one.made.publishers.next new.made.publishers.next other.made.publishers.next after.made.publishers.next
+        counts.publishers follows.publishers goes.made.publishers;
+    subscribers = next_counted one.made.subscribers.next new.made.subscribers.next other.made.subscribers.next
+        after.made.subscribers.next counts.subscribers follows.subscribers goes.made.subscribers;
+    loans = next_counted one.made.loans.next new.made.loans.next other.made.loans.next after.made.loans.next counts.loans follows.loans
+        goes.made.loans;
+    samples = next_counted one.made.samples.next new.made.samples.next other.made.samples.next after.made.samples.next counts.samples
+        follows.samples goes.made.samples;
   }
 
   -- numbers are passed over in the one
@@ -282,15 +311,21 @@ module _ {T U B D : Type 0} where
     risen one.made.samples mid.made.samples passes.made.samples rises.4,
   )
 
-  passes_follows : (by : Renaming) (one mid other : NumberedHub T U B D) (counts : Counts) → PassesOver one mid → Follows by one other counts → Follows by mid other counts
+  passes_follows : (by : Renaming) (one mid other : NumberedHub T U B D) (counts : Counts) → PassesOver one mid
+      → Follows by one other counts → Follows by mid other counts
   passes_follows by one mid other counts passes follows = record {
     renamed_in = record {
-      factories = roomier_renamed by.factories one.factories.made mid.factories.made other.factories.made (ap (λ t. t.entries) passes.factories.is) follows.renamed_in.factories;
+      factories = roomier_renamed by.factories one.factories.made mid.factories.made other.factories.made
+          (ap (λ t. t.entries) passes.factories.is) follows.renamed_in.factories;
       made = record {
-        publishers = roomier_renamed by.publishers one.made.publishers mid.made.publishers other.made.publishers (ap (λ t. t.entries) passes.made.publishers.is) follows.renamed_in.made.publishers;
-        subscribers = roomier_renamed by.subscribers one.made.subscribers mid.made.subscribers other.made.subscribers (ap (λ t. t.entries) passes.made.subscribers.is) follows.renamed_in.made.subscribers;
-        loans = roomier_renamed by.loans one.made.loans mid.made.loans other.made.loans (ap (λ t. t.entries) passes.made.loans.is) follows.renamed_in.made.loans;
-        samples = roomier_renamed by.samples one.made.samples mid.made.samples other.made.samples (ap (λ t. t.entries) passes.made.samples.is) follows.renamed_in.made.samples;
+        publishers = roomier_renamed by.publishers one.made.publishers mid.made.publishers other.made.publishers
+            (ap (λ t. t.entries) passes.made.publishers.is) follows.renamed_in.made.publishers;
+        subscribers = roomier_renamed by.subscribers one.made.subscribers mid.made.subscribers other.made.subscribers
+            (ap (λ t. t.entries) passes.made.subscribers.is) follows.renamed_in.made.subscribers;
+        loans = roomier_renamed by.loans one.made.loans mid.made.loans other.made.loans (ap (λ t. t.entries) passes.made.loans.is)
+            follows.renamed_in.made.loans;
+        samples = roomier_renamed by.samples one.made.samples mid.made.samples other.made.samples
+            (ap (λ t. t.entries) passes.made.samples.is) follows.renamed_in.made.samples;
       };
     };
     rises = follows.rises;
@@ -301,22 +336,28 @@ module _ {T U B D : Type 0} where
     samples = follows.samples;
   }
 
-module _ {T U B D : Type 0} (payload user_header : Detail) (types : MessageTypeDetails) (is_default : T → Type 0) (is_default_header : U → Type 0)
+module _ {T U B D : Type 0} (payload user_header : Detail) (types : MessageTypeDetails) (is_default : T → Type 0)
+    (is_default_header : U → Type 0)
     (fixed : BackpressureStrategy → Option BackpressureAction → DegradationAction → B) (degrades : B → DegradationCause → DegradationInfo → DegradationAction → Type 0) (decides : B → BackpressureInfo → BackpressureDecision → Type 0)
     (fixed_reader : DegradationAction → D) (reader_degrades : D → DegradationCause → DegradationInfo → DegradationAction → Type 0) where
   abbrev each : Command T → NumberedHub T U B D → Result (Reply T) AllocError → NumberedHub T U B D → Type 0
-  each asked old answer new = Step payload user_header types is_default is_default_header fixed degrades decides fixed_reader reader_degrades asked old answer new
+  each asked old answer new = Step payload user_header types is_default is_default_header fixed degrades decides fixed_reader
+      reader_degrades asked old answer new
 
   go_on : (asked : Command T) (old new : NumberedHub T U B D) (told : Reply T) → each asked old (Ok told) new → NumbersGoOn old new
-  go_on asked old new told step = numbers_go_on old new (step_changes payload user_header types is_default is_default_header fixed degrades decides fixed_reader reader_degrades asked old new (Ok told) step)
+  go_on asked old new told step = numbers_go_on old new
+      (step_changes payload user_header types is_default is_default_header fixed degrades decides fixed_reader reader_degrades asked old
+      new (Ok told) step)
 
-  rise : (asked : Command T) (old new : NumberedHub T U B D) (told : Reply T) → each asked old (Ok told) new → NumbersRise old → NumbersRise new
+  rise : (asked : Command T) (old new : NumberedHub T U B D) (told : Reply T) → each asked old (Ok told) new → NumbersRise old
+      → NumbersRise new
   rise asked old new told step rises =
       let (f, p, s, l, m) = go_on asked old new told step in
       let (rf, rp, rs, rl, rm) = rises in
       ((f rf).0, (p rp).0, (s rs).0, (l rl).0, (m rm).0)
 
-  later_on : (asked : Command T) (old new : NumberedHub T U B D) (told : Reply T) → each asked old (Ok told) new → NumbersRise old → Later old new
+  later_on : (asked : Command T) (old new : NumberedHub T U B D) (told : Reply T) → each asked old (Ok told) new → NumbersRise old
+      → Later old new
   later_on asked old new told step rises =
       let (f, p, s, l, m) = go_on asked old new told step in
       let (rf, rp, rs, rl, rm) = rises in
@@ -329,7 +370,8 @@ module _ {T U B D : Type 0} (payload user_header : Detail) (types : MessageTypeD
       (by : Renaming) × AllSame one start by × AllBeyond by one counts
       × ((other : NumberedHub T U B D) → Follows by one other counts → (later : NumberedHub T U B D) × RunsAnew each by commands (record other { hub = one.hub }) replies later × (later.hub ≡ new.hub))
 
-  counts_anew : (start : Renaming) (counts : Counts) (commands : List (Bool × Command T)) (one new : NumberedHub T U B D) (replies : List (Reply T)) → NumbersRise one → AllBelow start one counts → RunsAlone (StepWithMemory each) commands one replies new
+  counts_anew : (start : Renaming) (counts : Counts) (commands : List (Bool × Command T)) (one new : NumberedHub T U B D)
+      (replies : List (Reply T)) → NumbersRise one → AllBelow start one counts → RunsAlone (StepWithMemory each) commands one replies new
       → Counts_on start counts commands one replies new
   counts_anew start counts [] one new replies rises below (none, same) = (
     skipped_all start one,
@@ -355,18 +397,27 @@ module _ {T U B D : Type 0} (payload user_header : Detail) (types : MessageTypeD
       let (by, same, beyond, goes) = counts_anew (counted_all start one counts) (counts_after one mid counts) commands mid new rest rises_mid (all_counted start one mid counts later below) go in (
         by,
         record {
-          factories = same_counted start.factories by.factories one.factories.made.next mid.factories.made.next counts.factories later.factories same.factories;
-          publishers = same_counted start.publishers by.publishers one.made.publishers.next mid.made.publishers.next counts.publishers later.publishers same.publishers;
-          subscribers = same_counted start.subscribers by.subscribers one.made.subscribers.next mid.made.subscribers.next counts.subscribers later.subscribers same.subscribers;
+          factories = same_counted start.factories by.factories one.factories.made.next mid.factories.made.next counts.factories
+              later.factories same.factories;
+          publishers = same_counted start.publishers by.publishers one.made.publishers.next mid.made.publishers.next counts.publishers
+              later.publishers same.publishers;
+          subscribers = same_counted start.subscribers by.subscribers one.made.subscribers.next mid.made.subscribers.next
+              counts.subscribers later.subscribers same.subscribers;
           loans = same_counted start.loans by.loans one.made.loans.next mid.made.loans.next counts.loans later.loans same.loans;
-          samples = same_counted start.samples by.samples one.made.samples.next mid.made.samples.next counts.samples later.samples same.samples;
+          samples = same_counted start.samples by.samples one.made.samples.next mid.made.samples.next counts.samples later.samples
+              same.samples;
         },
         record {
-          factories = beyond_counted start.factories by.factories one.factories.made.next mid.factories.made.next counts.factories later.factories same.factories beyond.factories;
-          publishers = beyond_counted start.publishers by.publishers one.made.publishers.next mid.made.publishers.next counts.publishers later.publishers same.publishers beyond.publishers;
-          subscribers = beyond_counted start.subscribers by.subscribers one.made.subscribers.next mid.made.subscribers.next counts.subscribers later.subscribers same.subscribers beyond.subscribers;
-          loans = beyond_counted start.loans by.loans one.made.loans.next mid.made.loans.next counts.loans later.loans same.loans beyond.loans;
-          samples = beyond_counted start.samples by.samples one.made.samples.next mid.made.samples.next counts.samples later.samples same.samples beyond.samples;
+          factories = beyond_counted start.factories by.factories one.factories.made.next mid.factories.made.next counts.factories
+              later.factories same.factories beyond.factories;
+          publishers = beyond_counted start.publishers by.publishers one.made.publishers.next mid.made.publishers.next counts.publishers
+              later.publishers same.publishers beyond.publishers;
+          subscribers = beyond_counted start.subscribers by.subscribers one.made.subscribers.next mid.made.subscribers.next
+              counts.subscribers later.subscribers same.subscribers beyond.subscribers;
+          loans = beyond_counted start.loans by.loans one.made.loans.next mid.made.loans.next counts.loans later.loans same.loans
+              beyond.loans;
+          samples = beyond_counted start.samples by.samples one.made.samples.next mid.made.samples.next counts.samples later.samples
+              same.samples beyond.samples;
         },
         λ other follows.
             let (after, there, all) = step_anew by payload user_header types is_default is_default_header fixed degrades decides fixed_reader reader_degrades one mid other told follows.renamed_in rises follows.rises (all_news start by one mid other counts later below same beyond follows) asked (wanted told refl) step in
@@ -379,18 +430,25 @@ module _ {T U B D : Type 0} (payload user_header : Detail) (types : MessageTypeD
       let (by, same, beyond, goes) = counts_anew (skipped_all start one) counts commands mid new replies (passes_rises one mid passes rises) (all_skipped start one mid counts below) go in (
         by,
         record {
-          factories = same_skipped start.factories by.factories one.factories.made.next mid.factories.made.next later.factories same.factories;
-          publishers = same_skipped start.publishers by.publishers one.made.publishers.next mid.made.publishers.next later.publishers same.publishers;
-          subscribers = same_skipped start.subscribers by.subscribers one.made.subscribers.next mid.made.subscribers.next later.subscribers same.subscribers;
+          factories = same_skipped start.factories by.factories one.factories.made.next mid.factories.made.next later.factories
+              same.factories;
+          publishers = same_skipped start.publishers by.publishers one.made.publishers.next mid.made.publishers.next later.publishers
+              same.publishers;
+          subscribers = same_skipped start.subscribers by.subscribers one.made.subscribers.next mid.made.subscribers.next
+              later.subscribers same.subscribers;
           loans = same_skipped start.loans by.loans one.made.loans.next mid.made.loans.next later.loans same.loans;
           samples = same_skipped start.samples by.samples one.made.samples.next mid.made.samples.next later.samples same.samples;
         },
         record {
-          factories = beyond_skipped start.factories by.factories one.factories.made.next mid.factories.made.next counts.factories same.factories beyond.factories;
-          publishers = beyond_skipped start.publishers by.publishers one.made.publishers.next mid.made.publishers.next counts.publishers same.publishers beyond.publishers;
-          subscribers = beyond_skipped start.subscribers by.subscribers one.made.subscribers.next mid.made.subscribers.next counts.subscribers same.subscribers beyond.subscribers;
+          factories = beyond_skipped start.factories by.factories one.factories.made.next mid.factories.made.next counts.factories
+              same.factories beyond.factories;
+          publishers = beyond_skipped start.publishers by.publishers one.made.publishers.next mid.made.publishers.next counts.publishers
+              same.publishers beyond.publishers;
+          subscribers = beyond_skipped start.subscribers by.subscribers one.made.subscribers.next mid.made.subscribers.next
+              counts.subscribers same.subscribers beyond.subscribers;
           loans = beyond_skipped start.loans by.loans one.made.loans.next mid.made.loans.next counts.loans same.loans beyond.loans;
-          samples = beyond_skipped start.samples by.samples one.made.samples.next mid.made.samples.next counts.samples same.samples beyond.samples;
+          samples = beyond_skipped start.samples by.samples one.made.samples.next mid.made.samples.next counts.samples same.samples
+              beyond.samples;
         },
         λ other follows.
             let (last, runs, hub) = goes other (passes_follows by one mid other counts passes follows) in
@@ -448,11 +506,13 @@ module _ {T U B D : Type 0} (config : HubConfig) (alone : NumberedHub T U B D) (
     samples = is.nothing_made.3.1;
   }
 
-module _ {T U B D : Type 0} (payload user_header : Detail) (types : MessageTypeDetails) (is_default : T → Type 0) (is_default_header : U → Type 0)
+module _ {T U B D : Type 0} (payload user_header : Detail) (types : MessageTypeDetails) (is_default : T → Type 0)
+    (is_default_header : U → Type 0)
     (fixed : BackpressureStrategy → Option BackpressureAction → DegradationAction → B) (degrades : B → DegradationCause → DegradationInfo → DegradationAction → Type 0) (decides : B → BackpressureInfo → BackpressureDecision → Type 0)
     (fixed_reader : DegradationAction → D) (reader_degrades : D → DegradationCause → DegradationInfo → DegradationAction → Type 0) where
   -- and in the end the hub has the same nodes, services and domains
-  pub are_counted_with_hub : (config : HubConfig) (commands : List (Bool × Command T)) (alone after : NumberedHub T U B D) (replies : List (Reply T)) → IsNew config alone
+  pub are_counted_with_hub : (config : HubConfig) (commands : List (Bool × Command T)) (alone after : NumberedHub T U B D)
+      (replies : List (Reply T)) → IsNew config alone
       → RunsAlone (StepWithMemory (Step {T = T} {U = U} payload user_header types is_default is_default_header fixed degrades decides fixed_reader reader_degrades)) commands alone replies after
       → (by : Renaming) × (later : NumberedHub T U B D) × RunsAnew (Step {T = T} {U = U} payload user_header types is_default is_default_header fixed degrades decides fixed_reader reader_degrades) by commands alone replies later × (later.hub ≡ after.hub)
   are_counted_with_hub config commands alone after replies is_new go =
@@ -460,13 +520,15 @@ module _ {T U B D : Type 0} (payload user_header : Detail) (types : MessageTypeD
       let (later, runs, hub) = goes alone (new_follows config alone is_new by) in
       (by, later, runs, hub)
 
-  pub are_counted_anew : CountsAnew (Step {T = T} {U = U} payload user_header types is_default is_default_header fixed degrades decides fixed_reader reader_degrades)
+  pub are_counted_anew : CountsAnew (Step {T = T} {U = U} payload user_header types is_default is_default_header fixed degrades decides
+      fixed_reader reader_degrades)
   are_counted_anew config commands alone after replies is_new go =
       let (by, later, runs, hub) = are_counted_with_hub config commands alone after replies is_new go in
       (by, later, runs)
 
   -- and in the end as many lives began, and as many factories were counted
-  pub is_alone_with_counts : (config : HubConfig) (hash : ServiceHash) (mine : ℕ → Bool) (commands : List (Bool × Command T)) (first alone new : NumberedHub T U B D) (replies : List (Reply T)) → IsNew config first → IsNew config alone
+  pub is_alone_with_counts : (config : HubConfig) (hash : ServiceHash) (mine : ℕ → Bool) (commands : List (Bool × Command T))
+      (first alone new : NumberedHub T U B D) (replies : List (Reply T)) → IsNew config first → IsNew config alone
       → RunsAmongOthers hash mine (Step {T = T} {U = U} payload user_header types is_default is_default_header fixed degrades decides fixed_reader reader_degrades) commands first replies new
       → (by : Renaming) × (later : NumberedHub T U B D) × RunsAnew (Step {T = T} {U = U} payload user_header types is_default is_default_header fixed degrades decides fixed_reader reader_degrades) by commands alone replies later
       × (later.hub.table.next ≡ new.hub.table.next) × (later.hub.factories ≡ new.hub.factories)
@@ -475,12 +537,14 @@ module _ {T U B D : Type 0} (payload user_header : Detail) (types : MessageTypeD
       let (by, later, anew, hub) = are_counted_with_hub config commands alone after replies is_alone runs in
       (by, later, anew, ap (λ it. it.table.next) hub ∙ agree.hubs.lives, ap (λ it. it.factories) hub ∙ agree.hubs.owners)
 
-  pub is_alone_anew : IsAloneAnew (Step {T = T} {U = U} payload user_header types is_default is_default_header fixed degrades decides fixed_reader reader_degrades)
+  pub is_alone_anew : IsAloneAnew (Step {T = T} {U = U} payload user_header types is_default is_default_header fixed degrades decides
+      fixed_reader reader_degrades)
   is_alone_anew config hash mine commands first alone new replies is_first is_alone go =
       let (by, later, anew, lives, owners) = is_alone_with_counts config hash mine commands first alone new replies is_first is_alone go in
       (by, later, anew)
 
-  pub each_service_is_alone_anew : EachServiceIsAloneAnew (Step {T = T} {U = U} payload user_header types is_default is_default_header fixed degrades decides fixed_reader reader_degrades)
+  pub each_service_is_alone_anew : EachServiceIsAloneAnew
+      (Step {T = T} {U = U} payload user_header types is_default is_default_header fixed degrades decides fixed_reader reader_degrades)
   each_service_is_alone_anew config hash commands first alone new replies is_first is_alone go =
       let (mine, told, same, among) = each_run_can_be_told payload user_header types is_default is_default_header fixed degrades decides fixed_reader reader_degrades config hash commands first new replies is_first go in
       let (by, later, runs) = is_alone_anew config hash mine told first alone new (replies_told told replies) is_first is_alone among in

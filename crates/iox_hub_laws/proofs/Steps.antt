@@ -76,57 +76,73 @@ module _ {T U B D : Type 0} (number : ℕ) where
   GoesBeside made after old new = PortsLeft number old new × MadeLeft number made after
 
   -- room is made first
-  grows_beside : {A : Type 0} (is_full : Type 0) (does : Made → Hub T U B D → A → Made → Hub T U B D → Type 0) → ((made after : Made) (old new : Hub T U B D) (answer : A) → does made old answer after new → GoesBeside made after old new)
+  grows_beside : {A : Type 0} (is_full : Type 0) (does : Made → Hub T U B D → A → Made → Hub T U B D → Type 0)
+      → ((made after : Made) (old new : Hub T U B D) (answer : A) → does made old answer after new → GoesBeside made after old new)
       → (made after : Made) (old new : Hub T U B D) (answer : Result A AllocError) → GrowsFirst is_full does made old answer after new → GoesBeside made after old new
-  grows_beside is_full does goes made after old new (Err lacking) (full, same, is) = (same_ports number old new is, same_made number made after same)
+  grows_beside is_full does goes made after old new (Err lacking) (full, same, is)
+      = (same_ports number old new is, same_made number made after same)
   grows_beside is_full does goes made after old new (Ok answer) (roomier, is_roomier, done) =
       let (left, mades) = goes roomier after old new answer done in
       (left, made_on number made roomier after (roomier_left number made roomier is_roomier) mades)
 
-  loan_beside : (is_default : T → Type 0) (publisher elements : ℕ) (made after : Made) (old new : Hub T U B D) (answer : Result (Reply T) AllocError) → IsApart publisher_service number (value_at made.publishers publisher)
+  loan_beside : (is_default : T → Type 0) (publisher elements : ℕ) (made after : Made) (old new : Hub T U B D)
+      (answer : Result (Reply T) AllocError) → IsApart publisher_service number (value_at made.publishers publisher)
       → LoanStep hub_ports with_hub_ports is_default publisher elements made old answer after new → GoesBeside made after old new
   loan_beside is_default publisher elements made after old new answer apart (value, is_value, lent, goes, is_answer) =
       let port = ready hub_ports (lender elements (value_at made.publishers publisher)) old in
       let beside : PortApart number port = ready_apart number (lender elements (value_at made.publishers publisher)) old (lender_apart number elements (value_at made.publishers publisher) apart) in
       grows_beside (IsFull made.loans) (LendsWrittenNumbered hub_ports with_hub_ports elements value port)
       (λ before later hub other reply (outcome, at, numbers). (
-        at_port_left number (LendsWritten hub_ports with_hub_ports elements value) (λ one off home next told does. lends_written_left number elements value one off home next told does) port beside hub other outcome at,
+        at_port_left number (LendsWritten hub_ports with_hub_ports elements value)
+            (λ one off home next told does. lends_written_left number elements value one off home next told does) port beside hub other
+            outcome at,
         loan_numbered number port beside outcome reply before later numbers,
       )) made after old new lent goes
 
-  loan_uninit_beside : (publisher elements : ℕ) (made after : Made) (old new : Hub T U B D) (answer : Result (Reply T) AllocError) → IsApart publisher_service number (value_at made.publishers publisher)
+  loan_uninit_beside : (publisher elements : ℕ) (made after : Made) (old new : Hub T U B D) (answer : Result (Reply T) AllocError)
+      → IsApart publisher_service number (value_at made.publishers publisher)
       → LoanUninitStep hub_ports with_hub_ports publisher elements made old answer after new → GoesBeside made after old new
   loan_uninit_beside publisher elements made after old new answer apart (lent, goes, is_answer) =
       let port = lender elements (value_at made.publishers publisher) in
       let beside : PortApart number port = lender_apart number elements (value_at made.publishers publisher) apart in
       grows_beside (IsFull made.loans) (LendsNumbered hub_ports with_hub_ports elements port)
       (λ before later hub other reply (outcome, at, numbers). (
-        at_port_left number (Lends hub_ports with_hub_ports elements) (λ one off home next told does. lends_left number elements one off home next told does) port beside hub other outcome at,
+        at_port_left number (Lends hub_ports with_hub_ports elements)
+            (λ one off home next told does. lends_left number elements one off home next told does) port beside hub other outcome at,
         loan_numbered number port beside outcome reply before later numbers,
       )) made after old new lent goes
 
-  receive_beside : (degrades : DomainId → ℕ → Hub T U B D → DegradationInfo → DegradationAction → Type 0) (subscriber : ℕ) (made after : Made) (old new : Hub T U B D) (answer : Result (Reply T) AllocError) → IsApart service_at number (value_at made.subscribers subscriber)
+  receive_beside : (degrades : DomainId → ℕ → Hub T U B D → DegradationInfo → DegradationAction → Type 0) (subscriber : ℕ)
+      (made after : Made) (old new : Hub T U B D) (answer : Result (Reply T) AllocError)
+      → IsApart service_at number (value_at made.subscribers subscriber)
       → ReceiveStep hub_ports with_hub_ports degrades subscriber made old answer after new → GoesBeside made after old new
   receive_beside degrades subscriber made after old new answer apart (received, goes, is_told) =
       let port = value_at made.subscribers subscriber in
       grows_beside (IsFull made.samples) (ReceivesNumbered hub_ports with_hub_ports degrades port)
       (λ before later hub other reply (outcome, at, numbers). (
-        at_port_left number (Receives hub_ports with_hub_ports degrades) (λ one off home next told does. receives_left number degrades one off home next told does) port apart hub other outcome at,
+        at_port_left number (Receives hub_ports with_hub_ports degrades)
+            (λ one off home next told does. receives_left number degrades one off home next told does) port apart hub other outcome at,
         sample_numbered number port apart outcome reply before later numbers,
       )) made after old new received goes
 
-  leave_beside : (which : PortNumber) (made after : Made) (old new : Hub T U B D) (answer : Reply T) → LeaveApart number which made → Rises 1 made.publishers.entries made.publishers.next → Rises 1 made.subscribers.entries made.subscribers.next
+  leave_beside : (which : PortNumber) (made after : Made) (old new : Hub T U B D) (answer : Reply T) → LeaveApart number which made
+      → Rises 1 made.publishers.entries made.publishers.next → Rises 1 made.subscribers.entries made.subscribers.next
       → LeaveStep hub_ports with_hub_ports without_hub_publisher without_hub_subscriber which made old answer after new → GoesBeside made after old new
   leave_beside (port_number.Publisher one) made after old new answer apart publishers subscribers (done, at, is_made, is) = (
-    at_port_if_left number (PublisherGoes hub_ports with_hub_ports without_hub_publisher) (λ port off home next told does. publisher_goes_left number port off home next told does) (port_under (value_at made.publishers one)) (under_apart number (value_at made.publishers one) apart) old new done at,
+    at_port_if_left number (PublisherGoes hub_ports with_hub_ports without_hub_publisher)
+        (λ port off home next told does. publisher_goes_left number port off home next told does)
+        (port_under (value_at made.publishers one)) (under_apart number (value_at made.publishers one) apart) old new done at,
     publisher_spent number done one made after publishers apart is_made,
   )
   leave_beside (port_number.Subscriber one) made after old new answer apart publishers subscribers (done, at, is_made, is) = (
-    at_port_if_left number (SubscriberGoes hub_ports with_hub_ports without_hub_subscriber) (λ port off home next told does. subscriber_goes_left number port off home next told does) (value_at made.subscribers one) apart old new done at,
+    at_port_if_left number (SubscriberGoes hub_ports with_hub_ports without_hub_subscriber)
+        (λ port off home next told does. subscriber_goes_left number port off home next told does) (value_at made.subscribers one) apart
+        old new done at,
     subscriber_spent number done one made after subscribers apart is_made,
   )
 
-  update_beside : (degrades reader_degrades : DomainId → ℕ → Hub T U B D → DegradationInfo → DegradationAction → Type 0) (which : PortNumber) (made : Made) (old new : Hub T U B D) (answer : Reply T) → LeaveApart number which made
+  update_beside : (degrades reader_degrades : DomainId → ℕ → Hub T U B D → DegradationInfo → DegradationAction → Type 0)
+      (which : PortNumber) (made : Made) (old new : Hub T U B D) (answer : Reply T) → LeaveApart number which made
       → UpdateStep hub_ports with_hub_ports degrades reader_degrades which made old answer new → PortsLeft number old new
   update_beside degrades reader_degrades (port_number.Publisher one) made old new answer apart (outcome, at, is) =
       at_port_left number (Follows hub_ports with_hub_ports degrades) (λ port off home next told does. follows_left number degrades port off home next told does) (port_under (value_at made.publishers one)) (under_apart number (value_at made.publishers one) apart) old new outcome at
@@ -143,10 +159,12 @@ module _ {T U B D : Type 0} (hash : ServiceHash) (number : ℕ) where
   abbrev pub Moved : NumberedHub T U B D → NumberedHub T U B D → Type 0
   Moved old new = IsLeft hash number old new × Past old.hub.table new.hub.table
 
-  by_services : (old new : NumberedHub T U B D) → BothLeft hash number old.factories.made new.factories.made old.hub new.hub → new.made ≡ old.made → Moved old new
+  by_services : (old new : NumberedHub T U B D) → BothLeft hash number old.factories.made new.factories.made old.hub new.hub
+      → new.made ≡ old.made → Moved old new
   by_services old new both same = (record { hub = both.0; factories = both.1; made = same_made number old.made new.made same }, both.2)
 
-  by_ports : (old new : NumberedHub T U B D) → GoesBeside number old.made new.made old.hub new.hub → new.factories ≡ old.factories → Moved old new
+  by_ports : (old new : NumberedHub T U B D) → GoesBeside number old.made new.made old.hub new.hub → new.factories ≡ old.factories
+      → Moved old new
   by_ports old new (left, mades) same = (
     record {
       hub = record { named = untouched_same hash old.hub.table new.hub.table left.table; presence = left.presence; count = ap (λ counts. factories_of number counts) left.counts };
@@ -157,7 +175,8 @@ module _ {T U B D : Type 0} (hash : ServiceHash) (number : ℕ) where
   )
 
   by_hub : (old new : NumberedHub T U B D) → PortsLeft number old.hub new.hub → new ≡ record old { hub = new.hub } → Moved old new
-  by_hub old new left is = by_ports old new (left, same_made number old.made new.made (ap (λ numbered. numbered.made) is)) (ap (λ numbered. numbered.factories) is)
+  by_hub old new left is = by_ports old new (left, same_made number old.made new.made (ap (λ numbered. numbered.made) is))
+      (ap (λ numbered. numbered.factories) is)
 
   pub by_same : (old new : NumberedHub T U B D) → new ≡ old → Moved old new
   by_same old new is = by_ports old new (same_ports number old.hub new.hub (ap (λ numbered. numbered.hub) is), same_made number old.made new.made (ap (λ numbered. numbered.made) is)) (ap (λ numbered. numbered.factories) is)
@@ -168,41 +187,58 @@ module _ {T U B D : Type 0} (hash : ServiceHash) (number : ℕ) where
     same_made number old.made new.made (ap (λ numbered. numbered.made) is),
   ) (ap (λ numbered. numbered.factories) is)
 
-  replied : (does : Reply T → Type 0) (old new : NumberedHub T U B D) (answer : Result (Reply T) AllocError) → ((reply : Reply T) → does reply → Moved old new) → IsReplied does answer → Moved old new
+  replied : (does : Reply T → Type 0) (old new : NumberedHub T U B D) (answer : Result (Reply T) AllocError)
+      → ((reply : Reply T) → does reply → Moved old new) → IsReplied does answer → Moved old new
   replied does old new (Ok reply) leaves done = leaves reply done
   replied does old new (Err lacking) leaves done = absurd done
 
-  publisher_opened : (is_default : U → Type 0) (fixed : BackpressureStrategy → Option BackpressureAction → DegradationAction → B) (degrades : B → DegradationCause → DegradationInfo → DegradationAction → Type 0) (opened : Opened) (options : PublisherOptions)
+  publisher_opened : (is_default : U → Type 0) (fixed : BackpressureStrategy → Option BackpressureAction → DegradationAction → B)
+      (degrades : B → DegradationCause → DegradationInfo → DegradationAction → Type 0) (opened : Opened) (options : PublisherOptions)
       (old new : NumberedHub T U B D) (answer : Reply T) → (domain_of_factory opened).service ≢ number → PublisherComes is_default fixed degrades (Some opened) options old answer new → Moved old new
-  publisher_opened is_default fixed degrades opened options old new answer apart ((user_header, is_header, came, (roomier, is_roomier, (outcome, comes, numbers)), is_answer), same) =
+  publisher_opened is_default fixed degrades opened options old new answer apart
+      ((user_header, is_header, came, (roomier, is_roomier, (outcome, comes, numbers)), is_answer), same) =
       let id = domain_of_factory opened in
       let handlers = publisher_handlers fixed options in
       by_ports old new (
-        makes_left number id apart (λ one. with_hub_publisher id one handlers) (λ one hub. stepped_left number id (publisher_kept one handlers) apart hub) _ _ (hub_ports id old.hub) old.hub new.hub outcome comes,
-        made_on number old.made roomier new.made (roomier_left number old.made roomier is_roomier) (publisher_numbered number id apart old.made.publishers.next outcome came roomier new.made numbers),
+        makes_left number id apart (λ one. with_hub_publisher id one handlers)
+            (λ one hub. stepped_left number id (publisher_kept one handlers) apart hub) _ _ (hub_ports id old.hub) old.hub new.hub
+            outcome comes,
+        made_on number old.made roomier new.made (roomier_left number old.made roomier is_roomier)
+            (publisher_numbered number id apart old.made.publishers.next outcome came roomier new.made numbers),
       ) same
 
-  publisher_found : (is_default : U → Type 0) (fixed : BackpressureStrategy → Option BackpressureAction → DegradationAction → B) (degrades : B → DegradationCause → DegradationInfo → DegradationAction → Type 0) (found : Option MadeFactory) (options : PublisherOptions)
+  publisher_found : (is_default : U → Type 0) (fixed : BackpressureStrategy → Option BackpressureAction → DegradationAction → B)
+      (degrades : B → DegradationCause → DegradationInfo → DegradationAction → Type 0) (found : Option MadeFactory)
+      (options : PublisherOptions)
       (old new : NumberedHub T U B D) (answer : Reply T) → IsApart service_of number found → PublisherComes is_default fixed degrades (publish_subscribe_in found) options old answer new → Moved old new
   publisher_found is_default fixed degrades None options old new answer apart comes = by_same old new comes.1
-  publisher_found is_default fixed degrades (Some (made.PublishSubscribe factory)) options old new answer apart comes = publisher_opened is_default fixed degrades (factory.service.membership, factory.owner) options old new answer apart comes
+  publisher_found is_default fixed degrades (Some (made.PublishSubscribe factory)) options old new answer apart comes
+      = publisher_opened is_default fixed degrades (factory.service.membership, factory.owner) options old new answer apart comes
   publisher_found is_default fixed degrades (Some (made.Event factory)) options old new answer apart comes = by_same old new comes.1
-  publisher_found is_default fixed degrades (Some (made.RequestResponse factory)) options old new answer apart comes = by_same old new comes.1
+  publisher_found is_default fixed degrades (Some (made.RequestResponse factory)) options old new answer apart comes
+      = by_same old new comes.1
 
-  subscriber_opened : (fixed : DegradationAction → D) (degrades : D → DegradationCause → DegradationInfo → DegradationAction → Type 0) (opened : Opened) (options : SubscriberOptions) (old new : NumberedHub T U B D) (answer : Reply T)
+  subscriber_opened : (fixed : DegradationAction → D) (degrades : D → DegradationCause → DegradationInfo → DegradationAction → Type 0)
+      (opened : Opened) (options : SubscriberOptions) (old new : NumberedHub T U B D) (answer : Reply T)
       → (domain_of_factory opened).service ≢ number → SubscriberComes fixed degrades (Some opened) options old answer new → Moved old new
-  subscriber_opened fixed degrades opened options old new answer apart ((came, (roomier, is_roomier, (outcome, comes, numbers)), is_answer), same) =
+  subscriber_opened fixed degrades opened options old new answer apart
+      ((came, (roomier, is_roomier, (outcome, comes, numbers)), is_answer), same) =
       let id = domain_of_factory opened in
       let handler = subscriber_handler fixed options in
       by_ports old new (
-        makes_left number id apart (λ one. with_hub_subscriber id one handler) (λ one hub. stepped_left number id (subscriber_kept one handler) apart hub) _ _ (hub_ports id old.hub) old.hub new.hub outcome comes,
-        made_on number old.made roomier new.made (roomier_left number old.made roomier is_roomier) (subscriber_numbered number id apart old.made.subscribers.next outcome came roomier new.made numbers),
+        makes_left number id apart (λ one. with_hub_subscriber id one handler)
+            (λ one hub. stepped_left number id (subscriber_kept one handler) apart hub) _ _ (hub_ports id old.hub) old.hub new.hub
+            outcome comes,
+        made_on number old.made roomier new.made (roomier_left number old.made roomier is_roomier)
+            (subscriber_numbered number id apart old.made.subscribers.next outcome came roomier new.made numbers),
       ) same
 
-  subscriber_found : (fixed : DegradationAction → D) (degrades : D → DegradationCause → DegradationInfo → DegradationAction → Type 0) (found : Option MadeFactory) (options : SubscriberOptions) (old new : NumberedHub T U B D) (answer : Reply T)
+  subscriber_found : (fixed : DegradationAction → D) (degrades : D → DegradationCause → DegradationInfo → DegradationAction → Type 0)
+      (found : Option MadeFactory) (options : SubscriberOptions) (old new : NumberedHub T U B D) (answer : Reply T)
       → IsApart service_of number found → SubscriberComes fixed degrades (publish_subscribe_in found) options old answer new → Moved old new
   subscriber_found fixed degrades None options old new answer apart comes = by_same old new comes.1
-  subscriber_found fixed degrades (Some (made.PublishSubscribe factory)) options old new answer apart comes = subscriber_opened fixed degrades (factory.service.membership, factory.owner) options old new answer apart comes
+  subscriber_found fixed degrades (Some (made.PublishSubscribe factory)) options old new answer apart comes
+      = subscriber_opened fixed degrades (factory.service.membership, factory.owner) options old new answer apart comes
   subscriber_found fixed degrades (Some (made.Event factory)) options old new answer apart comes = by_same old new comes.1
   subscriber_found fixed degrades (Some (made.RequestResponse factory)) options old new answer apart comes = by_same old new comes.1
 
@@ -210,7 +246,8 @@ module _ {T U B D : Type 0} (hash : ServiceHash) (number : ℕ) where
       (fixed : BackpressureStrategy → Option BackpressureAction → DegradationAction → B) (degrades : B → DegradationCause → DegradationInfo → DegradationAction → Type 0) (decides : B → BackpressureInfo → BackpressureDecision → Type 0)
       (fixed_reader : DegradationAction → D) (reader_degrades : D → DegradationCause → DegradationInfo → DegradationAction → Type 0) where
     -- of a command that creates or opens something the service must have been agreed
-    pub step_left : (asked : Command T) (old new : NumberedHub T U B D) (answer : Result (Reply T) AllocError) → NumbersRise old → (IsOpening asked → IsReached old.hub.table × IsService hash number old.hub.table) → AsksNothing hash number asked old
+    pub step_left : (asked : Command T) (old new : NumberedHub T U B D) (answer : Result (Reply T) AllocError) → NumbersRise old
+        → (IsOpening asked → IsReached old.hub.table × IsService hash number old.hub.table) → AsksNothing hash number asked old
         → Step payload user_header types is_default is_default_header fixed degrades decides fixed_reader reader_degrades asked old answer new → Moved old new
     step_left command.Node old new answer rises standing (named, apart) step =
         replied _ old new answer (λ reply does. node_left old new _ does.1) step

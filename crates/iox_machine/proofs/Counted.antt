@@ -288,7 +288,8 @@ module _ {T : Type 0} where
   sample-on made other next = refl
 
   module _ (types : MessageTypeDetails) (IsDefault : T → Type 0) (buffer : ℕ) where
-    pub step-passes : (asked : Command T) (old : State T) (answer : Reply T) (new : State T) → Step types IsDefault buffer asked old answer new
+    pub step-passes : (asked : Command T) (old : State T) (answer : Reply T) (new : State T)
+        → Step types IsDefault buffer asked old answer new
         → Passes old answer new
     step-passes command.Node old answer new (inl (told, came)) =
         rests (reply.NodeMade (old.made.nodes + 1)) old (record old { made = counted answer old.made }) new answer (told, came) refl

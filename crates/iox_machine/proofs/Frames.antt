@@ -173,7 +173,8 @@ module _ {T : Type 0} where
       differ : true ≡ false → ⊥
       differ e = cc
 
-  pub soft-connect : (limit publisher subscriber : ℕ) (service : Service T) → BySubscriber service (connect limit publisher subscriber service)
+  pub soft-connect : (limit publisher subscriber : ℕ) (service : Service T)
+      → BySubscriber service (connect limit publisher subscriber service)
   soft-connect limit publisher subscriber service =
       either (BySubscriber service) (is_some (service.mailboxes publisher subscriber)) service
       (with_mailbox publisher subscriber (record { limit = limit; waiting = []; borrowed = [] }) service)
@@ -516,7 +517,8 @@ module _ {T : Type 0} where
             ]
       ]
     where
-      comes : IsRefused (refusal.Publisher publisher_error.UnableToCreateDataSegment) old answer new ⊎ PublisherComes number one old answer new
+      comes : IsRefused (refusal.Publisher publisher_error.UnableToCreateDataSegment) old answer new
+          ⊎ PublisherComes number one old answer new
           → (new ≡ old)
           ⊎ ((place : ℕ) × (after : Publisher T) × (mid : Service T)
           × publishing.Follows number one (record old { publishers = old.publishers ++ (number, one) ∷ [] }) after mid

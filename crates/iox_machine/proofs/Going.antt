@@ -364,7 +364,8 @@ module _ {T : Type 0} where
         expired = parted.expired;
       } in (
         after,
-        fold (λ (service : Service T) (publisher : ℕ). connect subscriber.buffer_size publisher number service) (with_subscriber number after old)
+        fold (λ (service : Service T) (publisher : ℕ). connect subscriber.buffer_size publisher number service)
+            (with_subscriber number after old)
             (those connected),
         ([], refl, connected, refl, refl, refl),
         fold-keeps (WaitsAsBefore old) (λ (service : Service T) (publisher : ℕ). connect subscriber.buffer_size publisher number service)
@@ -498,7 +499,8 @@ module _ {T : Type 0} where
       ended : Factory → State T
       ended factory = record (with_phase factory.pattern factory.name (closed_by factory.node (old.phases factory.pattern factory.name)) old) {
         factories = removed number old.factories;
-        services = cond (list_any (λ (entry : ℕ × Factory). same_pattern entry.1.pattern factory.pattern && same_name entry.1.name factory.name)
+        services = cond (list_any (λ (entry : ℕ × Factory). same_pattern entry.1.pattern factory.pattern
+            && same_name entry.1.name factory.name)
             (removed number old.factories))
             old.services (filter (λ (service : Service T). not (is_service_of factory service)) old.services);
       }

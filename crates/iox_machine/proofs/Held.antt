@@ -303,7 +303,8 @@ module _ {T : Type 0} where
           at-last next it old.samples,
         )
 
-    pub keeps-releases : (factories : List (ℕ × Factory)) (number : ℕ) (one : Sample T) (old : Service T) (answer : Reply T) (new : Service T)
+    pub keeps-releases : (factories : List (ℕ × Factory)) (number : ℕ) (one : Sample T) (old : Service T) (answer : Reply T)
+        (new : Service T)
         → Releases number one old answer new → Keeps (number == sample) factories old new
     keeps-releases factories number one old answer new (told, came) =
         subst (λ (s : Service T). Keeps (number == sample) factories old s) (sym came) (

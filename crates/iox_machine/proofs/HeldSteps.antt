@@ -119,7 +119,8 @@ module _ {T : Type 0} (sample : ℕ) where
           let own : IsOwned old.factories service = all-found (IsOwned old.factories) has old.services service first all in
           let kept : Keeps sample releases old.factories service after = does one service after is own did in
           subst (λ (s : State T). Stays releases old s) (sym came) (
-            replaced-keeps (IsOwned old.factories) (IsOwned old.factories) has service after old.services (λ it owned. owned) kept.0 first all,
+            replaced-keeps (IsOwned old.factories) (IsOwned old.factories) has service after old.services (λ it owned. owned) kept.0
+                first all,
             (λ held there. any-replaced (λ (it : Service T). is_some (at sample it.samples)) has service after old.services first
                 (kept.1 held) there),
           )
@@ -395,7 +396,8 @@ module _ {T : Type 0} (sample : ℕ) where
           → list_any test (cond b old.services (filter (λ (service : Service T). not (is_service_of factory service)) old.services)) ≡ true)
       step true is = (kept, (λ held there. there))
       step false is = (
-        all-filtered (IsOwned (removed number old.factories)) (λ (service : Service T). not (is_service_of factory service)) old.services kept,
+        all-filtered (IsOwned (removed number old.factories)) (λ (service : Service T). not (is_service_of factory service))
+            old.services kept,
         (λ held there. there-closing number factory old.factories found old.services unused all is there),
       )
 

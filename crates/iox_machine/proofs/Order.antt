@@ -517,7 +517,8 @@ module _ {T : Type 0} (p s : ℕ) where
       blocked-so true after u same = (
         before,
         is ∙ ap (λ (m : Message T). before ++ m ∷ []) (sym same),
-        subst (λ (m : Message T). Under T s (MayCome s born old.subscriber_list.places) received before m one.connected after.0.left (after.1.mailboxes p s)) (sym same) u,
+        subst (λ (m : Message T). Under T s (MayCome s born old.subscriber_list.places) received before m one.connected after.0.left
+            (after.1.mailboxes p s)) (sym same) u,
       )
 
   begins-between : (sent received : List (Message T)) (born : ℕ) (message : Message T) (one : Publisher T) (old : Service T)

@@ -77,7 +77,8 @@ module _ (s : ℕ) where
     )),
     (λ may. elim may [
       | inl early ↦ inl early
-      | inr is_so ↦ inr (both-true (contains (those places) s) (not (contains (n ∷ []) s)) (sym (contains-unless s (n ∷ []) places) ∙ is_so)).0
+      | inr is_so ↦ inr (both-true (contains (those places) s) (not (contains (n ∷ []) s))
+          (sym (contains-unless s (n ∷ []) places) ∙ is_so)).0
     ]),
   )
 

@@ -302,7 +302,8 @@ module _ {T : Type 0} where
                   subst (λ (l : List (Message T)). IsOrdered p s G l received new) (sym none.0)
                   (subst (λ (l : List (Message T)). IsOrdered p s G [] l new) (sym none.1)
                   (subst (IsOrdered p s G [] []) (sym came) (
-                    subst (λ (it_told : Reply T). IsOfOne p s G (counted it_told old.made) [] [] (replaced (has_factory of_it) after old.services)) (sym (told w.5))
+                    subst (λ (it_told : Reply T). IsOfOne p s G (counted it_told old.made) [] []
+                        (replaced (has_factory of_it) after old.services)) (sym (told w.5))
                         (one-comes p s G old.made (counted {T = T} (reply.PublisherMade p) old.made) [] []
                         (made-later {T = T} (reply.PublisherMade p) old.made) (has_factory of_it) service after old.services first
                         (λ lacks. comes-fits p s G old.made factory options service w.0 w.1 w.2 after next (at_p w.1 w.2 w.3) (at_end w.0 w.2 w.4)

@@ -113,7 +113,8 @@ module _ {T : Type 0} (p s : ℕ) (G : List ℕ → StaticConfig → Message T �
   quiet-goes old answer sending service after none goes =
       subst (λ (o : Option (Message T)). Goes p s G sent received old answer o None service after) (sym none) goes
 
-  pub put-goes : (number : ℕ) (values : List T) (old : State T) (answer : Reply T) (service : Service T) (one : Publisher T) (after : Service T)
+  pub put-goes : (number : ℕ) (values : List T) (old : State T) (answer : Reply T) (service : Service T) (one : Publisher T)
+      (after : Service T)
       → find (λ (other : Service T). is_some (publisher_in number other)) old.services ≡ Some service
       → publisher_in number service ≡ Some one
       → ((message : Message T) (it : Service T) → BeginsToSend p message.values (command.Put number values) old answer → IsFirst old it
@@ -176,7 +177,8 @@ module _ {T : Type 0} (p s : ℕ) (G : List ℕ → StaticConfig → Message T �
           | inr w ↦ elim (by-bool (is_written one && not (is_some w.0.blocked))
               (Sends one.publisher (sent_as one) w.0 (record service { loans = removed loan service.loans }) answer after)
               (IsSkipped service answer after) w.2) [
-                | inl k ↦ sends (eqb-true one.publisher p same) same w.0 w.1 (both-true (is_written one) (not (is_some w.0.blocked)) k.0) k.1
+                | inl k ↦ sends (eqb-true one.publisher p same) same w.0 w.1
+                    (both-true (is_written one) (not (is_some w.0.blocked)) k.0) k.1
                 | inr k ↦ quiet-goes old answer (begun_by p (command.Send loan) old answer) service after
                     (found ∙ chosen-silent (one.publisher == p) (has_begun answer) (Some (sent_as one)) (ap has_begun k.1.0))
                     (skip-goes p s G sent received old answer service after k.1)

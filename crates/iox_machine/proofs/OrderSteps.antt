@@ -179,7 +179,8 @@ module _ {T : Type 0} (p s : ℕ) where
     has_it service = is_some (at p service.publishers)
 
     -- What a step does to the service at which something is done. `IsFirst`: it is the first that has the publisher.
-    abbrev pub Moves : Made → Made → List (Message T) → List (Message T) → List (Message T) → List (Message T) → Type 0 → Service T → Service T
+    abbrev pub Moves : Made → Made → List (Message T) → List (Message T) → List (Message T) → List (Message T) → Type 0 → Service T
+        → Service T
         → Type 0
     Moves made later sent received sent_then received_then IsFirst old new =
         (Lacks made.subscribers old → Lacks later.subscribers new × (sent_then ≡ sent) × (received_then ≡ received))
@@ -241,7 +242,8 @@ module _ {T : Type 0} (p s : ℕ) where
             let done : Fits later sent_then received_then after = moves.1 of_it (here ∙ same) in (
               inr (
                 done,
-                all-weaker (Lacks made.subscribers) (Lacks later.subscribers) (lacks-later made.subscribers later.subscribers on.1) more all,
+                all-weaker (Lacks made.subscribers) (Lacks later.subscribers) (lacks-later made.subscribers later.subscribers on.1) more
+                    all,
               ),
               inr (of_it, done),
             )
@@ -267,7 +269,8 @@ module _ {T : Type 0} (p s : ℕ) where
     )
 
     -- a command does something at one service
-    pub ordered-at-one : {V : Type 0} (sent received : List (Message T)) (sending receiving : Option (Message T)) (found : Service T → Option V)
+    pub ordered-at-one : {V : Type 0} (sent received : List (Message T)) (sending receiving : Option (Message T))
+        (found : Service T → Option V)
         (Does : V → Service T → Reply T → Service T → Type 0) (old : State T) (answer : Reply T) (new : State T)
         → (IsSkipped old answer new → (sending ≡ None) × (receiving ≡ None))
         → ((service : Service T) (one : V) (after : Service T)

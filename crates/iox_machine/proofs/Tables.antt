@@ -20,7 +20,8 @@ module _ {V : Type 0} where
   kept-tail true entry one other v on e = e
   kept-tail false entry one other v on e = on e
 
-  pub at-changed : (number : ℕ) (v was : V) (table : List (ℕ × V)) → at number table ≡ Some was → at number (changed number v table) ≡ Some v
+  pub at-changed : (number : ℕ) (v was : V) (table : List (ℕ × V)) → at number table ≡ Some was
+      → at number (changed number v table) ≡ Some v
   at-changed number v was [] e = never-some was e
   at-changed number v was (entry ∷ table) e = step (at-changed number v was table) (entry.0 == number) refl
     where
@@ -128,7 +129,8 @@ module _ {V : Type 0} where
       step on true = refl
       step on false = on
 
-  gone-changed : (number : ℕ) (v x : V) (table : List (ℕ × V)) → at number table ≡ None → at number (changed number v table) ≡ Some x → x ≡ v
+  gone-changed : (number : ℕ) (v x : V) (table : List (ℕ × V)) → at number table ≡ None → at number (changed number v table) ≡ Some x
+      → x ≡ v
   gone-changed number v x [] none e = never-some x e
   gone-changed number v x (entry ∷ table) none e = step (gone-changed number v x table) (entry.0 == number) refl
     where
