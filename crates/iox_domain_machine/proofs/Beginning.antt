@@ -36,6 +36,8 @@ new_stands T U buffer number name settings = record {
   keyed = λ number port is. never_some port is;
   subscribers = λ number port is. never_some port is;
   gone_subscribers = λ number subscriber gone is. never_some subscriber is;
+  listed_subscribers = λ number port is. never_some port is;
+  present_subscribers = λ place member is. never_some member (sym (same_at None settings.max_subscribers place) ∙ is);
   sized = λ place member is. never_some member (sym (same_at None settings.max_subscribers place) ∙ is);
   joined = λ one other is. never_true is;
   loans = record { same = refl; once = λ number. omega arith; all = λ publisher. refl };

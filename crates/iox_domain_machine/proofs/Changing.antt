@@ -30,7 +30,7 @@ use Rattle.iox_machine.specs.Service.{Publisher, Subscriber, Service}
 use Rattle.iox_machine.specs.Table.{at}
 
 -- a table in which the value of a number is another has the same numbers
-still_some : {V : Type 0} (number other : ℕ) (v was : V) (table after : List (ℕ × V)) → at number table ≡ Some was
+pub still_some : {V : Type 0} (number other : ℕ) (v was : V) (table after : List (ℕ × V)) → at number table ≡ Some was
     → at number after ≡ Some v
     → ((one : ℕ) → one ≢ number → at one after ≡ at one table) → (other ≡ number) ⊎ (other ≢ number)
     → is_some (at other after) ≡ is_some (at other table)
@@ -38,7 +38,7 @@ still_some number other v was table after here now others (inl same) =
     ap (λ n. is_some (at n after)) same ∙ ap is_some now ∙ sym (ap (λ n. is_some (at n table)) same ∙ ap is_some here)
 still_some number other v was table after here now others (inr off) = ap is_some (others other off)
 
-still_named : {V : Type 0} (name : ℕ → ℕ) (number : ℕ) (v was : V) (table after : List (ℕ × V)) → at number table ≡ Some was
+pub still_named : {V : Type 0} (name : ℕ → ℕ) (number : ℕ) (v was : V) (table after : List (ℕ × V)) → at number table ≡ Some was
     → at number after ≡ Some v
     → ((one : ℕ) → one ≢ number → at one after ≡ at one table) → NamesPorts name table → NamesPorts name after
 still_named name number v was table after here now others named = record {
@@ -188,14 +188,12 @@ module _ {T U : Type 0} (names : Naming) (message : ℕ → ℕ → ℕ) (lent a
         (before.0, ap (λ place. get_or old.publisher_list.places place None) same_place ∙ before.1, before.2)))
     listed same_stands same_place other found (inr off) it = stands.listed other found (sym (elsewhere other off) ∙ it)
 
-    keyed : after.readers ≡ port.readers → (other : ℕ) (found : PublisherPort T U) → (other ≡ number) ⊎ (other ≢ number)
-        → port_of other new.publishers ≡ Some found → IsKeyed other found old.subscribers
-    keyed same_readers other found (inl same) it =
+    keyed : IsKeyed number after old.subscribers → (other : ℕ) (found : PublisherPort T U)
+        → (other ≡ number) ⊎ (other ≢ number) → port_of other new.publishers ≡ Some found → IsKeyed other found old.subscribers
+    keyed is_keyed other found (inl same) it =
         subst (λ n. IsKeyed n found old.subscribers) (sym same)
-        (subst (λ (one : PublisherPort T U). IsKeyed number one old.subscribers) (sym (is_after other found same it))
-        (λ index to read attached. stands.keyed number port there index to (sym (ap (λ readers. get_or readers index None) same_readers)
-        ∙ read) attached))
-    keyed same_readers other found (inr off) it = stands.keyed other found (sym (elsewhere other off) ∙ it)
+        (subst (λ (one : PublisherPort T U). IsKeyed number one old.subscribers) (sym (is_after other found same it)) is_keyed)
+    keyed is_keyed other found (inr off) it = stands.keyed other found (sym (elsewhere other off) ∙ it)
 
     gone : (other : ℕ) (one : Publisher T) → (other ≡ number) ⊎ (other ≢ number) → port_of other new.publishers ≡ None
         → at (names.publisher other) new_service.publishers ≡ Some one → one.stands ≡ false
@@ -260,6 +258,19 @@ module _ {T U : Type 0} (names : Naming) (message : ℕ → ℕ → ℕ) (lent a
       subscribers = each_subscriber;
       gone_subscribers = λ other one none it. stands.gone_subscribers other one
           (none_like (subscriber_of other subscribers) (subscriber_of other old.subscribers) (same_subscribers other) none) it;
+      listed_subscribers = λ other found it standing.
+          let was = found_like (subscriber_of other subscribers) (subscriber_of other old.subscribers) found (same_subscribers other) it in
+          let before = stands.listed_subscribers other was.0 was.1 (ap (λ (one : SubscriberPort). one.stands) (sym was.2) ∙ standing) in
+          (before.0, ap (λ (one : SubscriberPort). get_or old.subscriber_list.places one.place None) was.2 ∙ before.1, before.2);
+      present_subscribers = λ place member is.
+          let before = stands.present_subscribers place member is in
+          let now = found_like (subscriber_of member.value.subscriber old.subscribers) (subscriber_of member.value.subscriber subscribers)
+          before.0 (sym (same_subscribers member.value.subscriber)) before.1 in (
+            now.0,
+            now.1,
+            ap (λ (one : SubscriberPort). one.stands) (sym now.2) ∙ before.2,
+            ap (λ (one : SubscriberPort). one.place) (sym now.2) ∙ before.3,
+          );
       sized = stands.sized;
       joined = λ one other is.
           let before = stands.joined one other (sym (same_boxes one other) ∙ is) in (
@@ -277,10 +288,10 @@ module _ {T U : Type 0} (names : Naming) (message : ℕ → ℕ → ℕ) (lent a
       };
     }
 
-    pub all_changed : after.stands ≡ port.stands → after.place ≡ port.place → after.readers ≡ port.readers
+    pub all_changed : after.stands ≡ port.stands → after.place ≡ port.place → IsKeyed number after old.subscribers
         → LoansStandFor renamed new after_lent loans → SamplesStandFor renamed new after_held samples
         → StandsFor renamed after_lent after_held buffer new new_service
-    all_changed same_stands same_place same_readers same_loans same_samples =
+    all_changed same_stands same_place is_keyed same_loans same_samples =
         any_changed old.publisher_list service.publisher_list stands.publisher_list
         (λ other found it. listed same_stands same_place other found (cases_eq other number) it)
         (λ place member listed_there.
@@ -288,7 +299,7 @@ module _ {T U : Type 0} (names : Naming) (message : ℕ → ℕ → ℕ) (lent a
         present same_stands same_place member.value.publisher place before.0 (cases_eq member.value.publisher number)
         before.1 before.2 before.3)
         (λ other found it. still_keyed other found old.subscribers subscribers same_subscribers
-        (keyed same_readers other found (cases_eq other number) it))
+        (keyed is_keyed other found (cases_eq other number) it))
         same_loans same_samples
 
 module _ {T U : Type 0} (names : Naming) (message : ℕ → ℕ → ℕ) (lent after_lent : List (ℕ × LentSlot)) (held : List (ℕ × Taken))
@@ -308,7 +319,9 @@ module _ {T U : Type 0} (names : Naming) (message : ℕ → ℕ → ℕ) (lent a
       → SamplesStandFor (record names { message = message }) (with_one number after old) held service.samples
       → StandsFor (record names { message = message }) after_lent held buffer (with_one number after old)
       (record service { publishers = publishers; loans = loans })
-  one_changed stands there others at_it at_others is boxes =
+  one_changed stands there others at_it at_others is boxes same_stands same_place same_readers =
       all_changed names message lent after_lent held held buffer old service number port after publisher publishers loans service.samples
       service.mailboxes old.subscribers stands there others at_it at_others is boxes (λ other off. refl) (λ one other. refl)
-      (λ other. refl) stands.once_subscribers
+      (λ other. refl) stands.once_subscribers same_stands same_place
+      (λ index to read attached. stands.keyed number port there index to (sym (ap (λ readers. get_or readers index None) same_readers)
+      ∙ read) attached)

@@ -50,22 +50,22 @@ module _ {T U : Type 0} (names : Naming) (lent : List (ℕ × LentSlot)) (held :
   abbrev whose : PublisherPort T U
   whose = there.port
 
-  abbrev place : ℕ
+  abbrev pub place : ℕ
   place = position_or_len (λ (one : Loan T U). one.slot == out.slot) whose.sender.uses.loans
 
-  abbrev after : PublisherPort T U
+  abbrev pub after : PublisherPort T U
   after = dropped_at place whose
 
   abbrev new : ServicePorts T U
   new = with_one out.publisher after ports
 
-  is_placed : place_of out.slot whose ≡ Some place
+  pub is_placed : place_of out.slot whose ≡ Some place
   is_placed = placed (λ (one : Loan T U). one.slot == out.slot) whose.sender.uses.loans there.loan there.found
 
   now : port_of out.publisher new.publishers ≡ Some after
   now = same_set (at_number out.publisher) ports.publishers after whose there.there
 
-  fewer : slots after.sender.uses.loans ≡ but out.slot (slots whose.sender.uses.loans)
+  pub fewer : slots after.sender.uses.loans ≡ but out.slot (slots whose.sender.uses.loans)
   fewer = slots_without out.slot whose.sender.uses.loans there.once
 
   elsewhere : (other : LentSlot) → hits out other ≡ 0
@@ -110,7 +110,7 @@ module _ {T U : Type 0} (names : Naming) (lent : List (ℕ × LentSlot)) (held :
       others_lent loan out other lent off (each_either names lent held buffer ports service loan out stands goes) ∙ stands.loans.all other
       ∙ ap loans_at_port (sym (other_found out.publisher other after ports.publishers off))
 
-  loans_after : LoansStandFor names new (removed loan lent) (removed loan service.loans)
+  pub loans_after : LoansStandFor names new (removed loan lent) (removed loan service.loans)
   loans_after = record {
     same = ap (removed loan) stands.loans.same
         ∙ removed_mapped loan out (loan_as names ports) (loan_as names new) lent not_here
@@ -178,13 +178,14 @@ module _ {T U : Type 0} (names : Naming) (lent : List (ℕ × LentSlot)) (held :
     known = was.3.known;
     apart = was.3.apart;
     led = was.3.led;
+    heard = was.3.heard;
     read = was.3.read;
     unmet = was.3.unmet;
     once = was.3.once;
     due = was.3.due;
   }
 
-  dropped_stands : StandsFor names (removed loan lent) held buffer new (record service { loans = removed loan service.loans })
+  pub dropped_stands : StandsFor names (removed loan lent) held buffer new (record service { loans = removed loan service.loans })
   dropped_stands =
       one_changed names names.message lent
       (removed loan lent) held buffer ports service out.publisher whose after was.0 service.publishers

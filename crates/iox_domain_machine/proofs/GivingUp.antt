@@ -105,6 +105,7 @@ module _ {T U : Type 0} (port : PublisherPort T U) where
     known = boxes.known;
     apart = boxes.apart;
     led = boxes.led;
+    heard = boxes.heard;
     read = boxes.read;
     unmet = boxes.unmet;
     once = boxes.once;

@@ -11,7 +11,7 @@ use Rattle.iox_domain.specs.DomainPorts.Leaving.{parted_at, parted_from, departe
 use Rattle.iox_domain.specs.DomainPorts.Messages.{Message}
 use Rattle.iox_domain.specs.DomainPorts.MessagesSending.{slots_of, connection_by}
 use Rattle.iox_domain.specs.DomainPorts.Places.{is_attached}
-use Rattle.iox_domain.specs.DomainPorts.Ports.{connection_of, with_connection_of, with_connections, goes_on, is_live}
+use Rattle.iox_domain.specs.DomainPorts.Ports.{connection_of, with_connection_of, with_connections, ended_at, goes_on, is_live}
 use Rattle.iox_domain.specs.DomainPorts.declared.publisher_port.PublisherPort.{PublisherPort}
 use Rattle.iox_domain.specs.DomainPorts.declared.reader.Reader.{Reader}
 use Rattle.iox_domain.specs.DomainSlots.Counting.{times}
@@ -47,21 +47,21 @@ none_set [] index = refl
 none_set (x ∷ xs) zero = refl
 none_set (x ∷ xs) (suc index) = none_set xs index
 
-ended_stops : {T U : Type 0} (connection : Connection (Message T U)) → goes_on (ended connection).stage ≡ false
+pub ended_stops : {T U : Type 0} (connection : Connection (Message T U)) → goes_on (ended connection).stage ≡ false
 ended_stops connection = by connection.borrowed
   where
     by : (borrowed : List (Message _ _)) → goes_on (ended (record connection { borrowed = borrowed })).stage ≡ false
     by [] = refl
     by (message ∷ borrowed) = refl
 
-ended_waiting : {X : Type 0} (connection : Connection X) → (ended connection).waiting ≡ []
+pub ended_waiting : {X : Type 0} (connection : Connection X) → (ended connection).waiting ≡ []
 ended_waiting {X} connection = by connection.borrowed
   where
     by : (borrowed : List X) → (ended (record connection { borrowed = borrowed })).waiting ≡ []
     by [] = refl
     by (message ∷ borrowed) = refl
 
-ended_borrowed : {X : Type 0} (connection : Connection X) → (ended connection).borrowed ≡ connection.borrowed
+pub ended_borrowed : {X : Type 0} (connection : Connection X) → (ended connection).borrowed ≡ connection.borrowed
 ended_borrowed {X} connection = by connection.borrowed
   where
     by : (borrowed : List X) → (ended (record connection { borrowed = borrowed })).borrowed ≡ borrowed
@@ -104,10 +104,13 @@ module _ {T U : Type 0} where
   parts_live index port true live = ends_here index port live
   parts_live index port false live = stayed port
 
+  pub ended_parts : (index : ℕ) (port : PublisherPort T U) → HasParted port (ended_at index port)
+  ended_parts index port = parts_live index port (is_live index port) refl
+
   parts_here : (index : ℕ) (port : PublisherPort T U) (attached : Bool) → is_attached (get_or port.readers index None) ≡ attached
       → HasParted port (parted_at index port)
   parts_here index port true is = rw is (stayed port)
-  parts_here index port false is = rw is (parts_live index port (is_live index port) refl)
+  parts_here index port false is = rw is (ended_parts index port)
 
   each_on : (index : ℕ) (old between new : PublisherPort T U) → HasStayed index old between ⊎ HasEnded index old between
       → HasStayed index between new ⊎ HasEnded index between new → HasStayed index old new ⊎ HasEnded index old new
@@ -144,7 +147,7 @@ module _ {T U : Type 0} where
   parts port = parts_from (length port.sender.uses.connections) 0 (record port { stands = false })
 
 -- where each connection holds no more, all hold no more
-held_each : (slot : ℕ) (new old : List (Connection ℕ))
+pub held_each : (slot : ℕ) (new old : List (Connection ℕ))
     → ((index : ℕ) → times slot (held_by (get_or new index nobody)) ≤ times slot (held_by (get_or old index nobody)))
     → times slot (held new) ≤ times slot (held old)
 held_each slot [] old less = omega arith
@@ -158,7 +161,7 @@ held_each slot (connection ∷ new) (was ∷ old) less =
     omega (arith, here, rest, times_append slot (held_by connection) (held new), times_append slot (held_by was) (held old))
 
 -- a connection that is there is that of somebody, or none is
-search_reader : {X : Type 0} (connections : List (Connection X)) (reader : ℕ → ℕ) (name : ℕ)
+pub search_reader : {X : Type 0} (connections : List (Connection X)) (reader : ℕ → ℕ) (name : ℕ)
     → ((index : ℕ) × (is_there (get_or connections index nobody) ≡ true) × (reader index ≡ name))
     ⊎ ((index : ℕ) → is_there (get_or connections index nobody) ≡ true → reader index ≢ name)
 search_reader [] reader name = inr (λ index there. never_true there)
@@ -333,6 +336,10 @@ module _ {T U : Type 0} (port after : PublisherPort T U) (parted : HasParted (re
               ∙ boxes.led index (ap (λ (one : Connection (Message T U)). goes_on one.stage) (sym stays.same) ∙ is))
               (λ ends. differ (sym is ∙ ap (λ (one : Connection (Message T U)). goes_on one.stage) ends.ends
               ∙ ended_stops (connection_of index port))) (parted.each index);
+          heard = λ index to is. ⊎_elim
+              (λ stays. ap (λ (one : Connection (Message T U)). goes_on one.stage) stays.same
+              ∙ boxes.heard index to (sym stays.reads ∙ is))
+              (λ ends. never_some to (sym ends.none ∙ is)) (parted.each index);
           read = λ index to is. boxes.read index to (still_read index to is);
           unmet = λ standing. never_true standing;
           once = λ index slot. let before = boxes.once index slot in omega (arith, before, held_less index slot);

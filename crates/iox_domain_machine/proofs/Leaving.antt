@@ -2,8 +2,7 @@
 use Rattle.std.proofs.Common.{◌≡◌, ◌≢◌, ◌⊎◌, ◌+◌, ◌∷◌, [], ◌&&◌, ◌||◌, ℕ, zero, suc, Bool, true, false, List, map, get_or, set, not, Option, None, Some, refl, sym, ap, subst, inl, inr, ◌∙◌, arith}
 use Rattle.std.proofs.lemmas.Bool.{cases_eq, eq-eqb, ne_eqb}
 use Rattle.std.proofs.lemmas.List.{get_or-set_other}
-use Rattle.std.specs.Option.{option_map_or}
-use Rattle.std.specs.Prelude.{find, is_some, option_map, MatchOption, if◌then◌else◌, ◌==◌}
+use Rattle.std.specs.Prelude.{is_some, option_map, MatchOption, if◌then◌else◌}
 use Rattle.iox_command.specs.NegotiateBase.DescribeBase.declared.message_type.MessageTypeDetails.{MessageTypeDetails}
 use Rattle.iox_command.specs.declared.command.Command.TheVariants as command
 use Rattle.iox_command.specs.declared.port.PortNumber.TheVariants as number_of
@@ -15,7 +14,7 @@ use Rattle.iox_domain.proofs.PublisherKeeps.{port_departed}
 use Rattle.iox_domain.specs.Container.declared.container.Member.{Member}
 use Rattle.iox_domain.specs.DomainPorts.Leaving.{departed}
 use Rattle.iox_domain.specs.DomainPorts.Messages.{Message}
-use Rattle.iox_domain.specs.DomainPorts.Publishers.{port_of, connection_in, connection_at_port}
+use Rattle.iox_domain.specs.DomainPorts.Publishers.{port_of}
 use Rattle.iox_domain.specs.DomainPorts.declared.attached.Taken.{Taken}
 use Rattle.iox_domain.specs.DomainPorts.declared.publisher_entry.PublisherEntry.{PublisherEntry}
 use Rattle.iox_domain.specs.DomainPorts.declared.publisher_port.PublisherPort.{PublisherPort}
@@ -30,15 +29,15 @@ use Rattle.iox_domain_machine.specs.Mailboxes.{IsKeyed}
 use Rattle.iox_domain_machine.specs.Naming.{Naming, list_as}
 use Rattle.iox_domain_machine.specs.Publishers.{BlockedStandsFor}
 use Rattle.iox_domain_machine.specs.Standing.{StandsFor, PublisherIs, IsListedAt}
-use Rattle.iox_domain_machine.specs.Tables.{LentSlot, LoansStandFor, SamplesStandFor, sample_as}
+use Rattle.iox_domain_machine.specs.Tables.{LentSlot, LoansStandFor, SamplesStandFor}
 use Rattle.iox_domain_machine.proofs.Alone.{alone_does, alone_skips}
 use Rattle.iox_domain_machine.proofs.Changing.{any_changed, with_one}
-use Rattle.iox_domain_machine.proofs.Found.{same_some, never_some, never_true, same_everywhere, at_changed, at_changed_other, other_found}
+use Rattle.iox_domain_machine.proofs.Found.{same_some, never_some, never_true, at_changed, at_changed_other, other_found}
 use Rattle.iox_domain_machine.proofs.GivingUp.{some_of, isn't_in, is_in, none_blocked}
-use Rattle.iox_domain_machine.proofs.Kept.{loans_kept, sample_by}
+use Rattle.iox_domain_machine.proofs.Kept.{loans_kept}
 use Rattle.iox_domain_machine.proofs.LeavePort.{HasParted, parts, none_set, left_port, left_boxes, borrowed_same, still_read}
+use Rattle.iox_domain_machine.proofs.LeaveSamples.{samples_alike}
 use Rattle.iox_domain_machine.proofs.Settling.{settled_stands}
-use Rattle.iox_machine.specs.Message.{Sample}
 use Rattle.iox_machine.specs.PortList as machine_list
 use Rattle.iox_machine.specs.PortList.{PortList, unless}
 use Rattle.iox_machine.specs.Ports.{publisher_in}
@@ -73,7 +72,7 @@ module _ {V : Type 0} (name : V → ℕ) (gone : ℕ) where
       ap (λ first. first ∷ map (unless (gone ∷ [])) (map named places)) (kept_one member (others 0))
       ∙ ap (λ rest. named member ∷ rest) (kept_all places (λ place. others (suc place)))
 
-  gone_at : (place : ℕ) (places : List (Option (Member V)))
+  pub gone_at : (place : ℕ) (places : List (Option (Member V)))
       → ((other : ℕ) (one : Member V) → get_or places other None ≡ Some one → name one.value ≡ gone → other ≡ place)
       → ((one : Member V) → get_or places place None ≡ Some one → name one.value ≡ gone)
       → map (unless (gone ∷ [])) (map named places) ≡ map named (set places place None)
@@ -178,38 +177,9 @@ module _ {T U : Type 0} (names : Naming) (lent : List (ℕ × LentSlot)) (held :
       (λ index to reads attached. stands.keyed number port there index to (still_read port after parted silent index to reads) attached))
   keyed other found (inr off) is = stands.keyed other found (sym (elsewhere other off) ∙ is)
 
-  borrowed_alike : (other index : ℕ) → (other ≡ number) ⊎ (other ≢ number)
-      → (connection_in other index new.publishers).borrowed ≡ (connection_in other index old.publishers).borrowed
-  borrowed_alike other index (inl same) =
-      ap (λ n. (connection_in n index new.publishers).borrowed) same ∙ ap (λ found. (connection_at_port index found).borrowed) now
-      ∙ borrowed_same port after parted silent index
-      ∙ sym (ap (λ n. (connection_in n index old.publishers).borrowed) same
-      ∙ ap (λ found. (connection_at_port index found).borrowed) there)
-  borrowed_alike other index (inr off) = ap (λ found. (connection_at_port index found).borrowed) (elsewhere other off)
-
-  sample_alike : (taken : Taken) → sample_as names old taken ≡ sample_as names new taken
-  sample_alike taken =
-      ap (λ (found : Option (Message T U)). record {
-        publisher = names.publisher taken.publisher;
-        subscriber = names.subscriber taken.subscriber;
-        message = record {
-          number = names.message taken.publisher taken.slot;
-          values = option_map_or (λ (message : Message T U). message.values) found [];
-        };
-      }) (sample_by taken old
-      ∙ ap (find (λ (message : Message T U). message.slot == taken.slot))
-      (sym (borrowed_alike taken.publisher taken.index (cases_eq taken.publisher number))) ∙ sym (sample_by taken new))
-
   samples_after : SamplesStandFor names new held service.samples
-  samples_after = record {
-    same = stands.samples.same ∙ ap (λ (one : Taken → Sample T). map (λ (entry : ℕ × Taken). (entry.0, one entry.1)) held)
-        (same_everywhere (sample_as names old) (sample_as names new) sample_alike);
-    once = stands.samples.once;
-    all = λ other index. stands.samples.all other index
-        ∙ ap (map (λ (message : Message T U). message.slot)) (sym (borrowed_alike other index (cases_eq other number)));
-    whose = stands.samples.whose;
-    counted = stands.samples.counted;
-  }
+  samples_after =
+      samples_alike names held old number port after there (borrowed_same port after parted silent) service.samples stands.samples
 
   loans_after : LoansStandFor names new lent service.loans
   loans_after = loans_kept number port after old there names lent service.loans

@@ -222,6 +222,7 @@ module _ {T U : Type 0} (name reader : ℕ → ℕ) (most : ℕ) (port : Publish
       known = boxes.known;
       apart = boxes.apart;
       led = boxes.led;
+      heard = boxes.heard;
       read = boxes.read;
       unmet = boxes.unmet;
       once = boxes.once;

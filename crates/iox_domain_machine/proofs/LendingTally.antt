@@ -39,7 +39,7 @@ times_but number which (other ∷ more) apart = ⊎_elim
     (eqb_tells other number)
 
 -- and that one never
-none_but : (number : ℕ) (all : List ℕ) → times number (but number all) ≡ 0
+pub none_but : (number : ℕ) (all : List ℕ) → times number (but number all) ≡ 0
 none_but number [] = refl
 none_but number (other ∷ more) = ⊎_elim
     (λ same. ap (times number) (on number other more same.0) ∙ none_but number more)

@@ -29,7 +29,8 @@ is_same taken other = is_of taken other && (other.slot == taken.slot)
 abbrev pub IsIts : ℕ → Taken → ℕ × Taken → Type 0
 IsIts number taken entry = (entry.0 == number) ≡ is_same taken entry.1
 
-misses : (b : Bool) (slot other : ℕ) → cond b (one slot other) 0 ≡ 0 → (b && (other == slot)) ≡ false
+-- what isn't counted isn't it
+pub misses : (b : Bool) (slot other : ℕ) → cond b (one slot other) 0 ≡ 0 → (b && (other == slot)) ≡ false
 misses false slot other none = refl
 misses true slot other none = ⊎_elim
     (λ same. absurd (let one_is : one slot other ≡ 1 = ap (λ b. cond b 1 0) (alike slot other same.1) in omega (arith, none, one_is)))

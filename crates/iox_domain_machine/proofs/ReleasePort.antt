@@ -38,7 +38,7 @@ differ e = absurd (wrong e)
     wrong e = cc
 
 -- what is held at one connection is held less often, or as often
-less_held : (connections : List (Connection ℕ)) (index : ℕ) (connection : Connection ℕ) (slot : ℕ)
+pub less_held : (connections : List (Connection ℕ)) (index : ℕ) (connection : Connection ℕ) (slot : ℕ)
     → times slot (held_by connection) ≤ times slot (held_by (get_or connections index nobody))
     → times slot (held (set connections index connection)) ≤ times slot (held connections)
 less_held [] index connection slot less = omega arith
@@ -92,7 +92,7 @@ live_open stage.Vacant is = is
 live_open stage.Live is = refl
 live_open stage.Ended is = refl
 
-live_isn't_ended : {A : Type 0} (now : Stage) → goes_on now ≡ true → now ≡ stage.Ended → A
+pub live_isn't_ended : {A : Type 0} (now : Stage) → goes_on now ≡ true → now ≡ stage.Ended → A
 live_isn't_ended now is ended = differ (sym is ∙ ap goes_on ended)
 
 module _ {T U : Type 0} (port : PublisherPort T U) (index slot : ℕ) (tidy : IsTidy port)
@@ -148,6 +148,14 @@ module _ {T U : Type 0} (port : PublisherPort T U) (index slot : ℕ) (tidy : Is
       ∙ sym (settled_goes was.stage was.limit was.waiting _)
       ∙ sym (ap (λ i. is_live i after) same ∙ ap (λ (connection : Connection (Message T U)). goes_on connection.stage) here) ∙ live)
       (λ off. ap (λ (connection : Connection (Message T U)). goes_on connection.stage) (sym (elsewhere other off)) ∙ live)
+      (cases_eq other index)
+
+  -- and one that went on before does still
+  live_still : (other : ℕ) → is_live other port ≡ true → is_live other after ≡ true
+  live_still other live = ⊎_elim
+      (λ same. ap (λ i. is_live i after) same ∙ ap (λ (connection : Connection (Message T U)). goes_on connection.stage) here
+      ∙ settled_goes was.stage was.limit was.waiting _ ∙ sym (ap (λ i. is_live i port) same) ∙ live)
+      (λ off. ap (λ (connection : Connection (Message T U)). goes_on connection.stage) (elsewhere other off) ∙ live)
       (cases_eq other index)
 
   is_there_here : is_there was ≡ true
@@ -403,6 +411,7 @@ module _ {T U : Type 0} (port : PublisherPort T U) (index slot : ℕ) (tidy : Is
       known = λ i there. boxes.known i (there_before i there);
       apart = λ one other is is_other same. boxes.apart one other (there_before one is) (there_before other is_other) same;
       led = λ i is. boxes.led i (live_before i is);
+      heard = λ i to is. live_still i (boxes.heard i to is);
       read = boxes.read;
       unmet = unmet;
       once = λ i other. let before = boxes.once i other in omega (arith, before, held_less other i);

@@ -88,6 +88,14 @@ module _ {T U : Type 0} (names : Naming) (lent : List (ℕ × LentSlot)) (held :
       keyed = λ other found it. keyed other found (stands.keyed other found it);
       subscribers = λ other found it. stands.subscribers other found (was_there other found (cases_eq other number) it);
       gone_subscribers = λ other subscriber none it. gone other subscriber (cases_eq other number) none it;
+      listed_subscribers = λ other found it. stands.listed_subscribers other found (was_there other found (cases_eq other number) it);
+      present_subscribers = λ place member is.
+          let before = stands.present_subscribers place member is in (
+            before.0,
+            still_there member.value.subscriber before.0 (cases_eq member.value.subscriber number) before.1 before.2,
+            before.2,
+            before.3,
+          );
       sized = stands.sized;
       joined = stands.joined;
       loans = record { same = stands.loans.same; once = stands.loans.once; all = stands.loans.all };

@@ -74,22 +74,22 @@ module _ {T : Type 0} (publisher subscriber : ℕ) (box : Mailbox T) (service : 
   abbrev with_box : Service T
   with_box = with_mailbox publisher subscriber box service
 
-  box_now : with_box.mailboxes publisher subscriber ≡ Some box
+  pub box_now : with_box.mailboxes publisher subscriber ≡ Some box
   box_now =
       ap (λ b. if b && (subscriber == subscriber) then Some box else service.mailboxes publisher subscriber)
       (eq-eqb publisher publisher refl)
       ∙ ap (λ b. if b then Some box else service.mailboxes publisher subscriber) (eq-eqb subscriber subscriber refl)
 
-  others_box : (other : ℕ) → other ≢ subscriber → with_box.mailboxes publisher other ≡ service.mailboxes publisher other
+  pub others_box : (other : ℕ) → other ≢ subscriber → with_box.mailboxes publisher other ≡ service.mailboxes publisher other
   others_box other off =
       ap (λ b. if (publisher == publisher) && b then Some box else service.mailboxes publisher other) (ne_eqb other subscriber off)
       ∙ ap (λ b. if b then Some box else service.mailboxes publisher other) (and_false (publisher == publisher))
 
-  other_boxes : (other : ℕ) → other ≢ publisher → with_box.mailboxes other ≡ service.mailboxes other
+  pub other_boxes : (other : ℕ) → other ≢ publisher → with_box.mailboxes other ≡ service.mailboxes other
   other_boxes other off = same_everywhere (with_box.mailboxes other) (service.mailboxes other)
       (λ one. ap (λ b. if b && (one == subscriber) then Some box else service.mailboxes other one) (ne_eqb other publisher off))
 
-  same_boxes : is_some (service.mailboxes publisher subscriber) ≡ true → (one other : ℕ)
+  pub same_boxes : is_some (service.mailboxes publisher subscriber) ≡ true → (one other : ℕ)
       → is_some (with_box.mailboxes one other) ≡ is_some (service.mailboxes one other)
   same_boxes there one other = ⊎_elim
       (λ same. ⊎_elim
@@ -382,7 +382,7 @@ module _ {T U : Type 0} (names : Naming) (lent : List (ℕ × LentSlot)) (held :
         (same_boxes gone.publisher gone.subscriber given service (ap is_some box_there)) same_subscribers
         (λ other. subst (λ keys. how_often other keys ≤ 1) (sym (keys-set_value (at_number taken.subscriber) old.subscribers less))
         (stands.once_subscribers other))
-        refl refl refl loans_after samples_after
+        refl refl (stands.keyed taken.publisher it.port it.there) loans_after samples_after
 
     abbrev settled_ports : ServicePorts T U
     settled_ports = record new { publishers = publishers.settled taken.publisher new.publishers }

@@ -221,6 +221,8 @@ module _ {T U : Type 0} (names : Naming) (lent : List (ℕ × LentSlot)) (held :
     keyed = λ other found it. stands.keyed other found (was_there other found (cases_eq other number) it);
     subscribers = stands.subscribers;
     gone_subscribers = stands.gone_subscribers;
+    listed_subscribers = stands.listed_subscribers;
+    present_subscribers = stands.present_subscribers;
     sized = stands.sized;
     joined = stands.joined;
     loans = record {

@@ -211,6 +211,7 @@ module _ {T U : Type 0} (names : Naming) (lent : List (ℕ × LentSlot)) (held :
       known = was.3.known;
       apart = was.3.apart;
       led = was.3.led;
+      heard = was.3.heard;
       read = was.3.read;
       unmet = was.3.unmet;
       once = was.3.once;

@@ -1,4 +1,4 @@
--- What a domain does when a publisher leaves is what the machine's service does.
+-- What a domain does when a publisher or a subscriber leaves is what the machine's service does.
 use Rattle.std.specs.Prelude.{ℕ, ◌≡◌, ◌≢◌, Bool, true, List}
 use Rattle.iox_command.specs.NegotiateBase.DescribeBase.declared.message_type.MessageTypeDetails.{MessageTypeDetails}
 use Rattle.iox_command.specs.declared.command.Command.TheVariants as command
@@ -6,7 +6,7 @@ use Rattle.iox_command.specs.declared.port.PortNumber.TheVariants as port
 use Rattle.iox_domain.specs.DomainPorts.declared.attached.Taken.{Taken}
 use Rattle.iox_domain.specs.PortLawsLaws.{IsSound}
 use Rattle.iox_domain.specs.Rolls.{may_change}
-use Rattle.iox_domain.specs.Steps.{PublisherLeaves}
+use Rattle.iox_domain.specs.Steps.{PublisherLeaves, SubscriberLeaves}
 use Rattle.iox_domain.specs.declared.ports.service_ports.ServicePorts.{ServicePorts}
 use Rattle.iox_domain_machine.specs.Laws.{Matches, done_or_skipped}
 use Rattle.iox_domain_machine.specs.Naming.{Naming}
@@ -23,4 +23,13 @@ PublisherLeaveMatches T U IsDefault = (types : MessageTypeDetails) (buffer : ℕ
     → StandsFor names lent held buffer old service → IsSound old → names.publisher number ≢ 0 → may_change old.publisher_list ≡ true
     → PublisherLeaves number old answer new
     → Matches T U IsDefault types buffer (command.Leave (port.Publisher (names.publisher number))) (done_or_skipped answer) state
+    service names lent held new
+
+-- A subscriber leaves, of ports that are sound. One change more of the list of subscribers can be counted.
+abbrev pub SubscriberLeaveMatches : (T U : Type 0) → (T → Type 0) → Type 0
+SubscriberLeaveMatches T U IsDefault = (types : MessageTypeDetails) (buffer : ℕ) (names : Naming) (lent : List (ℕ × LentSlot))
+    (held : List (ℕ × Taken)) (old new : ServicePorts T U) (service : Service T) (state : State T) (number : ℕ) (answer : Bool)
+    → StandsFor names lent held buffer old service → IsSound old → names.subscriber number ≢ 0 → may_change old.subscriber_list ≡ true
+    → SubscriberLeaves number old answer new
+    → Matches T U IsDefault types buffer (command.Leave (port.Subscriber (names.subscriber number))) (done_or_skipped answer) state
     service names lent held new

@@ -1,12 +1,15 @@
 -- What a publisher's loan is, of a domain and of the machine.
-use Rattle.std.specs.Prelude.{ℕ, ◌+◌, ◌≡◌, ◌≢◌, List, [], ◌∷◌, ◌++◌, Option, None, Some, Result, Ok, Err}
+use Rattle.std.specs.Prelude.{ℕ, ◌+◌, ◌≡◌, ◌≢◌, List, [], ◌∷◌, ◌++◌, length, replicate, Option, None, Some, Result, Ok, Err}
 use Rattle.iox_command.specs.DomainValues.declared.port_error.LoanError.{LoanError}
 use Rattle.iox_command.specs.NegotiateBase.DescribeBase.declared.message_type.MessageTypeDetails.{MessageTypeDetails}
 use Rattle.iox_command.specs.declared.command.Command.TheVariants as command
 use Rattle.iox_command.specs.declared.refusal.Refusal.TheVariants as refusal
 use Rattle.iox_command.specs.declared.reply.Reply.{Reply}
 use Rattle.iox_command.specs.declared.reply.Reply.TheVariants as reply
+use Rattle.iox_domain.specs.DomainPorts.Messages.{write_all}
+use Rattle.iox_domain.specs.DomainPorts.MessagesSending.{has_length}
 use Rattle.iox_domain.specs.DomainPorts.declared.attached.Taken.{Taken}
+use Rattle.iox_domain.specs.Lending.{written_in}
 use Rattle.iox_domain.specs.PortLawsLaws.{IsSound}
 use Rattle.iox_domain.specs.Steps.{LoansBy}
 use Rattle.iox_domain.specs.declared.ports.service_ports.ServicePorts.{ServicePorts}
@@ -37,6 +40,17 @@ with_lent loan number None lent = lent
 with_lent loan number (Some (Ok slot)) lent = lent ++ (loan, record { publisher = number; slot = slot }) ∷ []
 with_lent loan number (Some (Err why)) lent = lent
 
+-- the ports where the loan in a slot of a publisher has these values, if it has as many places
+abbrev pub with_values_in : {T U : Type 0} → ℕ → ℕ → List T → ServicePorts T U → ServicePorts T U
+with_values_in number slot values ports =
+    written_in number (λ port. has_length slot (length values) port.sender.uses) slot (write_all values) ports
+
+-- the ports where the loan that was made, if one was, has these values
+abbrev pub with_lent_values : {T U : Type 0} → ℕ → List T → Option (Result ℕ LoanError) → ServicePorts T U → ServicePorts T U
+with_lent_values number values None ports = ports
+with_lent_values number values (Some (Ok slot)) ports = with_values_in number slot values ports
+with_lent_values number values (Some (Err why)) ports = ports
+
 module _ (T U : Type 0) (IsDefault : T → Type 0) where
   -- A publisher lends so many values, none of which is written, or it is told why not. The loan gets the next number, which no loan has
   -- yet, and its message the publisher's next; of ports that are sound.
@@ -48,3 +62,15 @@ module _ (T U : Type 0) (IsDefault : T → Type 0) where
       → (name : ℕ) × Matches T U IsDefault types buffer (command.LoanUninit (names.publisher number) values)
       (lent_or_not (state.made.loans + 1) answer) state service (with_lent_name number name answer names)
       (with_lent (state.made.loans + 1) number answer lent) held new
+
+  -- A publisher lends so many values, each of which is written then: it is the same default. Or it is told why not. Else it is as where
+  -- none is written.
+  abbrev pub LendMatches : Type 0
+  LendMatches = (types : MessageTypeDetails) (buffer : ℕ) (names : Naming) (lent : List (ℕ × LentSlot)) (held : List (ℕ × Taken))
+      (old made : ServicePorts T U) (service : Service T) (state : State T) (number values : ℕ) (value : T)
+      (answer : Option (Result ℕ LoanError))
+      → StandsFor names lent held buffer old service → IsSound old → names.publisher number ≢ 0
+      → at (state.made.loans + 1) lent ≡ None → IsDefault value → LoansBy number values values old answer made
+      → (name : ℕ) × Matches T U IsDefault types buffer (command.Loan (names.publisher number) values)
+      (lent_or_not (state.made.loans + 1) answer) state service (with_lent_name number name answer names)
+      (with_lent (state.made.loans + 1) number answer lent) held (with_lent_values number (replicate values value) answer made)

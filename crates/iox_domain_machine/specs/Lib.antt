@@ -8,3 +8,12 @@ pub mod Laws
 pub mod ReleaseLaws
 pub mod LeaveLaws
 pub mod LendingLaws
+pub mod Services
+pub mod ServiceLaws
+pub mod SubscriberUpdateLaws
+pub mod ReceiveLaws
+pub mod SendLaws
+pub mod PutLaws
+pub mod PublisherUpdateLaws
+pub mod ComingLaws
+pub mod ComingPublisherLaws

@@ -52,6 +52,8 @@ pub record MailboxesStandFor {T U : Type 0} (name reader subscriber_name : ℕ �
   -- and that is whose connection it is
   pub read : (index : ℕ) (to : Reader) → get_or port.readers index None ≡ Some to
       → (reader index ≡ subscriber_name to.subscriber) × (subscriber_name to.subscriber ≢ 0)
+  -- one that leads to somebody goes on
+  pub heard : (index : ℕ) (to : Reader) → get_or port.readers index None ≡ Some to → is_live index port ≡ true
   -- of one that no place is tied to nothing waits or is borrowed, while the publisher stands
   pub unmet : port.stands ≡ true → (index : ℕ) → is_live index port ≡ true
       → ((place : ℕ) → get_or port.ties.items place None ≢ Some index) → held_by (connection_of index port) ≡ []

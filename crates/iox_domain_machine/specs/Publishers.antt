@@ -1,5 +1,5 @@
 -- Which publisher of the machine one of a domain is.
-use Rattle.std.specs.Prelude.{ℕ, ◌+◌, ◌<◌, ◌≤◌, ◌≡◌, false, List, length, drop, map, nat_le, Option, None, Some, option_map}
+use Rattle.std.specs.Prelude.{ℕ, ◌+◌, ◌-◌, ◌^◌, ◌<◌, ◌≤◌, ◌≡◌, min, true, false, List, length, drop, get_or, is_some, map, nat_le, Option, None, Some, option_map}
 use Rattle.iox_domain.specs.DomainPorts.Messages as domain
 use Rattle.iox_domain.specs.DomainPorts.MessagesSending.{slots_of}
 use Rattle.iox_domain.specs.DomainPorts.Places.{reached}
@@ -12,13 +12,18 @@ use Rattle.iox_domain_machine.specs.Naming.{message_as}
 use Rattle.iox_machine.specs.PortList.{those}
 use Rattle.iox_machine.specs.Service.{Publisher, Send}
 
--- A send that waits has this message, goes to those who are connected at the places that are left, and was taken by as many so far.
+-- A send that waits has this message, goes to those who are connected at the places that are left, and was taken by as many so far. It
+-- waits at the first of these places, where somebody is connected, and was tried there again as often, counted up to 2^64 - 1, and for as
+-- long.
 pub record SendStandsFor {T U : Type 0} (name : ℕ → ℕ) (connected : List (Option ℕ)) (progress : ProgressState)
     (sent : domain.Message T U) (send : Send T) : Type 0 where
   pub message : send.message ≡ message_as name sent
   pub left : send.left ≡ those (drop progress.place connected)
   pub delivered : send.delivered ≡ progress.delivered
   pub fails : send.fails ≡ progress.fails
+  pub retries : progress.retries ≡ min send.retries (2 ^ 64 - 1)
+  pub elapsed : progress.elapsed ≡ send.elapsed
+  pub meets : is_some (get_or connected progress.place None) ≡ true
 
 -- a send waits of both, or of neither
 abbrev pub BlockedStandsFor : {T U : Type 0} → (ℕ → ℕ) → List (Option ℕ) → ProgressState → Option (domain.Message T U) → Option (Send T)
@@ -40,7 +45,7 @@ pub record NamesSlots (name : ℕ → ℕ) (uses : Uses ℕ ℕ) (first next : �
 
 -- A publisher of a domain is this one of the machine, where its messages have these names by their slots, and its subscribers by the
 -- indices of their connections; so many may be listed. No message is in its history twice, its values are counted one by one, no send
--- waits of one that left, and there is a slot for each loan that may be out.
+-- waits of one that left, and there is a slot at least.
 pub record PublisherStandsFor {T U : Type 0} (name reader : ℕ → ℕ) (most_subscribers : ℕ) (port : PublisherPort T U)
     (publisher : Publisher T) : Type 0 where
   pub factory : publisher.factory ≡ port.owner.number
@@ -60,4 +65,4 @@ pub record PublisherStandsFor {T U : Type 0} (name reader : ℕ → ℕ) (most_s
   pub named : NamesSlots name (slots_of port.sender) publisher.first publisher.next
   pub unit : port.unit ≡ 1
   pub most_segments : port.sender.most_segments ≡ segments_of port.allocation
-  pub ample : port.sender.uses.most_loans ≤ port.sender.uses.size
+  pub ample : 0 < port.sender.uses.size

@@ -34,6 +34,12 @@ IsListedAt places number port =
     port.stands ≡ true
     → (member : Member PublisherEntry) × (get_or places port.place None ≡ Some member) × (member.value.publisher ≡ number)
 
+-- a subscriber that stands is listed at its place
+abbrev pub IsSubscriberListedAt : List (Option (Member SubscriberEntry)) → ℕ → SubscriberPort → Type 0
+IsSubscriberListedAt places number port =
+    port.stands ≡ true
+    → (member : Member SubscriberEntry) × (get_or places port.place None ≡ Some member) × (member.value.subscriber ≡ number)
+
 -- a subscriber of a domain, by its number: the machine has it under its name
 abbrev pub SubscriberIs : {T U : Type 0} → Naming → ServicePorts T U → Service T → ℕ → SubscriberPort → Type 0
 SubscriberIs names ports service number port =
@@ -73,6 +79,12 @@ pub record StandsFor {T U : Type 0} (names : Naming) (lent : List (ℕ × LentSl
       → SubscriberIs names ports service number port
   pub gone_subscribers : (number : ℕ) (subscriber : Subscriber) → subscriber_of number ports.subscribers ≡ None
       → at (names.subscriber number) service.subscribers ≡ Some subscriber → subscriber.stands ≡ false
+  -- where it stands, and just then, it is listed, at its place
+  pub listed_subscribers : (number : ℕ) (port : SubscriberPort) → subscriber_of number ports.subscribers ≡ Some port
+      → IsSubscriberListedAt ports.subscriber_list.places number port
+  pub present_subscribers : (place : ℕ) (member : Member SubscriberEntry) → get_or ports.subscriber_list.places place None ≡ Some member
+      → (port : SubscriberPort) × (subscriber_of member.value.subscriber ports.subscribers ≡ Some port)
+      × (port.stands ≡ true) × (port.place ≡ place)
   -- who is listed stands, and as many messages may wait as the list says
   pub sized : (place : ℕ) (member : Member SubscriberEntry) → get_or ports.subscriber_list.places place None ≡ Some member
       → (subscriber : Subscriber) × (at (names.subscriber member.value.subscriber) service.subscribers ≡ Some subscriber)

@@ -1,5 +1,5 @@
 -- Which subscriber of the machine one of a domain is.
-use Rattle.std.specs.Prelude.{ℕ, ◌≡◌, map, option_map}
+use Rattle.std.specs.Prelude.{ℕ, ◌≡◌, true, map, option_map}
 use Rattle.std.specs.Option.{option_map_or}
 use Rattle.iox_domain.specs.DomainPorts.Places.{reached}
 use Rattle.iox_domain.specs.DomainPorts.Subscribing.{attached_at}
@@ -11,7 +11,7 @@ abbrev pub publisher_by : (ℕ → ℕ) → SubscriberPort → ℕ → ℕ
 publisher_by name port key = option_map_or (λ attached. name attached.publisher) (attached_at key port) 0
 
 -- A subscriber of a domain is this one of the machine, where publishers have these names; so many may be listed, and so many connections
--- to publishers that left are kept.
+-- to publishers that left are kept. While it stands it has the same connections.
 pub record SubscriberStandsFor (name : ℕ → ℕ) (most_publishers most_expired : ℕ) (port : SubscriberPort) (subscriber : Subscriber)
     : Type 0 where
   pub factory : subscriber.factory ≡ port.owner.number
@@ -19,6 +19,7 @@ pub record SubscriberStandsFor (name : ℕ → ℕ) (most_publishers most_expire
   pub buffer_size : subscriber.buffer_size ≡ port.buffer_size
   pub seen : subscriber.seen ≡ port.seen
   pub again : subscriber.again ≡ port.again
-  pub connected : subscriber.connected ≡ map (option_map (publisher_by name port)) (reached most_publishers port.places.items)
-  pub expired : subscriber.expired ≡ map (publisher_by name port) port.expired.items
+  pub connected : port.stands ≡ true
+      → subscriber.connected ≡ map (option_map (publisher_by name port)) (reached most_publishers port.places.items)
+  pub expired : port.stands ≡ true → subscriber.expired ≡ map (publisher_by name port) port.expired.items
   pub room : port.expired.room ≡ most_expired

@@ -1,12 +1,9 @@
 -- Whether sends fail at a full mailbox says what was found of their publisher, and nothing else that is found.
-use Rattle.std.proofs.Common.{ℕ, zero, suc, ◌≡◌, ◌+◌, ◌≤◌, ◌==◌, ◌&&◌, Bool, true, false, List, [], ◌∷◌, ◌++◌, length, take, drop, map, set, slice_get, Option, Some, None, Result, Ok, Err, IfOk, OnErr, refl, sym, ◌∙◌, ap, subst, inl, inr, arith}
-use Rattle.std.proofs.Math.Seq.{map-set_same}
+use Rattle.std.proofs.Common.{ℕ, zero, suc, ◌≡◌, ◌+◌, ◌≤◌, ◌==◌, ◌&&◌, Bool, true, false, List, [], ◌∷◌, ◌++◌, length, take, drop, set, slice_get, Option, Some, None, Result, Ok, Err, IfOk, OnErr, refl, sym, ◌∙◌, ap, subst, inl, inr, arith}
 use Rattle.std.proofs.lemmas.List.{length-map, map-set, set_past}
-use Rattle.std.proofs.lemmas.Option.{get_or_from_slice_get, slice_get_cases}
-use Rattle.iox_lanes_machine.specs.LanesBase.declared.calls.route.Route.{Route}
-use Rattle.iox_lanes_machine.specs.LanesParties.Parties.{PublisherLaneState, SubscriberLaneState, lane_found, lane_meets, lane_named, lane_remembers, lane_resized}
-use Rattle.iox_lanes_machine.specs.Findings.{buffered_at, buffered_in, buffered_of, finds, given_at, given_of, is_there, named_of, remembered_of, resized_of, swapped_of, waiting_at, waiting_in, waiting_of, with_buffer, with_found, FindsTo}
-use Rattle.iox_lanes_machine.specs.Links.{LinkState}
+use Rattle.std.proofs.lemmas.Option.{slice_get_cases}
+use Rattle.iox_lanes_machine.specs.LanesParties.Parties.{PublisherLaneState, lane_named}
+use Rattle.iox_lanes_machine.specs.Findings.{finds, is_there, named_of, with_found, FindsTo}
 use Rattle.iox_lanes_machine.specs.Made.{publisher_at, start}
 use Rattle.iox_lanes_machine.specs.TakenIn.{WantsMemory}
 use Rattle.iox_lanes_machine.specs.World.{World}
@@ -18,60 +15,14 @@ use Rattle.iox_lanes_machine.proofs.Start.{listed_length}
 use Rattle.iox_lanes.specs.Failing.{failing}
 use Rattle.iox_lanes.specs.Finding.{failing_behind, WasFound}
 use Rattle.iox_lanes.proofs.Found.{no_moments}
+use Rattle.iox_lanes.proofs.Moving.{seen_same}
 
 -- lanes that were just made have a publisher for each of their number
 pub as_many_made : (sizes : LaneSizes) (m : World) → m ≡ start sizes → length (failing m) ≡ sizes.publishers
-as_many_made sizes m is = ap (λ (w : World). length (failing w)) is ∙ length-map (start sizes).publishers (λ (x : PublisherLaneState). x.fails) ∙ listed_length (publisher_at sizes) sizes.publishers
+as_many_made sizes m is = ap (λ (w : World). length (failing w)) is ∙ length-map (start sizes).publishers
+    (λ (x : PublisherLaneState). x.fails) ∙ listed_length (publisher_at sizes) sizes.publishers
 
--- a publisher of which something else is found fails as it did
-set_silent : (xs : List PublisherLaneState) (at : ℕ) (lane after : PublisherLaneState) → slice_get xs at ≡ Some lane → after.fails ≡ lane.fails
-    → map (λ (x : PublisherLaneState). x.fails) (set xs at after) ≡ map (λ (x : PublisherLaneState). x.fails) xs
-set_silent xs at lane after found same =
-    map-set_same (λ (x : PublisherLaneState). x.fails) xs at after lane (same ∙ ap (λ (x : PublisherLaneState). x.fails) (sym (get_or_from_slice_get xs at lane lane found)))
-
-waits_in : (m : World) (who place slot : ℕ) (lane : PublisherLaneState) (connection : ℕ) (link : Option LinkState) → slice_get m.publishers who ≡ Some lane
-    → failing (waiting_in m who place slot lane connection link) ≡ failing m
-waits_in m who place slot lane connection None there = refl
-waits_in m who place slot lane connection (Some link) there = set_silent m.publishers who lane (lane_found place slot lane) there refl
-
-waits_at : (m : World) (who place slot : ℕ) (lane : PublisherLaneState) (route : Option Route) → slice_get m.publishers who ≡ Some lane → failing (waiting_at m who place slot lane route) ≡ failing m
-waits_at m who place slot lane None there = refl
-waits_at m who place slot lane (Some route) there = waits_in m who place slot lane route.connection (slice_get m.links route.connection) there
-
-waits_of : (m : World) (who place slot : ℕ) (at : Option PublisherLaneState) → slice_get m.publishers who ≡ at → failing (waiting_of m who place slot at) ≡ failing m
-waits_of m who place slot None there = refl
-waits_of m who place slot (Some lane) there = waits_at m who place slot lane (slice_get lane.port.routes place) there
-
-gives_at : (m : World) (who place slot : ℕ) (lane : PublisherLaneState) (route : Option Route) → slice_get m.publishers who ≡ Some lane → failing (given_at m who place slot lane route) ≡ failing m
-gives_at m who place slot lane None there = refl
-gives_at m who place slot lane (Some route) there = set_silent m.publishers who lane (lane_found place slot lane) there refl
-
-gives_of : (m : World) (who place slot : ℕ) (at : Option PublisherLaneState) → slice_get m.publishers who ≡ at → failing (given_of m who place slot at) ≡ failing m
-gives_of m who place slot None there = refl
-gives_of m who place slot (Some lane) there = gives_at m who place slot lane (slice_get lane.port.routes place) there
-
-remembers_of : (m : World) (who slot : ℕ) (at : Option PublisherLaneState) → slice_get m.publishers who ≡ at → failing (remembered_of m who slot at) ≡ failing m
-remembers_of m who slot None there = refl
-remembers_of m who slot (Some lane) there = set_silent m.publishers who lane (lane_remembers slot lane) there refl
-
-buffers_in : (m : World) (who messages : ℕ) (lane : PublisherLaneState) (route : Route) (link : Option LinkState) → slice_get m.publishers who ≡ Some lane
-    → failing (buffered_in m who messages lane route link) ≡ failing m
-buffers_in m who messages lane route None there = refl
-buffers_in m who messages lane route (Some link) there = set_silent m.publishers who lane (lane_meets (with_buffer messages route) lane) there refl
-
-buffers_at : (m : World) (who messages : ℕ) (lane : PublisherLaneState) (route : Option Route) → slice_get m.publishers who ≡ Some lane → failing (buffered_at m who messages lane route) ≡ failing m
-buffers_at m who messages lane None there = refl
-buffers_at m who messages lane (Some route) there = buffers_in m who messages lane route (slice_get m.links route.connection) there
-
-buffers_of : (m : World) (who place messages : ℕ) (at : Option PublisherLaneState) → slice_get m.publishers who ≡ at → failing (buffered_of m who place messages at) ≡ failing m
-buffers_of m who place messages None there = refl
-buffers_of m who place messages (Some lane) there = buffers_at m who messages lane (slice_get lane.port.routes place) there
-
-resizes_of : (m : World) (who slots most_loans : ℕ) (at : Option PublisherLaneState) → slice_get m.publishers who ≡ at → failing (resized_of m who slots most_loans at) ≡ failing m
-resizes_of m who slots most_loans None there = refl
-resizes_of m who slots most_loans (Some lane) there = set_silent m.publishers who lane (lane_resized slots most_loans lane) there refl
-
-none_past : {X : Type 0} (xs : List X) (at : ℕ) → slice_get xs at ≡ None → length xs ≤ at
+pub none_past : {X : Type 0} (xs : List X) (at : ℕ) → slice_get xs at ≡ None → length xs ≤ at
 none_past xs at none = elim (slice_get_cases xs at).1 [
   | inl there ↦ absurd (cc (sym none ∙ there.2))
   | inr past ↦ past.0
@@ -85,22 +36,27 @@ past_fails m who fails none =
 names_of : (m : World) (who node_id publisher_id : ℕ) (fails : Bool) (at : Option PublisherLaneState) → slice_get m.publishers who ≡ at
     → failing (named_of m who node_id publisher_id fails at) ≡ set (failing m) who fails
 names_of m who node_id publisher_id fails None there = past_fails m who fails there
-names_of m who node_id publisher_id fails (Some lane) there = map-set (λ (x : PublisherLaneState). x.fails) m.publishers who (lane_named node_id publisher_id fails lane)
+names_of m who node_id publisher_id fails (Some lane) there
+    = map-set (λ (x : PublisherLaneState). x.fails) m.publishers who (lane_named node_id publisher_id fails lane)
 
-swaps_of : (m : World) (who one other : ℕ) (at : Option SubscriberLaneState) → failing (swapped_of m who one other at) ≡ failing m
-swaps_of m who one other None = refl
-swaps_of m who one other (Some lane) = refl
-
--- a finding that is taken in
+-- a finding that is taken in; but for one of a sender it leaves whose sends fail
 fails_taken : (m : World) (f : Found) → failing (with_found m f) ≡ failing_behind f (failing m)
-fails_taken m (found.Waiting who place slot) = waits_of m who place slot (slice_get m.publishers who) refl
-fails_taken m (found.GivenBack who place slot) = gives_of m who place slot (slice_get m.publishers who) refl
-fails_taken m (found.Newest who slot) = remembers_of m who slot (slice_get m.publishers who) refl
+fails_taken m (found.Waiting who place slot)
+    = seen_same (λ lane. lane.fails) m (found.Waiting who place slot) (λ lane after moves. ap (λ (x : PublisherLaneState). x.fails) moves)
+fails_taken m (found.GivenBack who place slot)
+    = seen_same (λ lane. lane.fails) m (found.GivenBack who place slot) (λ lane after moves. ap (λ (x : PublisherLaneState). x.fails) moves)
+fails_taken m (found.Newest who slot)
+    = seen_same (λ lane. lane.fails) m (found.Newest who slot) (λ lane after moves. ap (λ (x : PublisherLaneState). x.fails) moves)
 fails_taken m (found.Held slot word value) = refl
-fails_taken m (found.Buffer who place messages) = buffers_of m who place messages (slice_get m.publishers who) refl
-fails_taken m (found.Slots who slots most_loans) = resizes_of m who slots most_loans (slice_get m.publishers who) refl
+fails_taken m (found.Buffer who place messages)
+    = seen_same (λ lane. lane.fails) m (found.Buffer who place messages)
+    (λ lane after moves. ap (λ (x : PublisherLaneState). x.fails) moves.1)
+fails_taken m (found.Slots who slots most_loans)
+    = seen_same (λ lane. lane.fails) m (found.Slots who slots most_loans)
+    (λ lane after moves. ap (λ (x : PublisherLaneState). x.fails) moves)
 fails_taken m (found.Sender who node_id publisher_id fails) = names_of m who node_id publisher_id fails (slice_get m.publishers who) refl
-fails_taken m (found.Swapped who one other) = swaps_of m who one other (slice_get m.subscribers who)
+fails_taken m (found.Swapped who one other)
+    = seen_same (λ lane. lane.fails) m (found.Swapped who one other) (λ lane after none. absurd none)
 
 -- before the first step only one that isn't there is not called so
 not_there : (m : World) (at : Option PublisherLaneState) (here : Bool) → here ≡ true → (here && is_there at) ≡ false → at ≡ None
@@ -121,7 +77,8 @@ fails_refused m (found.Sender who node_id publisher_id fails) now refused =
 fails_refused m (found.Swapped who one other) now refused = refl
 
 -- what is found, or not, says whose sends fail
-fails_on : (sizes : LaneSizes) (m : World) (f : Found) (answer : Bool) (n : World) → FindsTo m f answer n → WasFound sizes m → failing n ≡ failing_behind f (failing m)
+fails_on : (sizes : LaneSizes) (m : World) (f : Found) (answer : Bool) (n : World) → FindsTo m f answer n → WasFound sizes m
+    → failing n ≡ failing_behind f (failing m)
 fails_on sizes m f true n h w = ap failing h.1 ∙ fails_taken m f
 fails_on sizes m f false n h w = ap failing h.1 ∙ fails_refused m f (no_moments (start sizes) w.found m w.finds) h.0
 
@@ -137,19 +94,22 @@ fails_same m (found.Sender who node_id publisher_id fails) n wants same = absurd
 fails_same m (found.Swapped who one other) n wants same = absurd wants.1
 
 -- so it is said whatever the answer is
-pub fails_by : {E : Type 0} (sizes : LaneSizes) (m : World) (f : Found) (answer : Result Bool E) (n : World) → IfOk answer (λ fits. FindsTo m f fits n) → OnErr answer (WantsMemory m f) → OnErr answer (n ≡ m) → WasFound sizes m
+pub fails_by : {E : Type 0} (sizes : LaneSizes) (m : World) (f : Found) (answer : Result Bool E) (n : World)
+    → IfOk answer (λ fits. FindsTo m f fits n) → OnErr answer (WantsMemory m f) → OnErr answer (n ≡ m) → WasFound sizes m
     → failing n ≡ failing_behind f (failing m)
 fails_by sizes m f (Ok fits) n finds wants same w = fails_on sizes m f fits n finds w
 fails_by sizes m f (Err e) n finds wants same w = fails_same m f n wants same
 
-set_one : (A B : List Bool) (at : ℕ) (value : Bool) → slice_get A at ≡ Some value → length A ≡ length B → set (take at A ++ drop at B) at value ≡ take (suc at) A ++ drop (suc at) B
+set_one : (A B : List Bool) (at : ℕ) (value : Bool) → slice_get A at ≡ Some value → length A ≡ length B
+    → set (take at A ++ drop at B) at value ≡ take (suc at) A ++ drop (suc at) B
 set_one [] B at value is as_many = absurd (cc is)
 set_one (x ∷ xs) [] at value is as_many = absurd (omega (arith, as_many))
 set_one (x ∷ xs) (y ∷ ys) zero value is as_many = ap (λ (b : Bool). b ∷ ys) (some_is value x (sym is))
 set_one (x ∷ xs) (y ∷ ys) (suc at) value is as_many = ap (λ (bs : List Bool). x ∷ bs) (set_one xs ys at value is (omega (arith, as_many)))
 
 -- of one publisher more it is said
-pub next_said : (wanted first now after : List Bool) (at : ℕ) (value : Bool) → slice_get wanted at ≡ Some value → length first ≡ length wanted → now ≡ take at wanted ++ drop at first → after ≡ set now at value
+pub next_said : (wanted first now after : List Bool) (at : ℕ) (value : Bool) → slice_get wanted at ≡ Some value
+    → length first ≡ length wanted → now ≡ take at wanted ++ drop at first → after ≡ set now at value
     → after ≡ take (at + 1) wanted ++ drop (at + 1) first
 next_said wanted first now after at value is as_many sofar said =
     let next : suc at ≡ at + 1 = omega arith in

@@ -16,19 +16,21 @@ use Rattle.iox_domain.specs.DomainPorts.declared.subscriber_port.SubscriberPort.
 use Rattle.iox_domain.specs.declared.domain.Domain.{Domain}
 use Rattle.iox_lanes_machine.specs.LanesBase.Table.{TableWords}
 use Rattle.iox_lanes_machine.specs.Links.{LinkState}
-use Rattle.iox_lanes.specs.Holding.{port_if, reader_if, IsLaneIf, IsLinkIf, LinkHolds, SenderHolds}
+use Rattle.iox_lanes.specs.Holding.{port_if, IsLaneIf, IsLinkIf, SenderHolds}
 use Rattle.iox_lanes_opening.specs.Restored.{place_of}
-use Rattle.iox_lanes.specs.Joined.{HasAsMany, HasSlotsIf, IsLinkToIf, IsJoined, JoinedStays, LinkJoins, place_if, row_of}
+use Rattle.iox_lanes.specs.Joined.{place_if, row_of, AreListedOnce, HasAsMany, HasSlotsIf, IsLinkToIf, IsJoined, JoinedStays}
 use Rattle.iox_lanes.specs.Tied.{IsTied}
 use Rattle.iox_lanes.specs.Returning.{AllRest, ArePortsLeft, IsLeftAt, IsPortLeftIf, JoinsAt}
 use Rattle.iox_lanes.proofs.PortsLeft.{first_is}
 
-between_sender : (m : World) (place : ℕ) (at : Option PublisherLaneState) → AllBetween m → slice_get m.publishers place ≡ at → publisher_is_idle (publisher_stage at) ≡ true
+between_sender : (m : World) (place : ℕ) (at : Option PublisherLaneState) → AllBetween m → slice_get m.publishers place ≡ at
+    → publisher_is_idle (publisher_stage at) ≡ true
 between_sender m place None between found = refl
 between_sender m place (Some lane) between found =
     subst (λ (l : PublisherLaneState). publisher_is_idle l.port.call ≡ true) (get_or_from_slice_get m.publishers place lane lane found) (between.publishers place lane (slice_get_within m.publishers place lane found))
 
-between_receiver : (m : World) (place : ℕ) (at : Option SubscriberLaneState) → AllBetween m → slice_get m.subscribers place ≡ at → subscriber_is_idle (subscriber_stage at) ≡ true
+between_receiver : (m : World) (place : ℕ) (at : Option SubscriberLaneState) → AllBetween m → slice_get m.subscribers place ≡ at
+    → subscriber_is_idle (subscriber_stage at) ≡ true
 between_receiver m place None between found = refl
 between_receiver m place (Some lane) between found =
     subst (λ (l : SubscriberLaneState). subscriber_is_idle l.port.call ≡ true) (get_or_from_slice_get m.subscribers place lane lane found) (between.subscribers place lane (slice_get_within m.subscribers place lane found))
@@ -60,7 +62,8 @@ joined_stays T U payload_count header_count places before after ports senders re
 }
 
 -- the publisher at a place joins
-pub joins_at : {T U : Type 0} (payload_count header_count places : ℕ) (lanes : World) (ports : List (ℕ × PublisherPort T U)) (senders : List ℕ) (readers : ℕ) (indices : List ℕ) (place number : ℕ)
+pub joins_at : {T U : Type 0} (payload_count header_count places : ℕ) (lanes : World) (ports : List (ℕ × PublisherPort T U))
+    (senders : List ℕ) (readers : ℕ) (indices : List ℕ) (place number : ℕ)
     → IsJoined payload_count header_count places lanes ports senders readers indices → place < length senders → slice_get senders place ≡ Some number → JoinsAt lanes (port_of number ports) place readers indices
 joins_at payload_count header_count places lanes ports senders readers indices place number joined below is = record {
   slots = subst (λ at. HasSlotsIf (port_if ports at) (slots_at lanes place)) is (joined.sending place below).slots;
@@ -72,7 +75,8 @@ joins_at payload_count header_count places lanes ports senders readers indices p
 }
 
 -- the publishers at the first places are as the lanes leave them, each other one is as it was
-pub record LeftSoFar {T U : Type 0} (value_of : List ℕ → T) (header_of : List ℕ → U) (lanes : World) (senders : List ℕ) (readers : ℕ) (indices : List ℕ) (start now : List (ℕ × PublisherPort T U)) (count : ℕ) : Type 0 where
+pub record LeftSoFar {T U : Type 0} (value_of : List ℕ → T) (header_of : List ℕ → U) (lanes : World) (senders : List ℕ) (readers : ℕ)
+    (indices : List ℕ) (start now : List (ℕ × PublisherPort T U)) (count : ℕ) : Type 0 where
   pub done : (number place : ℕ) → place_of number senders ≡ Some place → place < count
       → IsPortLeftIf value_of header_of lanes (place * readers) (row_of readers indices place) (slice_get lanes.publishers place) (port_of number start) (port_of number now)
   pub rest : (number : ℕ) → ((place : ℕ) → place_of number senders ≡ Some place → count ≤ place) → port_of number now ≡ port_of number start
@@ -80,12 +84,15 @@ pub record LeftSoFar {T U : Type 0} (value_of : List ℕ → T) (header_of : Lis
 one_place : (one other : ℕ) → Some one ≡ Some other → one ≡ other
 one_place one other same = cc same
 
-module _ {T U : Type 0} (value_of : List ℕ → T) (header_of : List ℕ → U) (payload_count header_count places : ℕ) (lanes : World) (senders : List ℕ) (readers : ℕ) (indices : List ℕ) (start : List (ℕ × PublisherPort T U))
+module _ {T U : Type 0} (value_of : List ℕ → T) (header_of : List ℕ → U) (payload_count header_count places : ℕ) (lanes : World)
+    (senders : List ℕ) (readers : ℕ) (indices : List ℕ) (start : List (ℕ × PublisherPort T U))
     (joined : IsJoined payload_count header_count places lanes start senders readers indices) where
   abbrev Left : ℕ → Option (PublisherPort T U) → Option (PublisherPort T U) → Type 0
-  Left place old new = IsPortLeftIf value_of header_of lanes (place * readers) (row_of readers indices place) (slice_get lanes.publishers place) old new
+  Left place old new = IsPortLeftIf value_of header_of lanes (place * readers) (row_of readers indices place)
+      (slice_get lanes.publishers place) old new
 
-  pub one_left : (now next : List (ℕ × PublisherPort T U)) (count : ℕ) → count < length senders → LeftSoFar value_of header_of lanes senders readers indices start now count
+  pub one_left : (now next : List (ℕ × PublisherPort T U)) (count : ℕ) → count < length senders
+      → LeftSoFar value_of header_of lanes senders readers indices start now count
       → ((other : ℕ) → (other ≡ get_or senders count 0 → ⊥) → port_of other next ≡ port_of other now)
       → (JoinsAt lanes (port_of (get_or senders count 0) now) count readers indices → Left count (port_of (get_or senders count 0) now) (port_of (get_or senders count 0) next))
       → LeftSoFar value_of header_of lanes senders readers indices start next (count + 1)
@@ -129,35 +136,44 @@ module _ {T U : Type 0} (value_of : List ℕ → T) (header_of : List ℕ → U)
   }
 
   -- behind the last
-  pub all_left : (now : List (ℕ × PublisherPort T U)) (count : ℕ) → length senders ≤ count → LeftSoFar value_of header_of lanes senders readers indices start now count
+  pub all_left : (now : List (ℕ × PublisherPort T U)) (count : ℕ) → length senders ≤ count
+      → LeftSoFar value_of header_of lanes senders readers indices start now count
       → ArePortsLeft value_of header_of lanes senders readers indices start now
   all_left now count past so_far number = by (place_of number senders) refl
     where
-      by : (at : Option ℕ) → place_of number senders ≡ at → IsLeftAt value_of header_of lanes readers indices at (port_of number start) (port_of number now)
+      by : (at : Option ℕ) → place_of number senders ≡ at
+          → IsLeftAt value_of header_of lanes readers indices at (port_of number start) (port_of number now)
       by None is = so_far.rest number (λ place there. absurd (cc (sym is ∙ there)))
       by (Some place) is = so_far.done number place is (omega (arith, past, (first_is senders number place is).below))
 
 -- lanes that hold what a domain has have as many slots for each publisher
-as_many : {T U : Type 0} (payload_words : T → List ℕ) (header_words : U → List ℕ) (table : TableWords) (port : PublisherPort T U) (lane : Option PublisherLaneState) → IsLaneIf payload_words header_words table (Some port) lane
+as_many : {T U : Type 0} (payload_words : T → List ℕ) (header_words : U → List ℕ) (table : TableWords) (port : PublisherPort T U)
+    (lane : Option PublisherLaneState) → IsLaneIf payload_words header_words table (Some port) lane
     → HasAsMany port lane
 as_many payload_words header_words table port None is = tt
 as_many payload_words header_words table port (Some lane) is = is.slots
 
-pub as_many_if : {T U B D : Type 0} (payload_words : T → List ℕ) (header_words : U → List ℕ) (domain : Domain T U B D) (lanes : World) (publishers : List ℕ) (place : ℕ) (port : PublisherPort T U)
+pub as_many_if : {T U B D : Type 0} (payload_words : T → List ℕ) (header_words : U → List ℕ) (domain : Domain T U B D) (lanes : World)
+    (publishers : List ℕ) (place : ℕ) (port : PublisherPort T U)
     → SenderHolds payload_words header_words domain lanes publishers place → port_if domain.state.ports.publishers (slice_get publishers place) ≡ Some port → HasAsMany port (slice_get lanes.publishers place)
 as_many_if payload_words header_words domain lanes publishers place port holds there =
     as_many payload_words header_words lanes.table port (slice_get lanes.publishers place) (subst (λ at. IsLaneIf payload_words header_words lanes.table at (slice_get lanes.publishers place)) there holds)
 
 -- and a link of them whose index no connection of the publisher before it has joins
-joined_if : {T U : Type 0} (payload_words : T → List ℕ) (header_words : U → List ℕ) (table : TableWords) (overflows : Bool) (publisher subscriber : ℕ) (line : List ℕ) (port : Option (PublisherPort T U))
+pub joined_if : {T U : Type 0} (payload_words : T → List ℕ) (header_words : U → List ℕ) (table : TableWords) (overflows : Bool)
+    (publisher subscriber : ℕ) (line : List ℕ) (port : Option (PublisherPort T U))
     (reader : Option SubscriberPort) (lane : Option PublisherLaneState) (index : Option ℕ) (link : Option LinkState) (number : ℕ)
     → IsLinkIf payload_words header_words table overflows publisher subscriber port reader lane index link → IsTied port reader index → index ≡ Some number → place_of number line ≡ Some subscriber
     → IsLinkToIf port publisher subscriber line index link
 joined_if payload_words header_words table overflows publisher subscriber line None reader lane index link number is tied there alone = is
-joined_if payload_words header_words table overflows publisher subscriber line (Some port) None lane index link number is tied there alone = absurd is
-joined_if payload_words header_words table overflows publisher subscriber line (Some port) (Some reader) None index link number is tied there alone = absurd is
-joined_if payload_words header_words table overflows publisher subscriber line (Some port) (Some reader) (Some lane) None link number is tied there alone = is
-joined_if payload_words header_words table overflows publisher subscriber line (Some port) (Some reader) (Some lane) (Some index) None number is tied there alone = is
+joined_if payload_words header_words table overflows publisher subscriber line (Some port) None lane index link number is tied there
+    alone = absurd is
+joined_if payload_words header_words table overflows publisher subscriber line (Some port) (Some reader) None index link number is tied
+    there alone = absurd is
+joined_if payload_words header_words table overflows publisher subscriber line (Some port) (Some reader) (Some lane) None link number is
+    tied there alone = is
+joined_if payload_words header_words table overflows publisher subscriber line (Some port) (Some reader) (Some lane) (Some index) None
+    number is tied there alone = is
 joined_if payload_words header_words table overflows publisher subscriber line (Some port) (Some reader) (Some lane) (Some index) (Some link) number is tied there alone = record {
   from = is.from;
   live = tied.1;
@@ -165,13 +181,8 @@ joined_if payload_words header_words table overflows publisher subscriber line (
   alone = subst (λ (n : ℕ). place_of n line ≡ Some subscriber) (some_is number index (sym there)) alone;
 }
 
-pub link_joined : {T U B D : Type 0} (payload_words : T → List ℕ) (header_words : U → List ℕ) (domain : Domain T U B D) (lanes : World) (publishers subscribers connections : List ℕ) (publisher subscriber number at : ℕ) (line : List ℕ)
-    → LinkHolds payload_words header_words domain lanes publishers subscribers connections publisher subscriber
-    → IsTied (port_if domain.state.ports.publishers (slice_get publishers publisher)) (reader_if domain.state.ports.subscribers (slice_get subscribers subscriber)) (slice_get connections (publisher * length subscribers + subscriber))
-    → at ≡ publisher * length subscribers + subscriber → slice_get connections at ≡ Some number → line ≡ row_of (length subscribers) connections publisher → place_of number line ≡ Some subscriber
-    → LinkJoins domain.state.ports.publishers lanes publishers (length subscribers) connections publisher subscriber
-link_joined payload_words header_words domain lanes publishers subscribers connections publisher subscriber number at line holds tied is there same alone =
-    joined_if payload_words header_words lanes.table domain.state.ports.sizes.enable_safe_overflow publisher subscriber (row_of (length subscribers) connections publisher)
-    (port_if domain.state.ports.publishers (slice_get publishers publisher))
-    (reader_if domain.state.ports.subscribers (slice_get subscribers subscriber)) (slice_get lanes.publishers publisher) (slice_get connections (publisher * length subscribers + subscriber))
-    (slice_get lanes.links (publisher * length subscribers + subscriber)) number holds tied (ap (slice_get connections) (sym is) ∙ there) (ap (place_of number) (sym same) ∙ alone)
+-- numbers each of which is first at its place are listed once
+pub once_listed : (numbers : List ℕ)
+    → ((at number : ℕ) → slice_get numbers at ≡ Some number → place_if (slice_get numbers at) numbers ≡ Some at) → AreListedOnce numbers
+once_listed numbers alone one other number there too =
+    one_place one other (sym (ap (λ at. place_if at numbers) (sym there) ∙ alone one number there) ∙ ap (λ at. place_if at numbers) (sym too) ∙ alone other number too)

@@ -16,7 +16,7 @@ use Rattle.iox_lanes_machine.specs.LanesParties.Parties.{PublisherLaneState, Sub
 use Rattle.iox_lanes_machine.specs.LanesBase.Table.{TableWords}
 use Rattle.iox_queues_steps.specs.declared.rings.ends.RingKind.{RingKind}
 use Rattle.iox_queues_steps.specs.declared.rings.ends.RingKind.TheVariants as kind
-use Rattle.iox_lanes.specs.Lying.{AreLaid}
+use Rattle.iox_lanes.specs.Lying.{AreLaid, AreSlotsOf}
 
 -- the numbers of the ports that are listed, in the order of their places
 abbrev pub numbers_of : {V : Type 0} → (V → ℕ) → List (Option (Member V)) → List ℕ
@@ -67,6 +67,17 @@ IsLaneIf payload_words header_words table None lane = ⊥
 IsLaneIf payload_words header_words table (Some port) None = ⊥
 IsLaneIf payload_words header_words table (Some port) (Some lane) = IsLaneOf payload_words header_words table port lane
 
+-- the slots of a lane's history, if there is one, are those of a publisher's, if there is one; where one is wanting they aren't
+abbrev pub KeepsIf : {T U : Type 0} → Option (PublisherPort T U) → Option PublisherLaneState → Type 0
+KeepsIf None lane = ⊥
+KeepsIf (Some port) None = ⊥
+KeepsIf (Some port) (Some lane) = AreSlotsOf lane.port.book.first lane.port.book.history port.sender.uses.history
+
+-- so it is with the publisher at a place of the lanes and the one of the domain that has the number of this place
+abbrev pub SenderKeeps : {T U B D : Type 0} → Domain T U B D → World → List ℕ → ℕ → Type 0
+SenderKeeps domain lanes publishers place =
+    KeepsIf (port_if domain.state.ports.publishers (slice_get publishers place)) (slice_get lanes.publishers place)
+
 -- the publisher at a place of the lanes is the one of the domain that has the number of this place
 abbrev pub SenderHolds : {T U B D : Type 0} → (T → List ℕ) → (U → List ℕ) → Domain T U B D → World → List ℕ → ℕ → Type 0
 SenderHolds payload_words header_words domain lanes publishers place =
@@ -99,6 +110,22 @@ IsLinkIf payload_words header_words table overflows publisher subscriber (Some p
 IsLinkIf payload_words header_words table overflows publisher subscriber (Some port) (Some reader) (Some lane) (Some index) None = ⊥
 IsLinkIf payload_words header_words table overflows publisher subscriber (Some port) (Some reader) (Some lane) (Some index) (Some link) =
     IsLinkOf payload_words header_words table overflows port reader lane.port.book.first index publisher subscriber link
+
+-- as many may wait at a link as at the connection of an index of a publisher, and the slots of those that do are the same; where one of
+-- these is wanting they aren't
+abbrev pub WaitsIf : {T U : Type 0} → Option (PublisherPort T U) → Option PublisherLaneState → Option ℕ → Option LinkState → Type 0
+WaitsIf None lane index link = ⊥
+WaitsIf (Some port) None index link = ⊥
+WaitsIf (Some port) (Some lane) None link = ⊥
+WaitsIf (Some port) (Some lane) (Some index) None = ⊥
+WaitsIf (Some port) (Some lane) (Some index) (Some link) = (link.limit ≡ (connection_of index port).limit)
+    × AreSlotsOf lane.port.book.first link.found (connection_of index port).waiting
+
+-- so it is with the connection of the lanes between a publisher and a subscriber, at these places, and that of the domain
+abbrev pub LinkWaits : {T U B D : Type 0} → Domain T U B D → World → List ℕ → List ℕ → List ℕ → ℕ → ℕ → Type 0
+LinkWaits domain lanes publishers subscribers connections publisher subscriber =
+    WaitsIf (port_if domain.state.ports.publishers (slice_get publishers publisher)) (slice_get lanes.publishers publisher)
+    (slice_get connections (publisher * length subscribers + subscriber)) (slice_get lanes.links (publisher * length subscribers + subscriber))
 
 -- the connection of the lanes between a publisher and a subscriber, at these places, is that of the domain; it has the number of
 -- its place, publisher by publisher

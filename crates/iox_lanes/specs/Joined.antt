@@ -37,6 +37,10 @@ abbrev pub place_if : Option ℕ → List ℕ → Option ℕ
 place_if None numbers = None
 place_if (Some number) numbers = place_of number numbers
 
+-- no number stands at two places of a list
+abbrev pub AreListedOnce : List ℕ → Type 0
+AreListedOnce numbers = (one other number : ℕ) → slice_get numbers one ≡ Some number → slice_get numbers other ≡ Some number → one ≡ other
+
 -- the publisher at a place of the lanes is the one of the domain that has the number of this place, which no place before it has
 pub record SenderJoins {T U : Type 0} (ports : List (ℕ × PublisherPort T U)) (lanes : World) (senders : List ℕ) (place : ℕ) : Type 0 where
   pub slots : HasSlotsIf (port_if ports (slice_get senders place)) (slots_at lanes place)

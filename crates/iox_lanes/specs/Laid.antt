@@ -25,7 +25,8 @@ slot_in first slot = min (first + slot) (2 ^ 64 - 1)
 
 -- that the words of a user header, so many, are in a slot
 abbrev pub header_findings : {U : Type 0} → (U → List ℕ) → ℕ → ℕ → U → List Found
-header_findings words count slot user_header = listed (λ word. found.Held slot (UserHeader word) (slice_index (words user_header) word)) count
+header_findings words count slot user_header
+    = listed (λ word. found.Held slot (UserHeader word) (slice_index (words user_header) word)) count
 
 -- that the words of a value, so many, are the payload of a slot
 abbrev pub value_findings : {T : Type 0} → (T → List ℕ) → ℕ → ℕ → T → List Found
@@ -77,11 +78,15 @@ abbrev pub first_slot : Option PublisherLaneState → ℕ
 first_slot None = 0
 first_slot (Some lane) = lane.port.book.first
 
+-- how many slots a publisher has, with those of segments that are no longer lent; at most the largest number
+abbrev pub slots_in : {T U : Type 0} → PublisherPort T U → ℕ
+slots_in port = min (port.sender.uses.first + port.sender.uses.size) (2 ^ 64 - 1)
+
 -- lanes behind what they find of the publisher at a place but for its messages: how many slots and loans it has, its node and number,
 -- and whether its sends fail
 abbrev pub sender_behind : {T U : Type 0} → World → ℕ → Bool → PublisherPort T U → World
 sender_behind m place fails port =
-    behind_finding (behind_finding m (found.Slots place (min (port.sender.uses.first + port.sender.uses.size) (2 ^ 64 - 1)) port.sender.uses.most_loans))
+    behind_finding (behind_finding m (found.Slots place (slots_in port) port.sender.uses.most_loans))
     (found.Sender place port.owner.node_id port.number fails)
 
 -- and behind the messages of its history, and those at its connections to the subscribers of these numbers, where its slots begin at

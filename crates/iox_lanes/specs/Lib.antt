@@ -2,10 +2,13 @@
 pub mod Lying
 pub mod Finding
 pub mod Behind
+pub mod Alone
 pub mod Laid
+pub mod Ordered
 pub mod Holding
 pub mod Failing
 pub mod Sized
+pub mod Built
 pub mod Opening
 pub mod Joined
 pub mod Tied

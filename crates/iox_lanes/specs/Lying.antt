@@ -49,3 +49,13 @@ pub record AreLaid {T U : Type 0} (payload_words : T → List ℕ) (header_words
     → List ℕ) (table : TableWords) (first : ℕ) (port : PublisherPort T U) (laid : List ℕ) (messages : List (Message T U)) : Type 0 where
   pub as_many : length laid ≡ length messages
   pub each : (at : ℕ) → IsLaidAt payload_words header_words table first port (slice_get laid at) (slice_get messages at)
+
+-- a message of a publisher, if there is one, has this slot, where the publisher's slots begin at this one
+abbrev pub IsSlotOf : {T U : Type 0} → ℕ → Option ℕ → Option (Message T U) → Type 0
+IsSlotOf first slot None = Unit {0}
+IsSlotOf first slot (Some message) = slot ≡ Some (first + message.slot)
+
+-- These are the slots of these messages of a publisher, in their order.
+pub record AreSlotsOf {T U : Type 0} (first : ℕ) (laid : List ℕ) (messages : List (Message T U)) : Type 0 where
+  pub as_many : length laid ≡ length messages
+  pub each : (at : ℕ) → IsSlotOf first (slice_get laid at) (slice_get messages at)

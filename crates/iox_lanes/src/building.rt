@@ -1,5 +1,6 @@
 //! Lanes find what a domain has.
-ghost use Rattle.std.specs.Prelude.{◌≡◌, ◌+◌, ◌-◌, ◌*◌, ◌^◌, ◌++◌, ◌∷◌, ◌<◌, ℕ, [], length, map, max, min, slice_get, slice_index, is_some, set, true, IfOk, OnOk, None, Some};
+ghost use Rattle.std.specs.Prelude.{◌≡◌, ◌+◌, ◌-◌, ◌*◌, ◌++◌, ◌<◌, ℕ, [], length, map, max, option_copied, slice_get, slice_index, is_some, set, true, IfOk, OnOk, None, Some};
+ghost use Rattle.std.specs.List.{position};
 ghost use Rattle.iox_domain.specs.DomainPorts.Messages.{Message};
 ghost use Rattle.iox_domain.specs.DomainPorts.Ports.{connection_of};
 ghost use Rattle.iox_domain.specs.DomainPorts.Publishers.{port_of};
@@ -7,21 +8,26 @@ ghost use Rattle.iox_domain.specs.Kept.{kept_under};
 ghost use Rattle.iox_domain.specs.Subscribers.{subscriber_of};
 ghost use Rattle.iox_lanes_opening.specs.Deciding.{would_fail};
 ghost use Rattle.iox_lanes_opening.specs.Refusals.{first_reason};
+ghost use Rattle.iox_lanes.specs.Alone.{AreAlone, HasOne, KeepAlone};
 ghost use Rattle.iox_lanes.specs.Behind.{behind_findings, behind_finding};
-ghost use Rattle.iox_lanes.specs.Laid.{first_slot, flat_listed, header_findings, history_findings, link_findings, message_findings, publishers_behind, sender_behind, value_findings, waiting_findings};
+ghost use Rattle.iox_lanes.specs.Built.{slots_if, AreBuilt, HaveSlots};
+ghost use Rattle.iox_lanes.specs.Laid.{first_slot, flat_listed, header_findings, history_findings, link_findings, message_findings, publishers_behind, sender_behind, slots_in, value_findings, waiting_findings};
+ghost use Rattle.iox_lanes.specs.Ordered.{keys_behind, leads_here, route_place, reader_behind, readers_behind};
 ghost use Rattle.iox_lanes.specs.Failing.{asked, failing, FailAsAsked};
 ghost use Rattle.iox_lanes.specs.Holding.{kind_of, numbers_of, AreThere};
 ghost use Rattle.iox_lanes.specs.Sized.{AreAgreed, AreSized};
-ghost use Rattle.iox_lanes.specs.Tied.{tie_for, ties_for, AreTied, AreTies};
+ghost use Rattle.iox_lanes.specs.Tied.{tie_for, ties_for, AreTies};
 ghost use Rattle.iox_lanes_machine.specs.Resting.{AllBetween};
 ghost use Rattle.iox_lanes_machine.specs.WholeReads.{CameTo};
 
 use crate::domain_lanes::Opened;
 use crate::finding::NewLanes;
+use crate::linking::subscriber_at;
 use crate::listed::{publishers_listed, subscribers_listed};
 use iox_domain::Domain;
 use iox_domain_ports::reading::waiting_at;
 use iox_domain_ports::{PublisherPort, Stage, SubscriberPort};
+use iox_lanes_base::calls::Route;
 use iox_lanes_base::words::SlotWord;
 use iox_lanes_machine::{Found, LaneSizes, Lanes};
 use iox_lanes_opening::refusals::deciding::would_fail;
@@ -43,11 +49,12 @@ pub(crate) fn build<T: Words, U: Words>(
         ≡ numbers_of (λ entry. entry.publisher) domain.now.state.ports.publisher_list.places) }
     ensures subscribers { IfOk result (λ opened. opened.subscribers.items
         ≡ numbers_of (λ entry. entry.subscriber) domain.now.state.ports.subscriber_list.places) }
+    ensures built { IfOk result (λ opened. AreBuilt T.parts U.parts T.WORDS U.WORDS domain.now opened.publishers.items
+        opened.subscribers.items opened.lanes) }
     ensures some { IfOk result (λ opened. 0 < length opened.one.items) }
     ensures fails { IfOk result (λ opened. FailAsAsked domain.now opened.lanes opened.publishers.items) }
-    ensures indices { IfOk result (λ opened. length opened.connections.items
-        ≡ length opened.publishers.items * length opened.subscribers.items) }
-    ensures tied { IfOk result (λ opened. AreTied domain.now.state.ports opened.publishers.items opened.subscribers.items opened.connections.items) }
+    ensures ties { IfOk result (λ opened. AreTies domain.now.state.ports opened.publishers.items opened.subscribers.items
+        opened.connections.items) }
 {
     let publishers = publishers_listed(alloc, &domain.state.ports.publisher_list)?;
     let subscribers = subscribers_listed(alloc, &domain.state.ports.subscriber_list)?;
@@ -89,6 +96,7 @@ fn sizes_of<T: Words, U: Words>(
 ) -> LaneSizes
     ensures some { 0 < result.buffer }
     ensures agreed { AreAgreed domain.now.state.ports.sizes publishers subscribers T.WORDS U.WORDS result }
+    ensures room { HaveSlots domain.now.state.ports.publishers numbers.now result.slots }
 {
     let sizes = domain.state.ports.sizes;
     LaneSizes {
@@ -125,19 +133,29 @@ fn most_loans<T: Words, U: Words>(domain: &Domain<T, U>, numbers: &[u64]) -> u64
     most
 }
 
-fn most_slots<T: Words, U: Words>(domain: &Domain<T, U>, numbers: &[u64]) -> u64 {
+fn most_slots<T: Words, U: Words>(domain: &Domain<T, U>, numbers: &[u64]) -> u64
+    ensures { HaveSlots domain.now.state.ports.publishers numbers.now result }
+{
     let mut most = 0;
-    for number in numbers {
-        if let Some(port) = domain.state.ports.publishers.get(*number) {
-            most = slots_of(port).max(most);
-        }
+    for place in 0..numbers.len() {
+        most = slots_at(domain, numbers[place]).max(most);
     }
     most
 }
 
+// How many slots the publisher of a number has; none where there is none.
+fn slots_at<T: Words, U: Words>(domain: &Domain<T, U>, number: u64) -> u64
+    ensures { result ≡ slots_if (port_of number domain.now.state.ports.publishers) }
+{
+    match domain.state.ports.publishers.get(number) {
+        Some(port) => slots_of(port),
+        None => 0,
+    }
+}
+
 // How many slots a publisher has, with those of segments that are no longer lent.
 fn slots_of<T: Words, U: Words>(port: &PublisherPort<T, U>) -> u64
-    ensures { result ≡ min (port.now.sender.uses.first + port.now.sender.uses.size) (2 ^ 64 - 1) }
+    ensures { result ≡ slots_in port.now }
 {
     (port.sender.first() as u64).saturating_add(port.sender.slots() as u64)
 }
@@ -154,6 +172,7 @@ fn find_publishers<T: Words, U: Words>(
     requires none { connections.old.items ≡ [] }
     ensures sizes { lanes.new.sizes ≡ lanes.old.sizes }
     ensures fails { OnOk result (failing lanes.new.lanes ≡ asked domain.now.state.publisher_handlers publishers.now) }
+    ensures alone { OnOk result (KeepAlone domain.now.state.ports publishers.now subscribers.now) }
     ensures ties { OnOk result (AreTies domain.now.state.ports publishers.now subscribers.now connections.new.items) }
     ensures behind { OnOk result (lanes.new.lanes ≡ publishers_behind T.parts U.parts T.WORDS U.WORDS domain.now publishers.now
         subscribers.now lanes.old.lanes (length publishers.now)) }
@@ -226,6 +245,7 @@ fn find_history<T: Words, U: Words>(
     ensures fails { failing lanes.new.lanes ≡ failing lanes.old.lanes }
     ensures behind { OnOk result (lanes.new.lanes ≡ behind_findings lanes.old.lanes
         (history_findings T.parts U.parts T.WORDS U.WORDS place first port.now port.now.sender.uses.history)) }
+    ensures alone { OnOk result (AreAlone port.now port.now.sender.uses.history) }
 {
     for at in 0..port.sender.history() {
         let slot = port.sender.remembered(at);
@@ -255,6 +275,8 @@ fn find_connections<T: Words, U: Words>(
         (flat_listed (λ other. link_findings T.parts U.parts T.WORDS U.WORDS place other first port.now
         (tie_for port.now (subscriber_of (slice_index subscribers.now other) domain.now.state.ports.subscribers)))
         (length subscribers.now))) }
+    ensures alone { OnOk result ((other : ℕ) → other < length subscribers.now → AreAlone port.now
+        (connection_of (tie_for port.now (subscriber_of (slice_index subscribers.now other) domain.now.state.ports.subscribers)) port.now).waiting) }
 {
     for other in 0..subscribers.len() {
         let index = tie_to(domain, port, subscribers[other]);
@@ -283,8 +305,8 @@ fn tie_to<T: Words, U: Words>(
     }
 }
 
-// How many messages may wait at a connection; none where there is none.
-fn limit_at<T: Words, U: Words>(port: &PublisherPort<T, U>, index: usize) -> usize
+/// How many messages may wait at a connection; none where there is none.
+pub(crate) fn limit_at<T: Words, U: Words>(port: &PublisherPort<T, U>, index: usize) -> usize
     ensures { result ≡ (connection_of index port.now).limit }
 {
     match port.sender.stage(index) {
@@ -305,6 +327,7 @@ fn find_waiting<T: Words, U: Words>(
     ensures fails { failing lanes.new.lanes ≡ failing lanes.old.lanes }
     ensures behind { OnOk result (lanes.new.lanes ≡ behind_findings lanes.old.lanes
         (waiting_findings T.parts U.parts T.WORDS U.WORDS place other first port.now (connection_of index port.now).waiting)) }
+    ensures alone { OnOk result (AreAlone port.now (connection_of index port.now).waiting) }
 {
     for at in 0..waiting_at(port, index) {
         let slot = waiting_slot(port, index, at);
@@ -318,8 +341,12 @@ fn find_waiting<T: Words, U: Words>(
     Ok(())
 }
 
-// The slot of the message that waits at a place of a connection.
-fn waiting_slot<T: Words, U: Words>(port: &PublisherPort<T, U>, index: usize, at: usize) -> usize
+/// The slot of the message that waits at a place of a connection.
+pub(crate) fn waiting_slot<T: Words, U: Words>(
+    port: &PublisherPort<T, U>,
+    index: usize,
+    at: usize,
+) -> usize
     requires { at < length (connection_of index port.now).waiting }
     ensures slot { slice_get (map (λ message. message.slot) (connection_of index port.now).waiting) at ≡ Some result }
     ensures inside { result < port.now.sender.uses.first + port.now.sender.uses.size }
@@ -346,6 +373,7 @@ fn find_message<T: Words, U: Words>(
     ensures remembered { OnOk result ((at : ℕ) (message : Message T U) → slice_get port.now.sender.uses.history at ≡ Some message
         → message.slot ≡ slot
         → lanes.new.lanes ≡ behind_findings lanes.old.lanes (message_findings T.parts U.parts T.WORDS U.WORDS first port.now message)) }
+    ensures one { OnOk result (HasOne port.now slot) }
 {
     let at = first.saturating_add(slot as u64);
     find_word(lanes, at, SlotWord::Header(0), port.owner.node_id)?;
@@ -412,13 +440,35 @@ fn find_orders<T: Words, U: Words>(
 ) -> Result<(), AllocError>
     ensures sizes { lanes.new.sizes ≡ lanes.old.sizes }
     ensures fails { failing lanes.new.lanes ≡ failing lanes.old.lanes }
+    ensures behind { OnOk result (lanes.new.lanes ≡ readers_behind publishers.now domain.now.state.ports.subscribers subscribers.now
+        lanes.old.lanes (length subscribers.now)) }
 {
     for place in 0..subscribers.len() {
-        if let Some(port) = domain.state.ports.subscribers.get(subscribers[place]) {
-            find_order(lanes, place, port, publishers)?;
-        }
+        find_reader(
+            lanes,
+            place,
+            subscriber_at(domain, subscribers, place),
+            publishers,
+        )?;
     }
     Ok(())
+}
+
+fn find_reader(
+    lanes: &mut NewLanes,
+    place: usize,
+    port: Option<&SubscriberPort>,
+    publishers: &[u64],
+) -> Result<(), AllocError>
+    ensures sizes { lanes.new.sizes ≡ lanes.old.sizes }
+    ensures fails { failing lanes.new.lanes ≡ failing lanes.old.lanes }
+    ensures behind { OnOk result (lanes.new.lanes
+        ≡ reader_behind publishers.now place lanes.old.lanes (option_copied port.entry)) }
+{
+    match port {
+        Some(port) => find_order(lanes, place, port, publishers),
+        None => Ok(()),
+    }
 }
 
 fn find_order(
@@ -429,38 +479,55 @@ fn find_order(
 ) -> Result<(), AllocError>
     ensures sizes { lanes.new.sizes ≡ lanes.old.sizes }
     ensures fails { failing lanes.new.lanes ≡ failing lanes.old.lanes }
+    ensures behind { OnOk result (lanes.new.lanes ≡ keys_behind publishers.now place port.now.connections.values lanes.old.lanes
+        (length port.now.connections.values)) }
 {
     let mut to = 0u64;
     for key in 0..port.connections.reached() {
         if let Some(attached) = port.attached(key) {
-            let from = route_from(lanes.lanes(), place, publishers, attached.publisher);
+            let from = route_place(lanes.lanes(), place, publishers, attached.publisher);
             lanes.find(Found::Swapped {
                 subscriber: place,
                 one: to,
                 other: from,
             })?;
-            to = to.saturating_add(1);
+            to += 1;
         }
     }
     Ok(())
 }
 
-// The place at which a subscriber of the lanes has the connection from the publisher of this number.
-fn route_from(lanes: &Lanes, place: usize, publishers: &[u64], number: u64) -> u64 {
+// The place at which a subscriber of the lanes has the connection from the publisher of this number; the largest number where it has
+// none.
+fn route_place(lanes: &Lanes, place: usize, publishers: &[u64], number: u64) -> u64
+    ensures { result ≡ route_place lanes.now publishers.now number (slice_get lanes.now.subscribers place) }
+{
     let Some(lane) = lanes.subscribers().get(place) else {
         return u64::MAX;
     };
-    let routes = lane.routes();
-    for at in 0..routes.len() {
-        if sender_of(lanes, publishers, routes[at].connection) == Some(number) {
-            return at as u64;
-        }
+    match route_from(lanes, publishers, number, lane.routes()) {
+        Some(at) => at as u64,
+        None => u64::MAX,
     }
-    u64::MAX
 }
 
-// The number of the publisher of a connection.
-fn sender_of(lanes: &Lanes, publishers: &[u64], connection: u64) -> Option<u64> {
-    let link = lanes.links().get(connection as usize)?;
-    publishers.get(link.publisher() as usize).copied()
+fn route_from(lanes: &Lanes, publishers: &[u64], number: u64, routes: &[Route]) -> Option<usize>
+    ensures { result ≡ position (leads_here lanes.now publishers.now number) routes.now }
+{
+    routes
+        .iter()
+        .position(|route| leads_here(lanes, publishers, number, *route))
+}
+
+// Whether a connection leads from the publisher of this number.
+fn leads_here(lanes: &Lanes, publishers: &[u64], number: u64, route: Route) -> bool
+    ensures { result ≡ leads_here lanes.now publishers.now number route }
+{
+    let Some(link) = lanes.links().get(route.connection as usize) else {
+        return false;
+    };
+    match publishers.get(link.publisher() as usize) {
+        Some(own) => *own == number,
+        None => false,
+    }
 }

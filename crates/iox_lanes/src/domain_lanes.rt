@@ -64,8 +64,9 @@ pub(crate) struct Opened<T> {
 /// holds of them. Their sizes are those that the service agreed on: its buffer, one message at least, its borrow limit and its
 /// history.
 ///
-/// Refused with the first reason of `refusal` that applies, else with `OutOfMemory` where an allocation fails; then the domain is
-/// handed back as it was.
+/// Refused with the first reason of `refusal` that applies, else with `OutOfMemory` where an allocation fails, or for ports that no
+/// calls leave: one that is listed twice, or whose mailbox or history has a slot twice or more messages than it may. Then the domain
+/// is handed back as it was.
 pub fn into_lanes<T: Words, U: Words>(
     alloc: Global,
     domain: Domain<T, U>,

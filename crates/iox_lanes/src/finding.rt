@@ -1,5 +1,5 @@
 //! Lanes before their first step, to which nothing happened but that something was found.
-ghost use Rattle.std.specs.Prelude.{◌≡◌, ◌<◌, IfOk, OnOk, length};
+ghost use Rattle.std.specs.Prelude.{◌≡◌, ◌<◌, ◌^◌, IfOk, OnOk, length};
 
 use iox_lanes_machine::{Found, LaneSizes, Lanes};
 use std::alloc::{AllocError, Global};
@@ -23,6 +23,8 @@ impl Model for NewLanes {
 }
 
 impl NewLanes {
+    ghost use Rattle.iox_lanes_machine.specs.LanesBase.Numbers.{words_of};
+    ghost use Rattle.iox_lanes_machine.specs.Made.{start, table_sizes};
     ghost use Rattle.iox_lanes_machine.specs.Resting.{AllBetween};
     ghost use Rattle.iox_lanes_machine.specs.WholeReads.{CameTo};
     ghost use Rattle.iox_lanes.specs.Behind.{behind_finding};
@@ -36,6 +38,8 @@ impl NewLanes {
         requires { 0 < sizes.buffer }
         ensures sizes { IfOk result (λ made. made.sizes ≡ sizes) }
         ensures publishers { IfOk result (λ made. length (failing made.lanes) ≡ sizes.publishers) }
+        ensures start { IfOk result (λ made. made.lanes ≡ start sizes) }
+        ensures small { IfOk result (λ _. words_of (table_sizes sizes) < 2 ^ 64) }
     {
         if sizes.buffer >= 1 << 61 {
             return Err(AllocError);
@@ -47,6 +51,8 @@ impl NewLanes {
             return Err(AllocError);
         }
         let lanes = Lanes::new(alloc, sizes)?;
+        // So few words that each has a number.
+        let _words = lanes.table().words();
         Ok(NewLanes { sizes, lanes })
     }
 

@@ -1,32 +1,38 @@
 //! Whether lanes hold what a domain has.
-ghost use Rattle.std.specs.Prelude.{◌≡◌, ◌<◌, ℕ, length};
+ghost use Rattle.std.specs.Prelude.{◌≡◌, ◌<◌, ℕ, length, None};
 ghost use Rattle.std.specs.Bool.{OnTrue};
-ghost use Rattle.iox_lanes.specs.Holding.{numbers_of, SenderHolds, LinkHolds, ReaderHolds, LanesHold};
+ghost use Rattle.iox_lanes_opening.specs.Refusals.{first_reason};
+ghost use Rattle.iox_lanes.specs.Built.{AreBuilt};
+ghost use Rattle.iox_lanes.specs.Holding.{numbers_of, LanesHold, LinkWaits, ReaderHolds, SenderKeeps};
 ghost use Rattle.iox_lanes.specs.Sized.{AreSized};
-ghost use Rattle.iox_lanes.specs.Tied.{AreTied};
+ghost use Rattle.iox_lanes.specs.Tied.{AreTies};
 
 use crate::domain_lanes::Opened;
-use crate::linking::link_holds;
+use crate::linking::link_waits;
 use crate::receiving::reader_holds;
-use crate::sending::sender_holds;
+use crate::sending::sender_keeps;
 use iox_domain::Domain;
 use iox_queues_base::Words;
 
-/// Whether lanes hold what a domain has, whose listed ports have these numbers.
+/// Whether lanes that are built of a domain hold what it has: of its messages each is proved to lie in its slot, so what is left to ask
+/// is which slots they are.
 pub(crate) fn hold<T: Words, U: Words>(domain: &Domain<T, U>, opened: &Opened<T>) -> bool
     requires publishers { opened.now.publishers.items ≡ numbers_of (λ entry. entry.publisher) domain.now.state.ports.publisher_list.places }
     requires subscribers { opened.now.subscribers.items
         ≡ numbers_of (λ entry. entry.subscriber) domain.now.state.ports.subscriber_list.places }
     requires sized { AreSized domain.now.state.ports.sizes (length opened.now.publishers.items) (length opened.now.subscribers.items)
         T.WORDS U.WORDS opened.now.lanes }
-    requires tied { AreTied domain.now.state.ports opened.now.publishers.items opened.now.subscribers.items opened.now.connections.items }
+    requires ties { AreTies domain.now.state.ports opened.now.publishers.items opened.now.subscribers.items opened.now.connections.items }
+    requires built { AreBuilt T.parts U.parts T.WORDS U.WORDS domain.now opened.now.publishers.items opened.now.subscribers.items
+        opened.now.lanes }
+    requires none { first_reason domain.now ≡ None }
     ensures { OnTrue result (LanesHold T.parts U.parts T.WORDS U.WORDS domain.now opened.now.lanes opened.now.publishers.items
         opened.now.subscribers.items opened.now.connections.items) }
 {
-    if !senders_hold(domain, opened) {
+    if !senders_keep(domain, opened) {
         return false;
     }
-    if !links_hold(domain, opened) {
+    if !links_wait(domain, opened) {
         return false;
     }
     if !readers_hold(domain, opened) {
@@ -35,47 +41,41 @@ pub(crate) fn hold<T: Words, U: Words>(domain: &Domain<T, U>, opened: &Opened<T>
     true
 }
 
-fn senders_hold<T: Words, U: Words>(domain: &Domain<T, U>, opened: &Opened<T>) -> bool
+fn senders_keep<T: Words, U: Words>(domain: &Domain<T, U>, opened: &Opened<T>) -> bool
     ensures { OnTrue result ((place : ℕ) → place < length opened.now.publishers.items
-        → SenderHolds T.parts U.parts domain.now opened.now.lanes opened.now.publishers.items place) }
+        → SenderKeeps domain.now opened.now.lanes opened.now.publishers.items place) }
 {
     for place in 0..opened.publishers.len() {
-        if !sender_holds(domain, opened, place) {
+        if !sender_keeps(domain, opened, place) {
             return false;
         }
     }
     true
 }
 
-fn links_hold<T: Words, U: Words>(domain: &Domain<T, U>, opened: &Opened<T>) -> bool
-    requires sized { AreSized domain.now.state.ports.sizes (length opened.now.publishers.items) (length opened.now.subscribers.items)
-        T.WORDS U.WORDS opened.now.lanes }
-    requires tied { AreTied domain.now.state.ports opened.now.publishers.items opened.now.subscribers.items opened.now.connections.items }
+fn links_wait<T: Words, U: Words>(domain: &Domain<T, U>, opened: &Opened<T>) -> bool
     ensures { OnTrue result ((publisher : ℕ) → publisher < length opened.now.publishers.items → (subscriber : ℕ)
         → subscriber < length opened.now.subscribers.items
-        → LinkHolds T.parts U.parts domain.now opened.now.lanes opened.now.publishers.items opened.now.subscribers.items opened.now.connections.items publisher subscriber) }
+        → LinkWaits domain.now opened.now.lanes opened.now.publishers.items opened.now.subscribers.items opened.now.connections.items publisher subscriber) }
 {
     for place in 0..opened.publishers.len() {
-        if !links_of_hold(domain, opened, place) {
+        if !links_of_wait(domain, opened, place) {
             return false;
         }
     }
     true
 }
 
-fn links_of_hold<T: Words, U: Words>(
+fn links_of_wait<T: Words, U: Words>(
     domain: &Domain<T, U>,
     opened: &Opened<T>,
     publisher: usize,
 ) -> bool
-    requires sized { AreSized domain.now.state.ports.sizes (length opened.now.publishers.items) (length opened.now.subscribers.items)
-        T.WORDS U.WORDS opened.now.lanes }
-    requires tied { AreTied domain.now.state.ports opened.now.publishers.items opened.now.subscribers.items opened.now.connections.items }
     ensures { OnTrue result ((subscriber : ℕ) → subscriber < length opened.now.subscribers.items
-        → LinkHolds T.parts U.parts domain.now opened.now.lanes opened.now.publishers.items opened.now.subscribers.items opened.now.connections.items publisher subscriber) }
+        → LinkWaits domain.now opened.now.lanes opened.now.publishers.items opened.now.subscribers.items opened.now.connections.items publisher subscriber) }
 {
     for place in 0..opened.subscribers.len() {
-        if !link_holds(domain, opened, publisher, place) {
+        if !link_waits(domain, opened, publisher, place) {
             return false;
         }
     }

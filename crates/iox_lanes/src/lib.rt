@@ -4,9 +4,9 @@
 //! - `listed`: the numbers of the ports, by their places.
 //! - `finding`: lanes before their first step.
 //! - `building`: they find what the domain has.
-//! - `lying`: whether a message of the domain lies in a slot of the lanes.
-//! - `sending`, `linking`, `receiving`: whether publishers, connections and subscribers of the lanes are those of the domain.
-//! - `holding`: whether lanes hold what the domain has.
+//! - `sending`, `linking`, `receiving`: whether publishers, connections and subscribers of the lanes have the messages and the order of
+//!   those of the domain.
+//! - `holding`: whether lanes that are built of a domain hold what it has.
 //! - `joining`: whether they go with it, whatever steps they make.
 //! - [`returning`]: the domain that lanes leave.
 //! - [`into_domain_error`]: why lanes don't become a domain.
@@ -38,7 +38,6 @@ mod joining;
 pub mod laws;
 mod linking;
 mod listed;
-mod lying;
 mod receiving;
 pub mod returning;
 mod sending;

@@ -67,3 +67,4 @@ mod Undelivered
 mod Opened
 mod Unmoved
 mod Meanwhile
+pub mod Among

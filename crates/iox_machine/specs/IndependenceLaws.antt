@@ -1,8 +1,8 @@
 -- Laws of services beside one another.
-use Rattle.std.specs.Prelude.{ℕ, ◌≡◌, ⊤, Bool, true, false, ◌&&◌, List, [], ◌∷◌, map, find, filter, is_some, MatchBool, if◌then◌else◌}
+use Rattle.std.specs.Prelude.{ℕ, ◌≡◌, ⊤, Bool, true, false, ◌&&◌, List, [], ◌∷◌, map, find, filter, MatchBool, if◌then◌else◌}
 use Rattle.std.specs.Option.{option_map_or}
+use Rattle.iox_machine.specs.Named.{has_named}
 use Rattle.iox_machine.specs.Phase.{same_pattern}
-use Rattle.iox_machine.specs.Ports.{publisher_in, subscriber_in}
 use Rattle.iox_machine.specs.Renaming.{Renaming, KeepsApart, renamed, renamed_reply}
 use Rattle.iox_machine.specs.Renumbering.{AreRenumbered, renumbered_table}
 use Rattle.iox_machine.specs.Run.{Step, Runs}
@@ -15,7 +15,6 @@ use Rattle.iox_command.specs.NegotiateBase.DescribeBase.declared.pattern.Messagi
 use Rattle.iox_command.specs.Patterns.{pattern_of}
 use Rattle.iox_command.specs.declared.command.Command.{Command}
 use Rattle.iox_command.specs.declared.command.Command.TheVariants as command
-use Rattle.iox_command.specs.declared.port.PortNumber.TheVariants as port
 use Rattle.iox_command.specs.declared.reply.Reply.{Reply}
 
 -- whether a factory is of the service of a pattern and name
@@ -46,34 +45,7 @@ module _ {T : Type 0} where
       option_map_or (is_factory_of pattern name) (at factory state.factories) false
   asks pattern name (command.Subscriber factory options) state =
       option_map_or (is_factory_of pattern name) (at factory state.factories) false
-  asks pattern name (command.Loan publisher length) state =
-      is_first pattern name (λ service. is_some (publisher_in publisher service)) state
-  asks pattern name (command.LoanUninit publisher length) state =
-      is_first pattern name (λ service. is_some (publisher_in publisher service)) state
-  asks pattern name (command.Set loan place value) state = is_first pattern name (λ service. is_some (at loan service.loans)) state
-  asks pattern name (command.Fill loan values) state = is_first pattern name (λ service. is_some (at loan service.loans)) state
-  asks pattern name (command.Drop loan) state = is_first pattern name (λ service. is_some (at loan service.loans)) state
-  asks pattern name (command.Send loan) state = is_first pattern name (λ service. is_some (at loan service.loans)) state
-  asks pattern name (command.Put publisher values) state =
-      is_first pattern name (λ service. is_some (publisher_in publisher service)) state
-  asks pattern name (command.Retry publisher nanoseconds) state =
-      is_first pattern name (λ service. is_some (publisher_in publisher service)) state
-  asks pattern name (command.GiveUp publisher) state =
-      is_first pattern name (λ service. is_some (publisher_in publisher service)) state
-  asks pattern name (command.Receive subscriber) state =
-      is_first pattern name (λ service. is_some (subscriber_in subscriber service)) state
-  asks pattern name (command.Read sample) state = is_first pattern name (λ service. is_some (at sample service.samples)) state
-  asks pattern name (command.Release sample) state = is_first pattern name (λ service. is_some (at sample service.samples)) state
-  asks pattern name (command.Update (port.Publisher publisher)) state =
-      is_first pattern name (λ service. is_some (publisher_in publisher service)) state
-  asks pattern name (command.Update (port.Subscriber subscriber)) state =
-      is_first pattern name (λ service. is_some (subscriber_in subscriber service)) state
-  asks pattern name (command.Leave (port.Publisher publisher)) state =
-      is_first pattern name (λ service. is_some (publisher_in publisher service)) state
-  asks pattern name (command.Leave (port.Subscriber subscriber)) state =
-      is_first pattern name (λ service. is_some (subscriber_in subscriber service)) state
-  asks pattern name (command.Has subscriber) state =
-      is_first pattern name (λ service. is_some (subscriber_in subscriber service)) state
+  asks pattern name other state = is_first pattern name (has_named state.factories other) state
 
   -- All of a service is as it was: its phase, its factories, and its ports with all that is lent, waits, is kept and is borrowed.
   abbrev pub IsLeft : MessagingPattern → List ℕ → State T → State T → Type 0

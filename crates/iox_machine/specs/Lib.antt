@@ -19,6 +19,7 @@ pub mod State
 pub mod Factories
 pub mod Closing
 pub mod Ports
+pub mod Named
 pub mod Run
 pub mod Laws
 pub mod RunLaws
@@ -31,6 +32,7 @@ pub mod UpdateLaws
 pub mod Renaming
 pub mod Renumbering
 pub mod IndependenceLaws
+pub mod AmongLaws
 pub mod NumberLaws
 pub mod OnceLaws
 pub mod GoingLaws

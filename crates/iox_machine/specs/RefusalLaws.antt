@@ -1,11 +1,11 @@
 -- Laws of what a call leaves that is refused.
-use Rattle.std.specs.Prelude.{ℕ, zero, suc, ◌≡◌, ◌⊎◌, Bool, true, false, ◌&&◌, ◌==◌, nat_le, List, [], ◌∷◌, ◌++◌, length, take, map, filter, fold, None, Some, find, is_some, option_map, unwrap_or, if◌then◌else◌}
+use Rattle.std.specs.Prelude.{ℕ, zero, suc, ◌≡◌, ◌⊎◌, Bool, true, false, ◌&&◌, ◌==◌, nat_le, List, [], ◌∷◌, ◌++◌, length, take, map, filter, fold, None, Some, find, option_map, unwrap_or, if◌then◌else◌}
 use Rattle.std.specs.Option.{option_map_or}
 use Rattle.iox_machine.specs.Mailbox.{Mailbox, newest, put}
 use Rattle.iox_machine.specs.Message.{Loan, Message, sent_as}
+use Rattle.iox_machine.specs.Named.{has_named}
 use Rattle.iox_machine.specs.Phase.{Phase, Absent, acted}
 use Rattle.iox_machine.specs.PortList.{those}
-use Rattle.iox_machine.specs.Ports.{publisher_in, subscriber_in}
 use Rattle.iox_machine.specs.Run.{Runs, Step}
 use Rattle.iox_machine.specs.Service.{Publisher, Send, Service, Subscriber, mailbox, with_publisher}
 use Rattle.iox_machine.specs.State.{State, new_state, replaced}
@@ -18,7 +18,6 @@ use Rattle.iox_command.specs.NegotiateBase.DescribeBase.declared.pattern.Messagi
 use Rattle.iox_command.specs.Patterns.{pattern_of}
 use Rattle.iox_command.specs.declared.command.Command.{Command}
 use Rattle.iox_command.specs.declared.command.Command.TheVariants as command
-use Rattle.iox_command.specs.declared.port.PortNumber.TheVariants as port
 use Rattle.iox_command.specs.declared.refusal.Refusal.{Refusal}
 use Rattle.iox_command.specs.declared.refusal.Refusal.TheVariants as refusal
 use Rattle.iox_command.specs.declared.reply.Reply.{Reply}
@@ -86,16 +85,6 @@ module _ {T : Type 0} where
   is_sending (command.Send loan) = true
   is_sending (command.Put publisher values) = true
   is_sending other = false
-
-  -- which service a call is of: it has the loan or the port that the call names
-  abbrev pub is_asked_of : Command T → Service T → Bool
-  is_asked_of (command.Send loan) = λ service. is_some (at loan service.loans)
-  is_asked_of (command.Put publisher values) = λ service. is_some (publisher_in publisher service)
-  is_asked_of (command.Receive subscriber) = λ service. is_some (subscriber_in subscriber service)
-  is_asked_of (command.Update (port.Publisher publisher)) = λ service. is_some (publisher_in publisher service)
-  is_asked_of (command.Update (port.Subscriber subscriber)) = λ service. is_some (subscriber_in subscriber service)
-  is_asked_of (command.Has subscriber) = λ service. is_some (subscriber_in subscriber service)
-  is_asked_of other = λ service. false
 
   -- the loans that are out after a refused call: a send has spent its own
   abbrev pub loans_left : Command T → List (ℕ × Loan T) → List (ℕ × Loan T)
@@ -184,8 +173,8 @@ module _ {T : Type 0} (IsDefault : T → Type 0) where
   RefusedPortsLeave = (types : MessageTypeDetails) (buffer : ℕ) (asked : Command T) (old new : State T) (why : Refusal)
       → is_updating asked ≡ true → (why ≡ refusal.Send error.UnableToDeliver → ⊥)
       → Step types IsDefault buffer asked old (reply.Refused why) new
-      → (service : Service T) × (after : Service T) × (find (is_asked_of asked) old.services ≡ Some service)
-      × (new ≡ record old { services = replaced (is_asked_of asked) after old.services })
+      → (service : Service T) × (after : Service T) × (find (has_named old.factories asked) old.services ≡ Some service)
+      × (new ≡ record old { services = replaced (has_named old.factories asked) after old.services })
       × (after.loans ≡ loans_left asked service.loans) × KeepsPorts service after × KeepsMessages service after
 
   -- In every run of a new machine: a send or a put that couldn't deliver brought the publisher's connections up to date, as a refused

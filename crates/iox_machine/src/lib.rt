@@ -11,6 +11,7 @@
 
 ghost use Rattle.iox_machine.specs.AgreementLaws.{AgreementIsDescribed, AgreementStays, CreatesAsDescribed, LivesStartAnew};
 ghost use Rattle.iox_machine.specs.AgreementLaws.{NodesAreAgreed, OneAgreement, ServicesStartEmpty};
+ghost use Rattle.iox_machine.specs.AmongLaws.{StepsAmong, UnknownIsSkipped};
 ghost use Rattle.iox_machine.specs.ConnectionLaws.{ConnectedAreJoined, PairsConnectOnce, StandingAreListed};
 ghost use Rattle.iox_machine.specs.GoingLaws.{EachIsAnswered};
 ghost use Rattle.iox_machine.specs.IndependenceLaws.{NumbersAreCountedAnew, OthersAreLeft, ServicesAreAsIfAlone};
@@ -264,6 +265,18 @@ pub fn a_pair_connects_once<T: Default>()
 /// its phase, its factories, its ports, and all that is lent, waits, is kept or is borrowed there.
 pub fn services_are_beside_one_another<T: Default>()
     ensures { OthersAreLeft T.is_default }
+{}
+
+/// A command on ports, loans and samples does to a service among others what it does to the service alone, and is answered so, where none of
+/// the others has what the command names: a port that stands, a loan, a sample, or the factory. The others stay as they were.
+pub fn a_service_among_others_does_as_alone<T: Default>()
+    ensures { StepsAmong T.is_default }
+{}
+
+/// A command on ports, loans and samples may be skipped, and changes nothing then, where no service has what it names, if there is a default
+/// value.
+pub fn what_nobody_has_is_skipped<T: Default>()
+    ensures { UnknownIsSkipped T.is_default }
 {}
 
 /// In every run of a new machine, leave out the commands that ask nothing of a service, but for those that make nodes: the others are

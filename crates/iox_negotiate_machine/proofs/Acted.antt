@@ -1,5 +1,5 @@
 -- What a table does at steps of nodes outside the hub, and a machine in all its phases.
-use Rattle.std.proofs.Common.{◌≡◌, ◌≢◌, ℕ, ◌+◌, ◌^◌, ◌≤◌, ◌<◌, Bool, true, false, cond, ◌&&◌, true≢false, suc, List, [], ◌∷◌, ◌++◌, Result, Ok, Err, length, refl, sym, ap, subst, ◌∙◌, inl, inr, arith}
+use Rattle.std.proofs.Common.{◌≡◌, ◌≢◌, ℕ, ◌+◌, ◌^◌, ◌≤◌, ◌<◌, Bool, true, false, cond, ◌&&◌, true≢false, suc, List, [], ◌∷◌, ◌++◌, Option, None, Result, Ok, Err, length, refl, sym, ap, subst, ◌∙◌, inl, inr, arith}
 use Rattle.std.specs.Cmp.Lexicographic.{same_text}
 use Rattle.std.specs.List.{AllByRecursion, IsAmong}
 use Rattle.std.specs.Prelude.{fold, map, take}
@@ -12,17 +12,16 @@ use Rattle.iox_command.specs.NegotiateBase.DescribeBase.declared.pattern.Messagi
 use Rattle.iox_command.specs.declared.step.ForeignStep.{ForeignStep}
 use Rattle.iox_machine.specs.Phase.{Phase, Absent, BeingMade, Published, Emptied, acted, same_pattern}
 use Rattle.iox_machine.specs.State.{State, same_name, with_phase}
-use Rattle.iox_negotiate.proofs.Changes.{Change, Same, LockOf, Without, PublishOf, NewSegment, OfSegment, WithoutSegment, ServiceOf, Removal, IsElsewhere, changes, elsewhere, hash-from, rises}
-use Rattle.iox_negotiate_table.specs.declared.step.ForeignStep.{ForeignStep as TableStep}
+use Rattle.iox_negotiate.proofs.Changes.{Change, Same, LockOf, Without, PublishOf, NewSegment, OfSegment, WithoutSegment, ServiceOf, Removal, IsElsewhere, changes, elsewhere, hash_of, hash-from, rises}
 use Rattle.iox_negotiate.proofs.Tables.{reached}
 use Rattle.iox_negotiate.specs.Histories.{Event, Steps, Happens, Ran, IsReached}
 use Rattle.iox_negotiate_machine.proofs.Acting.{After, OwnHash, acts-there, pattern-is, pattern-itself, name-itself, last-then}
 use Rattle.iox_negotiate_machine.proofs.Limits.{and-true, both}
 use Rattle.iox_negotiate_machine.specs.Laws.{HaveOwnHashes, GoOn, HasStepForm, table_step_of, ForeignStepsMatch, ForeignMatches}
 use Rattle.iox_negotiate_machine.specs.Standing.{AreFalling, PhaseStands, TableStands}
-use Rattle.iox_negotiate_table.specs.Contents.{Contents, empty_table}
-use Rattle.iox_negotiate_table.specs.Foreign.{Acts}
+use Rattle.iox_negotiate_table.specs.Contents.{Contents, empty_table, is_description_of, is_published, segment_at}
 use Rattle.iox_negotiate_table.specs.Stepped.{ActsAll, GoesOn}
+use Rattle.iox_negotiate_table.specs.declared.entry.Entry.{Entry}
 
 -- ---- phases of other names
 
@@ -32,17 +31,26 @@ falling-on old new (number ∷ before) less falling = (omega (arith, less, falli
 
 module _ (pattern : MessagingPattern) (name : List ℕ) (old new : Contents) (taken : List ℕ)
     (aside : IsElsewhere (service_hash_of pattern name) old new) (less : old.next ≤ new.next) where
+  only : ((number : ℕ) → is_published (service_hash_of pattern name) number old ≡ false
+      → segment_at (service_hash_of pattern name) number old ≡ None)
+      → (number : ℕ) → is_published (service_hash_of pattern name) number new ≡ false
+      → segment_at (service_hash_of pattern name) number new ≡ None
+  only segments number isnt =
+      aside.segment number ∙ segments number (subst (λ (e : Option Entry). is_description_of number e ≡ false) aside.entry isnt)
+
   -- where nothing changed under a hash its phase is as it was
   stays : (phase : Phase) → PhaseStands pattern name old taken phase → PhaseStands pattern name new taken phase
   stays (Absent lives) stands = record {
     lives = stands.lives;
     falling = falling-on old.next new.next taken less stands.falling;
     lies = aside.entry ∙ stands.lies;
+    segments = only stands.segments;
   }
   stays (BeingMade life by) stands = record {
     lives = stands.lives;
     falling = falling-on old.next new.next taken less stands.falling;
     lies = last-then taken stands.lies (λ number so. aside.entry ∙ so);
+    segments = only stands.segments;
   }
   stays (Published life agreed nodes) stands = record {
     lives = stands.lives;
@@ -51,6 +59,7 @@ module _ (pattern : MessagingPattern) (name : List ℕ) (old new : Contents) (ta
       record { described = aside.entry ∙ so.0.described; kind = so.0.kind; within = so.0.within },
       record { seated = so.1.seated; stands = aside.segment number ∙ so.1.stands; nodes_stand = so.1.nodes_stand; room = so.1.room },
     ));
+    segments = only stands.segments;
   }
   stays (Emptied life agreed by) stands = record {
     lives = stands.lives;
@@ -59,11 +68,12 @@ module _ (pattern : MessagingPattern) (name : List ℕ) (old new : Contents) (ta
       record { described = aside.entry ∙ so.0.described; kind = so.0.kind; within = so.0.within },
       aside.segment number ∙ so.1,
     ));
+    segments = only stands.segments;
   }
 
 -- ---- one step, and many
 
-grows : (event : Event) (hash : ServiceHash) (old new : Contents) → Change event hash old new → new.next ≤ old.next + 1
+pub grows : (event : Event) (hash : ServiceHash) (old new : Contents) → Change event hash old new → new.next ≤ old.next + 1
 grows event hash old new (Same is) = rw is (omega arith)
 grows event hash old new (LockOf node free is) = rw is (omega arith)
 grows event hash old new (Without is) = rw is (omega arith)
@@ -81,7 +91,7 @@ reached-more [] event first old new ran happens = (new, subst (λ (t : Contents)
 reached-more (one ∷ events) event first old new (mid, happened, ran) happens =
     (mid, happened, reached-more events event mid old new ran happens)
 
-joined : (one other rest : List ℕ) → one ++ (other ++ rest) ≡ (one ++ other) ++ rest
+pub joined : (one other rest : List ℕ) → one ++ (other ++ rest) ≡ (one ++ other) ++ rest
 joined [] other rest = refl
 joined (x ∷ one) other rest = ap (λ (l : List ℕ). x ∷ l) (joined one other rest)
 
@@ -91,21 +101,21 @@ pub record Leaves (hash : ServiceHash) (old new : Contents) : Type 0 where
   pub less : old.next ≤ new.next
   pub aside : (other : ServiceHash) → hash.digest ≢ other.digest → IsElsewhere other old new
 
-left-one : (hash : ServiceHash) (step : TableStep) (old new : Contents) (result : Result (Unit {0}) AllocError) → IsReached old
-    → Acts hash step old result new → Leaves hash old new
-left-one hash step old new result was h =
-    let change : Change (Steps hash step) hash old new = changes old new (Steps hash step) (result, h) in
+-- what an event under a hash leaves
+pub left-by : (event : Event) (old new : Contents) → IsReached old → Happens old event new → Leaves (hash_of event) old new
+left-by event old new was happens =
+    let change : Change event (hash_of event) old new = changes old new event happens in
     record {
       reached = record {
         id = was.id;
-        events = was.events ++ Steps hash step ∷ [];
-        ran = reached-more was.events (Steps hash step) (empty_table was.id) old new was.ran (result, h);
+        events = was.events ++ event ∷ [];
+        ran = reached-more was.events event (empty_table was.id) old new was.ran happens;
       };
-      less = rises (Steps hash step) hash old new change;
-      aside = λ other differ. elsewhere hash other differ old new (Steps hash step) change;
+      less = rises event (hash_of event) old new change;
+      aside = λ other differ. elsewhere (hash_of event) other differ old new event change;
     }
 
-left-then : (hash : ServiceHash) (old mid new : Contents) → Leaves hash old mid → Leaves hash mid new → Leaves hash old new
+pub left-then : (hash : ServiceHash) (old mid new : Contents) → Leaves hash old mid → Leaves hash mid new → Leaves hash old new
 left-then hash old mid new one two = record {
   reached = two.reached;
   less = omega (arith, one.less, two.less);
@@ -115,23 +125,23 @@ left-then hash old mid new one two = record {
   };
 }
 
-left-none : (hash : ServiceHash) (old new : Contents) → IsReached old → new ≡ old → Leaves hash old new
+pub left-none : (hash : ServiceHash) (old new : Contents) → IsReached old → new ≡ old → Leaves hash old new
 left-none hash old new was is = rw is
     (record { reached = was; less = omega arith; aside = λ other differ. record { entry = refl; segment = λ number. refl } })
 
 module _ (types : MessageTypeDetails) (pattern : MessagingPattern) (name : List ℕ) (own : OwnHash pattern name) where
-  abbrev hash : ServiceHash
+  abbrev pub hash : ServiceHash
   hash = service_hash_of pattern name
 
   -- what comes of a list of steps
-  abbrev Result_of : Result (Unit {0}) AllocError → List ForeignStep → Contents → List ℕ → Phase → Type 0
+  abbrev pub Result_of : Result (Unit {0}) AllocError → List ForeignStep → Contents → List ℕ → Phase → Type 0
   Result_of (Ok happened) steps new taken phase = (more : List ℕ)
       × PhaseStands pattern name new (more ++ taken) (fold (acted types pattern) phase steps)
   Result_of (Err lacking) steps new taken phase =
       (more : List ℕ) × (done : ℕ) × (done < length steps)
       × PhaseStands pattern name new (more ++ taken) (fold (acted types pattern) phase (take done steps))
 
-  acts-all : (steps : List ForeignStep) (old new : Contents) (taken : List ℕ) (phase : Phase) (result : Result (Unit {0}) AllocError)
+  pub acts-all : (steps : List ForeignStep) (old new : Contents) (taken : List ℕ) (phase : Phase) (result : Result (Unit {0}) AllocError)
       → IsReached old → AllByRecursion (HasStepForm types name) steps → old.next + length steps < 2 ^ 64
       → PhaseStands pattern name old taken phase → ActsAll hash (map (table_step_of types name) steps) old result new
       → Leaves hash old new × Result_of result steps new taken phase
@@ -143,10 +153,10 @@ module _ (types : MessageTypeDetails) (pattern : MessagingPattern) (name : List 
   acts-all (one ∷ steps) old new taken phase result was form room stands (mid, first, acts, rest) =
       goes first (acts-there types pattern name old mid taken one phase first (reached old was) form.0 own (omega (arith, room)) stands acts)
       result rest (λ after_taken after now_form now_room now_stands now_acts.
-      acts-all steps mid new after_taken after result (left-one hash (table_step_of types name one) old mid first was acts).reached now_form now_room now_stands now_acts)
+      acts-all steps mid new after_taken after result (left-by (Steps hash (table_step_of types name one)) old mid was (first, acts)).reached now_form now_room now_stands now_acts)
     where
       left : Leaves hash old mid
-      left = left-one hash (table_step_of types name one) old mid first was acts
+      left = left-by (Steps hash (table_step_of types name one)) old mid was (first, acts)
 
       bound : mid.next ≤ old.next + 1
       bound = grows (Steps hash (table_step_of types name one)) hash old mid
@@ -180,19 +190,19 @@ module _ (types : MessageTypeDetails) (pattern : MessagingPattern) (name : List 
 
 -- ---- all phases
 
-name-is : (one other : List ℕ) → same_name one other ≡ true → one ≡ other
+pub name-is : (one other : List ℕ) → same_name one other ≡ true → one ≡ other
 name-is one other e = same_text one other (sym e)
 
 module _ (names : List (List ℕ)) (own : HaveOwnHashes names) (pattern : MessagingPattern) (name : List ℕ) (asked : IsAmong names name)
     (taken : MessagingPattern → List ℕ → List ℕ) where
-  own-hash : (one : MessagingPattern) → service_hash_of one name ≡ service_hash_of pattern name → one ≡ pattern
+  pub own-hash : (one : MessagingPattern) → service_hash_of one name ≡ service_hash_of pattern name → one ≡ pattern
   own-hash one same = (own one pattern name name asked asked same).0
 
   -- the numbers that were taken, where more were for one pattern and name
-  abbrev later : List ℕ → MessagingPattern → List ℕ → List ℕ
+  abbrev pub later : List ℕ → MessagingPattern → List ℕ → List ℕ
   later more one other = cond (same_pattern one pattern && same_name other name) (more ++ taken pattern name) (taken one other)
 
-  named : (one : MessagingPattern) (other : List ℕ) → (same_pattern one pattern && same_name other name) ≡ true → (one ≡ pattern)
+  pub named : (one : MessagingPattern) (other : List ℕ) → (same_pattern one pattern && same_name other name) ≡ true → (one ≡ pattern)
       × (other ≡ name)
   named one other is = let split = both _ _ is in (pattern-is one pattern split.0, name-is other name split.1)
 
@@ -205,7 +215,7 @@ module _ (names : List (List ℕ)) (own : HaveOwnHashes names) (pattern : Messag
       (subst (λ (n : List ℕ). (same_pattern pattern pattern && same_name n name) ≡ true) both_same.1
       (and-true _ _ (pattern-itself pattern) (name-itself name)))) ∙ isnt))
 
-  goes-on : (more : List ℕ) → GoOn taken (later more)
+  pub goes-on : (more : List ℕ) → GoOn taken (later more)
   goes-on more one other = there (same_pattern one pattern && same_name other name) refl
     where
       there : (b : Bool) → (same_pattern one pattern && same_name other name) ≡ b
@@ -217,7 +227,7 @@ module _ (names : List (List ℕ)) (own : HaveOwnHashes names) (pattern : Messag
 
   module _ {T : Type 0} (old new : Contents) (state : State T) (stands : TableStands names taken old state)
       (left : Leaves (service_hash_of pattern name) old new) where
-    all-stand : (more : List ℕ) (phase : Phase) → PhaseStands pattern name new (more ++ taken pattern name) phase
+    pub all-stand : (more : List ℕ) (phase : Phase) → PhaseStands pattern name new (more ++ taken pattern name) phase
         → TableStands names (later more) new (with_phase pattern name phase state)
     all-stand more phase so = record {
       reached = left.reached;

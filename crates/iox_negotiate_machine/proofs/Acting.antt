@@ -1,6 +1,6 @@
 -- What a step of a node outside the hub does under a hash, and to the phase.
-use Rattle.std.proofs.Common.{◌≡◌, ℕ, ◌+◌, ◌-◌, ◌^◌, ◌<◌, ◌≤◌, Bool, true, false, cond, not, ◌&&◌, List, [], ◌∷◌, ◌++◌, Option, None, Some, is_some, Result, Ok, Err, length, nat_eq, nat_lt, refl, sym, ap, subst, ◌∙◌, arith}
-use Rattle.std.proofs.lemmas.Bool.{eq-eqb}
+use Rattle.std.proofs.Common.{◌≡◌, ◌≢◌, ℕ, ◌+◌, ◌-◌, ◌^◌, ◌<◌, ◌≤◌, Bool, true, false, cond, not, ◌&&◌, List, [], ◌∷◌, ◌++◌, Option, None, Some, is_some, Result, Ok, Err, length, nat_eq, nat_lt, refl, sym, ap, subst, ◌∙◌, arith}
+use Rattle.std.proofs.lemmas.Bool.{eq-eqb, eqb-true}
 use Rattle.std.specs.BTreeMap.{is_at}
 use Rattle.std.specs.declared.alloc.AllocError.{AllocError}
 use Rattle.iox_command.specs.NegotiateBase.Describe.Line.{line}
@@ -20,15 +20,16 @@ use Rattle.iox_machine.specs.Agreement.{Agreement, are_within_limits}
 use Rattle.iox_machine.specs.Asked.{settings_of}
 use Rattle.iox_machine.specs.Phase.{Node, Own, Foreign, Phase, Absent, BeingMade, Published, Emptied, same_pattern, is_in, entered, left, left_by, removed_by, acted}
 use Rattle.iox_machine.specs.State.{same_name}
-use Rattle.iox_negotiate.proofs.Changes.{equal-of, same-place}
-use Rattle.iox_negotiate.proofs.Maps.{no, on, remove-same}
-use Rattle.iox_negotiate.proofs.Tables.{IsTable, digest-exact, digest-self}
+use Rattle.iox_negotiate.proofs.Changes.{equal-of, place-apart, place-away, same-place}
+use Rattle.iox_negotiate.proofs.Closing.{segment-gone}
+use Rattle.iox_negotiate.proofs.Maps.{no, on, by_test, insert-apart, remove-apart, remove-same, set-apart}
+use Rattle.iox_negotiate.proofs.Tables.{IsTable, digest-exact, digest-self, place-exact}
 use Rattle.iox_negotiate_machine.proofs.Limits.{and-true, both, limits-within, limits-back}
 use Rattle.iox_negotiate_machine.proofs.Seats.{same-bool, outside-in, comes-in, first-in, goes-out}
 use Rattle.iox_negotiate_machine.specs.Laws.{HasStepForm, table_step_of, published_with}
 use Rattle.iox_negotiate_machine.specs.Standing.{NodesStand, AreFalling, IsLast, IsDescribed, IsOpenTo, PhaseStands, description_of, table_node_of}
 use Rattle.iox_negotiate_table.proofs.Entries.{lookup-added, lookup-set}
-use Rattle.iox_negotiate_table.specs.Contents.{Contents, entry_at, segment_at, with_lock, without_entry, with_segment, without_segment, digest_cmp, place_cmp}
+use Rattle.iox_negotiate_table.specs.Contents.{Contents, entry_at, segment_at, is_description_of, is_published, with_lock, without_entry, with_segment, without_segment, digest_cmp, place_cmp}
 use Rattle.iox_negotiate_table.specs.Foreign.{Acts, Done, DoneOrLacking, IsFor, PublishesForeign, RegistersAt, RegistersForeign, after_leaving, after_removal, foreign_lock, is_left_by, left_at, published_number, with_service}
 use Rattle.iox_negotiate_table.specs.Nodes.{Nodes, RegistersIf, count_in, has_foreign, with_foreign, without_foreign, first_foreign}
 use Rattle.iox_negotiate_table.specs.Segments.{RegistersIn, closed_if, foreign_left_if}
@@ -56,14 +57,14 @@ name-itself [] = refl
 name-itself (x ∷ xs) = and-true (nat_eq x x) (same_name xs xs) (eq-eqb x x refl) (name-itself xs)
 
 -- the settings that are asked for have the pattern
-kind-of : (types : MessageTypeDetails) (named : ServiceOptions) → described_pattern (settings_of types named) ≡ pattern_of named
+pub kind-of : (types : MessageTypeDetails) (named : ServiceOptions) → described_pattern (settings_of types named) ≡ pattern_of named
 kind-of types (options.PublishSubscribe named) = refl
 kind-of types (options.Event named) = refl
 kind-of types (options.RequestResponse named) = refl
 
 -- ---- the number that was taken last
 
-abbrev last : {So : ℕ → Type 0} (numbers : List ℕ) → IsLast So numbers → (number : ℕ) × So number
+abbrev pub last : {So : ℕ → Type 0} (numbers : List ℕ) → IsLast So numbers → (number : ℕ) × So number
 last [] so = absurd so
 last (number ∷ before) so = (number, so)
 
@@ -79,12 +80,75 @@ pub last-then : {So To : ℕ → Type 0} (numbers : List ℕ) → IsLast So numb
 last-then [] so then = absurd so
 last-then (number ∷ before) so then = then number so
 
-less-apart : (n m : ℕ) → n < m → nat_eq n m ≡ false
+pub less-apart : (n m : ℕ) → n < m → nat_eq n m ≡ false
 less-apart n m less = grind (arith, less)
+
+-- no description of a number lies under a hash where something else does
+pub undescribed : {entry : Option Entry} (hash : ServiceHash) (table : Contents) → entry_at hash table ≡ entry → (n : ℕ)
+    → is_description_of n entry ≡ false → is_published hash n table ≡ false
+undescribed hash table lies n isnt = subst (λ (e : Option Entry). is_description_of n e ≡ false) (sym lies) isnt
+
+-- places of two numbers differ
+pub places-apart : (hash : ServiceHash) (number n : ℕ) → nat_eq number n ≡ false
+    → ◌≢◌ {A = List ℕ × ℕ} (hash.digest, number) (hash.digest, n)
+places-apart hash number n differ same = on (sym (eq-eqb number n (ap (λ (p : List ℕ × ℕ). p.1) same)) ∙ differ)
 
 -- names that a step asks about have hashes of their own
 abbrev pub OwnHash : MessagingPattern → List ℕ → Type 0
 OwnHash pattern name = (other : MessagingPattern) → service_hash_of other name ≡ service_hash_of pattern name → other ≡ pattern
+
+-- ---- a segment that is another
+
+module _ (pattern : MessagingPattern) (name : List ℕ) (old new : Contents) (taken : List ℕ) where
+  abbrev under : ServiceHash
+  under = service_hash_of pattern name
+
+  module _ (life : ℕ) (agreed : Agreement) (number : ℕ) (before : Segment) (lives : life ≡ length taken)
+      (falling : AreFalling old.next taken)
+      (at : IsLast (λ one. one ≡ number) taken) (is : IsDescribed pattern name old agreed number)
+      (stood : segment_at under number old ≡ Some before)
+      (only : (n : ℕ) → is_published under n old ≡ false → segment_at under n old ≡ None) where
+    -- the others have none still
+    only-there : (after : Segment) (n : ℕ) → is_published under n old ≡ false
+        → segment_at under n (with_segment under number after old) ≡ None
+    only-there after n isnt =
+        set-apart (is_at (place_cmp (under.digest, number))) (is_at (place_cmp (under.digest, n)))
+        (place-apart (under.digest, number) (under.digest, n)
+        (places-apart under number n (subst (λ (e : Option Entry). is_description_of n e ≡ false) is.described isnt))) old.segments after
+        ∙ only n isnt
+
+    -- other nodes are in it
+    pub reopened : (nodes : List (Node × ℕ)) (after : Nodes) → NodesStand after nodes → after.max_nodes ≡ max_nodes_of agreed.settings
+        → new ≡ with_segment under number (segment.Open after) old → PhaseStands pattern name new taken (Published life agreed nodes)
+    reopened nodes after stand room new_is = rw new_is (record {
+      lives = lives;
+      falling = falling;
+      lies = last-then taken at (λ (one : ℕ) (same : one ≡ number). rw same (
+        record { described = is.described; kind = is.kind; within = is.within },
+        record {
+          seated = after;
+          stands = lookup-set (is_at (place_cmp (under.digest, number))) old.segments (segment.Open after) (rw stood refl);
+          nodes_stand = stand;
+          room = room;
+        },
+      ));
+      segments = only-there (segment.Open after);
+    })
+
+    -- it was emptied
+    pub emptied : (by : Node) → new ≡ with_segment under number (segment.Emptied (table_node_of by)) old
+        → PhaseStands pattern name new taken (Emptied life agreed by)
+    emptied by new_is = rw new_is (record {
+      lives = lives;
+      falling = falling;
+      lies = last-then taken at (λ (one : ℕ) (same : one ≡ number). rw same (
+        record { described = is.described; kind = is.kind; within = is.within },
+        lookup-set (is_at (place_cmp (under.digest, number))) old.segments (segment.Emptied (table_node_of by)) (rw stood refl),
+      ));
+      segments = only-there (segment.Emptied (table_node_of by));
+    })
+
+-- ---- what a step does
 
 module _ (types : MessageTypeDetails) (pattern : MessagingPattern) (name : List ℕ) (old new : Contents) (taken : List ℕ) where
   abbrev hash : ServiceHash
@@ -132,6 +196,7 @@ module _ (types : MessageTypeDetails) (pattern : MessagingPattern) (name : List 
       lives = omega (arith, stands.lives);
       falling = (omega arith, stands.falling);
       lies = lookup-added digest_cmp hash.digest (Locked (table_node.Foreign node) old.next) old.entries (digest-self hash.digest);
+      segments = λ n isnt. stands.segments n (undescribed hash old stands.lies n refl);
     })
 
     locks-free : (lives : ℕ) (b : Bool) (result : Result (Unit {0}) AllocError) → b ≡ false
@@ -161,7 +226,12 @@ module _ (types : MessageTypeDetails) (pattern : MessagingPattern) (name : List 
     given-up : (table : IsTable old) (life : ℕ) (by : Node) → PhaseStands pattern name old taken (BeingMade life by)
         → new ≡ without_entry hash old
         → PhaseStands pattern name new taken (Absent life)
-    given-up table life by stands is = rw is (record { lives = stands.lives; falling = stands.falling; lies = removed-none table })
+    given-up table life by stands is = rw is (record {
+      lives = stands.lives;
+      falling = stands.falling;
+      lies = removed-none table;
+      segments = λ n isnt. stands.segments n (undescribed hash old (last taken stands.lies).1 n refl);
+    })
 
     gives-up : (table : IsTable old) (phase : Phase) (result : Result (Unit {0}) AllocError) → PhaseStands pattern name old taken phase
         → GivesUpAt result (entry_at hash old) → After result phase (acted types pattern phase (step.GiveUp node))
@@ -234,9 +304,7 @@ module _ (types : MessageTypeDetails) (pattern : MessagingPattern) (name : List 
         falling = stands.falling;
         lies = last-then taken at (λ (one : ℕ) (same : one ≡ number). rw same (
           record {
-            described =
-                lookup-set (is_at (digest_cmp hash.digest)) old.entries (Described number (line (described (pattern_of options))))
-                (rw (last taken stands.lies).1 refl)
+            described = lies-there
                 ∙ ap (λ (kind : MessagingPattern). Some (Described number (line (described kind)))) (own (pattern_of options) is.1);
             kind = kind-of types options ∙ own (pattern_of options) is.1;
             within = subst (λ (kind : MessagingPattern). IsWithinLimits (described kind)) (own (pattern_of options) is.1) is.0;
@@ -250,7 +318,18 @@ module _ (types : MessageTypeDetails) (pattern : MessagingPattern) (name : List 
             room = refl;
           },
         ));
+        segments = λ n isnt.
+            insert-apart place_cmp (hash.digest, number) (segment.Open (first_foreign node (max_nodes_of (settings_of types options))))
+            (is_at (place_cmp (hash.digest, n)))
+            (place-away (hash.digest, number) (hash.digest, n)
+            (places-apart hash number n (subst (λ (e : Option Entry). is_description_of n e ≡ false) lies-there isnt))) place-exact old.segments
+            ∙ stands.segments n (undescribed hash old (last taken stands.lies).1 n refl);
       })
+        where
+          lies-there : entry_at hash (with_service hash number node (described (pattern_of options)) old)
+              ≡ Some (Described number (line (described (pattern_of options))))
+          lies-there = lookup-set (is_at (digest_cmp hash.digest)) old.entries (Described number (line (described (pattern_of options))))
+              (rw (last taken stands.lies).1 refl)
 
       publishes : HasForm (described (pattern_of options)) → OwnHash pattern name → (phase : Phase) (result : Result (Unit {0}) AllocError)
           → PhaseStands pattern name old taken phase → PublishesAt result (entry_at hash old)
@@ -286,41 +365,6 @@ module _ (types : MessageTypeDetails) (pattern : MessagingPattern) (name : List 
               (subst (λ (b : Bool). DoneOrLacking b (with_service hash (last taken stands.lies).0 node (described (pattern_of options)) old) old result new)
               (same-bool h.0 fits (λ so. for-fits own (h.1.0 so)) (λ so. h.1.1 (fits-for form so))) h.2)
 
-    -- ---- a segment that is another
-
-    module _ (life : ℕ) (agreed : Agreement) (number : ℕ) (before : Segment) (lives : life ≡ length taken)
-        (falling : AreFalling old.next taken)
-        (at : IsLast (λ one. one ≡ number) taken) (is : IsDescribed pattern name old agreed number)
-        (stood : segment_at hash number old ≡ Some before) where
-      -- other nodes are in it
-      reopened : (nodes : List (Node × ℕ)) (after : Nodes) → NodesStand after nodes → after.max_nodes ≡ max_nodes_of agreed.settings
-          → new ≡ with_segment hash number (segment.Open after) old → PhaseStands pattern name new taken (Published life agreed nodes)
-      reopened nodes after stand room new_is = rw new_is (record {
-        lives = lives;
-        falling = falling;
-        lies = last-then taken at (λ (one : ℕ) (same : one ≡ number). rw same (
-          record { described = is.described; kind = is.kind; within = is.within },
-          record {
-            seated = after;
-            stands = lookup-set (is_at (place_cmp (hash.digest, number))) old.segments (segment.Open after) (rw stood refl);
-            nodes_stand = stand;
-            room = room;
-          },
-        ));
-      })
-
-      -- it was emptied
-      emptied : (by : Node) → new ≡ with_segment hash number (segment.Emptied (table_node_of by)) old
-          → PhaseStands pattern name new taken (Emptied life agreed by)
-      emptied by new_is = rw new_is (record {
-        lives = lives;
-        falling = falling;
-        lies = last-then taken at (λ (one : ℕ) (same : one ≡ number). rw same (
-          record { described = is.described; kind = is.kind; within = is.within },
-          lookup-set (is_at (place_cmp (hash.digest, number))) old.segments (segment.Emptied (table_node_of by)) (rw stood refl),
-        ));
-      })
-
     -- ---- a node that comes
 
     abbrev RegistersBy : Result (Unit {0}) AllocError → Option Entry → Type 0
@@ -352,17 +396,17 @@ module _ (types : MessageTypeDetails) (pattern : MessagingPattern) (name : List 
             (cond b (Published life agreed (entered (Foreign node) nodes)) (Published life agreed nodes))
         comes true (Ok done) is h = (
           [],
-          reopened life agreed here.0 (segment.Open here.2.seated) stands.lives stands.falling at here.1 here.2.stands
+          reopened pattern name old new taken life agreed here.0 (segment.Open here.2.seated) stands.lives stands.falling at here.1 here.2.stands stands.segments
               (entered (Foreign node) nodes) (with_foreign node here.2.seated)
               (comes-in node here.2.seated nodes here.2.nodes_stand (out _ _ (sym test ∙ sym is))) here.2.room
               (new_is ∙ ap (λ (n : Nodes). with_segment hash here.0 (segment.Open n) old) h),
         )
         comes true (Err lacking) is h =
-            reopened life agreed here.0 (segment.Open here.2.seated) stands.lives stands.falling at here.1 here.2.stands nodes here.2.seated
+            reopened pattern name old new taken life agreed here.0 (segment.Open here.2.seated) stands.lives stands.falling at here.1 here.2.stands stands.segments nodes here.2.seated
             here.2.nodes_stand here.2.room (new_is ∙ ap (λ (n : Nodes). with_segment hash here.0 (segment.Open n) old) h)
         comes false (Ok done) is h = (
           [],
-          reopened life agreed here.0 (segment.Open here.2.seated) stands.lives stands.falling at here.1 here.2.stands nodes here.2.seated
+          reopened pattern name old new taken life agreed here.0 (segment.Open here.2.seated) stands.lives stands.falling at here.1 here.2.stands stands.segments nodes here.2.seated
               here.2.nodes_stand here.2.room (new_is ∙ ap (λ (n : Nodes). with_segment hash here.0 (segment.Open n) old) h),
         )
         comes false (Err lacking) is h = absurd h
@@ -395,7 +439,7 @@ module _ (types : MessageTypeDetails) (pattern : MessagingPattern) (name : List 
             let over : RegistersAt (Some (segment.Emptied (table_node_of by))) hash here.0 node old result new =
             subst (λ (s : Option Segment). RegistersAt s hash here.0 node old result new) here.2 found in
             made result (Emptied life agreed by) (Emptied life agreed by) over.1.0
-            (emptied life agreed here.0 (segment.Emptied (table_node_of by)) stands.lives stands.falling at here.1 here.2 by
+            (emptied pattern name old new taken life agreed here.0 (segment.Emptied (table_node_of by)) stands.lives stands.falling at here.1 here.2 stands.segments by
             (over.2 ∙ ap (λ (s : Segment). with_segment hash here.0 s old) over.1.1))
 
     -- ---- a node that leaves
@@ -408,7 +452,7 @@ module _ (types : MessageTypeDetails) (pattern : MessagingPattern) (name : List 
         → PhaseStands pattern name new taken (left_by (Foreign node) (Published life agreed nodes))
     leaves-open life agreed nodes stands here at false is new_is =
         rw (outside-in node here.2.seated nodes here.2.nodes_stand ∙ is)
-        (reopened life agreed here.0 (segment.Open here.2.seated) stands.lives stands.falling at here.1 here.2.stands nodes here.2.seated
+        (reopened pattern name old new taken life agreed here.0 (segment.Open here.2.seated) stands.lives stands.falling at here.1 here.2.stands stands.segments nodes here.2.seated
         here.2.nodes_stand here.2.room new_is)
     leaves-open life agreed nodes stands here at true is new_is = goes (left (Foreign node) nodes) refl
       where
@@ -429,10 +473,10 @@ module _ (types : MessageTypeDetails) (pattern : MessagingPattern) (name : List 
         goes : (l : List (Node × ℕ)) → left (Foreign node) nodes ≡ l
             → PhaseStands pattern name new taken (left_by (Foreign node) (Published life agreed nodes))
         goes [] are = rw (outside-in node here.2.seated nodes here.2.nodes_stand ∙ is) (rw are
-            (emptied life agreed here.0 (segment.Open here.2.seated) stands.lives stands.falling at here.1 here.2.stands (Foreign node)
+            (emptied pattern name old new taken life agreed here.0 (segment.Open here.2.seated) stands.lives stands.falling at here.1 here.2.stands stands.segments (Foreign node)
             (set true (none-left (count_in (without_foreign node here.2.seated)) (length (left (Foreign node) nodes)) (sym stay.many) (ap (λ (l : List (Node × ℕ)). length l) are)))))
         goes (entry ∷ more) are = rw (outside-in node here.2.seated nodes here.2.nodes_stand ∙ is) (rw are
-            (reopened life agreed here.0 (segment.Open here.2.seated) stands.lives stands.falling at here.1 here.2.stands (entry ∷ more)
+            (reopened pattern name old new taken life agreed here.0 (segment.Open here.2.seated) stands.lives stands.falling at here.1 here.2.stands stands.segments (entry ∷ more)
             (without_foreign node here.2.seated) (subst (λ (l : List (Node × ℕ)). NodesStand (without_foreign node here.2.seated) l) are stay) here.2.room
             (set false (some-left (count_in (without_foreign node here.2.seated)) (length (left (Foreign node) nodes)) (sym stay.many) (subst (λ (l : List (Node × ℕ)). 1 ≤ length l) (sym are) (omega arith))))))
 
@@ -465,15 +509,25 @@ module _ (types : MessageTypeDetails) (pattern : MessagingPattern) (name : List 
             let over : new ≡ left_at (Some (segment.Emptied (table_node_of by))) hash here.0 node old =
             subst (λ (s : Option Segment). new ≡ left_at s hash here.0 node old) here.2 found in
             made result (Emptied life agreed by) (Emptied life agreed by) ok
-            (emptied life agreed here.0 (segment.Emptied (table_node_of by)) stands.lives stands.falling at here.1 here.2 by over)
+            (emptied pattern name old new taken life agreed here.0 (segment.Emptied (table_node_of by)) stands.lives stands.falling at here.1 here.2 stands.segments by over)
 
     -- ---- a service that is removed
 
     removed : (table : IsTable old) (life : ℕ) (agreed : Agreement) (by : Node) (number : ℕ)
+        → entry_at hash old ≡ Some (Described number (line (description_of pattern name agreed)))
         → PhaseStands pattern name old taken (Emptied life agreed by)
         → new ≡ without_segment hash number (without_entry hash old) → PhaseStands pattern name new taken (Absent life)
-    removed table life agreed by number stands is
-        = rw is (record { lives = stands.lives; falling = stands.falling; lies = removed-none table })
+    removed table life agreed by number at stands is = rw is (record {
+      lives = stands.lives;
+      falling = stands.falling;
+      lies = removed-none table;
+      segments = λ n isnt. by_test (nat_eq number n)
+          (λ same. subst (λ (m : ℕ). segment_at hash m (without_segment hash number old) ≡ None) (eqb-true number n same)
+          (segment-gone hash number old table))
+          (λ differ. remove-apart (is_at (place_cmp (hash.digest, number))) (is_at (place_cmp (hash.digest, n)))
+          (place-apart (hash.digest, number) (hash.digest, n) (places-apart hash number n differ)) old.segments
+          ∙ stands.segments n (undescribed hash old at n differ));
+    })
 
     removes : (table : IsTable old) (phase : Phase) (result : Result (Unit {0}) AllocError) → PhaseStands pattern name old taken phase
         → result ≡ Ok tt
@@ -494,21 +548,23 @@ module _ (types : MessageTypeDetails) (pattern : MessagingPattern) (name : List 
         spread (last taken stands.lies) in
         let found : new ≡ after_removal (Some here.0) hash node old =
         subst (λ (e : Option Entry). new ≡ after_removal (published_number e) hash node old) here.1.described h in
-        whose by here.0 stands
+        whose by here.0 here.1.described stands
         (subst (λ (s : Option Segment). new ≡ cond (is_left_by node s) (without_segment hash here.0 (without_entry hash old)) old) here.2 found)
       where
-        there : (by number : ℕ) (b : Bool) → PhaseStands pattern name old taken (Emptied life agreed (Foreign by))
+        there : (by number : ℕ) (b : Bool) → entry_at hash old ≡ Some (Described number (line (description_of pattern name agreed)))
+            → PhaseStands pattern name old taken (Emptied life agreed (Foreign by))
             → new ≡ cond b (without_segment hash number (without_entry hash old)) old
             → After result (Emptied life agreed (Foreign by)) (cond b (Absent life) (Emptied life agreed (Foreign by)))
-        there by number true stands h =
-            made result (Emptied life agreed (Foreign by)) (Absent life) ok (removed table life agreed (Foreign by) number stands h)
-        there by number false stands h = kept result (Emptied life agreed (Foreign by)) stands h
+        there by number true at stands h =
+            made result (Emptied life agreed (Foreign by)) (Absent life) ok (removed table life agreed (Foreign by) number at stands h)
+        there by number false at stands h = kept result (Emptied life agreed (Foreign by)) stands h
 
-        whose : (by : Node) (number : ℕ) → PhaseStands pattern name old taken (Emptied life agreed by)
+        whose : (by : Node) (number : ℕ) → entry_at hash old ≡ Some (Described number (line (description_of pattern name agreed)))
+            → PhaseStands pattern name old taken (Emptied life agreed by)
             → new ≡ cond (is_left_by node (Some (segment.Emptied (table_node_of by)))) (without_segment hash number (without_entry hash old)) old
             → After result (Emptied life agreed by) (removed_by (Foreign node) (Emptied life agreed by))
-        whose (Own by) number stands h = kept result (Emptied life agreed (Own by)) stands h
-        whose (Foreign by) number stands h = there by number (nat_eq by node) stands h
+        whose (Own by) number at stands h = kept result (Emptied life agreed (Own by)) stands h
+        whose (Foreign by) number at stands h = there by number (nat_eq by node) at stands h
 
   -- what a step does under its hash is what the machine says of the phase
   pub acts-there : (named : ForeignStep) (phase : Phase) (result : Result (Unit {0}) AllocError) → IsTable old

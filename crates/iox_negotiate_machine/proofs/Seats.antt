@@ -18,7 +18,7 @@ use Rattle.iox_negotiate_machine.specs.Standing.{NodesStand, seats_of, counts_of
 use Rattle.iox_negotiate_table.proofs.Entries.{is-self}
 use Rattle.iox_negotiate_table.specs.Nodes.{Nodes, count_in, first_foreign, has_foreign, with_foreign, without_foreign}
 
-abbrev Entry : Type 0
+abbrev pub Entry : Type 0
 Entry = Node × ℕ
 
 -- ---- tests of nodes
@@ -40,17 +40,17 @@ same-bool false true there back = back refl
 same-bool false false there back = refl
 
 -- the test of a number in a set is that of the machine
-tested : (node number : ℕ) → is_at (nat_cmp node) number ≡ (number == node)
+pub tested : (node number : ℕ) → is_at (nat_cmp node) number ≡ (number == node)
 tested node number = same-bool (is_at (nat_cmp node) number) (number == node)
     (λ at. eq-eqb number node (sym (exact_unsigned node number (equal-of (nat_cmp node number) at))))
     (λ same. subst (λ n. is_at (nat_cmp node) n ≡ true) (sym (eqb-true number node same)) (rw (is-self nat_cmp nat_cmp_total node) refl))
 
 -- ---- counts
 
-abbrev outside : ℕ → Entry
+abbrev pub outside : ℕ → Entry
 outside number = (Foreign number, 1)
 
-abbrev own : ℕ × ℕ → Entry
+abbrev pub own : ℕ × ℕ → Entry
 own entry = (Own entry.0, entry.1)
 
 counts-there : (node : Node) (entry : Entry) (a b : List Entry) (c : Bool) → counts_of node (a ++ b) ≡ counts_of node a ++ counts_of node b
@@ -59,22 +59,22 @@ counts-there : (node : Node) (entry : Entry) (a b : List Entry) (c : Bool) → c
 counts-there node entry a b true later = ap (λ (l : List ℕ). entry.1 ∷ l) later
 counts-there node entry a b false later = later
 
-counts-joined : (node : Node) (a b : List Entry) → counts_of node (a ++ b) ≡ counts_of node a ++ counts_of node b
+pub counts-joined : (node : Node) (a b : List Entry) → counts_of node (a ++ b) ≡ counts_of node a ++ counts_of node b
 counts-joined node [] b = refl
 counts-joined node (entry ∷ a) b = counts-there node entry a b (same_node entry.0 node) (counts-joined node a b)
 
 module _ (m : Node) (entry : Entry) where
-  abbrev counted : List Entry → Bool → List ℕ
+  abbrev pub counted : List Entry → Bool → List ℕ
   counted nodes b = map (λ (e : Entry). e.1)
       (cond b (entry ∷ filter (λ (e : Entry). same_node e.0 m) nodes) (filter (λ (e : Entry). same_node e.0 m) nodes))
 
-  passed : (nodes : List Entry) → same_node entry.0 m ≡ true → counts_of m (entry ∷ nodes) ≡ entry.1 ∷ counts_of m nodes
+  pub passed : (nodes : List Entry) → same_node entry.0 m ≡ true → counts_of m (entry ∷ nodes) ≡ entry.1 ∷ counts_of m nodes
   passed nodes is = ap (λ (b : Bool). counted nodes b) is
 
-  aside : (nodes : List Entry) → same_node entry.0 m ≡ false → counts_of m (entry ∷ nodes) ≡ counts_of m nodes
+  pub aside : (nodes : List Entry) → same_node entry.0 m ≡ false → counts_of m (entry ∷ nodes) ≡ counts_of m nodes
   aside nodes is = ap (λ (b : Bool). counted nodes b) is
 
-  behind : (nodes others : List Entry) → counts_of m nodes ≡ counts_of m others → counts_of m (entry ∷ nodes) ≡ counts_of m (entry ∷ others)
+  pub behind : (nodes others : List Entry) → counts_of m nodes ≡ counts_of m others → counts_of m (entry ∷ nodes) ≡ counts_of m (entry ∷ others)
   behind nodes others same = there (same_node entry.0 m)
     where
       there : (b : Bool) → counted nodes b ≡ counted others b
@@ -86,7 +86,7 @@ none-own : (number : ℕ) (entries : List (ℕ × ℕ)) → counts_of (Foreign n
 none-own number [] = refl
 none-own number (entry ∷ more) = none-own number more
 
-abbrev is_some_of : List ℕ → Bool
+abbrev pub is_some_of : List ℕ → Bool
 is_some_of [] = false
 is_some_of (x ∷ xs) = true
 
@@ -95,7 +95,7 @@ in-there : (node : Node) (entry : Entry) (more : List Entry) (c : Bool) → is_i
 in-there node entry more true later = refl
 in-there node entry more false later = later
 
-in-counted : (node : Node) (nodes : List Entry) → is_in node nodes ≡ is_some_of (counts_of node nodes)
+pub in-counted : (node : Node) (nodes : List Entry) → is_in node nodes ≡ is_some_of (counts_of node nodes)
 in-counted node [] = refl
 in-counted node (entry ∷ more) = in-there node entry more (same_node entry.0 node) (in-counted node more)
 
@@ -127,7 +127,7 @@ come-there node entry nodes m true false is same out later =
 come-there node entry nodes m false false is same out later = behind m entry (entered node nodes) nodes (later out)
 
 -- who comes in that wasn't is there once, and nobody else changes
-come : (node : Node) (nodes : List Entry) (m : Node) → is_in node nodes ≡ false
+pub come : (node : Node) (nodes : List Entry) (m : Node) → is_in node nodes ≡ false
     → counts_of m (entered node nodes) ≡ cond (same_node node m) (1 ∷ []) (counts_of m nodes)
 come node [] m out = by_test (same_node node m) (λ is. rw is refl) (λ isnt. rw isnt refl)
 come node (entry ∷ nodes) m out =
@@ -139,7 +139,7 @@ longer-there : (node : Node) (entry : Entry) (nodes : List Entry) (c : Bool) →
 longer-there node entry nodes true out later = on out
 longer-there node entry nodes false out later = omega (arith, later out)
 
-longer : (node : Node) (nodes : List Entry) → is_in node nodes ≡ false → length (entered node nodes) ≡ length nodes + 1
+pub longer : (node : Node) (nodes : List Entry) → is_in node nodes ≡ false → length (entered node nodes) ≡ length nodes + 1
 longer node [] out = refl
 longer node (entry ∷ nodes) out = longer-there node entry nodes (same_node entry.0 node) out (λ later. longer node nodes later)
 

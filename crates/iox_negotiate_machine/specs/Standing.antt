@@ -1,5 +1,5 @@
 -- Which phases of the machine those in a table of services are.
-use Rattle.std.specs.Prelude.{ℕ, ◌≡◌, ◌<◌, ◌≤◌, List, [], ◌∷◌, ◌++◌, length, map, filter, Some, None}
+use Rattle.std.specs.Prelude.{ℕ, ◌≡◌, ◌<◌, ◌≤◌, false, List, [], ◌∷◌, ◌++◌, length, map, filter, Some, None}
 use Rattle.std.specs.List.{IsAmong}
 use Rattle.iox_command.specs.NegotiateBase.Describe.Line.{line}
 use Rattle.iox_command.specs.NegotiateBase.Describe.Within.{IsWithinLimits}
@@ -11,7 +11,7 @@ use Rattle.iox_machine.specs.AgreementLaws.{life_of}
 use Rattle.iox_machine.specs.Phase.{Node, Own, Foreign, Phase, Absent, BeingMade, Published, Emptied, same_node}
 use Rattle.iox_machine.specs.State.{State}
 use Rattle.iox_negotiate.specs.Histories.{IsReached}
-use Rattle.iox_negotiate_table.specs.Contents.{Contents, entry_at, segment_at}
+use Rattle.iox_negotiate_table.specs.Contents.{Contents, entry_at, segment_at, is_published}
 use Rattle.iox_negotiate_table.specs.Nodes.{Nodes, count_in}
 use Rattle.iox_negotiate_table.specs.declared.entry.Entry.TheVariants.{Locked, Described}
 use Rattle.iox_negotiate_table.specs.declared.node.Node.{Node as TableNode}
@@ -77,11 +77,14 @@ module _ (pattern : MessagingPattern) (name : List ℕ) where
         IsLast (λ number. IsDescribed agreed number
         × (segment_at (service_hash_of pattern name) number table ≡ Some (segment.Emptied (table_node_of by)))) taken
 
-    -- The table has this phase under the hash of this pattern and name, after these numbers were taken there: one a life.
+    -- The table has this phase under the hash of this pattern and name, after these numbers were taken there: one a life. Only what is
+    -- described there has a segment.
     pub record PhaseStands (taken : List ℕ) (phase : Phase) : Type 0 where
       pub lives : life_of phase ≡ length taken
       pub falling : AreFalling table.next taken
       pub lies : Lies phase taken
+      pub segments : (number : ℕ) → is_published (service_hash_of pattern name) number table ≡ false
+          → segment_at (service_hash_of pattern name) number table ≡ None
 
 -- The table of services stands for the phases of a state, for these names, in each pattern; these numbers were taken for
 -- each. It is a table that can be reached.

@@ -1,0 +1,179 @@
+-- A subscriber that may receive does, of a domain and of the machine; another is skipped.
+use Rattle.std.proofs.Common.{◌≡◌, ◌≢◌, ◌<◌, ◌+◌, ◌-◌, ◌^◌, ℕ, Bool, true, false, List, Option, None, Some, Result, Ok, Err, refl, sym, ap, subst, ◌∙◌}
+use Rattle.std.specs.Global.{Vec}
+use Rattle.iox_command.specs.DomainValues.declared.connection_failure.ConnectionFailure.{ConnectionFailure}
+use Rattle.iox_command.specs.DomainValues.declared.degradation.DegradationAction.{DegradationAction}
+use Rattle.iox_command.specs.DomainValues.declared.degradation.DegradationInfo.{DegradationInfo}
+use Rattle.iox_command.specs.DomainValues.declared.port_error.ReceiveError.{ReceiveError}
+use Rattle.iox_command.specs.DomainValues.declared.port_error.ReceiveError.TheVariants.{ConnectionFailure as failed}
+use Rattle.iox_command.specs.NegotiateBase.DescribeBase.declared.message_type.MessageTypeDetails.{MessageTypeDetails}
+use Rattle.iox_command.specs.declared.command.Command.TheVariants as command
+use Rattle.iox_command.specs.declared.refusal.Refusal.{Refusal}
+use Rattle.iox_command.specs.declared.refusal.Refusal.TheVariants as refusal
+use Rattle.iox_command.specs.declared.reply.Reply.TheVariants as reply
+use Rattle.iox_domain.proofs.Numbered.{at_number, same_set}
+use Rattle.iox_domain.specs.Container.declared.container.Member.{Member}
+use Rattle.iox_domain.specs.DomainPorts.SubscriberUpdating.{ReceivesAfter, ReceivesNext}
+use Rattle.iox_domain.specs.DomainPorts.declared.attached.Taken.{Taken}
+use Rattle.iox_domain.specs.DomainPorts.declared.publisher_entry.PublisherEntry.{PublisherEntry}
+use Rattle.iox_domain.specs.DomainPorts.declared.publisher_port.PublisherPort.{PublisherPort}
+use Rattle.iox_domain.specs.DomainPorts.declared.subscriber_port.SubscriberPort.{SubscriberPort}
+use Rattle.iox_domain.specs.Ports.{AtSubscriber, with_both}
+use Rattle.iox_domain.specs.PortsSubscribing.{ReceivesIf, ReceivesOne, counted_by}
+use Rattle.iox_domain.specs.Rolls.{IsListOf}
+use Rattle.iox_domain.specs.Roomy.{AreRoomy}
+use Rattle.iox_domain.specs.Subscribers.{subscriber_of}
+use Rattle.iox_domain.specs.declared.ports.service_ports.ServicePorts.{ServicePorts}
+use Rattle.iox_domain_machine.specs.Laws.{Matches}
+use Rattle.iox_domain_machine.specs.Naming.{Naming}
+use Rattle.iox_domain_machine.specs.ReceiveLaws.{AreReceived, ReceiveMatches, received_or_not, with_held}
+use Rattle.iox_domain_machine.specs.Standing.{StandsFor}
+use Rattle.iox_domain_machine.specs.SubscriberUpdateLaws.{ActsAs}
+use Rattle.iox_domain_machine.specs.Tables.{LentSlot, samples_held_by}
+use Rattle.iox_domain_machine.proofs.Alone.{alone_does, alone_skips}
+use Rattle.iox_domain_machine.proofs.Asking.{left_found, nobody_found, stands_found}
+use Rattle.iox_domain_machine.proofs.FirstUpdating.{UpdatedFirst, updates_first, fails_so, does_then}
+use Rattle.iox_domain_machine.proofs.Found.{never_some, same_some}
+use Rattle.iox_domain_machine.proofs.Hearing.{hears}
+use Rattle.iox_domain_machine.proofs.ReceiveSweeping.{set_again}
+use Rattle.iox_domain_machine.proofs.Receiving.{receive_stands}
+use Rattle.iox_machine.specs.Ports.{subscriber_in}
+use Rattle.iox_machine.specs.Receiving as machine
+use Rattle.iox_machine.specs.Service.{Service, Subscriber}
+use Rattle.iox_machine.specs.State.{State}
+use Rattle.iox_machine.specs.SubscriberUpdate.{UpdatesFirst}
+use Rattle.iox_machine.specs.Table.{at}
+
+module _ {T U : Type 0} (IsDefault : T → Type 0) (may : DegradationInfo → DegradationAction → Type 0) (types : MessageTypeDetails)
+    (buffer : ℕ) (names : Naming) (lent : List (ℕ × LentSlot)) (held : List (ℕ × Taken)) (old new : ServicePorts T U) (service : Service T)
+    (state : State T) (number : ℕ) (values : Vec T) (stands : StandsFor names lent held buffer old service) (roomy : AreRoomy old)
+    (named : names.subscriber number ≢ 0)
+    (acts : ActsAs may (names.subscriber number) service) (free : at (state.made.samples + 1) held ≡ None)
+    (few : samples_held_by number held < 2 ^ 64 - 1) where
+  abbrev sample : ℕ
+  sample = state.made.samples + 1
+
+  abbrev name : ℕ
+  name = names.subscriber number
+
+  -- why a failure refuses it
+  abbrev told : ConnectionFailure → Refusal
+  told failure = refusal.Receive (failed failure)
+
+  abbrev Meant : Option (Result (Option Taken) ReceiveError) → ServicePorts T U → Type 0
+  Meant answer new =
+      (reader : ℕ → ℕ → ℕ) × Matches T U IsDefault types buffer (command.Receive name) (received_or_not sample values answer) state service
+      (record names { reader = reader }) lent (with_held sample answer held) new
+
+  skips : subscriber_in name service ≡ None → new ≡ old → Meant None new
+  skips none same = rw same (
+    names.reader,
+    (service, alone_skips (subscriber_in name) (UpdatesFirst buffer name told (machine.Receives name sample)) state service none, stands),
+  )
+
+  module _ (port : SubscriberPort) (there : subscriber_of number old.subscribers ≡ Some port) (standing : port.stands ≡ true)
+      (between received : SubscriberPort) (between_ports publishers : List (ℕ × PublisherPort T U))
+      (outcome : Result (Option Taken) ReceiveError) where
+    abbrev was : Subscriber
+    was = (stands.subscribers number port there).0
+
+    abbrev midway : ServicePorts T U
+    midway = with_both number between between_ports old
+
+    abbrev later : ServicePorts T U
+    later = with_both number (counted_by outcome received) publishers old
+
+    found : subscriber_in name service ≡ Some was
+    found = stands_found names lent held buffer old service number stands port there standing
+
+    same_later : with_both number (counted_by outcome received) publishers midway ≡ later
+    same_later =
+        ap (λ (all : List (ℕ × SubscriberPort)). record old { subscribers = all; publishers = publishers })
+        (set_again (at_number number) old.subscribers between (counted_by outcome received))
+
+    -- it receive_stands once its connections are up to date, and is refused where one failed
+    received_by : (updated : Result (Unit {0}) ConnectionFailure)
+        → UpdatedFirst names lent held buffer old service number was updated between between_ports
+        → ReceivesAfter updated between between_ports outcome received publishers → AreReceived values (Some outcome) later
+        → Meant (Some outcome) later
+    received_by (Ok tt) it does are =
+        let later_names : Naming = record names { reader = it.reader } in
+        let now = same_set (at_number number) old.subscribers between port there in
+        let its = it.stands.subscribers number between now in
+        let heard = hears later_names lent held buffer midway it.mid number between it.stands now it.roomy it.standing in
+        let done = receive_stands later_names lent held buffer midway it.mid number between it.stands it.roomy now heard sample values free
+        few outcome received publishers does
+        (subst (λ (ports : ServicePorts T U). AreReceived values (Some outcome) ports) (sym same_later) are) in (
+          it.reader,
+          (
+            done.0,
+            alone_does (subscriber_in name) (UpdatesFirst buffer name told (machine.Receives name sample)) state service done.0
+                (received_or_not sample values (Some outcome)) was found
+                (does_then buffer name was service (Ok tt) it.later it.mid it.begun refl told (machine.Receives name sample)
+                (received_or_not sample values (Some outcome)) done.0
+                (subst (λ (one : Subscriber). machine.Receives name sample one it.mid (received_or_not sample values (Some outcome)) done.0)
+                (same_some its.0 it.later (sym its.1 ∙ it.now)) done.1)),
+            subst (λ (ports : ServicePorts T U). StandsFor later_names lent (with_held sample (Some outcome) held) buffer ports done.0)
+                same_later done.2,
+          ),
+        )
+    received_by (Err failure) it (is_told, is_between, are_between) are =
+        rw is_told (rw is_between (rw are_between (
+          it.reader,
+          (
+            it.mid,
+            alone_does (subscriber_in name) (UpdatesFirst buffer name told (machine.Receives name sample)) state service it.mid
+                (reply.Refused (told failure)) was found
+                (fails_so buffer name was service (Err failure) it.later it.mid it.begun failure refl told (machine.Receives name sample)),
+            it.stands,
+          ),
+        )))
+
+  received_so : (port : SubscriberPort) (there : subscriber_of number old.subscribers ≡ Some port) → port.stands ≡ true
+      → (listed : List (Option (Member PublisherEntry))) → IsListOf listed old.publisher_list → (received : SubscriberPort)
+      (publishers : List (ℕ × PublisherPort T U)) (outcome : Result (Option Taken) ReceiveError)
+      → ReceivesNext may listed old.publisher_list.changes port old.publishers outcome received publishers
+      → new ≡ with_both number (counted_by outcome received) publishers old → AreReceived values (Some outcome) new
+      → Meant (Some outcome) new
+  received_so port there standing listed is_list received publishers outcome (updated, between, between_ports, updates, after_it) is are =
+      rw is (received_by port there standing between received between_ports publishers outcome updated
+      (updates_first names lent held buffer old service number types IsDefault state may stands roomy acts port there standing listed
+      is_list updated between between_ports updates) after_it
+      (subst (λ (ports : ServicePorts T U). AreReceived values (Some outcome) ports) is are))
+
+  at_port : (port : SubscriberPort) → subscriber_of number old.subscribers ≡ Some port → (standing : Bool) → port.stands ≡ standing
+      → (answer : Option (Result (Option Taken) ReceiveError)) (after : SubscriberPort) (publishers : List (ℕ × PublisherPort T U))
+      → ReceivesIf standing may old.publisher_list port old.publishers answer after publishers
+      → (answer ≡ None → new ≡ old)
+      → ((outcome : Result (Option Taken) ReceiveError) → answer ≡ Some outcome → new ≡ with_both number after publishers old)
+      → AreReceived values answer new → Meant answer new
+  at_port port there false left answer after publishers call none some are =
+      rw call.0 (skips (left_found names lent held buffer old service number stands port there left) (none call.0))
+  at_port port there true standing answer after publishers
+      (listed, is_list, outcome, received, does, is_after, is_told) none some are =
+      rw is_told (received_so port there standing listed is_list received publishers outcome does
+      (some outcome is_told ∙ ap (λ (one : SubscriberPort). with_both number one publishers old) is_after)
+      (subst (λ (answer : Option (Result (Option Taken) ReceiveError)). AreReceived values answer new) is_told are))
+
+  at_subscriber : (port : SubscriberPort) → subscriber_of number old.subscribers ≡ Some port
+      → (answer : Option (Result (Option Taken) ReceiveError))
+      → AtSubscriber number (ReceivesOne may old.publisher_list) (Some port) old answer new → AreReceived values answer new
+      → Meant answer new
+  at_subscriber port there None (after, publishers, call, is) are =
+      at_port port there port.stands refl None after publishers call (λ same. is) (λ outcome same. never_some outcome same) are
+  at_subscriber port there (Some told) (after, publishers, call, is) are =
+      at_port port there port.stands refl (Some told) after publishers call (λ same. never_some told (sym same)) (λ outcome same. is) are
+
+  receives_by : (answer : Option (Result (Option Taken) ReceiveError)) → AreReceived values answer new → (found : Option SubscriberPort)
+      → subscriber_of number old.subscribers ≡ found
+      → AtSubscriber number (ReceivesOne may old.publisher_list) found old answer new → Meant answer new
+  receives_by answer read None there call =
+      rw call.0 (skips (nobody_found names lent held buffer old service number stands named there) call.1)
+  receives_by answer read (Some port) there call = at_subscriber port there answer call read
+
+pub receive_matches : (T U : Type 0) (IsDefault : T → Type 0) (may : DegradationInfo → DegradationAction → Type 0)
+    → ReceiveMatches T U IsDefault may
+receive_matches T U IsDefault may types buffer names lent held old new service state number answer values stands roomy named acts free
+    few call read =
+    receives_by IsDefault may types buffer names lent held old new service state number values stands roomy named acts free few answer read
+    (subscriber_of number old.subscribers) refl call

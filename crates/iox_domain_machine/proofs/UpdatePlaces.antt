@@ -1,0 +1,98 @@
+-- Who parts at places that are left to be gone over, and which place is the first where something failed.
+use Rattle.std.proofs.Common.{◌≡◌, ◌≢◌, ◌<◌, ◌⊎◌, ◌+◌, ◌∷◌, [], ◌||◌, ℕ, zero, suc, true, false, not, List, get_or, Option, None, Some, refl, ap, ◌∙◌, inl, inr, arith}
+use Rattle.std.proofs.lemmas.Bool.{cases_eq, eq-eqb, ne_eqb}
+use Rattle.std.proofs.lemmas.List.Elements.{filter_map-append}
+use Rattle.std.proofs.lemmas.List.Sums.{fold-append}
+use Rattle.std.specs.Prelude.{filter, filter_map, fold, is_some, if◌then◌else◌}
+use Rattle.iox_machine.specs.SubscriberUpdate.{gone_from, parting}
+
+-- at a place that lists somebody
+abbrev pub Place : Type 0
+Place = Option ℕ × Option ℕ
+
+-- who leaves a place where another is listed
+abbrev pub leaving_first : List Place → List ℕ
+leaving_first places = filter_map gone_from (filter (λ place. is_some place.1) places)
+
+-- who leaves a place where none is
+abbrev pub leaving_then : List Place → List ℕ
+leaving_then places = filter_map gone_from (filter (λ place. not (is_some place.1)) places)
+
+pub parting_in_two : {S : Type 0} (step : S → ℕ → S) (start : S) (places : List Place)
+    → fold step start (parting places) ≡ fold step (fold step start (leaving_first places)) (leaving_then places)
+parting_in_two step start places =
+    ap (λ all. fold step start all) (filter_map-append gone_from (filter (λ place. is_some place.1) places)
+    (filter (λ place. not (is_some place.1)) places))
+    ∙ fold-append step start (leaving_first places) (leaving_then places)
+
+-- who is listed is at its place, or another is
+pub gone_same : (connected listed : ℕ) → listed ≡ connected → gone_from (Some connected, Some listed) ≡ None
+gone_same connected listed same = ap (λ b. if b || false then None else Some connected) (eq-eqb listed connected same)
+
+pub gone_other : (connected listed : ℕ) → listed ≢ connected → gone_from (Some connected, Some listed) ≡ Some connected
+gone_other connected listed off = ap (λ b. if b || false then None else Some connected) (ne_eqb listed connected off)
+
+pub first_same : (connected listed : ℕ) (more : List Place) → listed ≡ connected
+    → leaving_first ((Some connected, Some listed) ∷ more) ≡ leaving_first more
+first_same connected listed more same = rw (gone_same connected listed same) refl
+
+pub first_other : (connected listed : ℕ) (more : List Place) → listed ≢ connected
+    → leaving_first ((Some connected, Some listed) ∷ more) ≡ connected ∷ leaving_first more
+first_other connected listed more off = rw (gone_other connected listed off) refl
+
+pub none_first : (places : List Place) → ((place : ℕ) → (get_or places place (None, None)).1 ≡ None) → leaving_first places ≡ []
+none_first [] none = refl
+none_first ((connected, None) ∷ places) none = none_first places (λ place. none (suc place))
+none_first ((connected, Some listed) ∷ places) none = let no : Some listed ≡ None = none zero in cc
+
+pub none_then : (places : List Place)
+    → ((place : ℕ) → (is_some (get_or places place (None, None)).1 ≡ true) ⊎ ((get_or places place (None, None)).0 ≡ None))
+    → leaving_then places ≡ []
+none_then [] none = refl
+none_then ((connected, Some listed) ∷ places) none = none_then places (λ place. none (suc place))
+none_then ((None, None) ∷ places) none = none_then places (λ place. none (suc place))
+none_then ((Some connected, None) ∷ places) none = by (none zero)
+  where
+    by : (false ≡ true) ⊎ (Some connected ≡ None) → leaving_then ((Some connected, None) ∷ places) ≡ []
+    by (inl wrong) = cc
+    by (inr wrong) = cc
+
+-- what is at the first of so many places where there is something
+pub record IsFirstBelow {Y : Type 0} (at_place : ℕ → Option Y) (count : ℕ) (found : Option Y) : Type 0 where
+  pub none : found ≡ None → (place : ℕ) → place < count → at_place place ≡ None
+  pub some : (y : Y) → found ≡ Some y
+      → (place : ℕ) × (place < count) × (at_place place ≡ Some y) × ((lower : ℕ) → lower < place → at_place lower ≡ None)
+
+pub none_below_zero : {Y : Type 0} (at_place : ℕ → Option Y) → IsFirstBelow at_place 0 None
+none_below_zero at_place = record { none = λ is place below. absurd (omega (arith, below)); some = λ y is. absurd (cc) }
+
+module _ {Y : Type 0} (before now : ℕ → Option Y) (count : ℕ) (same : (place : ℕ) → place ≢ count → now place ≡ before place) where
+  -- one more place is gone over, where nothing is, or where something is already
+  pub still_first : (found : Option Y) → (found ≡ None → now count ≡ None) → IsFirstBelow before count found
+      → IsFirstBelow now (count + 1) found
+  still_first found here first = record {
+    none = λ is place below. elim (cases_eq place count) [
+      | inl at ↦ ap now at ∙ here is
+      | inr off ↦ same place off ∙ first.none is place (omega (arith, below, off))
+    ];
+    some = λ y is.
+        let it = first.some y is in (
+          it.0,
+          omega (arith, it.1),
+          same it.0 (λ at. absurd (omega (arith, at, it.1))) ∙ it.2,
+          λ lower below. same lower (λ at. absurd (omega (arith, at, it.1, below))) ∙ it.3 lower below,
+        );
+  }
+
+  -- or where something is, the first
+  pub now_first : (y : Y) → now count ≡ Some y → IsFirstBelow before count None → IsFirstBelow now (count + 1) (Some y)
+  now_first y here first = record {
+    none = λ is. absurd (cc);
+    some = λ other is.
+        let own : y ≡ other = cc in (
+          count,
+          omega arith,
+          here ∙ ap (λ one. Some one) own,
+          λ lower below. same lower (λ at. absurd (omega (arith, at, below))) ∙ first.none refl lower below,
+        );
+  }

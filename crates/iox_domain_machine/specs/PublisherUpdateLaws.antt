@@ -1,0 +1,39 @@
+-- What a domain does at the update of a publisher is what the machine's service does.
+use Rattle.std.specs.Prelude.{ℕ, ◌≡◌, ◌≢◌, List, Option, Some, Result}
+use Rattle.iox_command.specs.DomainValues.declared.connection_failure.ConnectionFailure.{ConnectionFailure}
+use Rattle.iox_command.specs.DomainValues.declared.degradation.DegradationAction.{DegradationAction}
+use Rattle.iox_command.specs.NegotiateBase.DescribeBase.declared.message_type.MessageTypeDetails.{MessageTypeDetails}
+use Rattle.iox_command.specs.declared.command.Command.TheVariants as command
+use Rattle.iox_command.specs.declared.port.PortNumber.TheVariants as port
+use Rattle.iox_domain.specs.DomainPorts.declared.attached.Taken.{Taken}
+use Rattle.iox_domain.specs.DomainValues.declared.degradation.DegradationInfo.{DegradationInfo}
+use Rattle.iox_domain.specs.PortLawsLaws.{IsApart}
+use Rattle.iox_domain.specs.SizeLaws.{AreAllowed}
+use Rattle.iox_domain.specs.Steps.{UpdatesBy}
+use Rattle.iox_domain.specs.declared.ports.service_ports.ServicePorts.{ServicePorts}
+use Rattle.iox_domain_machine.specs.Laws.{Matches}
+use Rattle.iox_domain_machine.specs.Naming.{Naming, with_name}
+use Rattle.iox_domain_machine.specs.Standing.{StandsFor}
+use Rattle.iox_domain_machine.specs.SubscriberUpdateLaws.{updated_or_skipped}
+use Rattle.iox_domain_machine.specs.Tables.{LentSlot}
+use Rattle.iox_machine.specs.Service.{Publisher, Service}
+use Rattle.iox_machine.specs.State.{State}
+use Rattle.iox_machine.specs.Table.{at}
+
+-- A handler answers nothing but this action, and it is that of the machine's publisher of this name.
+abbrev pub DegradesAs : {T : Type 0} → (DegradationInfo → DegradationAction → Type 0) → DegradationAction → ℕ → Service T → Type 0
+DegradesAs {T} may degradation name service =
+    ((info : DegradationInfo) (action : DegradationAction) → may info action → action ≡ degradation)
+    × ((publisher : Publisher T) → at name service.publishers ≡ Some publisher → publisher.degradation ≡ degradation)
+
+module _ (T U : Type 0) (IsDefault : T → Type 0) (may : DegradationInfo → DegradationAction → Type 0) where
+  -- A publisher follows the list of subscribers, of ports whose ties are apart and whose sizes are those allowed: so they are after any
+  -- calls, as `AtMostOnce` and `SizesAgree` say. Its new connections get names.
+  abbrev pub PublisherUpdateMatches : Type 0
+  PublisherUpdateMatches = (types : MessageTypeDetails) (buffer : ℕ) (names : Naming) (lent : List (ℕ × LentSlot))
+      (held : List (ℕ × Taken)) (old new : ServicePorts T U) (service : Service T) (state : State T) (number : ℕ)
+      (degradation : DegradationAction) (answer : Option (Result (Unit {0}) ConnectionFailure))
+      → StandsFor names lent held buffer old service → IsApart old → AreAllowed old → names.publisher number ≢ 0
+      → DegradesAs may degradation (names.publisher number) service → UpdatesBy may number old answer new
+      → (reader : ℕ → ℕ) × Matches T U IsDefault types buffer (command.Update (port.Publisher (names.publisher number)))
+      (updated_or_skipped answer) state service (record names { reader = with_name number reader names.reader }) lent held new

@@ -1,0 +1,40 @@
+-- What a publisher's put is, of a domain and of the machine.
+use Rattle.std.specs.Prelude.{ℕ, ◌≡◌, ◌≢◌, List, Option, Some, Result}
+use Rattle.iox_command.specs.DomainValues.declared.backpressure.BackpressureDecision.{BackpressureDecision}
+use Rattle.iox_command.specs.DomainValues.declared.backpressure.BackpressureInfo.{BackpressureInfo}
+use Rattle.iox_command.specs.DomainValues.declared.degradation.DegradationAction.{DegradationAction}
+use Rattle.iox_command.specs.DomainValues.declared.degradation.DegradationInfo.{DegradationInfo}
+use Rattle.iox_command.specs.DomainValues.declared.port_error.SendError.{SendError}
+use Rattle.iox_command.specs.NegotiateBase.DescribeBase.declared.message_type.MessageTypeDetails.{MessageTypeDetails}
+use Rattle.iox_command.specs.declared.command.Command.TheVariants as command
+use Rattle.iox_domain.specs.DomainPorts.declared.attached.Taken.{Taken}
+use Rattle.iox_domain.specs.DomainPorts.declared.meeting.Sent.{Sent}
+use Rattle.iox_domain.specs.Roomy.{AreRoomy}
+use Rattle.iox_domain.specs.Steps.{PutsBy}
+use Rattle.iox_domain.specs.declared.ports.service_ports.ServicePorts.{ServicePorts}
+use Rattle.iox_domain_machine.specs.Laws.{Matches}
+use Rattle.iox_domain_machine.specs.Naming.{Naming}
+use Rattle.iox_domain_machine.specs.PublisherUpdateLaws.{DegradesAs}
+use Rattle.iox_domain_machine.specs.SendLaws.{sent_or_skipped, DecidesAs}
+use Rattle.iox_domain_machine.specs.Standing.{StandsFor}
+use Rattle.iox_domain_machine.specs.Tables.{LentSlot}
+use Rattle.iox_machine.specs.Service.{Service, Publisher}
+use Rattle.iox_machine.specs.State.{State}
+use Rattle.iox_machine.specs.Table.{at}
+
+-- A publisher lends a message for some values, and sends it with them, or it is told why not. It follows the list of subscribers before it
+-- sends, where that changed. No loan that goes by a number is made, and messages and connections may get other names. The ports are roomy:
+-- so they are after any calls, as `SamplesLeft` says. What may be decided at a full mailbox, and answered where a connection failed, is
+-- what the machine's publisher decides and does.
+abbrev pub PutMatches : (T U : Type 0) → (T → Type 0) → (BackpressureInfo → BackpressureDecision → Type 0)
+    → (DegradationInfo → DegradationAction → Type 0) → Type 0
+PutMatches T U IsDefault may may_degrade = (types : MessageTypeDetails) (buffer : ℕ) (names : Naming) (lent : List (ℕ × LentSlot))
+    (held : List (ℕ × Taken)) (old new : ServicePorts T U) (service : Service T) (state : State T) (number : ℕ) (values : List T)
+    (degradation : DegradationAction) (answer : Option (Result Sent SendError))
+    → StandsFor names lent held buffer old service → AreRoomy old → names.publisher number ≢ 0
+    → ((publisher : Publisher T) → at (names.publisher number) service.publishers ≡ Some publisher → DecidesAs may publisher)
+    → DegradesAs may_degrade degradation (names.publisher number) service
+    → PutsBy may_degrade may number values old answer new
+    → (message : ℕ → ℕ → ℕ) × (reader : ℕ → ℕ → ℕ)
+    × Matches T U IsDefault types buffer (command.Put (names.publisher number) values) (sent_or_skipped answer) state service
+    (record names { message = message; reader = reader }) lent held new

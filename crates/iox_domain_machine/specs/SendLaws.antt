@@ -1,0 +1,72 @@
+-- What a publisher's send is, of a domain and of the machine.
+use Rattle.std.specs.Prelude.{ℕ, ◌≡◌, ◌≢◌, List, Option, None, Some, Result, Ok, Err}
+use Rattle.iox_command.specs.DomainValues.Actions.{decision_of}
+use Rattle.iox_command.specs.DomainValues.declared.backpressure.BackpressureDecision.{BackpressureDecision}
+use Rattle.iox_command.specs.DomainValues.declared.backpressure.BackpressureInfo.{BackpressureInfo}
+use Rattle.iox_command.specs.DomainValues.declared.degradation.DegradationAction.{DegradationAction}
+use Rattle.iox_command.specs.DomainValues.declared.degradation.DegradationInfo.{DegradationInfo}
+use Rattle.iox_command.specs.DomainValues.declared.port_error.SendError.{SendError}
+use Rattle.iox_command.specs.NegotiateBase.DescribeBase.declared.message_type.MessageTypeDetails.{MessageTypeDetails}
+use Rattle.iox_command.specs.declared.command.Command.TheVariants as command
+use Rattle.iox_command.specs.declared.refusal.Refusal.TheVariants as refusal
+use Rattle.iox_command.specs.declared.reply.Reply.{Reply}
+use Rattle.iox_command.specs.declared.reply.Reply.TheVariants as reply
+use Rattle.iox_domain.specs.DomainPorts.declared.attached.Taken.{Taken}
+use Rattle.iox_domain.specs.DomainPorts.declared.meeting.Sent.{Sent}
+use Rattle.iox_domain.specs.DomainPorts.declared.meeting.Sent.TheVariants as sent
+use Rattle.iox_domain.specs.Roomy.{AreRoomy}
+use Rattle.iox_domain.specs.Steps.{SendsBy, RetriesBy}
+use Rattle.iox_domain.specs.declared.ports.service_ports.ServicePorts.{ServicePorts}
+use Rattle.iox_domain_machine.specs.Laws.{Matches}
+use Rattle.iox_domain_machine.specs.Naming.{Naming, with_name}
+use Rattle.iox_domain_machine.specs.PublisherUpdateLaws.{DegradesAs}
+use Rattle.iox_domain_machine.specs.Standing.{StandsFor}
+use Rattle.iox_domain_machine.specs.Tables.{LentSlot}
+use Rattle.iox_machine.specs.Service.{Service, Publisher}
+use Rattle.iox_machine.specs.State.{State}
+use Rattle.iox_machine.specs.Table.{at, removed}
+
+-- what is replied to a send
+abbrev pub sent_or_skipped : {T : Type 0} → Option (Result Sent SendError) → Reply T
+sent_or_skipped None = reply.Skipped
+sent_or_skipped (Some (Ok (sent.Delivered count))) = reply.Delivered count
+sent_or_skipped (Some (Ok sent.Blocked)) = reply.Blocked
+sent_or_skipped (Some (Err why)) = reply.Refused (refusal.Send why)
+
+-- the loans that go by numbers after a send of one: it is one no longer, unless the send was skipped
+abbrev pub lent_after_send : ℕ → Option (Result Sent SendError) → List (ℕ × LentSlot) → List (ℕ × LentSlot)
+lent_after_send loan None lent = lent
+lent_after_send loan (Some result) lent = removed loan lent
+
+-- whatever may be decided at a full mailbox is what a publisher of the machine decides
+abbrev pub DecidesAs : {T : Type 0} → (BackpressureInfo → BackpressureDecision → Type 0) → Publisher T → Type 0
+DecidesAs may publisher =
+    (info : BackpressureInfo) (decision : BackpressureDecision) → may info decision
+    → decision ≡ decision_of publisher.strategy publisher.handler
+
+module _ (T U : Type 0) (IsDefault : T → Type 0) (may : BackpressureInfo → BackpressureDecision → Type 0) where
+  -- A send that waits is tried again, after so many nanoseconds; of ports that are roomy: so they are after any calls, as `SamplesLeft`
+  -- says. What may be decided at a full mailbox is what the machine's publisher decides.
+  abbrev pub RetryMatches : Type 0
+  RetryMatches = (types : MessageTypeDetails) (buffer : ℕ) (names : Naming) (lent : List (ℕ × LentSlot)) (held : List (ℕ × Taken))
+      (old new : ServicePorts T U) (service : Service T) (state : State T) (number nanoseconds : ℕ)
+      (answer : Option (Result Sent SendError))
+      → StandsFor names lent held buffer old service → AreRoomy old → names.publisher number ≢ 0
+      → ((publisher : Publisher T) → at (names.publisher number) service.publishers ≡ Some publisher → DecidesAs may publisher)
+      → RetriesBy may number nanoseconds old answer new
+      → Matches T U IsDefault types buffer (command.Retry (names.publisher number) nanoseconds) (sent_or_skipped answer) state service
+      names lent held new
+
+  -- A loan that goes by a number is sent: its publisher follows the list of subscribers first, where that changed, and its new connections
+  -- get names. The ports are roomy: so they are after any calls, as `SamplesLeft` says. What may be decided at a full mailbox, and answered
+  -- where a connection failed, is what the machine's publisher decides and does.
+  abbrev pub SendMatches : (DegradationInfo → DegradationAction → Type 0) → Type 0
+  SendMatches may_degrade = (types : MessageTypeDetails) (buffer : ℕ) (names : Naming) (lent : List (ℕ × LentSlot))
+      (held : List (ℕ × Taken)) (old new : ServicePorts T U) (service : Service T) (state : State T) (loan : ℕ) (out : LentSlot)
+      (degradation : DegradationAction) (answer : Option (Result Sent SendError))
+      → StandsFor names lent held buffer old service → AreRoomy old → at loan lent ≡ Some out
+      → ((publisher : Publisher T) → at (names.publisher out.publisher) service.publishers ≡ Some publisher → DecidesAs may publisher)
+      → DegradesAs may_degrade degradation (names.publisher out.publisher) service
+      → SendsBy may_degrade may out.publisher out.slot old answer new
+      → (reader : ℕ → ℕ) × Matches T U IsDefault types buffer (command.Send loan) (sent_or_skipped answer) state service
+      (record names { reader = with_name out.publisher reader names.reader }) (lent_after_send loan answer lent) held new

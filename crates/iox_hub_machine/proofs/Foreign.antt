@@ -1,0 +1,217 @@
+-- Nodes outside the hub do steps: what the hub has stands.
+use Rattle.std.proofs.Common.{◌≡◌, ℕ, ◌+◌, ◌^◌, ◌<◌, Bool, true, false, cond, ◌&&◌, nat_lt, List, [], ◌∷◌, length, map, fold, take, Option, Result, Ok, Err, refl, sym, ap, subst, ◌∙◌, inl, inr, arith}
+use Rattle.std.proofs.lemmas.Bool.{lt-ltb}
+use Rattle.std.specs.List.{AllByRecursion, IsAmong}
+use Rattle.std.specs.declared.alloc.AllocError.{AllocError}
+use Rattle.iox_command.specs.DomainValues.declared.backpressure.BackpressureAction.{BackpressureAction}
+use Rattle.iox_command.specs.DomainValues.declared.backpressure.BackpressureDecision.{BackpressureDecision}
+use Rattle.iox_command.specs.DomainValues.declared.backpressure.BackpressureInfo.{BackpressureInfo}
+use Rattle.iox_command.specs.DomainValues.declared.backpressure_strategy.BackpressureStrategy.{BackpressureStrategy}
+use Rattle.iox_command.specs.DomainValues.declared.degradation.DegradationAction.{DegradationAction}
+use Rattle.iox_command.specs.DomainValues.declared.degradation.DegradationCause.{DegradationCause}
+use Rattle.iox_command.specs.DomainValues.declared.degradation.DegradationInfo.{DegradationInfo}
+use Rattle.iox_command.specs.NegotiateBase.DescribeBase.Detail.{Detail}
+use Rattle.iox_command.specs.NegotiateBase.DescribeBase.Hash.{service_hash_of}
+use Rattle.iox_command.specs.NegotiateBase.DescribeBase.declared.message_type.MessageTypeDetails.{MessageTypeDetails}
+use Rattle.iox_command.specs.NegotiateBase.DescribeBase.declared.pattern.MessagingPattern.{MessagingPattern}
+use Rattle.iox_command.specs.NegotiateBase.declared.request.Opened.{Opened}
+use Rattle.iox_command.specs.declared.command.Command.TheVariants as command
+use Rattle.iox_command.specs.declared.refusal.HubError.TheVariants.{OutOfMemory}
+use Rattle.iox_command.specs.declared.refusal.Refusal.TheVariants as refusal
+use Rattle.iox_command.specs.declared.reply.Reply.{Reply}
+use Rattle.iox_command.specs.declared.reply.Reply.TheVariants as reply
+use Rattle.iox_command.specs.declared.step.ForeignStep.{ForeignStep}
+use Rattle.iox_domain_machine.specs.Naming.{Naming}
+use Rattle.iox_hub_base.specs.Foreign.{told}
+use Rattle.iox_hub_base.specs.declared.hub.Hub.{Hub}
+use Rattle.iox_hub_commands.specs.CommandSteps as hub
+use Rattle.iox_hub_commands.specs.AgreementLaws.{carried_by}
+use Rattle.iox_hub_commands.specs.Replies.{foreign_reply}
+use Rattle.iox_hub_commands.specs.ServicesTables.{parts_of, pattern_in}
+use Rattle.iox_hub_commands.specs.declared.numbered_hub.NumberedHub.{NumberedHub}
+use Rattle.iox_hub_commands.specs.declared.services.made.MadeFactory.{MadeFactory}
+use Rattle.iox_hub_machine.proofs.Meantime.{same_numbers, seats_stay, service_stays}
+use Rattle.iox_hub_machine.proofs.PortsStay.{ports_stay}
+use Rattle.iox_hub_machine.proofs.SameSteps.{same_list}
+use Rattle.iox_hub_base.proofs.SameTable.{acts-keep}
+use Rattle.iox_hub_machine.specs.Seats.{seats_in}
+use Rattle.iox_hub_machine.specs.ServiceLaws.{ForeignMatches, IsFollowed}
+use Rattle.iox_hub_machine.specs.Services.{FactoryStands, HubStandsFor}
+use Rattle.iox_machine.specs.AgreementLaws.{life_of}
+use Rattle.iox_machine.specs.Phase.{Phase, acted, same_pattern}
+use Rattle.iox_machine.specs.Run as machine
+use Rattle.iox_machine.specs.State.{State, same_name, with_phase}
+use Rattle.iox_negotiate_machine.proofs.Acted.{all-stand, goes-on, later, left-none, named, steps-match}
+use Rattle.iox_negotiate_machine.specs.CallLaws.{IsServiceIn}
+use Rattle.iox_negotiate_machine.specs.Laws.{GoOn, HasStepForm, HaveOwnHashes, table_step_of}
+use Rattle.iox_negotiate_machine.specs.Standing.{TableStands}
+use Rattle.iox_negotiate_table.specs.Contents.{Contents}
+use Rattle.iox_negotiate_table.specs.Stepped.{ActsAll}
+use Rattle.iox_negotiate_table.specs.declared.step.ForeignStep.{ForeignStep as TableStep}
+
+-- ---- a phase after some steps
+
+module _ {T : Type 0} (names : List (List ℕ)) (own : HaveOwnHashes names) (types : MessageTypeDetails) (pattern : MessagingPattern)
+    (name : List ℕ) (asked : IsAmong names name) (taken : MessagingPattern → List ℕ → List ℕ) (steps : List ForeignStep)
+    (state : State T) where
+  -- the phase that the steps lead to
+  abbrev pub next_phase : Phase
+  next_phase = fold (acted types pattern) (state.phases pattern name) steps
+
+  -- the machine after them
+  abbrev pub after_steps : State T
+  after_steps = with_phase pattern name next_phase state
+
+  by_name : (P : MessagingPattern → List ℕ → Phase → Type 0) (one : MessagingPattern) (other : List ℕ)
+      → P pattern name next_phase → P one other (state.phases one other) → P one other (after_steps.phases one other)
+  by_name P one other here there = tested (same_pattern one pattern && same_name other name) refl
+    where
+      tested : (b : Bool) → (same_pattern one pattern && same_name other name) ≡ b
+          → P one other (cond b next_phase (state.phases one other))
+      tested true is =
+          let same = named names own pattern name asked taken one other is in
+          subst (λ (p : MessagingPattern). P p other next_phase) (sym same.0)
+          (subst (λ (n : List ℕ). P pattern n next_phase) (sym same.1) here)
+      tested false is = there
+
+  seats_then : (one : MessagingPattern) (other : List ℕ) (node : ℕ)
+      → seats_in node (after_steps.phases one other) ≡ seats_in node (state.phases one other)
+  seats_then one other node =
+      by_name (λ p n phase. seats_in node phase ≡ seats_in node (state.phases p n)) one other
+      (seats_stay types pattern node (state.phases pattern name) steps) refl
+
+  service_then : (one : MessagingPattern) (other : List ℕ) (node : ℕ) (opened : Opened)
+      → IsServiceIn node one other (state.phases one other) (taken one other) opened
+      → (life_of (after_steps.phases one other) ≡ life_of (state.phases one other))
+      × IsServiceIn node one other (after_steps.phases one other) (taken one other) opened
+  service_then one other node opened =
+      by_name (λ p n phase. IsServiceIn node p n (state.phases p n) (taken p n) opened
+      → (life_of phase ≡ life_of (state.phases p n)) × IsServiceIn node p n phase (taken p n) opened) one other
+      (service_stays types pattern node name (taken pattern name) opened (state.phases pattern name) steps)
+      (λ is. (refl, is))
+
+  -- ---- the hub
+
+  module _ {U B D : Type 0} (degrades : B → DegradationCause → DegradationInfo → DegradationAction → Type 0)
+      (decides : B → BackpressureInfo → BackpressureDecision → Type 0)
+      (reader_degrades : D → DegradationCause → DegradationInfo → DegradationAction → Type 0)
+      (naming : ℕ → Naming) (hub : NumberedHub T U B D) (table : Contents)
+      (stands : HubStandsFor degrades decides reader_degrades names taken naming hub state) (id : table.id ≡ hub.hub.table.id)
+      (since : MessagingPattern → List ℕ → List ℕ) (goes_on : GoOn taken since)
+      (stands_then : TableStands names since table after_steps) where
+    factory_then : (number : ℕ) (made : MadeFactory) → FactoryStands names taken hub.hub.table state number made
+        → FactoryStands names since table after_steps number made
+    factory_then number made it =
+        let one = pattern_in made in
+        let other = (carried_by made).name in
+        let is = service_then one other (parts_of made).0.node (parts_of made).0.service it.serves in
+        record {
+          asked = it.asked;
+          owner = it.owner;
+          storage = it.storage ∙ sym id;
+          serves = subst (λ (numbers : List ℕ). IsServiceIn (parts_of made).0.node one other (after_steps.phases one other) numbers
+              (parts_of made).0.service)
+              (sym (same_numbers one other hub.hub.table table (taken one other) (since one other) (state.phases one other)
+              (after_steps.phases one other) (stands.table.phases one other it.asked) (stands_then.phases one other it.asked) is.0
+              (goes_on one other)))
+              is.1;
+        }
+
+    pub hub_then : HubStandsFor degrades decides reader_degrades names since naming
+        (record hub { hub = record hub.hub { table = table } }) after_steps
+    hub_then = record {
+      nodes = stands.nodes;
+      table = stands_then;
+      id = stands.id ∙ sym id;
+      factories = record {
+        numbers = stands.factories.numbers;
+        owners = stands.factories.owners;
+        same = stands.factories.same;
+        each = λ number made found. factory_then number made (stands.factories.each number made found);
+        seats = λ one other node among. seats_then one other node ∙ stands.factories.seats one other node among;
+        counts = stands.factories.counts;
+        opened = stands.factories.opened;
+      };
+      served = stands.served;
+      ports = ports_stay degrades decides reader_degrades naming hub state table hub.hub.nodes state.made.nodes hub.factories hub.pledged
+          after_steps.phases stands.ports;
+    }
+
+some_steps : (steps : List ForeignStep) → (steps ≡ [] → ⊥) → nat_lt 0 (length steps) ≡ true
+some_steps [] some = absurd (some refl)
+some_steps (one ∷ steps) some = lt-ltb 0 (length (one ∷ steps)) (omega arith)
+
+module _ {T U B D : Type 0} (payload user_header : Detail) (types : MessageTypeDetails) (is_default : T → Type 0)
+    (is_default_header : U → Type 0) (fixed : BackpressureStrategy → Option BackpressureAction → DegradationAction → B)
+    (degrades : B → DegradationCause → DegradationInfo → DegradationAction → Type 0)
+    (decides : B → BackpressureInfo → BackpressureDecision → Type 0) (fixed_reader : DegradationAction → D)
+    (reader_degrades : D → DegradationCause → DegradationInfo → DegradationAction → Type 0) where
+  module _ (names : List (List ℕ)) (pattern : MessagingPattern) (name : List ℕ) (steps : List ForeignStep) (asked : IsAmong names name)
+      (form : AllByRecursion (HasStepForm types name) steps) (taken : MessagingPattern → List ℕ → List ℕ) (naming : ℕ → Naming)
+      (old new : NumberedHub T U B D) (state : State T) (answer : Reply T) (own : HaveOwnHashes names)
+      (room : old.hub.table.next + length steps < 2 ^ 64)
+      (stands : HubStandsFor degrades decides reader_degrades names taken naming old state) where
+    -- the machine after some of the steps
+    abbrev after : List ForeignStep → State T
+    after some = after_steps names own types pattern name asked taken some state
+
+    -- what is shown where some of the steps were done
+    settled : (table : Contents) (some : List ForeignStep) → new ≡ record old { hub = record old.hub { table = table } }
+        → table.id ≡ old.hub.table.id
+        → (since : MessagingPattern → List ℕ → List ℕ) → GoOn taken since → TableStands names since table (after some)
+        → machine.Step types is_default old.hub.expired_connection_buffer (command.Foreign pattern name steps) state answer (after some)
+        → IsFollowed payload user_header types is_default is_default_header fixed degrades decides fixed_reader reader_degrades names
+        (command.Foreign pattern name steps) old new state answer
+    settled table some is id since goes_on stands_then step = record {
+      taken = since;
+      naming = naming;
+      after = after some;
+      step = step;
+      stands = subst (λ (hub : NumberedHub T U B D). HubStandsFor degrades decides reader_degrades names since naming hub (after some))
+          (sym is)
+          (hub_then names own types pattern name asked taken some state degrades decides reader_degrades naming old table stands id since
+          goes_on stands_then);
+    }
+
+    acted_then : (happened : Result (Unit {0}) AllocError) → answer ≡ foreign_reply (told happened)
+        → ActsAll (service_hash_of pattern name) (map (table_step_of types name) steps) old.hub.table happened new.hub.table
+        → new ≡ record old { hub = record old.hub { table = new.hub.table } }
+        → IsFollowed payload user_header types is_default is_default_header fixed degrades decides fixed_reader reader_degrades names
+        (command.Foreign pattern name steps) old new state answer
+    acted_then (Ok done) replied did is =
+        let all = steps-match T names types pattern name steps taken old.hub.table new.hub.table (Ok done) state own asked form room
+        stands.table did in
+        settled new.hub.table steps is (acts-keep _ _ old.hub.table new.hub.table (Ok done) did) all.0 all.1 all.2 (inl (replied, refl))
+    acted_then (Err lacking) replied did is =
+        let all = steps-match T names types pattern name steps taken old.hub.table new.hub.table (Err lacking) state own asked form room
+        stands.table did in
+        settled new.hub.table (take all.2.0 steps) is (acts-keep _ _ old.hub.table new.hub.table (Err lacking) did) all.0 all.1 all.2.2
+        (inr (all.2.0, lt-ltb _ _ all.2.1, (replied, refl)))
+
+    -- where no memory was found for the list of steps none is done
+    none_done : (steps ≡ [] → ⊥) → answer ≡ reply.Refused (refusal.Hub OutOfMemory) → new ≡ old
+        → IsFollowed payload user_header types is_default is_default_header fixed degrades decides fixed_reader reader_degrades names
+        (command.Foreign pattern name steps) old new state answer
+    none_done some replied is =
+        settled old.hub.table [] is refl (later names own pattern name asked taken []) (goes-on names own pattern name asked taken [])
+        (all-stand names own pattern name asked taken old.hub.table old.hub.table state stands.table
+        (left-none (service_hash_of pattern name) old.hub.table old.hub.table stands.table.reached refl) [] (state.phases pattern name)
+        (stands.table.phases pattern name asked))
+        (inr (0, some_steps steps some, (replied, refl)))
+
+    pub followed : hub.Step payload user_header types is_default is_default_header fixed degrades decides fixed_reader reader_degrades
+        (command.Foreign pattern name steps) old (Ok answer) new
+        → IsFollowed payload user_header types is_default is_default_header fixed degrades decides fixed_reader reader_degrades names
+        (command.Foreign pattern name steps) old new state answer
+    followed (acted, inl ((happened, did, is), same), other, replied) =
+        acted_then happened (replied ∙ ap foreign_reply is)
+        (subst (λ (list : List TableStep). ActsAll (service_hash_of pattern name) list old.hub.table happened new.hub.table)
+        (same_list name types steps) did)
+        (other ∙ ap (λ (h : Hub T U B D). record old { hub = h }) same)
+    followed (acted, inr (some, is, same), other, replied) =
+        none_done some (replied ∙ ap foreign_reply is) (other ∙ ap (λ (h : Hub T U B D). record old { hub = h }) same)
+
+  pub foreign_matches : ForeignMatches payload user_header types is_default is_default_header fixed degrades decides fixed_reader
+      reader_degrades
+  foreign_matches names pattern name steps asked form taken naming old new state answer own room stands does =
+      followed names pattern name steps asked form taken naming old new state answer own room stands does

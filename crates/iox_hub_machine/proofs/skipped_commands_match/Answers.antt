@@ -1,0 +1,5 @@
+use Rattle.iox_hub_machine.proofs.Skipping.{skipped_matches}
+use Rattle.iox_hub_machine.proofs.skipped_commands_match.Goals as goal
+
+pub returns : goal.returns
+returns g c = skipped_matches _ _ _ _ _ _ _ _ _ _

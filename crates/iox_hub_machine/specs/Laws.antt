@@ -1,0 +1,78 @@
+-- What a hub does at a command on its ports is what the machine does.
+use Rattle.std.specs.Prelude.{ℕ, List, Option, Ok}
+use Rattle.iox_command.specs.DomainValues.declared.backpressure.BackpressureAction.{BackpressureAction}
+use Rattle.iox_command.specs.DomainValues.declared.backpressure.BackpressureDecision.{BackpressureDecision}
+use Rattle.iox_command.specs.DomainValues.declared.backpressure.BackpressureInfo.{BackpressureInfo}
+use Rattle.iox_command.specs.DomainValues.declared.backpressure_strategy.BackpressureStrategy.{BackpressureStrategy}
+use Rattle.iox_command.specs.DomainValues.declared.degradation.DegradationAction.{DegradationAction}
+use Rattle.iox_command.specs.DomainValues.declared.degradation.DegradationCause.{DegradationCause}
+use Rattle.iox_command.specs.DomainValues.declared.degradation.DegradationInfo.{DegradationInfo}
+use Rattle.iox_command.specs.NegotiateBase.DescribeBase.Detail.{Detail}
+use Rattle.iox_command.specs.NegotiateBase.DescribeBase.declared.message_type.MessageTypeDetails.{MessageTypeDetails}
+use Rattle.iox_command.specs.declared.command.Command.{Command}
+use Rattle.iox_command.specs.declared.command.Command.TheVariants as command
+use Rattle.iox_command.specs.declared.reply.Reply.{Reply}
+use Rattle.iox_domain_machine.specs.Naming.{Naming}
+use Rattle.iox_hub_commands.specs.CommandSteps as hub
+use Rattle.iox_hub_commands.specs.Grown.{HaveGrown}
+use Rattle.iox_hub_commands.specs.declared.numbered_hub.NumberedHub.{NumberedHub}
+use Rattle.iox_hub_machine.specs.Standing.{PortsStandFor}
+use Rattle.iox_machine.specs.Run as machine
+use Rattle.iox_machine.specs.Service.{Service}
+use Rattle.iox_machine.specs.State.{State, counted}
+
+-- a machine that has these services after a command that was answered so; all else is as it was, but for what was made
+abbrev pub answered_with : {T : Type 0} → Reply T → List (Service T) → State T → State T
+answered_with answer services state = record state { made = counted answer state.made; services = services }
+
+-- What is a default value is given, and a default user header; and what anybody may answer who decides for a publisher, or for a
+-- subscriber.
+module _ {T U B D : Type 0} (is_default : T → Type 0) (is_default_header : U → Type 0)
+    (degrades : B → DegradationCause → DegradationInfo → DegradationAction → Type 0)
+    (decides : B → BackpressureInfo → BackpressureDecision → Type 0)
+    (reader_degrades : D → DegradationCause → DegradationInfo → DegradationAction → Type 0) where
+  -- Where the ports of a hub stand for those of a machine, and it replies to this command, the machine may reply so, too, and the ports
+  -- stand for those that it has then. All else of the machine is as it was. So it is whatever the types of messages and user headers are,
+  -- and whoever decides by fixed actions: that is looked at where services and ports come.
+  abbrev pub IsSimulatedFrom : NumberedHub T U B D → Command T → Type 0
+  IsSimulatedFrom old asked = (payload user_header : Detail) (types : MessageTypeDetails)
+      (fixed : BackpressureStrategy → Option BackpressureAction → DegradationAction → B) (fixed_reader : DegradationAction → D)
+      (naming : ℕ → Naming) (new : NumberedHub T U B D) (state : State T) (answer : Reply T)
+      → PortsStandFor degrades decides reader_degrades naming old state
+      → hub.Step payload user_header types is_default is_default_header fixed degrades decides fixed_reader reader_degrades asked old
+      (Ok answer) new
+      → (naming_then : ℕ → Naming) × (services : List (Service T))
+      × machine.Step types is_default old.hub.expired_connection_buffer asked state answer (answered_with answer services state)
+      × PortsStandFor degrades decides reader_degrades naming_then new (answered_with answer services state)
+
+  -- So it is from any hub.
+  abbrev pub IsSimulated : Command T → Type 0
+  IsSimulated asked = (old : NumberedHub T U B D) → IsSimulatedFrom old asked
+
+  -- So it is from a hub whose domains came by calls of ports: those of each hub did, as `GrowsOn` says.
+  abbrev pub IsSimulatedIfGrown : Command T → Type 0
+  IsSimulatedIfGrown asked = (old : NumberedHub T U B D) → HaveGrown old.hub.services.domains → IsSimulatedFrom old asked
+
+  -- One value of a written loan is written.
+  abbrev pub SetIsSimulated : Type 0
+  SetIsSimulated = (loan place : ℕ) (value : T) → IsSimulated (command.Set loan place value)
+
+  -- All values of a loan are written.
+  abbrev pub FillIsSimulated : Type 0
+  FillIsSimulated = (loan : ℕ) (values : List T) → IsSimulated (command.Fill loan values)
+
+  -- A sample is read.
+  abbrev pub ReadIsSimulated : Type 0
+  ReadIsSimulated = (sample : ℕ) → IsSimulated (command.Read sample)
+
+  -- A loan is given up.
+  abbrev pub DropIsSimulated : Type 0
+  DropIsSimulated = (loan : ℕ) → IsSimulatedIfGrown (command.Drop loan)
+
+  -- A sample is released.
+  abbrev pub ReleaseIsSimulated : Type 0
+  ReleaseIsSimulated = (sample : ℕ) → IsSimulatedIfGrown (command.Release sample)
+
+  -- A send that waits is given up.
+  abbrev pub GiveUpIsSimulated : Type 0
+  GiveUpIsSimulated = (publisher : ℕ) → IsSimulated (command.GiveUp publisher)

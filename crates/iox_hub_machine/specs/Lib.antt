@@ -1,0 +1,6 @@
+pub mod Ports
+pub mod Standing
+pub mod Laws
+pub mod Seats
+pub mod Services
+pub mod ServiceLaws

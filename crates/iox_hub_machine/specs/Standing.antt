@@ -1,0 +1,117 @@
+-- Which ports, loans and samples of a machine those of a hub are.
+use Rattle.std.specs.Prelude.{ℕ, ◌+◌, ◌≡◌, Bool, true, List, map, is_some, Option, Some}
+use Rattle.iox_command.specs.DomainValues.declared.backpressure.BackpressureDecision.{BackpressureDecision}
+use Rattle.iox_command.specs.DomainValues.declared.backpressure.BackpressureInfo.{BackpressureInfo}
+use Rattle.iox_command.specs.DomainValues.declared.degradation.DegradationAction.{DegradationAction}
+use Rattle.iox_command.specs.DomainValues.declared.degradation.DegradationCause.{DegradationCause}
+use Rattle.iox_command.specs.DomainValues.declared.degradation.DegradationInfo.{DegradationInfo}
+use Rattle.iox_container.specs.NumberTable.{value_at}
+use Rattle.iox_delivery.specs.Holding.{publisher_stands, subscriber_stands}
+use Rattle.iox_delivery.specs.declared.port_id.PortId.{PortId}
+use Rattle.iox_domain.specs.DomainPorts.declared.attached.Taken.{Taken}
+use Rattle.iox_domain.specs.declared.domain_id.DomainId.{DomainId}
+use Rattle.iox_domain_machine.specs.Naming.{Naming}
+use Rattle.iox_domain_machine.specs.SendLaws.{DecidesAs}
+use Rattle.iox_domain_machine.specs.Services.{DomainsStandFor}
+use Rattle.iox_domain_machine.specs.Tables.{LentSlot}
+use Rattle.iox_hub_base.specs.AsHome.{hub_ports}
+use Rattle.iox_hub_base.specs.ServicesAsHome.{domain_at}
+use Rattle.iox_hub_base.specs.declared.hub.Hub.{Hub}
+use Rattle.iox_hub_commands.specs.CommandSteps.{publisher_may_degrade, publisher_may_decide, subscriber_may_degrade}
+use Rattle.iox_hub_commands.specs.Tables.{port_under}
+use Rattle.iox_hub_commands.specs.declared.numbered_hub.NumberedHub.{NumberedHub}
+use Rattle.iox_hub_commands.specs.declared.ports.made.Made.{Made}
+use Rattle.iox_hub_commands.specs.declared.ports.made.MadeLoan.{MadeLoan}
+use Rattle.iox_hub_commands.specs.declared.ports.made.MadePublisher.{MadePublisher}
+use Rattle.iox_hub_commands.specs.declared.ports.made.MadeSample.{MadeSample}
+use Rattle.iox_hub_machine.specs.Ports.{ports_here, AreHere, among}
+use Rattle.iox_machine.specs.Service.{Publisher, Subscriber}
+use Rattle.iox_machine.specs.State as machine
+use Rattle.iox_machine.specs.State.{State}
+
+-- a loan of a hub, with the number of its service
+abbrev pub lent_slot : MadeLoan → ℕ × LentSlot
+lent_slot made = (made.port.domain.service, record { publisher = made.port.number; slot = made.slot })
+
+-- a sample of a hub, with the number of its service
+abbrev pub held_sample : MadeSample → ℕ × Taken
+held_sample made = (made.port.domain.service, made.taken)
+
+-- the loans of a hub that go by numbers
+abbrev pub lent_in : Made → List (ℕ × (ℕ × LentSlot))
+lent_in made = map (λ entry. (entry.0, lent_slot entry.1)) made.loans.entries
+
+-- the samples of a hub that go by numbers
+abbrev pub held_in : Made → List (ℕ × (ℕ × Taken))
+held_in made = map (λ entry. (entry.0, held_sample entry.1)) made.samples.entries
+
+-- As many ports, loans and samples were made: the number of each that comes next is one more.
+pub record AreAsMany (made : Made) (count : machine.Made) : Type 0 where
+  pub publishers : made.publishers.next ≡ count.publishers + 1
+  pub subscribers : made.subscribers.next ≡ count.subscribers + 1
+  pub loans : made.loans.next ≡ count.loans + 1
+  pub samples : made.samples.next ≡ count.samples + 1
+
+-- What goes by a number is the port that has it for its name, and it stands; and each port that stands goes by its name.
+pub record GoByNames (name : ℕ → ℕ → ℕ) (stands : DomainId → ℕ → Bool) (under : ℕ → Option PortId) : Type 0 where
+  pub known : (number : ℕ) (port : PortId) → under number ≡ Some port
+      → (name port.domain.service port.number ≡ number) × (stands port.domain port.number ≡ true)
+  pub each : (domain : DomainId) (number : ℕ) → stands domain number ≡ true
+      → under (name domain.service number) ≡ Some (record { domain = domain; number = number })
+
+module _ {T U B D : Type 0} where
+  -- whether a publisher of a hub stands
+  abbrev pub publisher_is_up : Hub T U B D → DomainId → ℕ → Bool
+  publisher_is_up hub domain number = publisher_stands number (hub_ports domain hub)
+
+  -- whether a subscriber of a hub stands
+  abbrev pub subscriber_is_up : Hub T U B D → DomainId → ℕ → Bool
+  subscriber_is_up hub domain number = subscriber_stands number (hub_ports domain hub)
+
+  -- Whoever decides for a publisher of a hub does so as the machine's publisher: at a full mailbox, and where a connection fails.
+  pub record PublisherIsHandled (degrades : B → DegradationCause → DegradationInfo → DegradationAction → Type 0)
+      (decides : B → BackpressureInfo → BackpressureDecision → Type 0) (hub : Hub T U B D) (domain : DomainId) (number : ℕ)
+      (publisher : Publisher T) : Type 0 where
+    pub full : DecidesAs (publisher_may_decide decides domain number hub) publisher
+    pub failed : (info : DegradationInfo) (action : DegradationAction) → publisher_may_degrade degrades domain number hub info action
+        → action ≡ publisher.degradation
+
+  -- Whoever decides for a subscriber of a hub does so as the machine's subscriber, where a connection fails.
+  abbrev pub SubscriberIsHandled : (D → DegradationCause → DegradationInfo → DegradationAction → Type 0) → Hub T U B D → DomainId → ℕ
+      → Subscriber → Type 0
+  SubscriberIsHandled reader_degrades hub domain number subscriber =
+      (info : DegradationInfo) (action : DegradationAction) → subscriber_may_degrade reader_degrades domain number hub info action
+      → action ≡ subscriber.degradation
+
+  -- The ports of a hub, with its loans and samples, are those of a machine, by the names that each of its services gives them. What anybody
+  -- may answer who decides for a port is given.
+  pub record PortsStandFor (degrades : B → DegradationCause → DegradationInfo → DegradationAction → Type 0)
+      (decides : B → BackpressureInfo → BackpressureDecision → Type 0)
+      (reader_degrades : D → DegradationCause → DegradationInfo → DegradationAction → Type 0)
+      (naming : ℕ → Naming) (hub : NumberedHub T U B D) (state : State T) : Type 0 where
+    -- each open service is here
+    pub here : AreHere hub.hub.services.domains
+    -- the ports of these, with the loans and samples that go by numbers, stand for the services of the machine
+    pub domains : DomainsStandFor naming (lent_in hub.made) (held_in hub.made) hub.hub.expired_connection_buffer
+        (ports_here hub.hub.services.domains) state.services
+    -- as many numbers were given
+    pub numbers : AreAsMany hub.made state.made
+    -- each loan is one of an open service of this hub
+    pub loans : (number : ℕ) (made : MadeLoan) → value_at hub.made.loans number ≡ Some made
+        → is_some (domain_at made.port.domain hub.hub.services) ≡ true
+    -- so is each sample, and its subscriber is the one that received it
+    pub samples : (number : ℕ) (made : MadeSample) → value_at hub.made.samples number ≡ Some made
+        → (is_some (domain_at made.port.domain hub.hub.services) ≡ true) × (made.taken.subscriber ≡ made.port.number)
+    -- the ports that stand go by their names
+    pub publishers : GoByNames (λ service. (naming service).publisher) (publisher_is_up hub.hub)
+        (λ number. port_under (value_at hub.made.publishers number))
+    pub subscribers : GoByNames (λ service. (naming service).subscriber) (subscriber_is_up hub.hub) (value_at hub.made.subscribers)
+    -- the messages of each publisher are slices
+    pub slices : (number : ℕ) (made : MadePublisher) → value_at hub.made.publishers number ≡ Some made → made.holds_slices ≡ true
+    -- who decides for a port that stands does so as the machine's port
+    pub publishers_handled : (domain : DomainId) (number : ℕ) (publisher : Publisher T) → publisher_is_up hub.hub domain number ≡ true
+        → among (λ service. service.publishers) ((naming domain.service).publisher number) state.services ≡ Some publisher
+        → PublisherIsHandled degrades decides hub.hub domain number publisher
+    pub subscribers_handled : (domain : DomainId) (number : ℕ) (subscriber : Subscriber) → subscriber_is_up hub.hub domain number ≡ true
+        → among (λ service. service.subscribers) ((naming domain.service).subscriber number) state.services ≡ Some subscriber
+        → SubscriberIsHandled reader_degrades hub.hub domain number subscriber

@@ -1,0 +1,13 @@
+pub mod Counts
+pub mod Heads
+pub mod Places
+pub mod Whole
+pub mod Knowing
+pub mod Own
+pub mod Going
+pub mod Seats
+pub mod Brief
+pub mod Ending
+pub mod Asked
+pub mod Runs
+pub mod Starts

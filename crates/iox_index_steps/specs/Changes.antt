@@ -1,0 +1,66 @@
+-- What steps do to the head of a set: which indices they take out, and which they give back.
+use Rattle.std.specs.Prelude.{ℕ, ◌+◌, Bool, true, false, if◌then◌else◌, ◌==◌, ◌&&◌, not, List, [], ◌∷◌}
+use Rattle.iox_queues_steps.specs.declared.access.Word.TheVariants.{Write, Read, Cell}
+use Rattle.iox_queues_steps.specs.declared.access.Access.{Access}
+use Rattle.iox_queues_steps.specs.declared.access.Access.TheVariants.{Load, Store, Exchange, Local}
+use Rattle.iox_queues.specs.declared.bits.machine.Event.{Event}
+use Rattle.iox_index_steps.specs.Steps.{next_free, borrowed_count}
+
+-- one more index is held by the new head
+abbrev pub holds_more : ℕ → ℕ → Bool
+holds_more old new = borrowed_count new == borrowed_count old + 1
+
+-- 1 if the step changed the head
+abbrev pub changed_by : Access → ℕ → ℕ
+changed_by (Load word) answer = 0
+changed_by (Store word value) answer = 0
+changed_by (Exchange Write old new) answer = 0
+changed_by (Exchange Read old new) answer = if answer == old then 1 else 0
+changed_by (Exchange (Cell place) old new) answer = 0
+changed_by Local answer = 0
+
+-- 1 if the step took index i out: it changed the head, one more index is held then, and i was the next free one
+abbrev pub took_by : ℕ → Access → ℕ → ℕ
+took_by i (Load word) answer = 0
+took_by i (Store word value) answer = 0
+took_by i (Exchange Write old new) answer = 0
+took_by i (Exchange Read old new) answer =
+    if (answer == old) && (holds_more old new && (next_free old == i)) then 1 else 0
+took_by i (Exchange (Cell place) old new) answer = 0
+took_by i Local answer = 0
+
+-- 1 if the step gave index i back: it changed the head otherwise, and i is the next free one then
+abbrev pub gave_by : ℕ → Access → ℕ → ℕ
+gave_by i (Load word) answer = 0
+gave_by i (Store word value) answer = 0
+gave_by i (Exchange Write old new) answer = 0
+gave_by i (Exchange Read old new) answer =
+    if (answer == old) && (not (holds_more old new) && (next_free new == i)) then 1 else 0
+gave_by i (Exchange (Cell place) old new) answer = 0
+gave_by i Local answer = 0
+
+-- how often some steps changed the head
+abbrev pub head_changes : List Event → ℕ
+head_changes [] = 0
+head_changes (event ∷ events) = changed_by event.access event.answer + head_changes events
+
+-- how often some steps took index i out
+abbrev pub times_taken : ℕ → List Event → ℕ
+times_taken i [] = 0
+times_taken i (event ∷ events) = took_by i event.access event.answer + times_taken i events
+
+-- how often some steps gave index i back
+abbrev pub times_given : ℕ → List Event → ℕ
+times_given i [] = 0
+times_given i (event ∷ events) = gave_by i event.access event.answer + times_given i events
+
+-- the step looked at the head
+abbrev pub sees_head : Access → Bool
+sees_head (Load Write) = false
+sees_head (Load Read) = true
+sees_head (Load (Cell place)) = false
+sees_head (Store word value) = false
+sees_head (Exchange Write old new) = false
+sees_head (Exchange Read old new) = true
+sees_head (Exchange (Cell place) old new) = false
+sees_head Local = false

@@ -1,0 +1,7 @@
+-- The definitions that contracts about index sets by steps cite.
+pub mod Steps
+pub mod Changes
+pub mod Told
+pub mod Machine
+pub mod Kept
+pub mod State

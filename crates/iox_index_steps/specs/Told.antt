@@ -1,0 +1,142 @@
+-- What the answer of a call says of the steps that were made.
+use Rattle.std.specs.Prelude.{ℕ, ◌≡◌, ◌+◌, ◌<◌, ◌≤◌, ◌^◌, Bool, true, if◌then◌else◌, ◌==◌, Ok, Err, List, [], ◌∷◌, ◌++◌, length, take, drop}
+use Rattle.iox_container.specs.declared.error.UniqueIndexSetAcquireFailure.TheVariants.{OutOfIndices, IsLocked}
+use Rattle.iox_container.specs.declared.release.ReleaseMode.TheVariants.{LockIfLastIndex, Default}
+use Rattle.iox_container.specs.declared.release.ReleaseState.TheVariants.{Locked, Unlocked}
+use Rattle.iox_queues_steps.specs.Access.{RingWords, answer_of, after_access}
+use Rattle.iox_queues_steps.specs.declared.access.Access.TheVariants.{Local}
+use Rattle.iox_queues.specs.Told.{own}
+use Rattle.iox_queues.specs.declared.bits.machine.Event.{Event}
+use Rattle.iox_index_steps.specs.Steps.{call_begun, call_next, call_take}
+use Rattle.iox_index_steps.specs.Changes.{gave_by, head_changes, times_taken, times_given, sees_head}
+use Rattle.iox_index_steps.specs.declared.call.Answer.{Answer}
+use Rattle.iox_index_steps.specs.declared.call.Answer.TheVariants.{Acquired, Released}
+use Rattle.iox_index_steps.specs.declared.call.Call.{Call}
+use Rattle.iox_index_steps.specs.declared.call.Call.TheVariants as call
+use Rattle.iox_index_steps.specs.declared.call.IndexCall.{IndexCall}
+use Rattle.iox_index_steps.specs.declared.call.IndexCall.TheVariants.{Idle, Acquire, Follow, Take, Release, Link, Give, Done}
+use Rattle.iox_index_steps.specs.declared.machine.Finished.{Finished}
+
+-- each step got what its word held then, and its access left the words for the next one
+abbrev pub Answered : RingWords → List Event → RingWords → Type 0
+Answered words [] after = after ≡ words
+Answered words (event ∷ events) after =
+    (event.answer ≡ answer_of words event.access) × Answered (after_access words event.access) events after
+
+-- a party's value asked for each access, and took its answer, from one stage to another
+abbrev pub Goes : IndexCall → List Event → IndexCall → Type 0
+Goes stage [] end = end ≡ stage
+Goes stage (event ∷ events) end = (event.access ≡ call_next stage) × Goes (call_take stage event.answer) events end
+
+-- the steps of a call up to a stage: a local one that begins it, and the accesses that its value asked for
+pub record IsAsked (n party : ℕ) (c : Call) (stage : IndexCall) (events : List Event) : Type 0 where
+  pub between : List Event
+  pub whole : events ≡ record { party = party; access = Local; answer = 0 } ∷ between
+  pub goes : Goes (call_begun n c) between stage
+
+-- the steps of a call in hand
+abbrev pub IsAskedSoFar : ℕ → ℕ → IndexCall → List Event → Type 0
+IsAskedSoFar n party Idle events = Unit {0}
+IsAskedSoFar n party (Acquire capacity) events = IsAsked n party call.Acquire (Acquire capacity) events
+IsAskedSoFar n party (Follow capacity word) events = IsAsked n party call.Acquire (Follow capacity word) events
+IsAskedSoFar n party (Take capacity word next) events = IsAsked n party call.Acquire (Take capacity word next) events
+IsAskedSoFar n party (Release i mode) events = IsAsked n party (call.Release i mode) (Release i mode) events
+IsAskedSoFar n party (Link i mode word) events = IsAsked n party (call.Release i mode) (Link i mode word) events
+IsAskedSoFar n party (Give i mode word) events = IsAsked n party (call.Release i mode) (Give i mode word) events
+IsAskedSoFar n party (Done c answer) events = IsAsked n party c (Done c answer) events
+
+-- the steps of each call that ended, up to its answer
+abbrev pub AreAsked : ℕ → List Event → List Finished → Type 0
+AreAsked n events [] = Unit {0}
+AreAsked n events (f ∷ finished) =
+    IsAsked n f.party f.call (Done f.call f.answer) (own f.party (drop f.first (take f.last events))) × AreAsked n events finished
+
+-- the steps took index i out once and no other, and gave none back
+abbrev pub TakeOnly : ℕ → List Event → Type 0
+TakeOnly i events =
+    ((j : ℕ) → times_taken j events ≡ (if i == j then 1 else 0)) × ((j : ℕ) → times_given j events ≡ 0)
+
+-- the steps gave index i back once and no other, and took none out
+abbrev pub GiveOnly : ℕ → List Event → Type 0
+GiveOnly i events =
+    ((j : ℕ) → times_taken j events ≡ 0) × ((j : ℕ) → times_given j events ≡ (if i == j then 1 else 0))
+
+-- the steps took no index out, and gave none back
+abbrev pub MoveNone : List Event → Type 0
+MoveNone events = ((j : ℕ) → times_taken j events ≡ 0) × ((j : ℕ) → times_given j events ≡ 0)
+
+-- index i was taken and given back by turns: as often, or taken once more
+abbrev pub TakesTurns : ℕ → List Event → Type 0
+TakesTurns i events =
+    (times_given i events ≤ times_taken i events) × (times_taken i events ≤ times_given i events + 1)
+
+-- when the party looked at the head last, each of n indices was out: taken once more than given back. From its
+-- taking to its giving back an index is being taken, held, or being given back
+pub record SawAllOut (n party first : ℕ) (events : List Event) : Type 0 where
+  pub before : List Event
+  pub look : Event
+  pub after : List Event
+  pub whole : events ≡ before ++ look ∷ after
+  pub inside : first ≤ length before
+  pub its : look.party ≡ party
+  pub looks : sees_head look.access ≡ true
+  pub last : own party after ≡ []
+  pub out : (i : ℕ) → i < n → times_taken i before ≡ times_given i before + 1
+
+-- when a call of the party gave index i back, another index was out
+pub record GaveBeside (i party first : ℕ) (events : List Event) : Type 0 where
+  pub before : List Event
+  pub give : Event
+  pub after : List Event
+  pub whole : events ≡ before ++ give ∷ after
+  pub inside : first ≤ length before
+  pub its : give.party ≡ party
+  pub gives : gave_by i give.access give.answer ≡ 1
+  pub other : ℕ
+  pub differs : other ≡ i → ⊥
+  pub out : times_taken other before ≡ times_given other before + 1
+
+-- what the answer of a call says, which the party began with the step `first`: a call that took or gave back did just that;
+-- one that was refused did nothing, and each index was out, or the set is locked. A release that was to lock left the set
+-- locked, or another index was out; one that wasn't to lock did not
+abbrev pub Tells : ℕ → Bool → ℕ → ℕ → List Event → Call → Answer → Type 0
+Tells n locked party first events call.Acquire (Acquired (Ok i)) = (i < n) × TakeOnly i (own party (drop first events))
+Tells n locked party first events call.Acquire (Acquired (Err OutOfIndices)) =
+    MoveNone (own party (drop first events)) × SawAllOut n party first events
+Tells n locked party first events call.Acquire (Acquired (Err IsLocked)) =
+    MoveNone (own party (drop first events)) × (locked ≡ true)
+Tells n locked party first events call.Acquire (Released state) = ⊥
+Tells n locked party first events (call.Release i mode) (Acquired got) = ⊥
+Tells n locked party first events (call.Release i LockIfLastIndex) (Released Locked) =
+    GiveOnly i (own party (drop first events)) × (locked ≡ true)
+Tells n locked party first events (call.Release i LockIfLastIndex) (Released Unlocked) =
+    GiveOnly i (own party (drop first events)) × GaveBeside i party first events
+Tells n locked party first events (call.Release i Default) (Released Locked) = ⊥
+Tells n locked party first events (call.Release i Default) (Released Unlocked) =
+    GiveOnly i (own party (drop first events))
+
+-- a call that ended lies among the steps made
+pub record LiesWithin (events : List Event) (f : Finished) : Type 0 where
+  pub begun : f.first ≤ f.last
+  pub ended : f.last < length events
+
+-- each of these calls does
+abbrev pub LieWithin : List Event → List Finished → Type 0
+LieWithin events [] = Unit {0}
+LieWithin events (f ∷ finished) = LiesWithin events f × LieWithin events finished
+
+-- each call that ended did what it answered
+abbrev pub AreTold : ℕ → Bool → List Event → List Finished → Type 0
+AreTold n locked events [] = Unit {0}
+AreTold n locked events (f ∷ finished) =
+    Tells n locked f.party f.first (take f.last events) f.call f.answer × AreTold n locked events finished
+
+-- inside an acquire these steps changed the head fewer than 2^16 times; a release may meet any number
+abbrev pub IsBrief : Call → List Event → Type 0
+IsBrief call.Acquire events = head_changes events < 2 ^ 16
+IsBrief (call.Release index mode) events = Unit {0}
+
+-- so it was inside each acquire that ended
+abbrev pub AreBrief : List Event → List Finished → Type 0
+AreBrief events [] = Unit {0}
+AreBrief events (f ∷ finished) = IsBrief f.call (drop f.first (take f.last events)) × AreBrief events finished

@@ -1,0 +1,35 @@
+//! Sets of indices one word at a time.
+//!
+//! The head of a set is a word: the next free index, a count of its changes, and how many indices are held (`HeadDetails`). Each
+//! index has a cell that names the index which is free behind it. Any number of parties acquire and release, each access by
+//! access.
+//!
+//! - [`call`]: what each party does next, free of any set.
+//! - [`machine`]: a set with its parties, which go in any order.
+//!
+//! A first call:
+//!
+//! ```
+//! /// `iox_index_steps`: a new set of eight indices on which the parties made these steps. Where fewer than 2^16 changes of the head lie
+//! /// inside each acquire, no index has two holders, and each call that ended did what it answered.
+//! fn ran(
+//!     alloc: Global,
+//!     parties: usize,
+//!     schedule: &[Move],
+//! ) -> Result<(usize, IndexSetMachine), AllocError>
+//!     ensures runs { IfOk result (λ ran. RunsTo (start 8 parties) schedule.now ran.0 ran.1) }
+//!     ensures orderly { IfOk result (λ ran. HasFewChanges ran.1 → IsOrderly ran.1) }
+//! {
+//!     let mut set = IndexSetMachine::new(alloc, 8, parties)?;
+//!     let made = set.run(schedule);
+//!     Ok((made, set))
+//! }
+//! ```
+#![tactic(auto)]
+
+pub mod call;
+pub mod machine;
+mod state;
+
+pub use call::{Answer, Call, IndexCall};
+pub use machine::{Finished, IndexSetMachine, Move};

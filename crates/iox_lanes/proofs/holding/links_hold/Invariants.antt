@@ -1,6 +1,0 @@
-use Rattle.std.proofs.Common.{◌<◌, ℕ, length}
-use Rattle.iox_lanes.specs.Holding.{LinkHolds}
-use Rattle.iox_lanes.proofs.holding.links_hold.Given as goal
-
-abbrev pub invariant-loop-place : goal.invariant-loop-place
-invariant-loop-place g l = (k : ℕ) → k < l.place → ((s : ℕ) → s < length l.opened.subscribers.items → LinkHolds g.T.Words.parts g.U.Words.parts l.domain l.opened.lanes l.opened.publishers.items l.opened.subscribers.items l.opened.connections.items k s)

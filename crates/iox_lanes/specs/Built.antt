@@ -1,0 +1,49 @@
+-- What the lanes of a domain are built of.
+use Rattle.std.specs.Prelude.{ℕ, ◌≡◌, ◌<◌, ◌≤◌, ◌^◌, List, length, slice_get, Option, None, Some}
+use Rattle.iox_domain.specs.DomainPorts.Publishers.{port_of}
+use Rattle.iox_domain.specs.DomainPorts.declared.publisher_port.PublisherPort.{PublisherPort}
+use Rattle.iox_domain.specs.DomainValues.declared.handlers.Handlers.{Handlers}
+use Rattle.iox_domain.specs.declared.domain.Domain.{Domain}
+use Rattle.iox_lanes_machine.specs.LanesBase.Numbers.{words_of}
+use Rattle.iox_lanes_machine.specs.Made.{start, table_sizes}
+use Rattle.iox_lanes_machine.specs.World.{World}
+use Rattle.iox_lanes_machine.specs.declared.sizes.LaneSizes.{LaneSizes}
+use Rattle.iox_lanes.specs.Alone.{KeepAlone}
+use Rattle.iox_lanes.specs.Finding.{WasFound}
+use Rattle.iox_lanes.specs.Laid.{publishers_behind, slots_in}
+use Rattle.iox_lanes.specs.Ordered.{readers_behind}
+use Rattle.iox_lanes.specs.Sized.{AreAgreed}
+
+-- those of a publisher, if there is one; none has none
+abbrev pub slots_if : {T U : Type 0} → Option (PublisherPort T U) → ℕ
+slots_if None = 0
+slots_if (Some port) = slots_in port
+
+-- the publisher whose number stands at a place has no more slots than this
+abbrev pub HasSlotsAt : {T U : Type 0} → List (ℕ × PublisherPort T U) → List ℕ → ℕ → ℕ → Type 0
+HasSlotsAt {T} {U} ports numbers most place = (number : ℕ) (port : PublisherPort T U) → slice_get numbers place ≡ Some number
+    → port_of number ports ≡ Some port → slots_in port ≤ most
+
+-- so it is with each of these publishers
+abbrev pub HaveSlots : {T U : Type 0} → List (ℕ × PublisherPort T U) → List ℕ → ℕ → Type 0
+HaveSlots ports numbers most = (place : ℕ) → HasSlotsAt ports numbers most place
+
+-- lanes behind what they find of a domain: publisher by publisher, then in which order each subscriber goes over its connections
+abbrev pub domain_behind : {T U X Y D : Type 0} {F : X → Type 0} {G : Y → Type 0} → (T → List ℕ) → (U → List ℕ) → ℕ → ℕ
+    → Domain T U (Handlers X Y F G) D → List ℕ → List ℕ → World → World
+domain_behind payload_words header_words payload_count header_count domain publishers subscribers m =
+    readers_behind publishers domain.state.ports.subscribers subscribers
+    (publishers_behind payload_words header_words payload_count header_count domain publishers subscribers m (length publishers)) (length subscribers)
+
+-- The lanes of a domain are those that are made of sizes as agreed, with as many slots for each publisher as any has, and behind all
+-- that they find of the domain; memory has room for their words, and each message that is laid was alone in its slot.
+pub record AreBuilt {T U X Y D : Type 0} {F : X → Type 0} {G : Y → Type 0} (payload_words : T → List ℕ) (header_words : U
+    → List ℕ) (payload_count header_count : ℕ) (domain : Domain T U (Handlers X Y F G) D) (publishers subscribers : List ℕ) (lanes : World) :
+    Type 0 where
+  pub sizes : LaneSizes
+  pub are_agreed : AreAgreed domain.state.ports.sizes (length publishers) (length subscribers) payload_count header_count sizes
+  pub found : WasFound sizes lanes
+  pub room : HaveSlots domain.state.ports.publishers publishers sizes.slots
+  pub small : words_of (table_sizes sizes) < 2 ^ 64
+  pub alone : KeepAlone domain.state.ports publishers subscribers
+  pub behind : lanes ≡ domain_behind payload_words header_words payload_count header_count domain publishers subscribers (start sizes)

@@ -1,0 +1,139 @@
+-- What creating and opening a service over a table does is what the machine does in its phase.
+use Rattle.std.specs.Prelude.{ℕ, ◌+◌, ◌-◌, ◌^◌, ◌≡◌, ◌<◌, ◌==◌, List, drop, filter, length, map, Bool, true, Some, Result, Ok, Err, IfOk}
+use Rattle.std.specs.List.{AllByRecursion, IsAmong}
+use Rattle.std.specs.Result.{result_map_both}
+use Rattle.iox_command.specs.NegotiateBase.DescribeBase.Hash.{service_hash_of}
+use Rattle.iox_command.specs.NegotiateBase.DescribeBase.declared.attribute.Attribute.{Attribute}
+use Rattle.iox_command.specs.NegotiateBase.DescribeBase.declared.message_type.MessageTypeDetails.{MessageTypeDetails}
+use Rattle.iox_command.specs.NegotiateBase.DescribeBase.declared.pattern.MessagingPattern.{MessagingPattern}
+use Rattle.iox_command.specs.NegotiateBase.DescribeSettings.Agreement.{Agreement as Description, AreWithinLimits}
+use Rattle.iox_command.specs.NegotiateBase.DescribeSettings.PublishSubscribeSettings as publish_subscribe_settings
+use Rattle.iox_command.specs.NegotiateBase.DescribeSettings.declared.static_config.Settings.{Settings}
+use Rattle.iox_command.specs.NegotiateBase.DescribeSettings.declared.static_config.Settings.TheVariants as settings
+use Rattle.iox_command.specs.NegotiateBase.declared.failure.CreateFailure.{CreateFailure}
+use Rattle.iox_command.specs.NegotiateBase.declared.failure.OpenFailure.{OpenFailure}
+use Rattle.iox_command.specs.NegotiateBase.declared.failure.OpenOrCreateFailure.{OpenOrCreateFailure}
+use Rattle.iox_command.specs.NegotiateBase.declared.request.Opened.{Opened}
+use Rattle.iox_command.specs.Patterns.{pattern_of}
+use Rattle.iox_command.specs.declared.service.ServiceOptions.{ServiceOptions}
+use Rattle.iox_command.specs.declared.step.ForeignStep.{ForeignStep}
+use Rattle.iox_command.specs.declared.step.StepBefore.{StepBefore}
+use Rattle.iox_machine.specs.Agreement.{Agreement}
+use Rattle.iox_machine.specs.Asked.{settings_of}
+use Rattle.iox_machine.specs.Negotiation.{Call, Answer, Creates, Opens, OpensOrCreates}
+use Rattle.iox_machine.specs.Phase.{Own, Phase, Published, is_in}
+use Rattle.iox_machine.specs.State.{State, with_phase}
+use Rattle.iox_negotiate.specs.Factory.{membership}
+use Rattle.iox_negotiate.specs.Negotiation as built
+use Rattle.iox_negotiate.specs.declared.factory.Membership.{Membership}
+use Rattle.iox_negotiate_machine.specs.Laws.{HaveOwnHashes, GoOn, HasStepForm, table_step_of}
+use Rattle.iox_negotiate_machine.specs.Standing.{TableStands, IsLast, counts_of, description_of}
+use Rattle.iox_negotiate_table.specs.Contents.{Contents}
+use Rattle.iox_negotiate_table.specs.NegotiateBase.Opening as rounds
+use Rattle.iox_negotiate_table.specs.Stepped.{Steps, SteppedSight, next_list}
+use Rattle.iox_negotiate_table.specs.declared.step.ForeignStep.{ForeignStep as TableStep}
+
+-- the steps that are named before an access
+abbrev pub steps_before : List StepBefore → ℕ → List ForeignStep
+steps_before steps access = map (λ before. before.step) (filter (λ before. before.access == access) steps)
+
+-- Before each of the first sixteen accesses come the steps that are named before it, as a table does them; no call makes more accesses.
+abbrev pub AreListed : MessageTypeDetails → List ℕ → List StepBefore → List (List TableStep) → Type 0
+AreListed types name steps lists =
+    (made : ℕ) → made < 16 → next_list (drop made lists) ≡ map (table_step_of types name) (steps_before steps (made + 1))
+
+-- a full buffer holds the publisher up, and has no room for the history: of publish-subscribe alone
+abbrev pub HasNoRoomForHistory : Settings → Type 0
+HasNoRoomForHistory (settings.PublishSubscribe c) = publish_subscribe_settings.IsHistoryTooLong c
+HasNoRoomForHistory (settings.Event c) = ⊥
+HasNoRoomForHistory (settings.RequestResponse c) = ⊥
+
+-- whether a service that was opened or created is new, or why it wasn't
+abbrev pub newness_of : {F : Type 0} → Result Opened F → Result Bool F
+newness_of (Ok opened) = Ok opened.is_new
+newness_of (Err failure) = Err failure
+
+-- A service that a node opened is that of a phase: the node is in it, it is published under the number that was taken last, and is what is
+-- agreed on there.
+abbrev pub IsServiceIn : ℕ → MessagingPattern → List ℕ → Phase → List ℕ → Opened → Type 0
+IsServiceIn node pattern name (Published life agreed nodes) taken opened =
+    (is_in (Own node) nodes ≡ true) × IsLast (λ number. opened.number ≡ number) taken
+    × (opened.description ≡ description_of pattern name agreed)
+IsServiceIn node pattern name other taken opened = ⊥
+
+-- A node may get one factory more: it has fewer than 2 ^ 64 - 1 of the service.
+abbrev pub HasFewFactories : ℕ → Phase → Type 0
+HasFewFactories node (Published life agreed nodes) = AllByRecursion (λ count. count < 2 ^ 64 - 1) (counts_of (Own node) nodes)
+HasFewFactories node other = Unit {0}
+
+-- What a call of a node came to is a call of the machine: it has the answer that the builder tells in its own words, a service that was
+-- opened is that of the phase then, and the table stands for the machine with this phase.
+pub record CallMatches {T F E : Type 0} (names : List (List ℕ)) (pattern : MessagingPattern) (name : List ℕ)
+    (taken : MessagingPattern → List ℕ → List ℕ) (storage node : ℕ) (error : F → E) (state : State T)
+    (Calls : Call → Answer F → Call → Type 0) (result : Result Membership E) (end : Contents) : Type 0 where
+  pub later : MessagingPattern → List ℕ → List ℕ
+  pub goes_on : GoOn taken later
+  pub found : Result Opened F
+  pub told : result ≡ result_map_both (membership storage node) error found
+  pub after : Call
+  pub calls : Calls (record { phase = state.phases pattern name; accesses = 0 }) (Some (newness_of found)) after
+  pub opened : IfOk found (λ service. IsServiceIn node pattern name after.phase (later pattern name) service)
+  pub stands : TableStands names later end (with_phase pattern name after.phase state)
+
+module _ (T E : Type 0) where
+  -- What a builder does that creates a service over a table, as options ask and with these attributes, is what the machine does, each
+  -- refusal in its turn, with the steps of nodes outside the hub between its accesses. There are numbers left for as many locks.
+  abbrev pub CreateMatches : Type 0
+  CreateMatches = (names : List (List ℕ)) (types : MessageTypeDetails) (name : List ℕ) (node storage : ℕ)
+      (named : ServiceOptions) (attributes : List Attribute) (steps : List StepBefore) (lists : List (List TableStep))
+      (taken : MessagingPattern → List ℕ → List ℕ) (old : Contents) (end : Steps) (error : CreateFailure → E)
+      (result : Result Membership E) (state : State T)
+      → HaveOwnHashes names → IsAmong names name → AllByRecursion (λ before. HasStepForm types name before.step) steps
+      → old.next + length steps + 1 < 2 ^ 64
+      → AreListed types name steps lists → TableStands names taken old state
+      → built.Creates SteppedSight storage (service_hash_of (pattern_of named) name) node
+      (description_of (pattern_of named) name (record { settings = settings_of types named; attributes = attributes }))
+      (AreWithinLimits (settings_of types named)) (HasNoRoomForHistory (settings_of types named)) error
+      (record { table = old; lists = lists }) result end
+      → CallMatches names (pattern_of named) name taken storage node error state
+      (Creates types (pattern_of named) steps (Own node) (record { settings = settings_of types named; attributes = attributes }))
+      result end.table
+
+module _ (T V E : Type 0) where
+  -- What a builder does that opens a service over a table, if it meets what is asked, is what the machine does: at most five rounds, each
+  -- of them a look and what it leads to, with the steps of nodes outside the hub between its accesses. What is asked of a description is
+  -- asked of the agreement that it describes. There are numbers left for as many locks as those nodes may take, and the node may get one
+  -- factory more.
+  abbrev pub OpenMatches : Type 0
+  OpenMatches = (names : List (List ℕ)) (types : MessageTypeDetails) (pattern : MessagingPattern) (name : List ℕ) (node storage : ℕ)
+      (judge : Description → Result (Unit {0}) V) (verdict : Agreement → Result (Unit {0}) V) (steps : List StepBefore)
+      (lists : List (List TableStep)) (taken : MessagingPattern → List ℕ → List ℕ) (old : Contents) (end : Steps)
+      (error : OpenFailure V → E)
+      (result : Result Membership E) (state : State T)
+      → HaveOwnHashes names → IsAmong names name → AllByRecursion (λ before. HasStepForm types name before.step) steps
+      → old.next + length steps < 2 ^ 64
+      → AreListed types name steps lists → TableStands names taken old state → HasFewFactories node (state.phases pattern name)
+      → ((agreed : Agreement) → judge (description_of pattern name agreed) ≡ verdict agreed)
+      → built.Negotiates SteppedSight storage node error (λ made answer. rounds.Opens (service_hash_of pattern name) node judge made answer)
+      (record { table = old; lists = lists }) result end
+      → CallMatches names pattern name taken storage node error state (Opens types pattern steps (Own node) verdict) result end.table
+
+  -- So it is of a builder that opens a service, or creates it as options ask and with these attributes where none stands. There is a number
+  -- left for its own lock, too.
+  abbrev pub OpenOrCreateMatches : Type 0
+  OpenOrCreateMatches = (names : List (List ℕ)) (types : MessageTypeDetails) (name : List ℕ) (node storage : ℕ)
+      (judge : Description → Result (Unit {0}) V) (verdict : Agreement → Result (Unit {0}) V) (named : ServiceOptions)
+      (attributes : List Attribute) (steps : List StepBefore) (lists : List (List TableStep)) (taken : MessagingPattern → List ℕ → List ℕ)
+      (old : Contents) (end : Steps) (error : OpenOrCreateFailure V → E) (result : Result Membership E) (state : State T)
+      → HaveOwnHashes names → IsAmong names name → AllByRecursion (λ before. HasStepForm types name before.step) steps
+      → old.next + length steps + 1 < 2 ^ 64
+      → AreListed types name steps lists → TableStands names taken old state → HasFewFactories node (state.phases (pattern_of named) name)
+      → ((agreed : Agreement) → judge (description_of (pattern_of named) name agreed) ≡ verdict agreed)
+      → built.Either SteppedSight storage (service_hash_of (pattern_of named) name) node judge
+      (description_of (pattern_of named) name (record { settings = settings_of types named; attributes = attributes }))
+      (AreWithinLimits (settings_of types named)) (HasNoRoomForHistory (settings_of types named)) error
+      (record { table = old; lists = lists }) result end
+      → CallMatches names (pattern_of named) name taken storage node error state
+      (OpensOrCreates types (pattern_of named) steps (Own node) verdict
+      (record { settings = settings_of types named; attributes = attributes }))
+      result end.table
