@@ -529,7 +529,7 @@ module _ {T U : Type 0} (types : MessageTypeDetails) (IsDefault : T → Type 0) 
             (λ seen. followed seen.1)
             (update_is there_names lent held buffer there_ports there_service there_stands next first after there_first
             (unwrap_or options.degradation_handler Warn) outcome may apart_now allowed_now refl refl
-            (asked.acts, λ publisher at_it. ap (λ (it : Publisher T). it.degradation) (same_some publisher one (sym at_it ∙ one_there)))
+            (λ publisher at_it up. (asked.acts, ap (λ (it : Publisher T). it.degradation) (same_some publisher one (sym at_it ∙ one_there))))
             listed is_list updates)
           where
             followed : Followed outcome after → Result_of (Ok so) (with_came after)

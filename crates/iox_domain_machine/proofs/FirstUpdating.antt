@@ -145,7 +145,7 @@ module _ {T U : Type 0} (names : Naming) (lent : List (ℕ × LentSlot)) (held :
         let it = update_stands names lent held buffer old service number port was stands there found.1
         (ready types IsDefault buffer names lent held old service state number may stands roomy acts port there standing)
         (few types IsDefault buffer names lent held old service state number may stands roomy acts port there standing) was_stands may
-        (acts was found.1) items is_list updated after ports_after follows in
+        (acts was found.1 was_stands) items is_list updated after ports_after follows in
         let its = it.stands_after.subscribers number after there_now in
         let own = same_some its.0 it.later (sym its.1 ∙ it.now) in
         record {

@@ -63,7 +63,7 @@ module _ {T U : Type 0} (names : Naming) (lent : List (ℕ × LentSlot)) (held :
       by false seen is = inr (
         seen,
         its_update names lent held buffer old service stands number port after there apart allowed standing silent may degradation
-            degrades.0 answer is,
+            (degrades found.0 found.1 (found.2.stands ∙ standing)).0 answer is,
       )
 
   same_seen : (found.0.seen == service.subscriber_list.changes) ≡ has_seen

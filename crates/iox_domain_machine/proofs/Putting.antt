@@ -69,6 +69,21 @@ module _ {T : Type 0} where
       found None is = never_some publisher is
       found (Some one) is = standing one one.stands is
 
+  -- and so it does stand
+  standing_there : (number : ℕ) (service : Service T) (publisher : Publisher T) → publisher_in number service ≡ Some publisher
+      → publisher.stands ≡ true
+  standing_there number service publisher is = found (at number service.publishers) is
+    where
+      standing : (one : Publisher T) (stands : Bool) → one.stands ≡ stands → cond stands (Some one) None ≡ Some publisher
+          → publisher.stands ≡ true
+      standing one true up is = ap (λ (it : Publisher T). it.stands) (sym (same_some one publisher is)) ∙ up
+      standing one false up is = never_some publisher is
+
+      found : (one : Option (Publisher T))
+          → option_and_then (λ (it : Publisher T). cond it.stands (Some it) None) one ≡ Some publisher → publisher.stands ≡ true
+      found None is = never_some publisher is
+      found (Some one) is = standing one one.stands refl is
+
   -- how a loan is made that isn't refused
   abbrev MadeHere : Publisher T → Publisher T → Type 0
   MadeHere publisher after = (◌≡◌ {A = Option LoanError} None None) × (after ≡ record publisher { next = publisher.next + 1 })
@@ -121,7 +136,8 @@ module _ {T U : Type 0} (types : MessageTypeDetails) (IsDefault : T → Type 0) 
     (lent : List (ℕ × LentSlot)) (held : List (ℕ × Taken)) (old : ServicePorts T U) (service : Service T) (state : State T)
     (number : ℕ) (values : List T) (stands : StandsFor names lent held buffer old service) (roomy : AreRoomy old)
     (known : names.publisher number ≢ 0)
-    (decides : (publisher : Publisher T) → at (names.publisher number) service.publishers ≡ Some publisher → DecidesAs may publisher) where
+    (decides : (publisher : Publisher T) → at (names.publisher number) service.publishers ≡ Some publisher → publisher.stands ≡ true
+    → DecidesAs may publisher) where
   abbrev name : ℕ
   name = names.publisher number
 
@@ -216,11 +232,12 @@ module _ {T U : Type 0} (types : MessageTypeDetails) (IsDefault : T → Type 0) 
     there_now : at name now.publishers ≡ Some by.after
     there_now = at_changed name by.after by.publisher service.publishers (standing_at name service by.publisher by.there)
 
-    decides_now : (publisher : Publisher T) → at name now.publishers ≡ Some publisher → DecidesAs may publisher
-    decides_now publisher is =
+    decides_now : (publisher : Publisher T) → at name now.publishers ≡ Some publisher → publisher.stands ≡ true
+        → DecidesAs may publisher
+    decides_now publisher is up =
         subst (DecidesAs may) (same_some by.after publisher (sym there_now ∙ is))
         (lender_keeps (DecidesAs may) (λ one room segments first next as_before. as_before) name (length values) service by
-        (decides by.publisher (standing_at name service by.publisher by.there)))
+        (decides by.publisher (standing_at name service by.publisher by.there) (standing_there name service by.publisher by.there)))
 
     -- and is sent
     sends_now : (answer : Result Sent SendError) (new : ServicePorts T U) (reader : ℕ → ℕ → ℕ)
@@ -250,13 +267,14 @@ module _ {T U : Type 0} (types : MessageTypeDetails) (IsDefault : T → Type 0) 
 
     degrades_now : (degradation : DegradationAction) → DegradesAs may_degrade degradation name service
         → DegradesAs may_degrade degradation name now
-    degrades_now degradation (answers, degrades) = (
-      answers,
-      λ publisher is.
+    degrades_now degradation degrades publisher is up =
+        let was = degrades by.publisher (standing_at name service by.publisher by.there)
+        (standing_there name service by.publisher by.there) in (
+          was.0,
           subst (λ (it : Publisher T). it.degradation ≡ degradation) (same_some by.after publisher (sym there_now ∙ is))
-          (lender_keeps (λ it. it.degradation ≡ degradation) (λ it room segments first next as_before. as_before) name (length values)
-          service by (degrades by.publisher (standing_at name service by.publisher by.there))),
-    )
+              (lender_keeps (λ it. it.degradation ≡ degradation) (λ it room segments first next as_before. as_before) name (length values)
+              service by was.1),
+        )
 
   puts : (degradation : DegradationAction) → DegradesAs may_degrade degradation name service
       → (answer : Option (Result Sent SendError)) (new : ServicePorts T U) → PutParts may_degrade may number values old answer new

@@ -50,7 +50,8 @@ module _ {T U : Type 0} (types : MessageTypeDetails) (IsDefault : T → Type 0) 
     (may : BackpressureInfo → BackpressureDecision → Type 0) (names : Naming) (lent : List (ℕ × LentSlot)) (held : List (ℕ × Taken))
     (old : ServicePorts T U) (service : Service T) (state : State T) (number nanoseconds : ℕ)
     (stands : StandsFor names lent held buffer old service) (roomy : AreRoomy old)
-    (decides : (publisher : Publisher T) → at (names.publisher number) service.publishers ≡ Some publisher → DecidesAs may publisher) where
+    (decides : (publisher : Publisher T) → at (names.publisher number) service.publishers ≡ Some publisher → publisher.stands ≡ true
+    → DecidesAs may publisher) where
   abbrev name : ℕ
   name = names.publisher number
 
@@ -141,7 +142,7 @@ module _ {T U : Type 0} (types : MessageTypeDetails) (IsDefault : T → Type 0) 
           (further (names.message number) (names.reader number) names.subscriber port (tried_again nanoseconds port.progress)
           (service.mailboxes name) service.subscribers was.3 (omega arith)))
           (within_limit old roomy number port there)
-          (let is = is_ready names lent held buffer old service stands roomy number port there standing may was.0 (decides was.0 was.1) in
+          (let is = is_ready names lent held buffer old service stands roomy number port there standing may was.0 (decides was.0 was.1 (was.2.stands ∙ standing)) in
           record {
             overflows = is.overflows;
             keeps = is.keeps;

@@ -198,7 +198,7 @@ module _ {T U : Type 0} (names : Naming) (lent : List (ℕ × LentSlot)) (held :
           subst (λ result. Goes result answered after)
               (followed.answered
               ∙ ap (λ action. update_answer action service.subscriber_list.places followed.connected)
-              (sym (degrades.1 was.0 was.1))) does,
+              (sym ((degrades was.0 was.1 (was.2.stands ∙ standing)).1))) does,
         )
 
     -- its update went well

@@ -82,7 +82,7 @@ module _ {T U : Type 0} (types : MessageTypeDetails) (IsDefault : T → Type 0) 
     (lent : List (ℕ × LentSlot)) (held : List (ℕ × Taken)) (old : ServicePorts T U) (service : Service T) (state : State T) (loan : ℕ)
     (out : LentSlot) (stands : StandsFor names lent held buffer old service) (roomy : AreRoomy old) (goes : at loan lent ≡ Some out)
     (decides : (publisher : Publisher T) → at (names.publisher out.publisher) service.publishers ≡ Some publisher
-    → DecidesAs may publisher) (degradation : DegradationAction)
+    → publisher.stands ≡ true → DecidesAs may publisher) (degradation : DegradationAction)
     (degrades : DegradesAs may_degrade degradation (names.publisher out.publisher) service) where
   abbrev there : IsThere old out
   there = is_there names lent held buffer old service loan out stands goes
@@ -211,7 +211,7 @@ module _ {T U : Type 0} (types : MessageTypeDetails) (IsDefault : T → Type 0) 
         → Finishes may (begun_at place port) answer after → Comes (Some answer) (with_publisher out.publisher after old)
     goes_on seen answer after finishes =
         let to = begins names lent held buffer old service loan out stands goes may free standing
-        (is_ready names lent held buffer old service stands roomy out.publisher port there.there standing may was.0 (decides was.0 was.1))
+        (is_ready names lent held buffer old service stands roomy out.publisher port there.there standing may was.0 (decides was.0 was.1 (was.2.stands ∙ standing)))
         (within_limit old roomy out.publisher port there.there) answer after finishes in
         sends_it answer after to.0 (rw (seen_alike seen) to.1) (names.reader out.publisher)
         (stays (removed loan lent) (with_publisher out.publisher after old) to.0
@@ -246,11 +246,11 @@ module _ {T U : Type 0} (types : MessageTypeDetails) (IsDefault : T → Type 0) 
             → Gone answer after
         follows (Ok done) is_done sent =
             let to = updated_goes_on names lent held buffer old service loan out stands roomy goes may may_degrade listed outcome updated
-            tells updates standing free (decides was.0 was.1) degradation degrades followed unseen is_done sent.0 after sent.1 in
+            tells updates standing free (decides was.0 was.1 (was.2.stands ∙ standing)) degradation degrades followed unseen is_done sent.0 after sent.1 in
             (sent.0, sent.2, sends_it free standing is sent.0 after to.0 to.1 followed.new_reader to.2)
         follows (Err failure) failed sent =
             let to = updated_fails names lent held buffer old service loan out stands roomy goes may may_degrade listed outcome updated
-            tells updates standing free (decides was.0 was.1) degradation degrades followed unseen failure failed in (
+            tells updates standing free (decides was.0 was.1 (was.2.stands ∙ standing)) degradation degrades followed unseen failure failed in (
               Err (error.ConnectionError failure),
               sent.0,
               subst (λ (one : PublisherPort T U). Comes (Some (Err (error.ConnectionError failure))) (with_publisher out.publisher one old))

@@ -165,7 +165,7 @@ module _ {T U : Type 0} (types : MessageTypeDetails) (IsDefault : T → Type 0) 
           )))
       follows items is_list outcome after ports_after false is parts =
           let it = update_stands names lent held buffer old service number port was stands there found.1 ready few was_stands may
-          (acts was found.1) items is_list outcome after ports_after parts in (
+          (acts was found.1 was_stands) items is_list outcome after ports_after parts in (
             it.reader,
             (
               it.mid,

@@ -178,7 +178,7 @@ module _ {T U : Type 0} (types : MessageTypeDetails) (IsDefault : T → Type 0) 
                 (is_in service name found.0 found.1 here)
                 (does_free (updated_or_skipped (Some answer)) later (does_then names lent held buffer old service stands number port after
                 there degradation answer refusal.Connection IsDone (updated_or_skipped (Some answer)) later seen
-                (degrades.1 found.0 found.1) followed (ends answer refl))),
+                (degrades found.0 found.1 (found.2.stands ∙ standing)).1 followed (ends answer refl))),
             subst (λ (ports : List (ℕ × PublisherPort T U)).
                 StandsFor (record names { reader = with_name number followed.new_reader names.reader }) lent held buffer
                 (record old { publishers = ports }) later)

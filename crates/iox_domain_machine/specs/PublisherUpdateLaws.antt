@@ -1,5 +1,5 @@
 -- What a domain does at the update of a publisher is what the machine's service does.
-use Rattle.std.specs.Prelude.{ℕ, ◌≡◌, ◌≢◌, List, Option, Some, Result}
+use Rattle.std.specs.Prelude.{ℕ, ◌≡◌, ◌≢◌, true, List, Option, Some, Result}
 use Rattle.iox_command.specs.DomainValues.declared.connection_failure.ConnectionFailure.{ConnectionFailure}
 use Rattle.iox_command.specs.DomainValues.declared.degradation.DegradationAction.{DegradationAction}
 use Rattle.iox_command.specs.NegotiateBase.DescribeBase.declared.message_type.MessageTypeDetails.{MessageTypeDetails}
@@ -20,11 +20,12 @@ use Rattle.iox_machine.specs.Service.{Publisher, Service}
 use Rattle.iox_machine.specs.State.{State}
 use Rattle.iox_machine.specs.Table.{at}
 
--- A handler answers nothing but this action, and it is that of the machine's publisher of this name.
+-- Where the machine's publisher of this name stands, a handler answers nothing but this action, and it is that publisher's.
 abbrev pub DegradesAs : {T : Type 0} → (DegradationInfo → DegradationAction → Type 0) → DegradationAction → ℕ → Service T → Type 0
 DegradesAs {T} may degradation name service =
-    ((info : DegradationInfo) (action : DegradationAction) → may info action → action ≡ degradation)
-    × ((publisher : Publisher T) → at name service.publishers ≡ Some publisher → publisher.degradation ≡ degradation)
+    (publisher : Publisher T) → at name service.publishers ≡ Some publisher → publisher.stands ≡ true
+    → ((info : DegradationInfo) (action : DegradationAction) → may info action → action ≡ degradation)
+    × (publisher.degradation ≡ degradation)
 
 module _ (T U : Type 0) (IsDefault : T → Type 0) (may : DegradationInfo → DegradationAction → Type 0) where
   -- A publisher follows the list of subscribers, of ports whose ties are apart and whose sizes are those allowed: so they are after any

@@ -1,5 +1,5 @@
 -- What a publisher's put is, of a domain and of the machine.
-use Rattle.std.specs.Prelude.{ℕ, ◌≡◌, ◌≢◌, List, Option, Some, Result}
+use Rattle.std.specs.Prelude.{ℕ, ◌≡◌, ◌≢◌, true, List, Option, Some, Result}
 use Rattle.iox_command.specs.DomainValues.declared.backpressure.BackpressureDecision.{BackpressureDecision}
 use Rattle.iox_command.specs.DomainValues.declared.backpressure.BackpressureInfo.{BackpressureInfo}
 use Rattle.iox_command.specs.DomainValues.declared.degradation.DegradationAction.{DegradationAction}
@@ -32,7 +32,8 @@ PutMatches T U IsDefault may may_degrade = (types : MessageTypeDetails) (buffer 
     (held : List (ℕ × Taken)) (old new : ServicePorts T U) (service : Service T) (state : State T) (number : ℕ) (values : List T)
     (degradation : DegradationAction) (answer : Option (Result Sent SendError))
     → StandsFor names lent held buffer old service → AreRoomy old → names.publisher number ≢ 0
-    → ((publisher : Publisher T) → at (names.publisher number) service.publishers ≡ Some publisher → DecidesAs may publisher)
+    → ((publisher : Publisher T) → at (names.publisher number) service.publishers ≡ Some publisher → publisher.stands ≡ true
+    → DecidesAs may publisher)
     → DegradesAs may_degrade degradation (names.publisher number) service
     → PutsBy may_degrade may number values old answer new
     → (message : ℕ → ℕ → ℕ) × (reader : ℕ → ℕ → ℕ)

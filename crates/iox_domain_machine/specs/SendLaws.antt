@@ -1,5 +1,5 @@
 -- What a publisher's send is, of a domain and of the machine.
-use Rattle.std.specs.Prelude.{ℕ, ◌≡◌, ◌≢◌, List, Option, None, Some, Result, Ok, Err}
+use Rattle.std.specs.Prelude.{ℕ, ◌≡◌, ◌≢◌, true, List, Option, None, Some, Result, Ok, Err}
 use Rattle.iox_command.specs.DomainValues.Actions.{decision_of}
 use Rattle.iox_command.specs.DomainValues.declared.backpressure.BackpressureDecision.{BackpressureDecision}
 use Rattle.iox_command.specs.DomainValues.declared.backpressure.BackpressureInfo.{BackpressureInfo}
@@ -52,7 +52,8 @@ module _ (T U : Type 0) (IsDefault : T → Type 0) (may : BackpressureInfo → B
       (old new : ServicePorts T U) (service : Service T) (state : State T) (number nanoseconds : ℕ)
       (answer : Option (Result Sent SendError))
       → StandsFor names lent held buffer old service → AreRoomy old → names.publisher number ≢ 0
-      → ((publisher : Publisher T) → at (names.publisher number) service.publishers ≡ Some publisher → DecidesAs may publisher)
+      → ((publisher : Publisher T) → at (names.publisher number) service.publishers ≡ Some publisher → publisher.stands ≡ true
+      → DecidesAs may publisher)
       → RetriesBy may number nanoseconds old answer new
       → Matches T U IsDefault types buffer (command.Retry (names.publisher number) nanoseconds) (sent_or_skipped answer) state service
       names lent held new
@@ -65,7 +66,8 @@ module _ (T U : Type 0) (IsDefault : T → Type 0) (may : BackpressureInfo → B
       (held : List (ℕ × Taken)) (old new : ServicePorts T U) (service : Service T) (state : State T) (loan : ℕ) (out : LentSlot)
       (degradation : DegradationAction) (answer : Option (Result Sent SendError))
       → StandsFor names lent held buffer old service → AreRoomy old → at loan lent ≡ Some out
-      → ((publisher : Publisher T) → at (names.publisher out.publisher) service.publishers ≡ Some publisher → DecidesAs may publisher)
+      → ((publisher : Publisher T) → at (names.publisher out.publisher) service.publishers ≡ Some publisher → publisher.stands ≡ true
+      → DecidesAs may publisher)
       → DegradesAs may_degrade degradation (names.publisher out.publisher) service
       → SendsBy may_degrade may out.publisher out.slot old answer new
       → (reader : ℕ → ℕ) × Matches T U IsDefault types buffer (command.Send loan) (sent_or_skipped answer) state service

@@ -1,5 +1,5 @@
 -- What a domain does when a subscriber brings its connections up to date is what the machine's service does.
-use Rattle.std.specs.Prelude.{ℕ, ◌≡◌, ◌≢◌, List, Option, None, Some, Result, Ok, Err}
+use Rattle.std.specs.Prelude.{ℕ, ◌≡◌, ◌≢◌, true, List, Option, None, Some, Result, Ok, Err}
 use Rattle.iox_command.specs.DomainValues.declared.connection_failure.ConnectionFailure.{ConnectionFailure}
 use Rattle.iox_command.specs.DomainValues.declared.degradation.DegradationAction.{DegradationAction}
 use Rattle.iox_command.specs.DomainValues.declared.degradation.DegradationInfo.{DegradationInfo}
@@ -27,10 +27,10 @@ updated_or_skipped None = reply.Skipped
 updated_or_skipped (Some (Ok done)) = reply.Done
 updated_or_skipped (Some (Err failure)) = reply.Refused (refusal.Connection failure)
 
--- what is done where a connection fails is what a subscriber of the machine is to do then, by its name
+-- what is done where a connection fails is what a subscriber of the machine is to do then, by its name, if it stands
 abbrev pub ActsAs : {T : Type 0} → (DegradationInfo → DegradationAction → Type 0) → ℕ → Service T → Type 0
 ActsAs may name service =
-    (subscriber : Subscriber) → at name service.subscribers ≡ Some subscriber
+    (subscriber : Subscriber) → at name service.subscribers ≡ Some subscriber → subscriber.stands ≡ true
     → (info : DegradationInfo) (action : DegradationAction) → may info action → action ≡ subscriber.degradation
 
 -- A subscriber follows the list of publishers: the connections of those that left end or expire, and those that are listed are connected.

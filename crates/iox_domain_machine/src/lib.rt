@@ -1,7 +1,7 @@
 //! What the ports of one domain do is what the service of a machine does: the definitions of `iox_domain` beside those of `iox_machine`.
 //!
 //! The functions here do nothing: the contract of each is a law of the definitions. `StandsFor` says which service of a machine the ports
-//! of a domain are, under which names. Each law is of one call: where ports stand for a service, and the call leads to others, a machine
+//! of a domain are, under which names. Most laws are of one call at a port that was there once: where ports stand for a service, and the call leads to others, a machine
 //! that has the service alone does the command that is meant by it, is answered as the call is, and has a service then for which the
 //! other ports stand. A proof cites a law by a call of its function; what it states is then among the facts of the caller:
 //!
@@ -80,13 +80,14 @@ pub fn leaving_of_a_subscriber_matches<T: Default, U>()
 {}
 
 /// A loan is made whose values are unwritten: it is skipped where a send waits or the publisher left, and refused where the machine's is.
-/// The ports are sound, as they are after any calls (`iox_domain::port_laws::messages::held_stays`).
+/// The ports are sound, as they are after any calls (`iox_domain::port_laws::messages::held_stays`), and no loan has the next number yet.
 pub fn lending_uninit_matches<T: Default, U>()
     ensures { LendUninitMatches T U T.is_default }
 {}
 
 /// What a domain among others does is what the machine does that has the services of all, if it matches a command at its own service alone.
-/// The command names a port, a loan or a sample of this domain, and no port comes by it.
+/// The command names a port, a loan or a sample of this domain. By it no port comes or gets another name, and loans and samples change at
+/// this domain alone, each under a number of its own.
 pub fn a_domain_among_others_matches<T: Default, U>()
     ensures { AmongOthersMatches T U T.is_default }
 {}

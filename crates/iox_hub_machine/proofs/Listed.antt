@@ -9,7 +9,7 @@ use Rattle.iox_command.specs.declared.step.StepBefore.{StepBefore}
 use Rattle.iox_hub_commands.specs.Steps.{from, last_access, list_before, lists_of, step_of}
 use Rattle.iox_hub_machine.proofs.SameSteps.{same_step}
 use Rattle.iox_hub_machine.specs.ServiceLaws.{ListsAreNamed}
-use Rattle.iox_negotiate_machine.specs.CallLaws.{steps_before}
+use Rattle.iox_machine.specs.RefusalLaws.{steps_at}
 use Rattle.iox_negotiate_machine.specs.Laws.{table_step_of}
 use Rattle.iox_negotiate_table.specs.Stepped.{next_list}
 use Rattle.iox_negotiate_table.specs.declared.step.ForeignStep.{ForeignStep as TableStep}
@@ -67,14 +67,14 @@ lists_are_named types name steps made few = ⊎_elim within over (less_or_not ma
         there false is = inr (ltb-false one other is)
 
     within : made < min (last_access steps) 16
-        → next_list (drop made (lists_of name types steps)) ≡ map (table_step_of types name) (steps_before steps (made + 1))
+        → next_list (drop made (lists_of name types steps)) ≡ map (table_step_of types name) (steps_at steps (made + 1))
     within less =
         list_at (list_before name types steps) 1 (min (last_access steps) 16) made less
         ∙ same_steps types name (filter (λ (before : StepBefore). before.access == (1 + made)) steps)
-        ∙ ap (λ (access : ℕ). map (table_step_of types name) (steps_before steps access)) (omega arith)
+        ∙ ap (λ (access : ℕ). map (table_step_of types name) (steps_at steps access)) (omega arith)
 
     over : min (last_access steps) 16 ≤ made
-        → next_list (drop made (lists_of name types steps)) ≡ map (table_step_of types name) (steps_before steps (made + 1))
+        → next_list (drop made (lists_of name types steps)) ≡ map (table_step_of types name) (steps_at steps (made + 1))
     over less =
         none_behind (list_before name types steps) 1 (min (last_access steps) 16) made less
         ∙ sym (ap (λ (l : List StepBefore). map (table_step_of types name) (map (λ (before : StepBefore). before.step) l))

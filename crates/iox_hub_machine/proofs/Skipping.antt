@@ -40,10 +40,11 @@ use Rattle.iox_hub_commands.specs.declared.services.asked.ServiceAsked.{ServiceA
 use Rattle.iox_hub_commands.specs.declared.services.made.MadeFactory.{MadeFactory}
 use Rattle.iox_hub_machine.proofs.Numbered.{goes_so}
 use Rattle.iox_hub_machine.proofs.PortsStay.{ports_stay}
-use Rattle.iox_hub_machine.specs.ServiceLaws.{IsFollowed, IsOnServices, SkippedMatches}
+use Rattle.iox_hub_machine.specs.ServiceLaws.{IsOnServices, SkippedMatches}
 use Rattle.iox_hub_machine.specs.Services.{HubStandsFor, factory_as}
 use Rattle.iox_machine.specs.Factories.{OpensOrCreatesService, OpensService}
 use Rattle.iox_machine.specs.Run.{factory_of}
+use Rattle.iox_machine.specs.Run as machine
 use Rattle.iox_machine.specs.State.{State}
 use Rattle.iox_machine.specs.Table.{at}
 use Rattle.iox_negotiate.specs.declared.factory.Membership.{Membership}
@@ -197,8 +198,8 @@ module _ {T U B D : Type 0} (payload user_header : Detail) (types : MessageTypeD
     either_so (options.RequestResponse named) node name required steps is = by_false _ _ _ (no_node node is) (refl, refl)
 
     abbrev Followed : Command T → Type 0
-    Followed asked = IsFollowed payload user_header types is_default is_default_header fixed degrades decides fixed_reader reader_degrades
-        names asked old new state reply.Skipped
+    Followed asked = machine.Step types is_default old.hub.expired_connection_buffer asked state reply.Skipped state
+        × HubStandsFor degrades decides reader_degrades names taken naming new state
 
     pub skips : (asked : Command T) → IsOnServices asked
         → hub.Step payload user_header types is_default is_default_header fixed degrades decides fixed_reader reader_degrades asked old
@@ -206,40 +207,16 @@ module _ {T U B D : Type 0} (payload user_header : Detail) (types : MessageTypeD
         → Followed asked
     skips (command.Create node name named attributes steps) is (made, does, same, told) =
         let so = create_skipped _ _ attributes steps made does told in
-        record {
-          taken = taken;
-          naming = naming;
-          after = state;
-          step = by_false _ _ _ (no_node node so.0) (refl, refl);
-          stands = stands_still so.2 so.1 same;
-        }
+        (by_false _ _ _ (no_node node so.0) (refl, refl), stands_still so.2 so.1 same)
     skips (command.Open node name named required steps) is (made, does, same, told) =
         let so = open_skipped _ _ required steps made does told in
-        record {
-          taken = taken;
-          naming = naming;
-          after = state;
-          step = opens_so named node name required steps so.0;
-          stands = stands_still so.2 so.1 same;
-        }
+        (opens_so named node name required steps so.0, stands_still so.2 so.1 same)
     skips (command.OpenOrCreate node name named required steps) is (made, does, same, told) =
         let so = either_skipped _ _ required steps made does told in
-        record {
-          taken = taken;
-          naming = naming;
-          after = state;
-          step = either_so named node name required steps so.0;
-          stands = stands_still so.2 so.1 same;
-        }
+        (either_so named node name required steps so.0, stands_still so.2 so.1 same)
     skips (command.Close factory) is (closed, does, same, told) =
         let so = close_skipped factory _ closed refl does told in
-        record {
-          taken = taken;
-          naming = naming;
-          after = state;
-          step = by_none _ _ (no_factory factory so.0) (refl, refl);
-          stands = stands_still so.2 so.1 same;
-        }
+        (by_none _ _ (no_factory factory so.0) (refl, refl), stands_still so.2 so.1 same)
     skips other is does = absurd is
 
   pub skipped_matches : SkippedMatches payload user_header types is_default is_default_header fixed degrades decides fixed_reader

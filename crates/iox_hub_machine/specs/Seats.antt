@@ -11,13 +11,13 @@ seats_in node (Published life agreed nodes) = counts_of (Own node) nodes
 seats_in node other = []
 
 -- whether a factory is one that a node has of the service of this pattern and name
-abbrev pub is_factory_of : MessagingPattern → List ℕ → ℕ → Factory → Bool
-is_factory_of pattern name node factory =
+abbrev pub is_factory_of_node : MessagingPattern → List ℕ → ℕ → Factory → Bool
+is_factory_of_node pattern name node factory =
     same_pattern factory.pattern pattern && (same_name factory.name name && factory.node == node)
 
 -- how many factories a node has of the service of this pattern and name
 abbrev pub factories_of_node : MessagingPattern → List ℕ → ℕ → List (ℕ × Factory) → ℕ
-factories_of_node pattern name node factories = length (filter (λ entry. is_factory_of pattern name node entry.1) factories)
+factories_of_node pattern name node factories = length (filter (λ entry. is_factory_of_node pattern name node entry.1) factories)
 
 -- A node that has so many factories of a service is in it once, with just these; one that has none isn't in it.
 abbrev pub seats_for : ℕ → List ℕ

@@ -96,4 +96,5 @@ module _ {T U B D : Type 0} (payload user_header : Detail) (types : MessageTypeD
       → HubStandsFor degrades decides reader_degrades names taken naming old state
       → hub.Step payload user_header types is_default is_default_header fixed degrades decides fixed_reader reader_degrades asked old
       (Ok reply.Skipped) new
-      → IsFollowed names asked old new state reply.Skipped
+      → machine.Step types is_default old.hub.expired_connection_buffer asked state reply.Skipped state
+      × HubStandsFor degrades decides reader_degrades names taken naming new state

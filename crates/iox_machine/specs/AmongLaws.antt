@@ -27,7 +27,8 @@ module _ {T : Type 0} (IsDefault : T → Type 0) where
       → Step types IsDefault buffer asked (with_services (before ++ service ∷ behind) state) answer
       (record (with_services (before ++ after ∷ behind) state) { made = counted answer state.made })
 
-  -- A command on ports, loans and samples may be skipped, and changes nothing then, where no service has what it names.
+  -- A command on ports, loans and samples may be skipped, and changes nothing then, where no service has what it names,
+  -- if there is a default value.
   abbrev pub UnknownIsSkipped : Type 0
   UnknownIsSkipped = (types : MessageTypeDetails) (buffer : ℕ) (asked : Command T) (state : State T) (value : T)
       → IsDefault value → is_on_ports asked ≡ true → list_any (has_named state.factories asked) state.services ≡ false

@@ -17,7 +17,8 @@ use Rattle.iox_negotiate.proofs.Changes.{changes}
 use Rattle.iox_negotiate.specs.Histories.{IsReached, Steps as StepsOf}
 use Rattle.iox_negotiate_machine.proofs.Acted.{Leaves, Result_of, acts-all, grows, joined, left-none, left-then}
 use Rattle.iox_negotiate_machine.proofs.Acting.{OwnHash}
-use Rattle.iox_negotiate_machine.specs.CallLaws.{AreListed, steps_before}
+use Rattle.iox_negotiate_machine.specs.CallLaws.{AreListed}
+use Rattle.iox_machine.specs.RefusalLaws.{steps_at}
 use Rattle.iox_negotiate_machine.specs.Laws.{HasStepForm, table_step_of}
 use Rattle.iox_negotiate_machine.specs.Standing.{PhaseStands}
 use Rattle.iox_negotiate_table.specs.Contents.{Contents}
@@ -43,11 +44,11 @@ one-more before some false = omega arith
 
 -- those before the next access are some of them
 spent : (accesses : ℕ) (steps : List StepBefore)
-    → to_come accesses steps ≡ length (steps_before steps (accesses + 1)) + to_come (accesses + 1) steps
+    → to_come accesses steps ≡ length (steps_at steps (accesses + 1)) + to_come (accesses + 1) steps
 spent accesses [] = refl
 spent accesses (before ∷ more) =
-    let here : length (steps_before (before ∷ more) (accesses + 1))
-    ≡ cond (before.access == accesses + 1) 1 0 + length (steps_before more (accesses + 1)) =
+    let here : length (steps_at (before ∷ more) (accesses + 1))
+    ≡ cond (before.access == accesses + 1) 1 0 + length (steps_at more (accesses + 1)) =
     one-more before (filter (λ (s : StepBefore). s.access == accesses + 1) more) (before.access == accesses + 1) in
     omega (arith, here, one-comes accesses before.access, spent accesses more)
 
@@ -69,7 +70,7 @@ module _ (types : MessageTypeDetails) (name : List ℕ) where
 
   -- what is published before an access has a form
   have-form : (steps : List StepBefore) (access : ℕ) → AllByRecursion (λ (before : StepBefore). HasStepForm types name before.step) steps
-      → AllByRecursion (HasStepForm types name) (steps_before steps access)
+      → AllByRecursion (HasStepForm types name) (steps_at steps access)
   have-form [] access all = tt
   have-form (before ∷ more) access all =
       form-there before (filter (λ (s : StepBefore). s.access == access) more) (before.access == access) all.0 (have-form more access all.1)
@@ -100,7 +101,7 @@ module _ (types : MessageTypeDetails) (pattern : MessagingPattern) (name : List 
     (form : AllByRecursion (λ (before : StepBefore). HasStepForm types name before.step) steps) (old : Contents) (taken : List ℕ) where
   -- the steps before the next access
   abbrev pub meanwhile : Call → List ForeignStep
-  meanwhile call = steps_before steps (call.accesses + 1)
+  meanwhile call = steps_at steps (call.accesses + 1)
 
   -- the phase after them
   abbrev pub next_phase : Call → Phase
@@ -119,7 +120,7 @@ module _ (types : MessageTypeDetails) (pattern : MessagingPattern) (name : List 
   pub record UnderWay (left locks : ℕ) (table : Contents) (lists : List (List TableStep)) (call : Call) : Type 0 where
     pub ends : Ends pattern name old taken table call.phase
     pub listed : (made : ℕ) → made < left
-        → next_list (drop made lists) ≡ map (table_step_of types name) (steps_before steps (call.accesses + (made + 1)))
+        → next_list (drop made lists) ≡ map (table_step_of types name) (steps_at steps (call.accesses + (made + 1)))
     pub room : table.next + to_come call.accesses steps + locks < 2 ^ 64
 
   -- What comes of the steps before an access: they are done, numbers may be taken after those before, and it is made; or one finds no
@@ -155,12 +156,12 @@ module _ (types : MessageTypeDetails) (pattern : MessagingPattern) (name : List 
           omega (arith, less, length-map (meanwhile call) (table_step_of types name))
 
       later : (made : ℕ) → made < left
-          → next_list (drop made after.lists) ≡ map (table_step_of types name) (steps_before steps (call.accesses + 1 + (made + 1)))
+          → next_list (drop made after.lists) ≡ map (table_step_of types name) (steps_at steps (call.accesses + 1 + (made + 1)))
       later made less =
           ap (λ (l : List (List TableStep)). next_list (drop made l)) lists
           ∙ ap next_list (drop-drop made 1 before.lists)
           ∙ under.listed (1 + made) (omega (arith, less))
-          ∙ ap (λ (n : ℕ). map (table_step_of types name) (steps_before steps n)) (omega arith)
+          ∙ ap (λ (n : ℕ). map (table_step_of types name) (steps_at steps n)) (omega arith)
 
       there : (happened : Result (Unit {0}) AllocError)
           → ActsAll (service_hash_of pattern name) (map (table_step_of types name) (meanwhile call)) before.table happened mid
@@ -218,7 +219,7 @@ module _ (types : MessageTypeDetails) (pattern : MessagingPattern) (name : List 
       stands = stands;
     };
     listed = λ made less. listed made (omega (arith, less, few))
-        ∙ ap (λ (n : ℕ). map (table_step_of types name) (steps_before steps n)) (omega arith);
+        ∙ ap (λ (n : ℕ). map (table_step_of types name) (steps_at steps n)) (omega arith);
     room = omega (arith, room, few-come 0 steps);
   }
 

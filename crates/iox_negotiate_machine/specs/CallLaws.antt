@@ -27,20 +27,17 @@ use Rattle.iox_negotiate.specs.Factory.{membership}
 use Rattle.iox_negotiate.specs.Negotiation as built
 use Rattle.iox_negotiate.specs.declared.factory.Membership.{Membership}
 use Rattle.iox_negotiate_machine.specs.Laws.{HaveOwnHashes, GoOn, HasStepForm, table_step_of}
+use Rattle.iox_machine.specs.RefusalLaws.{steps_at}
 use Rattle.iox_negotiate_machine.specs.Standing.{TableStands, IsLast, counts_of, description_of}
 use Rattle.iox_negotiate_table.specs.Contents.{Contents}
 use Rattle.iox_negotiate_table.specs.NegotiateBase.Opening as rounds
 use Rattle.iox_negotiate_table.specs.Stepped.{Steps, SteppedSight, next_list}
 use Rattle.iox_negotiate_table.specs.declared.step.ForeignStep.{ForeignStep as TableStep}
 
--- the steps that are named before an access
-abbrev pub steps_before : List StepBefore → ℕ → List ForeignStep
-steps_before steps access = map (λ before. before.step) (filter (λ before. before.access == access) steps)
-
 -- Before each of the first sixteen accesses come the steps that are named before it, as a table does them; no call makes more accesses.
 abbrev pub AreListed : MessageTypeDetails → List ℕ → List StepBefore → List (List TableStep) → Type 0
 AreListed types name steps lists =
-    (made : ℕ) → made < 16 → next_list (drop made lists) ≡ map (table_step_of types name) (steps_before steps (made + 1))
+    (made : ℕ) → made < 16 → next_list (drop made lists) ≡ map (table_step_of types name) (steps_at steps (made + 1))
 
 -- a full buffer holds the publisher up, and has no room for the history: of publish-subscribe alone
 abbrev pub HasNoRoomForHistory : Settings → Type 0
