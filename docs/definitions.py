@@ -7,7 +7,7 @@ Usage: docs/definitions.py          says what the page lacks, and what it names 
 The clauses are those of `requires` and `ensures`, and the ghost members of traits and of their implementations. Views,
 invariants and functions that aren't public count only for what the page may name beyond that. A clause reaches what it names by
 its `ghost use` lines, and a definition what it names by its `use` lines. Both are read as text: a name counts as used wherever
-it occurs. The status is 1 where the page differs.
+it occurs. How many the clauses of the headline reach is counted, too. The status is 1 where the page differs.
 """
 
 import re
@@ -27,6 +27,8 @@ VISIBLE = r"(?:pub(?:\(crate\))? )?"
 HANDED_ON = "handed on"
 # What ties a type to its model: no caller's clause names it.
 OF_MODELS = {"view", "invariant"}
+# The clauses by which the program and a run of commands answer as the plain machine: of each crate's function, by their names.
+HEADLINE = {("iox_hub", "run"): ("answers",), ("iox_script", "serve"): ("answered", "begun")}
 
 
 def without_comments(text, mark):
@@ -182,11 +184,32 @@ def clauses(crate, all_of_them):
                     yield uses, balanced(item, it.end() - 1)
 
 
+def of_headline(crate, function, names):
+    """Gives these clauses of a function at the margin of a file, with what its file brings in."""
+    for text in sources(crate).values():
+        for head in re.finditer(rf"(?m)^pub fn {function}\b", text):
+            part = text[head.start() : text.index("\n{", head.start())]
+            for it in re.finditer(rf"\bensures (?:{'|'.join(names)}) \{{", part):
+                yield Uses(text), balanced(part, it.end() - 1)
+
+
+def headline(known):
+    """Returns the sentence that says how many definitions the clauses of the headline reach."""
+    found = closure(known, {it for at, names in HEADLINE.items() for uses, text in of_headline(*at, names) for it in uses.reached(text)})
+    crates = [it[0] for it in found]
+    machine, line = crates.count("iox_machine"), crates.count("iox_line")
+    return f"They reach {len(found)} definitions: {machine} of `iox_machine`, {line} of `iox_line`, and {len(found) - machine - line} of other crates."
+
+
 def reached(known, all_of_them=False):
     """Returns the definitions that the public clauses of all crates reach, or all that are written there."""
     crates = [it.name for it in CRATES.iterdir() if not it.name.endswith("_rows")]
-    asked = {it for crate in crates for uses, text in clauses(crate, all_of_them) for it in uses.reached(text)}
-    found = set()
+    return closure(known, {it for crate in crates for uses, text in clauses(crate, all_of_them) for it in uses.reached(text)})
+
+
+def closure(known, asked):
+    """Returns these definitions and all that they reach."""
+    found, asked = set(), set(asked)
     while asked:
         it = asked.pop()
         if it in known and it not in found:
@@ -263,8 +286,10 @@ def main(words):
         print(f"not reached: {it[2]} of {it[0]}/specs/{it[1]}.antt")
     for it in strange:
         print(it)
+    if counted := headline(known) not in PAGE.read_text():
+        print(f"not on the page: {headline(known)}")
     print(f"{len(wanted)} definitions reached, {len(missing)} of them not listed; {len(extra)} listed and not reached, {len(strange)} unknown")
-    return 1 if missing or extra or strange else 0
+    return 1 if missing or extra or strange or counted else 0
 
 
 if __name__ == "__main__":

@@ -144,7 +144,8 @@ fn read<H: Home<u64, u64>>(
 /// Receives the next message, if one waits, and releases it: what is heard is the time stamp and the values of the message received.
 pub fn hear<H: Home<u64, u64>>(alloc: Global, home: &mut H, port: PortId) -> Result<Option<Heard>>
     ensures { IfOk result (λ heard. (sample : Option (Received ℕ ℕ OfSlices)) × (received : H)
-        × ReceivesSample (homes.ports_of H.domain_of) (homes.with_ports H.changed) (homes.subscriber_degrades (λ kept. H.ForSubscribers.degrades kept) H.domain_of) port home.old (Ok sample) received
+        × ReceivesSample (homes.ports_of H.domain_of) (homes.with_ports H.changed)
+        (homes.subscriber_degrades (λ kept. H.ForSubscribers.degrades kept) H.domain_of) port home.old (Ok sample) received
         × (option_map as_heard heard ≡ as_received sample (homes.ports_of H.domain_of port.domain received))
         × LetsGo (homes.ports_of H.domain_of) (homes.with_ports H.changed) sample received home.new) }
 {

@@ -10,12 +10,14 @@ pub renamed : {T E : Type 0} (r : Result T E) (old new a b : List ℕ) → OnOk 
 renamed r old new a b wrote same = subst (λ text. OnOk r (new ≡ old ++ text)) same wrote
 
 -- three writes, one behind the other
-pub three : {T E : Type 0} (r : Result T E) (old first second new a b c : List ℕ) → first ≡ old ++ a → second ≡ first ++ b → OnOk r (new ≡ second ++ c) → OnOk r (new ≡ old ++ (a ++ b ++ c))
+pub three : {T E : Type 0} (r : Result T E) (old first second new a b c : List ℕ) → first ≡ old ++ a → second ≡ first ++ b
+    → OnOk r (new ≡ second ++ c) → OnOk r (new ≡ old ++ (a ++ b ++ c))
 three r old first second new a b c begun went wrote =
     subst (λ text. OnOk r (new ≡ text)) (rw (went, begun) (simp append_assoc refl)) wrote
 
 -- a byte as it is written opens nothing
-inert_byte : (less and prints : Bool) (b : ℕ) → (b == 60) ≡ less → list_all opens_nothing (if less then codes "&lt;" else if and then codes "&amp;" else if prints then b ∷ [] else codes "?") ≡ true
+inert_byte : (less and prints : Bool) (b : ℕ) → (b == 60) ≡ less
+    → list_all opens_nothing (if less then codes "&lt;" else if and then codes "&amp;" else if prints then b ∷ [] else codes "?") ≡ true
 inert_byte true and prints b is = refl
 inert_byte false true prints b is = refl
 inert_byte false false true b is = rw is refl
@@ -25,4 +27,5 @@ inert_byte false false false b is = refl
 pub inert_text : (text : List ℕ) → list_all opens_nothing (flat_map escaped text) ≡ true
 inert_text [] = refl
 inert_text (b ∷ bs) =
-    list_all-append opens_nothing (escaped b) (flat_map escaped bs) ∙ rw (inert_byte (b == 60) (b == 38) (nat_le 32 b && nat_le b 126) b refl) (inert_text bs)
+    list_all-append opens_nothing (escaped b) (flat_map escaped bs) ∙ rw
+    (inert_byte (b == 60) (b == 38) (nat_le 32 b && nat_le b 126) b refl) (inert_text bs)

@@ -19,15 +19,29 @@ below_or_at j n below = ⊎_elim (λ less. inl less) (λ more. inr (omega arith)
 
 pub only_not : (test : ℕ → Bool) (n : ℕ) (only : Option ℕ) → OnlySo test n only → test n ≡ false → OnlySo test (n + 1) only
 only_not test n None so fails = λ k below. ⊎_elim (λ less. so k less) (λ at. rw at fails) (below_or_at k n below)
-only_not test n (Some k) so fails = (omega (arith, so.0), so.1, λ j below passes. ⊎_elim (λ less. so.2 j less passes) (λ at. let there : test n ≡ true = rw (← at) passes in absurd (clash there fails)) (below_or_at j n below))
+only_not test n (Some k) so fails
+    = (
+      omega (arith, so.0),
+      so.1,
+      λ j below passes.
+          ⊎_elim (λ less. so.2 j less passes) (λ at. let there : test n ≡ true = rw (← at) passes in absurd (clash there fails))
+          (below_or_at j n below),
+    )
   where
     clash : {b : Bool} → b ≡ true → b ≡ false → ⊥
     clash one other = cc
 
 pub only_first : (test : ℕ → Bool) (n : ℕ) → OnlySo test n None → test n ≡ true → OnlySo test (n + 1) (Some n)
-only_first test n so passes = (omega arith, passes, λ j below there. ⊎_elim (λ less. let not_there : test j ≡ false = so j less in cc) (λ at. at) (below_or_at j n below))
+only_first test n so passes
+    = (
+      omega arith,
+      passes,
+      λ j below there.
+          ⊎_elim (λ less. let not_there : test j ≡ false = so j less in cc) (λ at. at) (below_or_at j n below),
+    )
 
-pub only_two : (test : ℕ → Bool) (n m : ℕ) (only : Option ℕ) → OnlySo test n only → is_some only ≡ true → test n ≡ true → n < m → NoneOrTwo test m
+pub only_two : (test : ℕ → Bool) (n m : ℕ) (only : Option ℕ) → OnlySo test n only → is_some only ≡ true → test n ≡ true → n < m
+    → NoneOrTwo test m
 only_two test n m None so is passes below = absurd (clash is)
   where
     clash : false ≡ true → ⊥

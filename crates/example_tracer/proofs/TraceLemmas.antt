@@ -1,5 +1,6 @@
 -- What a trace of arrows comes to: an arrow a sample, true ways, in order.
-use Rattle.std.proofs.Common.{◌≡◌, ℕ, ◌+◌, ◌<◌, ◌≤◌, Bool, true, false, List, [], ◌∷◌, ◌++◌, length, get_or, take, arith, refl, sym, ◌∙◌, ap, subst, length-append, add-one, rules, eq-eqb, ⊎_elim}
+use Rattle.std.proofs.Common.{◌≡◌, ℕ, ◌+◌, ◌<◌, ◌≤◌, Bool, true, false, List, [], ◌∷◌, ◌++◌, length, get_or, take, arith, refl, sym, ◌∙◌}
+use Rattle.std.proofs.Common.{ap, subst, length-append, add-one, rules, eq-eqb, ⊎_elim}
 use Rattle.std.specs.Prelude.{Option, Some, None, IfSome, All, count_by, not, ◌&&◌, nat_le, nat_lt}
 use Rattle.std.specs.List.{AllPairs, list_any}
 use Rattle.std.proofs.Math.Seq.{take-length}
@@ -14,7 +15,8 @@ use Rattle.std.proofs.lemmas.Option.{slice_get-get_or}
 use Rattle.example_tracer.specs.declared.exchange.Exchange.{Exchange}
 use Rattle.example_tracer.specs.declared.arrows.Arrow.{Arrow}
 use Rattle.example_tracer.specs.Exchange.{Seen, is_text}
-use Rattle.example_tracer.specs.Trace.{received_of, gives_sample, sent_at, received_at, fits, passes, may_come, may_be, IsOnly, IsArrow, Trace, start, silent, sample, Joins, Follows, KeepsOrder, is_lost, before_it, LostForGood}
+use Rattle.example_tracer.specs.Trace.{received_of, gives_sample, sent_at, received_at, fits, passes, may_come, may_be, IsOnly, IsArrow}
+use Rattle.example_tracer.specs.Trace.{Trace, start, silent, sample, Joins, Follows, KeepsOrder, is_lost, before_it, LostForGood}
 
 both : (a b : Bool) → (a && b) ≡ true → (a ≡ true) × (b ≡ true)
 both true b e = (refl, e)
@@ -34,7 +36,8 @@ pub record MayCome (arrows : List Arrow) (received : Seen) (line : ℕ) (sends :
   pub fitting : fits sent received ≡ true
   pub none_passes : list_any (λ arrow. passes arrow received.port sent.port line) arrows ≡ false
 
-pub may_come-true : (arrows : List Arrow) (received : Seen) (line : ℕ) (sends : Option Seen) → may_come arrows received line sends ≡ true → MayCome arrows received line sends
+pub may_come-true : (arrows : List Arrow) (received : Seen) (line : ℕ) (sends : Option Seen)
+    → may_come arrows received line sends ≡ true → MayCome arrows received line sends
 may_come-true arrows received line None e = absurd (clash e)
   where
     clash : false ≡ true → ⊥
@@ -53,7 +56,8 @@ follows (Some j) None each = tt
 follows (Some j) (Some k) each = each j k refl refl
 
 -- where no element passes, none does at any place
-none_at : (test : Arrow → Bool) (xs : List Arrow) (i : ℕ) (d : Arrow) → i < length xs → list_any test xs ≡ false → test (get_or xs i d) ≡ false
+none_at : (test : Arrow → Bool) (xs : List Arrow) (i : ℕ) (d : Arrow) → i < length xs → list_any test xs ≡ false
+    → test (get_or xs i d) ≡ false
 none_at test xs i d below none = at_no (test (get_or xs i d)) (λ passing. list_any_at test xs i d below passing) none
   where
     at_no : (b : Bool) → (b ≡ true → list_any test xs ≡ true) → list_any test xs ≡ false → b ≡ false
@@ -70,22 +74,26 @@ is_text-eq a b e = rw e (is_text-refl b)
 
 module _ (conversation : List Exchange) where
   -- the line that an arrow begins at
-  begins : {arrows : List Arrow} {n : ℕ} {received : Seen} {arrow : Arrow} → IsArrow conversation arrows n received arrow → (k : ℕ) → arrow.origin ≡ Some k → (k < n) × MayCome arrows received k (sent_at conversation k)
+  begins : {arrows : List Arrow} {n : ℕ} {received : Seen} {arrow : Arrow} → IsArrow conversation arrows n received arrow → (k : ℕ)
+      → arrow.origin ≡ Some k → (k < n) × MayCome arrows received k (sent_at conversation k)
   begins {arrows} {n} {received} {arrow} it k e =
       let only : IsOnly (may_be conversation arrows received) n (Some k) = rw e at it.origin in
       (only.0, may_come-true arrows received k (sent_at conversation k) only.1)
 
   -- the publisher of an arrow is the port that sent
-  publishes : {arrows : List Arrow} {n : ℕ} {received : Seen} {arrow : Arrow} → IsArrow conversation arrows n received arrow → (k : ℕ) (sent : Seen) → arrow.origin ≡ Some k → sent_at conversation k ≡ Some sent → arrow.publisher.now ≡ sent.port
+  publishes : {arrows : List Arrow} {n : ℕ} {received : Seen} {arrow : Arrow} → IsArrow conversation arrows n received arrow
+      → (k : ℕ) (sent : Seen) → arrow.origin ≡ Some k → sent_at conversation k ≡ Some sent → arrow.publisher.now ≡ sent.port
   publishes {arrows} {n} {received} {arrow} it k sent e there =
       let at : IfSome (sent_at conversation k) (λ sent. arrow.publisher.now ≡ sent.port) = rw e at it.publisher in
       rw there at at
 
-  joins : {arrows : List Arrow} {n : ℕ} {received : Seen} {arrow : Arrow} → received_at conversation n ≡ Some received → IsArrow conversation arrows n received arrow → Joins conversation arrow
+  joins : {arrows : List Arrow} {n : ℕ} {received : Seen} {arrow : Arrow} → received_at conversation n ≡ Some received
+      → IsArrow conversation arrows n received arrow → Joins conversation arrow
   joins {arrows} {n} {received} {arrow} got it =
       (received, rw it.receipt got, it.subscriber, if_some arrow.origin _ (λ k e. ends_at k e))
     where
-      ends_at : (k : ℕ) → arrow.origin ≡ Some k → (k < arrow.receipt) × ((sent : Seen) × (sent_at conversation k ≡ Some sent) × (arrow.publisher.now ≡ sent.port) × (fits sent received ≡ true))
+      ends_at : (k : ℕ) → arrow.origin ≡ Some k → (k < arrow.receipt)
+          × ((sent : Seen) × (sent_at conversation k ≡ Some sent) × (arrow.publisher.now ≡ sent.port) × (fits sent received ≡ true))
       ends_at k e =
           let begun = begins it k e in
           (rw it.receipt begun.0, (begun.1.sent, begun.1.is, publishes it k begun.1.sent e begun.1.is, begun.1.fitting))
@@ -93,10 +101,12 @@ module _ (conversation : List Exchange) where
   pub all_join : {n : ℕ} {arrows : List Arrow} → Trace conversation n arrows → All (Joins conversation) arrows
   all_join start = search rules
   all_join (silent before nothing) = all_join before
-  all_join (sample {n} {arrows} {arrow} {received} before got it) = All-push (Joins conversation) arrows arrow (all_join before) (joins got it)
+  all_join (sample {n} {arrows} {arrow} {received} before got it)
+      = All-push (Joins conversation) arrows arrow (all_join before) (joins got it)
 
   -- an arrow that no longer passes begins before the line
-  pub behind_it : (a : Arrow) (s p : List ℕ) (j k : ℕ) → a.origin ≡ Some j → is_text a.subscriber.now s ≡ true → is_text a.publisher.now p ≡ true → passes a s p k ≡ false → j < k
+  pub behind_it : (a : Arrow) (s p : List ℕ) (j k : ℕ) → a.origin ≡ Some j → is_text a.subscriber.now s ≡ true
+      → is_text a.publisher.now p ≡ true → passes a s p k ≡ false → j < k
   behind_it a s p j k e same_s same_p not_passed =
       let test : (nat_le k j && is_text a.subscriber.now s && is_text a.publisher.now p) ≡ false = rw e at not_passed in
       let alone : nat_le k j ≡ false = simple (nat_le k j) _ _ same_s same_p test in
@@ -118,12 +128,14 @@ module _ (conversation : List Exchange) where
       let begun = begins it k later in
       let none = begun.1.none_passes in
       let port = publishes it k begun.1.sent later begun.1.is in
-      behind_it (get_or arrows i d) received.port begun.1.sent.port j k first (is_text-eq _ _ (same_s ∙ it.subscriber)) (is_text-eq _ _ (same_p ∙ port))
+      behind_it (get_or arrows i d) received.port begun.1.sent.port j k first (is_text-eq _ _ (same_s ∙ it.subscriber))
+      (is_text-eq _ _ (same_p ∙ port))
       (none_at (λ a. passes a received.port begun.1.sent.port k) arrows i d below none)))
 
   -- what is lost was passed over by an arrow to a later line, and nothing came before
   lost_parts : (before : List Arrow) (arrow : Arrow) (line since : ℕ) (sends : Option Seen) → is_lost before arrow line since sends ≡ true
-      → (before_it line arrow.origin ≡ true) × (list_any (λ earlier. passes earlier arrow.subscriber.now arrow.publisher.now line) before ≡ false)
+      → (before_it line arrow.origin ≡ true)
+      × (list_any (λ earlier. passes earlier arrow.subscriber.now arrow.publisher.now line) before ≡ false)
   lost_parts before arrow line since None e = absurd (clash e)
     where
       clash : false ≡ true → ⊥
@@ -159,13 +171,17 @@ module _ (conversation : List Exchange) where
       ⊎_elim
       (λ earlier.
       let in_front : j < length (take i arrows) = omega (arith, length-take-le i arrows (omega arith)) in
-      let quiet = none_at (λ a. passes a (get_or arrows i d).subscriber.now (get_or arrows i d).publisher.now line) (take i arrows) j d in_front parts.1 in
-      let there : passes (get_or arrows j d) (get_or arrows i d).subscriber.now (get_or arrows i d).publisher.now line ≡ false = rw (get_or-take i arrows j d earlier) at quiet in
-      let gone : line < line = behind_it (get_or arrows j d) (get_or arrows i d).subscriber.now (get_or arrows i d).publisher.now line line leads (is_text-eq _ _ same_s) (is_text-eq _ _ same_p) there in
+      let quiet = none_at (λ a. passes a (get_or arrows i d).subscriber.now (get_or arrows i d).publisher.now line) (take i arrows) j d
+      in_front parts.1 in
+      let there : passes (get_or arrows j d) (get_or arrows i d).subscriber.now (get_or arrows i d).publisher.now line ≡ false
+      = rw (get_or-take i arrows j d earlier) at quiet in
+      let gone : line < line = behind_it (get_or arrows j d) (get_or arrows i d).subscriber.now (get_or arrows i d).publisher.now line
+      line leads (is_text-eq _ _ same_s) (is_text-eq _ _ same_p) there in
       omega arith)
       (λ not_earlier.
       ⊎_elim
-      (λ later. later_origin line (get_or arrows i d).origin (get_or arrows j d).origin parts.0 (all_in_order trace i j d later j_in (sym same_s) (sym same_p)) leads)
+      (λ later. later_origin line (get_or arrows i d).origin (get_or arrows j d).origin parts.0
+      (all_in_order trace i j d later j_in (sym same_s) (sym same_p)) leads)
       (λ not_later.
       let same : j ≡ i = omega arith in
       not_itself line (get_or arrows i d).origin parts.0 (rw same at leads))
@@ -176,20 +192,25 @@ module _ (conversation : List Exchange) where
   here : (n : ℕ) (d : Exchange) → n < length conversation → received_at conversation n ≡ received_of (get_or conversation n d)
   here n d below = rw (slice_get-get_or conversation n d below) refl
 
-  pub all_counted : {n : ℕ} {arrows : List Arrow} → Trace conversation n arrows → (d : Exchange) → n ≤ length conversation → length arrows ≡ count_by gives_sample (take n conversation)
+  pub all_counted : {n : ℕ} {arrows : List Arrow} → Trace conversation n arrows → (d : Exchange) → n ≤ length conversation
+      → length arrows ≡ count_by gives_sample (take n conversation)
   all_counted start d within = search rules
   all_counted (silent {n} {arrows} before nothing) d within =
       let gives_none : gives_sample (get_or conversation n d) ≡ false = rw (← here n d (omega arith), nothing) refl in
-      subst (λ m. length arrows ≡ count_by gives_sample (take m conversation)) (add-one n) (all_counted before d (omega arith) ∙ sym (count_by_more_no gives_sample conversation n d (omega arith) gives_none))
+      subst (λ m. length arrows ≡ count_by gives_sample (take m conversation)) (add-one n)
+      (all_counted before d (omega arith) ∙ sym (count_by_more_no gives_sample conversation n d (omega arith) gives_none))
   all_counted (sample {n} {arrows} {arrow} {received} before got it) d within =
       let gives : gives_sample (get_or conversation n d) ≡ true = rw (← here n d (omega arith), got) refl in
-      subst (λ m. length (arrows ++ arrow ∷ []) ≡ count_by gives_sample (take m conversation)) (add-one n) (length-append arrows (arrow ∷ []) ∙ ap (λ m. m + 1) (all_counted before d (omega arith)) ∙ sym (count_by_more_yes gives_sample conversation n d (omega arith) gives))
+      subst (λ m. length (arrows ++ arrow ∷ []) ≡ count_by gives_sample (take m conversation)) (add-one n)
+      (length-append arrows (arrow ∷ []) ∙ ap (λ m. m + 1) (all_counted before d (omega arith)) ∙ sym
+      (count_by_more_yes gives_sample conversation n d (omega arith) gives))
 
 nothing_counted : {n : ℕ} {arrows : List Arrow} → Trace [] n arrows → n ≡ 0 → length arrows ≡ 0
 nothing_counted start e = refl
 nothing_counted (silent {n} before nothing) e = absurd (omega arith)
 nothing_counted (sample {n} before got it) e = absurd (omega arith)
 
-pub counted : (conversation : List Exchange) (arrows : List Arrow) → Trace conversation (length conversation) arrows → length arrows ≡ count_by gives_sample conversation
+pub counted : (conversation : List Exchange) (arrows : List Arrow) → Trace conversation (length conversation) arrows
+    → length arrows ≡ count_by gives_sample conversation
 counted [] arrows trace = nothing_counted trace refl
 counted (x ∷ xs) arrows trace = all_counted (x ∷ xs) trace x (omega arith) ∙ ap (count_by gives_sample) (take-length (x ∷ xs))

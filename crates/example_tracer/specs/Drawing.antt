@@ -28,7 +28,8 @@ opens_nothing b = not (b == 60)
 -- the element of a stroke
 abbrev pub stroke_of : List ℕ → ℕ × ℕ → ℕ × ℕ → List ℕ
 stroke_of class from to =
-    codes "<path class=\"" ++ class ++ codes "\" d=\"M" ++ decimal from.0 ++ codes " " ++ decimal (middle_of from.1) ++ codes "L" ++ decimal to.0 ++ codes " " ++ decimal (middle_of to.1) ++ codes "\"/>\n"
+    codes "<path class=\"" ++ class ++ codes "\" d=\"M" ++ decimal from.0 ++ codes " " ++ decimal (middle_of from.1) ++ codes "L"
+    ++ decimal to.0 ++ codes " " ++ decimal (middle_of to.1) ++ codes "\"/>\n"
 
 -- what stands before a text
 abbrev pub opening_of : List ℕ → ℕ × ℕ → List ℕ
@@ -47,5 +48,6 @@ element_of (shape.Text class at text) = label_of class.now at text.now
 -- the text of a drawing: its head, its style, its shapes in their order, and its end
 abbrev pub drawing_of : List ℕ → ℕ → ℕ → List Shape → List ℕ
 drawing_of style width rows shapes =
-    codes "<svg xmlns=\"http://www.w3.org/2000/svg\" width=\"" ++ decimal width ++ codes "\" height=\"" ++ decimal (middle_of rows) ++ codes "\">\n"
+    codes "<svg xmlns=\"http://www.w3.org/2000/svg\" width=\"" ++ decimal width ++ codes "\" height=\"" ++ decimal (middle_of rows)
+    ++ codes "\">\n"
     ++ style ++ flat_map element_of shapes ++ codes "</svg>\n"

@@ -47,5 +47,6 @@ sent_by line reply =
 -- the message that a line received
 abbrev pub received_by : List ℕ → List ℕ → Option Seen
 received_by line reply =
-    if is_text (first_word line) (codes "receive") && is_text (first_word reply) (codes "ok") then Some (record { port = behind line; values = Some (behind (behind reply)) })
+    if is_text (first_word line) (codes "receive")
+    && is_text (first_word reply) (codes "ok") then Some (record { port = behind line; values = Some (behind (behind reply)) })
     else None

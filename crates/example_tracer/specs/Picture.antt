@@ -34,7 +34,8 @@ across line = (Some line, line)
 -- the rows of all lines that an arrow, behind those before it, shows as lost, each once
 abbrev pub lost_rows : List Exchange → List Arrow → Arrow → List (Option ℕ × ℕ)
 lost_rows conversation before arrow =
-    filter (λ rows. is_lost before arrow rows.1 (since_of conversation arrow.subscriber.now) (sent_at conversation rows.1)) (map across (range_with_len 0 (length conversation)))
+    filter (λ rows. is_lost before arrow rows.1 (since_of conversation arrow.subscriber.now) (sent_at conversation rows.1))
+    (map across (range_with_len 0 (length conversation)))
 
 -- these rows are those of the arrows, in order: of each its way, and the lines that it shows as lost
 pub data IsDrawn (conversation : List Exchange) : List Arrow → List (Option ℕ × ℕ) → Type 0 where

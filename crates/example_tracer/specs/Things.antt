@@ -27,4 +27,5 @@ is_ending verb = is_text verb (codes "close") || is_text verb (codes "leave") ||
 abbrev pub ended_by : List ℕ → List ℕ → List ℕ → Bool
 ended_by line reply name =
     is_text (behind line) name
-    && ((is_ending (first_word line) && is_text reply (codes "ok")) || (is_text (first_word line) (codes "send") && not (is_text reply (codes "skip"))))
+    && ((is_ending (first_word line) && is_text reply (codes "ok"))
+    || (is_text (first_word line) (codes "send") && not (is_text reply (codes "skip"))))

@@ -1,5 +1,6 @@
 -- Which line of a conversation sent what a line received.
-use Rattle.std.specs.Prelude.{ℕ, suc, Bool, true, false, not, ◌≡◌, ◌<◌, ◌⊎◌, ◌&&◌, List, [], ◌∷◌, ◌++◌, Option, Some, None, IfSome, is_some, is_none, nat_le, nat_lt, slice_get, length, take}
+use Rattle.std.specs.Prelude.{ℕ, suc, Bool, true, false, not, ◌≡◌, ◌<◌, ◌⊎◌, ◌&&◌, List, [], ◌∷◌, ◌++◌, Option, Some, None, IfSome}
+use Rattle.std.specs.Prelude.{is_some, is_none, nat_le, nat_lt, slice_get, length, take}
 use Rattle.std.specs.List.{list_any}
 use Rattle.std.specs.Option.{option_and_then}
 use Rattle.std.specs.List.{slice_index_or}
@@ -86,7 +87,8 @@ pub data Trace (conversation : List Exchange) : ℕ → List Arrow → Type 0 wh
 abbrev pub Joins : List Exchange → Arrow → Type 0
 Joins conversation arrow =
     (received : Seen) × (received_at conversation arrow.receipt ≡ Some received) × (arrow.subscriber.now ≡ received.port)
-    × IfSome arrow.origin (λ line. (line < arrow.receipt) × ((sent : Seen) × (sent_at conversation line ≡ Some sent) × (arrow.publisher.now ≡ sent.port) × (fits sent received ≡ true)))
+    × IfSome arrow.origin (λ line. (line < arrow.receipt)
+    × ((sent : Seen) × (sent_at conversation line ≡ Some sent) × (arrow.publisher.now ≡ sent.port) × (fits sent received ≡ true)))
 
 -- between the same two ports the later arrow begins at the later line
 abbrev pub Follows : Option ℕ → Option ℕ → Type 0

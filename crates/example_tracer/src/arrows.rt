@@ -3,7 +3,8 @@ ghost use Rattle.std.specs.Prelude.{◌≡◌, ◌<◌, ◌≤◌, None, IfOk, l
 ghost use Rattle.std.specs.List.{AllPairs, list_any};
 ghost use Rattle.std.specs.Option.{option_map};
 ghost use Rattle.example_tracer.specs.Exchange.{seen};
-ghost use Rattle.example_tracer.specs.Trace.{sent_at, received_at, fits, passes, may_be, IsOnly, IsArrow, Trace, Joins, KeepsOrder, LostForGood, gives_sample, is_lost, untold};
+ghost use Rattle.example_tracer.specs.Trace.{sent_at, received_at, fits, passes, may_be, IsOnly, IsArrow, Trace, Joins, KeepsOrder};
+ghost use Rattle.example_tracer.specs.Trace.{LostForGood, gives_sample, is_lost, untold};
 
 use crate::exchange::{Exchange, Message, is, received, sent};
 use std::alloc::{AllocError, Global};

@@ -7,8 +7,8 @@ use crate::sizes::{attributes, requirements};
 use crate::tables::{is_made, wanted};
 use iox_describe::pattern::{Event, Pattern, PublishSubscribe, RequestResponse};
 use iox_describe::{
-    AttributeSpecifier, Header, LimitError, MessageTypeDetails, MessagingPattern, ServiceName,
-    TypeVariant, requirement, service_hash,
+    AttributeSpecifier, AttributeVerifier, Header, LimitError, MessageTypeDetails,
+    MessagingPattern, ServiceName, TypeVariant, requirement, service_hash,
 };
 use iox_negotiate::{Builder, Negotiated, PortFactory, ServiceBuilder, Slice};
 use iox_negotiate_base::errors::PublishSubscribeOpenError;
@@ -40,7 +40,31 @@ fn is_shown<P: Pattern>(table: &mut Table, factory: &PortFactory<P>, line: &str)
     }
 }
 
-/// The service must be created with this line.
+/// The factory that was made.
+fn made<P: Pattern, E: Debug + Drop>(
+    answer: Result<PortFactory<P>, E>,
+) -> Result<PortFactory<P>, Fail> {
+    match answer {
+        Ok(factory) => Ok(factory),
+        Err(error) => Err(Fail::from(error)),
+    }
+}
+
+/// The service must be created in this table with this line.
+fn is_published_in<P: Negotiated>(
+    alloc: Global,
+    asked: ServiceBuilder<P>,
+    table: &mut Table,
+    line: &str,
+) -> Result<(), Fail>
+where
+    P::CreateError: Debug,
+{
+    let factory = made(asked.create(alloc, table))?;
+    wanted(is_shown(table, &factory, line), true)
+}
+
+/// The same in a new table.
 fn is_published<P: Negotiated>(
     alloc: Global,
     asked: ServiceBuilder<P>,
@@ -49,9 +73,7 @@ fn is_published<P: Negotiated>(
 where
     P::CreateError: Debug,
 {
-    let mut table = Table::new(alloc, 1);
-    let factory = asked.create(alloc, &mut table)?;
-    wanted(is_shown(&mut table, &factory, line), true)
+    is_published_in(alloc, asked, &mut Table::new(alloc, 1), line)
 }
 
 fn defaults_are_published(alloc: Global) -> Result<(), Fail> {
@@ -82,18 +104,34 @@ fn two_attributes(alloc: Global) -> Result<AttributeSpecifier, Fail> {
     Ok(attributes)
 }
 
-fn attributes_are_published(alloc: Global) -> Result<(), Fail> {
-    let mut table = Table::new(alloc, 1);
-    let asked = builder(b"R")?
-        .request_response::<[u32; 3], Slice<i64>>()
-        .request_user_header::<u32>()
-        .request_payload_alignment(2)
-        .response_payload_alignment(32);
-    let factory = asked.create_with_attributes(alloc, &two_attributes(alloc)?, &mut table)?;
+/// A builder of the service that the line with attributes describes.
+fn of_attributes() -> Result<ServiceBuilder<RequestResponse>, LimitError> {
+    Ok(
+        builder(b"R")?
+            .request_response::<[u32; 3], Slice<i64>>()
+            .request_user_header::<u32>()
+            .request_payload_alignment(2)
+            .response_payload_alignment(32),
+    )
+}
+
+/// It must be created in this table with that line, as these attributes are handed in.
+fn is_published_with(
+    alloc: Global,
+    asked: ServiceBuilder<RequestResponse>,
+    given: &AttributeSpecifier,
+    table: &mut Table,
+) -> Result<(), Fail> {
+    let factory = made(asked.create_with_attributes(alloc, given, table))?;
     wanted(
-        is_shown(&mut table, &factory, named_request_response_line()),
+        is_shown(table, &factory, named_request_response_line()),
         true,
     )
+}
+
+fn attributes_are_published(alloc: Global) -> Result<(), Fail> {
+    let given = two_attributes(alloc)?;
+    is_published_with(alloc, of_attributes()?, &given, &mut Table::new(alloc, 1))
 }
 
 #[test]
@@ -103,15 +141,23 @@ fn a_service_is_published_with_its_line(rt: HostRuntime) -> Result<(), Fail> {
     attributes_are_published(rt.alloc())
 }
 
-/// What opening the service `23` comes to where this text was published in its place.
-fn refusal_of(alloc: Global, text: &[u8]) -> Result<Option<PublishSubscribeOpenError>, Fail> {
-    let mut table = Table::new(alloc, 1);
+/// What opening the service `23` in this table comes to where this text was published in its place.
+fn refusal_in(
+    alloc: Global,
+    table: &mut Table,
+    text: &[u8],
+) -> Result<Option<PublishSubscribeOpenError>, Fail> {
     let hash = service_hash(
         MessagingPattern::PublishSubscribe,
         &ServiceName::new(b"23")?,
     );
-    wanted(is_made(&mut table, &hash, (1, 5, 20), text), true)?;
-    Ok(of_line()?.open(alloc, &mut table).err())
+    wanted(is_made(table, &hash, (1, 5, 20), text), true)?;
+    Ok(of_line()?.open(alloc, table).err())
+}
+
+/// The same in a new table.
+fn refusal_of(alloc: Global, text: &[u8]) -> Result<Option<PublishSubscribeOpenError>, Fail> {
+    refusal_in(alloc, &mut Table::new(alloc, 1), text)
 }
 
 /// Opening must be refused as corrupted where a text of the line was changed.
@@ -150,7 +196,45 @@ enum Call {
     OpenOrCreateWith,
 }
 
-/// The factory that a call makes. So many attributes are handed in, each of the largest.
+/// The factory that a call makes to which attributes are handed in.
+fn called_with<P: Negotiated>(
+    alloc: Global,
+    asked: ServiceBuilder<P>,
+    call: Call,
+    given: &AttributeSpecifier,
+    required: AttributeVerifier,
+    table: &mut Table,
+) -> Result<PortFactory<P>, Fail>
+where
+    P::OpenError: Debug,
+    P::CreateError: Debug,
+    P::OpenOrCreateError: Debug,
+{
+    match call {
+        Call::CreateWith => made(asked.create_with_attributes(alloc, given, table)),
+        Call::OpenWith => made(asked.open_with_attributes(alloc, required, table)),
+        _ => made(asked.open_or_create_with_attributes(alloc, required, table)),
+    }
+}
+
+/// The same, of so many attributes, each of the largest.
+fn called_with_many<P: Negotiated>(
+    alloc: Global,
+    asked: ServiceBuilder<P>,
+    (call, count): (Call, usize),
+    table: &mut Table,
+) -> Result<PortFactory<P>, Fail>
+where
+    P::OpenError: Debug,
+    P::CreateError: Debug,
+    P::OpenOrCreateError: Debug,
+{
+    let given = attributes(alloc, count, 256)?;
+    let required = requirements(alloc, count, 256)?;
+    called_with(alloc, asked, call, &given, required, table)
+}
+
+/// The factory that a call makes. So many attributes are handed in, where some are.
 fn called<P: Negotiated>(
     alloc: Global,
     asked: ServiceBuilder<P>,
@@ -162,20 +246,27 @@ where
     P::CreateError: Debug,
     P::OpenOrCreateError: Debug,
 {
-    Ok(match call {
-        Call::Create => asked.create(alloc, table)?,
-        Call::CreateWith => {
-            asked.create_with_attributes(alloc, &attributes(alloc, count, 256)?, table)?
-        }
-        Call::Open => asked.open(alloc, table)?,
-        Call::OpenWith => {
-            asked.open_with_attributes(alloc, requirements(alloc, count, 256)?, table)?
-        }
-        Call::OpenOrCreate => asked.open_or_create(alloc, table)?,
-        Call::OpenOrCreateWith => {
-            asked.open_or_create_with_attributes(alloc, requirements(alloc, count, 256)?, table)?
-        }
-    })
+    match call {
+        Call::Create => made(asked.create(alloc, table)),
+        Call::Open => made(asked.open(alloc, table)),
+        Call::OpenOrCreate => made(asked.open_or_create(alloc, table)),
+        _ => called_with_many(alloc, asked, (call, count), table),
+    }
+}
+
+/// The factory that a call of the same builder makes.
+fn comes<P: Negotiated>(
+    alloc: Global,
+    asked: &ServiceBuilder<P>,
+    (call, count): (Call, usize),
+    table: &mut Table,
+) -> Result<PortFactory<P>, Fail>
+where
+    P::OpenError: Debug,
+    P::CreateError: Debug,
+    P::OpenOrCreateError: Debug,
+{
+    called(alloc, asked.try_clone(alloc)?, (call, count), table)
 }
 
 /// The factory must be of the service of this number, which has so many attributes, and be closed.
@@ -184,11 +275,9 @@ fn is_closed<P: Pattern>(
     (number, count): (u64, usize),
     table: &mut Table,
 ) -> Result<(), Fail> {
-    wanted(
-        (factory.number(), factory.attributes().as_slice().len()),
-        (number, count),
-    )?;
-    wanted(factory.close(table).is_ok(), true)
+    let told = (factory.number(), factory.attributes().as_slice().len());
+    let closed = factory.close(table).is_ok();
+    wanted((told, closed), ((number, count), true))
 }
 
 const OPENING: [Call; 4] = [
@@ -198,7 +287,26 @@ const OPENING: [Call; 4] = [
     Call::OpenOrCreateWith,
 ];
 
-/// The service must be created under this number by the call, opened and closed by each call that opens, and closed.
+/// The service must be opened and closed by each call that opens.
+fn all_open<P: Negotiated>(
+    alloc: Global,
+    asked: &ServiceBuilder<P>,
+    (number, count): (u64, usize),
+    table: &mut Table,
+) -> Result<(), Fail>
+where
+    P::OpenError: Debug,
+    P::CreateError: Debug,
+    P::OpenOrCreateError: Debug,
+{
+    for call in &OPENING {
+        let next = comes(alloc, asked, (*call, count), table)?;
+        is_closed(next, (number, count), table)?;
+    }
+    Ok(())
+}
+
+/// The service must be created under this number by the call, opened and closed again and again, and closed.
 fn lives<P: Negotiated>(
     alloc: Global,
     asked: &ServiceBuilder<P>,
@@ -211,12 +319,11 @@ where
     P::CreateError: Debug,
     P::OpenOrCreateError: Debug,
 {
-    let first = called(alloc, asked.try_clone(alloc)?, (creating, count), table)?;
-    for call in &OPENING {
-        let next = called(alloc, asked.try_clone(alloc)?, (*call, count), table)?;
-        is_closed(next, (number, count), table)?;
+    let first = comes(alloc, asked, (creating, count), table)?;
+    match all_open(alloc, asked, (number, count), table) {
+        Ok(()) => is_closed(first, (number, count), table),
+        Err(fail) => Err(fail),
     }
-    is_closed(first, (number, count), table)
 }
 
 const CREATING: [(u64, Call); 4] = [
@@ -227,6 +334,24 @@ const CREATING: [(u64, Call); 4] = [
 ];
 
 /// The service must be created by each call that creates.
+fn all_create<P: Negotiated>(
+    alloc: Global,
+    asked: &ServiceBuilder<P>,
+    count: usize,
+    table: &mut Table,
+) -> Result<(), Fail>
+where
+    P::OpenError: Debug,
+    P::CreateError: Debug,
+    P::OpenOrCreateError: Debug,
+{
+    for (number, creating) in &CREATING {
+        lives(alloc, asked, *creating, (*number, count), table)?;
+    }
+    Ok(())
+}
+
+/// It must in a new table.
 fn lives_again<P: Negotiated>(
     alloc: Global,
     asked: ServiceBuilder<P>,
@@ -237,11 +362,7 @@ where
     P::CreateError: Debug,
     P::OpenOrCreateError: Debug,
 {
-    let mut table = Table::new(alloc, 1);
-    for (number, creating) in &CREATING {
-        lives(alloc, &asked, *creating, (*number, count), &mut table)?;
-    }
-    Ok(())
+    all_create(alloc, &asked, count, &mut Table::new(alloc, 1))
 }
 
 fn types() -> MessageTypeDetails {

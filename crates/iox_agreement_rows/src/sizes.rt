@@ -7,17 +7,21 @@ use iox_describe::{
 use std::alloc::{AllocError, Global};
 use std::test::Fail;
 
+// The key of each attribute.
+const KEY: [u8; 64] = [b'k'; 64];
+
+// The longest value of an attribute: each byte stands in a line as six.
+const VALUE: [u8; 256] = [1; 256];
+
 /// So many attributes, each with a key of 64 bytes and a value of so many, each of which a line has as six.
 pub(crate) fn attributes(
     alloc: Global,
     count: usize,
     value: usize,
 ) -> Result<AttributeSpecifier, Fail> {
-    let key = "k".repeat(alloc, 64)?;
-    let value = "\u{1}".repeat(alloc, value)?;
     let mut attributes = AttributeSpecifier::new();
     for _ in 0..count {
-        attributes.define(alloc, key.as_bytes(), value.as_bytes())?;
+        attributes.define(alloc, &KEY, &VALUE[..value.min(256)])?;
     }
     Ok(attributes)
 }
@@ -28,12 +32,10 @@ pub(crate) fn requirements(
     count: usize,
     value: usize,
 ) -> Result<AttributeVerifier, Fail> {
-    let key = "k".repeat(alloc, 64)?;
-    let value = "\u{1}".repeat(alloc, value)?;
     let mut verifier = AttributeVerifier::new();
     for _ in 0..count {
-        verifier.require(alloc, key.as_bytes(), value.as_bytes())?;
-        verifier.require_key(alloc, key.as_bytes())?;
+        verifier.require(alloc, &KEY, &VALUE[..value.min(256)])?;
+        verifier.require_key(alloc, &KEY)?;
     }
     Ok(verifier)
 }
@@ -76,10 +78,15 @@ fn length_read_back(alloc: Global, description: &Description) -> Result<usize, F
     Ok(if copy == *description { line.len() } else { 0 })
 }
 
+/// The same of a row.
+fn length_of(alloc: Global, row: Row) -> Result<usize, Fail> {
+    length_read_back(alloc, &described(alloc, row)?)
+}
+
 #[test]
 fn descriptions_of_all_sizes_are_read_back(rt: HostRuntime) -> Result<(), Fail> {
-    for row in ROWS {
-        let length = length_read_back(rt.alloc(), &described(rt.alloc(), row)?)?;
+    for row in &ROWS {
+        let length = length_of(rt.alloc(), *row)?;
         assert!(rt; length == row.3, "{row:?} {length}");
     }
     Ok(())
@@ -93,18 +100,28 @@ fn are_spaces_read(alloc: Global, length: usize) -> Result<bool, AllocError> {
 
 #[test]
 fn texts_of_no_description_are_refused(rt: HostRuntime) -> Result<(), Fail> {
-    for length in [0, 1, 2, 7, 64, 1_000, 12_000, 32_768, 32_769, 100_000] {
-        assert!(rt; !are_spaces_read(rt.alloc(), length)?, "{length}");
+    for length in &[0, 1, 2, 7, 64, 1_000, 12_000, 32_768, 32_769, 100_000] {
+        assert!(rt; !are_spaces_read(rt.alloc(), *length)?, "{length}");
     }
     Ok(())
 }
 
-/// How many attributes, pairs and keys copies of so many have.
-fn copied(alloc: Global, count: usize) -> Result<[usize; 3], Fail> {
-    let attributes = attributes(alloc, count, 256)?.try_clone(alloc)?;
-    let verifier = requirements(alloc, count, 256)?.try_clone(alloc)?;
-    let pairs = verifier.attributes().as_slice().len();
-    Ok([attributes.as_slice().len(), pairs, verifier.keys().len()])
+/// How many attributes a copy has.
+fn attributes_copied(alloc: Global, attributes: &AttributeSpecifier) -> Result<usize, Fail> {
+    Ok(attributes.try_clone(alloc)?.as_slice().len())
+}
+
+/// How many pairs and keys a copy has.
+fn requirements_copied(alloc: Global, verifier: &AttributeVerifier) -> Result<[usize; 2], Fail> {
+    let copy = verifier.try_clone(alloc)?;
+    Ok([copy.attributes().as_slice().len(), copy.keys().len()])
+}
+
+/// Whether copies of so many attributes, pairs and keys have as many.
+fn are_copied(alloc: Global, count: usize) -> Result<bool, Fail> {
+    let attributes = attributes_copied(alloc, &attributes(alloc, count, 256)?)?;
+    let required = requirements_copied(alloc, &requirements(alloc, count, 256)?)?;
+    Ok(attributes == count && required == [count; 2])
 }
 
 /// Whether a ninth of each is outside the limits.
@@ -121,8 +138,8 @@ fn are_ninths_refused(alloc: Global) -> Result<bool, Fail> {
 
 #[test]
 fn up_to_eight_attributes_are_copied(rt: HostRuntime) -> Result<(), Fail> {
-    for count in [0, 1, 2, 7, 8] {
-        assert!(rt; copied(rt.alloc(), count)? == [count; 3], "{count}");
+    for count in &[0, 1, 2, 7, 8] {
+        assert!(rt; are_copied(rt.alloc(), *count)?, "{count}");
     }
     assert!(rt; are_ninths_refused(rt.alloc())?);
     Ok(())

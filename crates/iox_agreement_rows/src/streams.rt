@@ -4,7 +4,7 @@ ghost use Rattle.std.specs.Prelude.{◌+◌, ◌<◌, ◌^◌};
 use crate::echo::{Forgetful, converse};
 use crate::tables::wanted;
 use iox_conversation::{Input, Output, READ_CALLS, ServeError, serve};
-use std::alloc::Global;
+use std::alloc::{AllocError, Global};
 use std::io;
 use std::io::ErrorKind;
 use std::test::Fail;
@@ -453,15 +453,24 @@ fn an_endless_reader_is_left(rt: HostRuntime) {
 /// So many newlines, so many letters, and so many newlines again.
 type Text = [usize; 3];
 
-/// How many bytes are said again of the text.
-fn heard_of(alloc: Global, [before, letters, behind]: Text) -> Result<usize, Fail> {
+/// Its bytes.
+fn bytes_of(alloc: Global, [before, letters, behind]: Text) -> Result<Vec<u8>, AllocError> {
     let mut text = vec![in alloc; b'\n'; before]?;
     text.resize(text.len().saturating_add(letters), b'x')?;
     text.resize(text.len().saturating_add(behind), b'\n')?;
-    let mut input = Input::new(text.as_slice());
+    Ok(text)
+}
+
+/// How many bytes are said again of these, if all goes well.
+fn heard(alloc: Global, bytes: &[u8]) -> Result<usize, ServeError> {
     let mut output = Output::new(Vec::new(alloc));
-    converse(alloc, &mut input, &mut output)?;
+    converse(alloc, &mut Input::new(bytes), &mut output)?;
     Ok(output.writer().len())
+}
+
+/// How many bytes are said again of the text.
+fn heard_of(alloc: Global, text: Text) -> Result<usize, Fail> {
+    Ok(heard(alloc, bytes_of(alloc, text)?.as_slice())?)
 }
 
 /// Texts, and how many bytes are said again: of a line the first 1,025 and a newline.

@@ -47,21 +47,25 @@ fn is_shown(table: &mut Table, hash: &ServiceHash, text: &[u8]) -> bool {
 }
 
 /// So many own nodes, and then so many foreign ones, must come in; then there is no room for one more.
-fn are_let_in(alloc: Global, own: u64, foreign: u64) -> Result<(), Fail> {
-    let hash = hash_of(b"A")?;
-    let mut table = Table::new(alloc, 1);
+fn come_in(table: &mut Table, hash: &ServiceHash, own: u64, foreign: u64) -> Result<(), Fail> {
     let room = own.saturating_add(foreign);
-    wanted(is_made(&mut table, &hash, (1, 0, room), b"text"), true)?;
+    wanted(is_made(table, hash, (1, 0, room), b"text"), true)?;
     for node in 1..own {
         wanted(
-            table.open_segment(&hash, 1, node),
+            table.open_segment(hash, 1, node),
             OpenSegmentAnswer::Registered,
         )?;
     }
     for node in 0..foreign {
-        table.act(&hash, &ForeignStep::Register { node })?;
+        table.act(hash, &ForeignStep::Register { node })?;
     }
-    wanted(table.open_segment(&hash, 1, own), OpenSegmentAnswer::Full)
+    wanted(table.open_segment(hash, 1, own), OpenSegmentAnswer::Full)
+}
+
+/// They must in a new table.
+fn are_let_in(alloc: Global, own: u64, foreign: u64) -> Result<(), Fail> {
+    let hash = hash_of(b"A")?;
+    come_in(&mut Table::new(alloc, 1), &hash, own, foreign)
 }
 
 #[test]
@@ -74,19 +78,20 @@ fn any_number_of_nodes_comes_in(rt: HostRuntime) -> Result<(), Fail> {
     Ok(())
 }
 
+/// The service of this number and name must be made, and shown.
+fn stands(table: &mut Table, number: u64, name: &[u8]) -> Result<(), Fail> {
+    let hash = hash_of(name)?;
+    wanted(is_made(table, &hash, (number, 0, 1), name), true)?;
+    wanted(is_shown(table, &hash, name), true)
+}
+
 /// A table must have room for so many services beside one another.
-fn services_stand(alloc: Global, count: u64) -> Result<(), Fail> {
-    let mut table = Table::new(alloc, 1);
+fn all_stand(alloc: Global, table: &mut Table, count: u64) -> Result<(), Fail> {
     for number in 1..=count {
         let name = format!(in alloc; "{number}")?;
-        let hash = hash_of(name.as_bytes())?;
-        wanted(
-            is_made(&mut table, &hash, (number, 0, 1), name.as_bytes()),
-            true,
-        )?;
-        wanted(is_shown(&mut table, &hash, name.as_bytes()), true)?;
+        stands(table, number, name.as_bytes())?;
     }
-    wanted(is_shown(&mut table, &hash_of(b"1")?, b"1"), count > 0)
+    wanted(is_shown(table, &hash_of(b"1")?, b"1"), count > 0)
 }
 
 /// Whether the one node of a service leaves, and takes it away.
@@ -97,34 +102,37 @@ fn is_taken_away(table: &mut Table, hash: &ServiceHash, number: u64) -> bool {
         && table.remove_segment(hash, number) == RemoveAnswer::Removed
 }
 
-/// A service must have so many lives, with a text of so many bytes each.
+/// A service must have so many lives, with this text each.
+fn all_follow(table: &mut Table, hash: &ServiceHash, count: u64, text: &[u8]) -> Result<(), Fail> {
+    for number in 1..=count {
+        wanted(is_made(table, hash, (number, 0, 1), text), true)?;
+        wanted(is_shown(table, hash, text), true)?;
+        wanted(is_taken_away(table, hash, number), true)?;
+    }
+    wanted(matches!(table.look(hash), LookAnswer::Absent), true)
+}
+
+/// The same in a new table, with a text of so many bytes.
 fn lives_follow(alloc: Global, count: u64, length: usize) -> Result<(), Fail> {
     let hash = hash_of(b"A")?;
     let text = vec![in alloc; b'x'; length]?;
-    let mut table = Table::new(alloc, 1);
-    for number in 1..=count {
-        wanted(
-            is_made(&mut table, &hash, (number, 0, 1), text.as_slice()),
-            true,
-        )?;
-        wanted(is_shown(&mut table, &hash, text.as_slice()), true)?;
-        wanted(is_taken_away(&mut table, &hash, number), true)?;
-    }
-    wanted(matches!(table.look(&hash), LookAnswer::Absent), true)
+    all_follow(&mut Table::new(alloc, 1), &hash, count, text.as_slice())
 }
+
+const LIVES: [(u64, usize); 6] = [
+    (0, 0),
+    (1, 32_769),
+    (2, 12_000),
+    (7, 7),
+    (64, 64),
+    (1_000, 1),
+];
 
 #[test]
 fn any_number_of_services_and_of_lives_follows(rt: HostRuntime) -> Result<(), Fail> {
-    for (count, length) in [
-        (0, 0),
-        (1, 32_769),
-        (2, 12_000),
-        (7, 7),
-        (64, 64),
-        (1_000, 1),
-    ] {
-        services_stand(rt.alloc(), count)?;
-        lives_follow(rt.alloc(), count, length)?;
+    for (count, length) in &LIVES {
+        all_stand(rt.alloc(), &mut Table::new(rt.alloc(), 1), *count)?;
+        lives_follow(rt.alloc(), *count, *length)?;
     }
     Ok(())
 }
@@ -150,62 +158,92 @@ fn lives_of_another(alloc: Global, count: usize) -> Result<StepList, Fail> {
     Ok(StepList::new(steps))
 }
 
-/// So many lists must be done, each before its look, of so many lives each; then the next lock has the number after all of those.
-fn lists_are_done(alloc: Global, lists: usize, lives: usize, next: u64) -> Result<(), Fail> {
-    let hash = hash_of(b"A")?;
+/// So many lists, of so many lives each.
+fn lists_of(alloc: Global, lists: usize, lives: usize) -> Result<Vec<StepList>, Fail> {
     let mut all = Vec::new(alloc);
     for _ in 0..lists {
         all.push(lives_of_another(alloc, lives)?)?;
     }
-    let mut stepped = Stepped::new(Table::new(alloc, 1), all);
-    for _ in 0..lists {
-        wanted(matches!(stepped.look(&hash), LookAnswer::Absent), true)?;
-    }
-    wanted(stepped.lock(&hash, 5), LockAnswer::Taken(next))
+    Ok(all)
 }
+
+/// So many lists must be done, each before its look; then the next lock has this number.
+fn all_are_done(
+    stepped: &mut Stepped,
+    hash: &ServiceHash,
+    lists: usize,
+    next: u64,
+) -> Result<(), Fail> {
+    for _ in 0..lists {
+        wanted(matches!(stepped.look(hash), LookAnswer::Absent), true)?;
+    }
+    wanted(stepped.lock(hash, 5), LockAnswer::Taken(next))
+}
+
+/// The same of lists of so many lives each: the number comes after all of those.
+fn lists_are_done(alloc: Global, (lists, lives, next): (usize, usize, u64)) -> Result<(), Fail> {
+    let hash = hash_of(b"A")?;
+    let all = lists_of(alloc, lists, lives)?;
+    all_are_done(
+        &mut Stepped::new(Table::new(alloc, 1), all),
+        &hash,
+        lists,
+        next,
+    )
+}
+
+const LISTS: [(usize, usize, u64); 8] = [
+    (0, 0, 1),
+    (1, 0, 1),
+    (1, 1, 2),
+    (2, 2, 5),
+    (7, 1, 8),
+    (64, 1, 65),
+    (1_000, 1, 1_001),
+    (1, 250, 251),
+];
 
 #[test]
 fn any_number_of_lists_and_of_steps_is_done(rt: HostRuntime) -> Result<(), Fail> {
-    for (lists, lives, next) in [
-        (0, 0, 1),
-        (1, 0, 1),
-        (1, 1, 2),
-        (2, 2, 5),
-        (7, 1, 8),
-        (64, 1, 65),
-        (1_000, 1, 1_001),
-        (1, 250, 251),
-    ] {
-        lists_are_done(rt.alloc(), lists, lives, next)?;
+    for row in &LISTS {
+        lists_are_done(rt.alloc(), *row)?;
     }
     Ok(())
 }
 
-/// Whether foreign node 1, which has the lock of event service `A`, publishes what is of these settings and this name, and states
-/// the hash of the event service of the other name.
+/// Whether a service is found once these steps were done.
+fn is_found(table: &mut Table, hash: &ServiceHash, steps: &[ForeignStep]) -> Result<bool, Fail> {
+    for step in steps {
+        table.act(hash, step)?;
+    }
+    Ok(matches!(table.look(hash), LookAnswer::Found { .. }))
+}
+
+/// Whether foreign node 1, which has the lock of event service `A`, publishes this.
+fn publishes(alloc: Global, hash: &ServiceHash, description: Description) -> Result<bool, Fail> {
+    is_found(
+        &mut Table::new(alloc, 1),
+        hash,
+        &[
+            ForeignStep::Lock { node: 1 },
+            ForeignStep::Publish {
+                node: 1,
+                description,
+            },
+        ],
+    )
+}
+
+/// The same of what is of these settings and this name, and states the hash of the event service of the other name.
 fn publishes_for_a(
     alloc: Global,
     settings: Settings,
     name: &[u8],
     stated: &[u8],
 ) -> Result<bool, Fail> {
-    let hash = hash_of(b"A")?;
-    let description = Description::of_parts(
-        ServiceName::new(name)?,
-        hash_of(stated)?,
-        settings,
-        AttributeSpecifier::new(),
-    );
-    let mut table = Table::new(alloc, 1);
-    table.act(&hash, &ForeignStep::Lock { node: 1 })?;
-    table.act(
-        &hash,
-        &ForeignStep::Publish {
-            node: 1,
-            description,
-        },
-    )?;
-    Ok(matches!(table.look(&hash), LookAnswer::Found { .. }))
+    let (name, stated) = (ServiceName::new(name)?, hash_of(stated)?);
+    let description = Description::of_parts(name, stated, settings, AttributeSpecifier::new());
+    publishes(alloc, &hash_of(b"A")?, description)
 }
 
 #[test]

@@ -9,6 +9,7 @@ use iox_negotiate_base::errors::{
 };
 use std::alloc::{AllocError, Global};
 use std::fmt::{Debug, Display};
+use std::process::Abort;
 use std::test::Fail;
 
 /// Whether errors are told so: the variant is what a derived `Debug` writes.
@@ -77,10 +78,18 @@ fn request_response_clauses() -> [request_response::ClauseError; 14] {
     ]
 }
 
+/// Each must hold, where no allocation failed.
+fn hold(rt: &impl Abort, answers: &[Result<bool, AllocError>]) -> Result<(), AllocError> {
+    for (place, answer) in answers.iter().enumerate() {
+        assert!(rt; (*answer)?, "{place}");
+    }
+    Ok(())
+}
+
 #[test]
 fn errors_of_descriptions_display_as_type_and_variant(rt: HostRuntime) -> Result<(), Fail> {
     let alloc: Global = rt.alloc();
-    for told in [
+    let answers = [
         are_told(alloc, "ClauseError", &publish_subscribe_clauses()),
         are_told(alloc, "ClauseError", &event_clauses()),
         are_told(alloc, "ClauseError", &request_response_clauses()),
@@ -91,10 +100,8 @@ fn errors_of_descriptions_display_as_type_and_variant(rt: HostRuntime) -> Result
         ),
         are_told(alloc, "LimitError", &[LimitError::OutsideLimits]),
         are_told(alloc, "AttributeError", &[AttributeError::OutOfMemory]),
-    ] {
-        assert!(rt; told?);
-    }
-    Ok(())
+    ];
+    Ok(hold(&rt, &answers)?)
 }
 
 const EITHER_OPEN: PublishSubscribeOpenOrCreateError =
@@ -110,7 +117,7 @@ const EITHER_CREATE: RequestResponseOpenOrCreateError =
 #[test]
 fn errors_of_negotiation_display_as_type_and_variant(rt: HostRuntime) -> Result<(), Fail> {
     let alloc: Global = rt.alloc();
-    for told in [
+    let answers = [
         are_told(
             alloc,
             "PublishSubscribeOpenError",
@@ -156,10 +163,8 @@ fn errors_of_negotiation_display_as_type_and_variant(rt: HostRuntime) -> Result<
                 CloseError::UnableToRemoveSegment,
             ],
         ),
-    ] {
-        assert!(rt; told?);
-    }
-    Ok(())
+    ];
+    Ok(hold(&rt, &answers)?)
 }
 
 /// Whether the error is told so.
@@ -171,13 +176,11 @@ fn is_told<E: Display>(alloc: Global, error: &E, text: &str) -> Result<bool, All
 fn other_errors_display_as_their_words(rt: HostRuntime) -> Result<(), Fail> {
     let alloc: Global = rt.alloc();
     let outside = AttributeError::LimitError(LimitError::OutsideLimits);
-    for told in [
+    let answers = [
         is_told(alloc, &outside, "LimitError::OutsideLimits"),
         is_told(alloc, &ServeError::ReadFault, "read fault"),
         is_told(alloc, &ServeError::WriteFault, "write fault"),
         is_told(alloc, &ServeError::OutOfMemory, "out of memory"),
-    ] {
-        assert!(rt; told?);
-    }
-    Ok(())
+    ];
+    Ok(hold(&rt, &answers)?)
 }

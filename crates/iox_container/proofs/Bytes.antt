@@ -1,4 +1,5 @@
-use Rattle.std.proofs.Common.{Bool, cond, eqb, ltb, ℕ, ◌≡◌, inl, inr, ◌+◌, ◌<◌, ◌++◌, List, [], ◌∷◌, length, take, get_or, Option, Some, None, arith, refl, sym, ap, ◌∙◌, subst}
+use Rattle.std.proofs.Common.{Bool, cond, eqb, ltb, ℕ, ◌≡◌, inl, inr, ◌+◌, ◌<◌, ◌++◌, List, [], ◌∷◌, length, take, get_or, Option, Some}
+use Rattle.std.proofs.Common.{None, arith, refl, sym, ap, ◌∙◌, subst}
 use Rattle.std.specs.Prelude.{unwrap_or, slice_index}
 use Rattle.std.specs.Option.{option_or}
 use Rattle.std.proofs.lemmas.Bool.{cases_Bool, cases_lt}
@@ -20,7 +21,8 @@ option_or-none None = refl
 option_or-none (Some x) = refl
 
 -- the last store of steps in two parts
-last_store-append : (place : ℕ) (xs ys : List ByteStep) → last_store place (xs ++ ys) ≡ option_or (last_store place ys) (last_store place xs)
+last_store-append : (place : ℕ) (xs ys : List ByteStep)
+    → last_store place (xs ++ ys) ≡ option_or (last_store place ys) (last_store place xs)
 last_store-append place [] ys = sym (option_or-none (last_store place ys))
 last_store-append place (Load p ∷ xs) ys = last_store-append place xs ys
 last_store-append place (Store p byte ∷ xs) ys =
@@ -40,14 +42,16 @@ byte_after-append before now xs ys place same =
     ∙ ap (λ o. unwrap_or o (slice_index before place)) (sym (last_store-append place xs ys))
 
 -- steps in two parts
-pub HoldsAfter-append : (before now next : List ℕ) (xs ys : List ByteStep) → HoldsAfter before xs now → HoldsAfter now ys next → HoldsAfter before (xs ++ ys) next
+pub HoldsAfter-append : (before now next : List ℕ) (xs ys : List ByteStep) → HoldsAfter before xs now → HoldsAfter now ys next
+    → HoldsAfter before (xs ++ ys) next
 HoldsAfter-append before now next xs ys first second = record {
   long = second.long ∙ first.long;
   at = λ place within. second.at place (omega (arith, first.long)) ∙ byte_after-append before now xs ys place (first.at place within);
 }
 
 -- the answer to a step is that after the steps before it
-pub answer_after-now : (before now : List ℕ) (xs : List ByteStep) (step : ByteStep) → HoldsAfter before xs now → answer_after now [] step ≡ answer_after before xs step
+pub answer_after-now : (before now : List ℕ) (xs : List ByteStep) (step : ByteStep) → HoldsAfter before xs now
+    → answer_after now [] step ≡ answer_after before xs step
 answer_after-now before now xs (Store place byte) held = ap (λ n. cond (ltb place n) Stored Skipped) held.long
 answer_after-now before now xs (Load place) held =
     elim (cases_Bool (ltb place (length before))) as (λ _. answer_after now [] (Load place) ≡ answer_after before xs (Load place)) [
@@ -66,7 +70,8 @@ pub HoldsAfter-none : (before : List ℕ) → HoldsAfter before [] before
 HoldsAfter-none before = record { long = refl; at = λ place within. refl }
 
 -- one more step
-pub HoldsAfter-more : (before now next : List ℕ) (steps : List ByteStep) (i : ℕ) (step : ByteStep) → i < length steps → step ≡ get_or steps i step
+pub HoldsAfter-more : (before now next : List ℕ) (steps : List ByteStep) (i : ℕ) (step : ByteStep) → i < length steps
+    → step ≡ get_or steps i step
     → HoldsAfter before (take i steps) now → HoldsAfter now (step ∷ []) next → HoldsAfter before (take (i + 1) steps) next
 HoldsAfter-more before now next steps i step within is held moved =
     let H : List ByteStep → Type 0 = λ xs. HoldsAfter before xs next in
@@ -78,17 +83,20 @@ abbrev pub AnswersSoFar : List ℕ → List ByteStep → ℕ → List ByteAnswer
 AnswersSoFar before steps i answers =
     (length answers ≡ i) × ((k : ℕ) → k < i → get_or answers k Skipped ≡ answer_after before (take k steps) (get_or steps k (Load 0)))
 
-pub AnswersSoFar-more : (before now : List ℕ) (steps : List ByteStep) (i : ℕ) (step : ByteStep) (answers more : List ByteAnswer) (answer : ByteAnswer)
+pub AnswersSoFar-more : (before now : List ℕ) (steps : List ByteStep) (i : ℕ) (step : ByteStep) (answers more : List ByteAnswer)
+    (answer : ByteAnswer)
     → i < length steps → step ≡ get_or steps i step → HoldsAfter before (take i steps) now → answer ≡ answer_after now [] step
     → more ≡ answers ++ answer ∷ [] → AnswersSoFar before steps i answers → AnswersSoFar before steps (i + 1) more
 AnswersSoFar-more before now steps i step answers more answer within is held told e sofar = (
   ap length e ∙ length_push answers answer ∙ ap (λ n. n + 1) sofar.0,
   λ k below. elim (cases_lt k i) as (λ _. get_or more k Skipped ≡ answer_after before (take k steps) (get_or steps k (Load 0))) [
-    | inl earlier ↦ ap (λ xs. get_or xs k Skipped) e ∙ get_or_append_left answers (answer ∷ []) Skipped k (omega (arith, sofar.0)) ∙ sofar.1 k earlier
+    | inl earlier ↦ ap (λ xs. get_or xs k Skipped) e ∙ get_or_append_left answers (answer ∷ []) Skipped k (omega (arith, sofar.0)) ∙
+        sofar.1 k earlier
     | inr late ↦
         let here : k ≡ i = omega arith in
         let A : ℕ → Type 0 = λ j. get_or more j Skipped ≡ answer_after before (take j steps) (get_or steps j (Load 0)) in
-        subst A (sym here) (ap (λ xs. get_or xs i Skipped) e ∙ get_or_push answers answer Skipped i sofar.0 ∙ told ∙ answer_after-now before now (take i steps) step held
+        subst A (sym here) (ap (λ xs. get_or xs i Skipped) e ∙ get_or_push answers answer Skipped i sofar.0 ∙ told ∙ answer_after-now
+        before now (take i steps) step held
         ∙ ap (λ s. answer_after before (take i steps) s) (is ∙ get_or_default steps i step (Load 0) within))
   ],
 )

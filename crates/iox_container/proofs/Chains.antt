@@ -1,11 +1,13 @@
-use Rattle.std.proofs.Common.{ℕ, ◌≡◌, ◌⊎◌, inl, inr, ◌+◌, ◌-◌, ◌<◌, ◌≤◌, List, [], ◌∷◌, ◌++◌, length, get_or, Some, arith, refl, sym, ap, ◌∙◌, subst}
+use Rattle.std.proofs.Common.{ℕ, ◌≡◌, ◌⊎◌, inl, inr, ◌+◌, ◌-◌, ◌<◌, ◌≤◌, List, [], ◌∷◌, ◌++◌, length, get_or, Some, arith, refl, sym, ap}
+use Rattle.std.proofs.Common.{◌∙◌, subst}
 use Rattle.std.specs.Prelude.{slice_get}
 use Rattle.std.proofs.Math.ListN.{set}
 use Rattle.std.proofs.lemmas.Bool.{cases_eq}
 use Rattle.std.proofs.lemmas.List.{get_or-set_same, get_or-set_other, get_or_append_left, get_or_push, length-set, length_push}
 use Rattle.iox_container.specs.SlotTable.{Among, Distinct, without}
 use Rattle.iox_container.specs.Links.{Chain, ChainFrom, LinksKeys, walk}
-use Rattle.iox_container.proofs.Keys.{Among-append, Among-without, Distinct-push, Distinct-without, length-without, without_absent, without_first, without_here, without_there}
+use Rattle.iox_container.proofs.Keys.{Among-append, Among-without, Distinct-push, Distinct-without, length-without, without_absent}
+use Rattle.iox_container.proofs.Keys.{without_first, without_here, without_there}
 
 -- the walk along a chain meets its keys
 walk-chain : (n p : List ℕ) (at : ℕ) (ks : List ℕ) (end : ℕ) → Chain n p at ks end → walk n (length ks) (get_or n at 0) ≡ ks
@@ -129,7 +131,8 @@ unlinked n p at (x ∷ xs) end key chain there distinct far_at far_end at_in end
           subst C (sym (without_there key x xs other)) (
             get_or-set_other n from at to 0 not_from ∙ chain.0,
             get_or-set_other p to x from 0 not_to ∙ chain.1,
-            unlinked n p x xs end key chain.2 later distinct.1 distinct.0 (λ h. far_end (inr h)) (within x (inl refl)).0 end_in (λ j h. within j (inr h)),
+            unlinked n p x xs end key chain.2 later distinct.1 distinct.0 (λ h. far_end (inr h)) (within x (inl refl)).0 end_in
+                (λ j h. within j (inr h)),
           )
     ]
 
@@ -139,8 +142,10 @@ pub links_within : (n p : List ℕ) (f c m key : ℕ) (ks : List ℕ) → LinksK
 links_within n p f c m key [] links there other = absurd there
 links_within n p f c m key (k ∷ ks) links there other =
     let later : Among key ks = elim there as (λ _. Among key ks) [ inl e ↦ absurd (other (e ∙ sym links.chain.0)) | inr h ↦ h ] in (
-      elim (behind_key n p k ks c key links.chain.1 later) as (λ _. get_or n key 0 ≤ c) [ inl e ↦ omega arith | inr h ↦ omega (arith, links.below _ (inr h)) ],
-      elim (before_key n p k ks c key links.chain.1 later) as (λ _. get_or p key 0 < c) [ inl e ↦ omega (arith, links.below k (inl refl)) | inr h ↦ omega (arith, links.below _ (inr h)) ],
+      elim (behind_key n p k ks c key links.chain.1 later) as (λ _. get_or n key 0 ≤ c)
+          [ inl e ↦ omega arith | inr h ↦ omega (arith, links.below _ (inr h)) ],
+      elim (before_key n p k ks c key links.chain.1 later) as (λ _. get_or p key 0 < c)
+          [ inl e ↦ omega (arith, links.below k (inl refl)) | inr h ↦ omega (arith, links.below _ (inr h)) ],
     )
 
 -- the links without a key that isn't the first
@@ -154,7 +159,8 @@ LinksKeys-removed n p f c m key (k ∷ ks) from to links there other e g =
     let C : ℕ → ℕ → Type 0 = λ a b. Chain (set n a b) (set p b a) k (without key ks) c in
     let chain : Chain (set n from to) (set p to from) k (without key ks) c =
     (let A : ℕ → Type 0 = λ a. C a to in let B : ℕ → Type 0 = λ b. C (get_or p key 0) b in
-    subst A (sym e) (subst B (sym g) (unlinked n p k ks c key links.chain.1 later links.distinct.1 links.distinct.0 far (omega (arith, links.forth, links.below k (inl refl))) (omega (arith, links.back))
+    subst A (sym e) (subst B (sym g) (unlinked n p k ks c key links.chain.1 later links.distinct.1 links.distinct.0 far
+    (omega (arith, links.forth, links.below k (inl refl))) (omega (arith, links.back))
     (λ j h. (omega (arith, links.forth, links.below j (inr h)), omega (arith, links.back, links.below j (inr h))))))) in
     let F : List ℕ → Type 0 = λ xs. ChainFrom (set n from to) (set p to from) f xs c in
     record {
@@ -220,7 +226,8 @@ LinksKeys-added n p f c m key ks links low fresh = record {
   counted = omega (arith, links.counted);
   chain = (
     refl,
-    linked n p f c key ks links.chain links.distinct fresh (λ h. absurd (omega (arith, links.below c h))) (omega (arith, links.forth)) (omega (arith, links.back))
+    linked n p f c key ks links.chain links.distinct fresh (λ h. absurd (omega (arith, links.below c h))) (omega (arith, links.forth))
+        (omega (arith, links.back))
         (λ j h. omega (arith, links.back, links.below j h)),
   );
   distinct = (fresh, links.distinct);

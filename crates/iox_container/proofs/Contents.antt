@@ -17,9 +17,17 @@ err_of A e = Err e
 abbrev ok_of : (A : Type 0) → A → Result A SemanticStringError
 ok_of A a = Ok a
 
-length-inserted : (text : List ℕ) (idx : ℕ) (bytes : List ℕ) → idx ≤ length text → length (bytes_inserted text idx bytes) ≡ length text + length bytes
+length-inserted : (text : List ℕ) (idx : ℕ) (bytes : List ℕ) → idx ≤ length text
+    → length (bytes_inserted text idx bytes) ≡ length text + length bytes
 length-inserted text idx bytes within =
-    omega (arith, length-append (take idx text) (bytes ++ drop idx text), length-append bytes (drop idx text), length-take-le idx text within, length-drop idx text)
+    omega (
+      arith,
+      length-append (take idx text) (bytes ++ drop idx text),
+      length-append bytes (drop idx text),
+      length-take-le idx text
+          within,
+      length-drop idx text,
+    )
 
 -- bytes that were put into a string's are a string's too
 inserted_part : (text : List ℕ) (idx : ℕ) (bytes : List ℕ) → IsStringBytes (bytes_inserted text idx bytes) → IsStringBytes bytes
@@ -31,7 +39,8 @@ inserted_part text idx bytes all =
     subst A (take_at bytes (drop idx text) (length bytes) refl) (All-take IsStringByte (length bytes) (bytes ++ drop idx text) behind)
 
 -- where the string below refuses bytes, the content with them is refused as it should be
-AnswersContent-refused : {A : Type 0} (capacity : ℕ) (content characters : List ℕ → Bool) (text : List ℕ) (idx : ℕ) (bytes : List ℕ) (e : StringModificationError)
+AnswersContent-refused : {A : Type 0} (capacity : ℕ) (content characters : List ℕ → Bool) (text : List ℕ) (idx : ℕ) (bytes : List ℕ)
+    (e : StringModificationError)
     → AnswersInsertion capacity text bytes (Err e) → idx ≤ length text
     → AnswersContent {A = A} capacity content characters (bytes_inserted text idx bytes) (Err (refusal_of e))
 AnswersContent-refused capacity content characters text idx bytes changing.InsertWouldExceedCapacity told within =
@@ -56,7 +65,8 @@ err_is (Ok x) e told = absurd told
 err_is (Err x) e told = ap (λ y. Err y) told
 
 -- the same, as the refusal is handed on
-pub AnswersContent-insertion : {A : Type 0} (capacity : ℕ) (content characters : List ℕ → Bool) (text : List ℕ) (idx : ℕ) (bytes : List ℕ) (e : StringModificationError) (answer : Result A SemanticStringError)
+pub AnswersContent-insertion : {A : Type 0} (capacity : ℕ) (content characters : List ℕ → Bool) (text : List ℕ) (idx : ℕ)
+    (bytes : List ℕ) (e : StringModificationError) (answer : Result A SemanticStringError)
     → AnswersInsertion capacity text bytes (Err e) → idx ≤ length text → IsErrAnd answer (λ x. x ≡ refusal_of e)
     → AnswersContent capacity content characters (bytes_inserted text idx bytes) answer
 AnswersContent-insertion {A} capacity content characters text idx bytes e answer told within is =
@@ -64,7 +74,8 @@ AnswersContent-insertion {A} capacity content characters text idx bytes e answer
     subst P (sym (err_is answer (refusal_of e) is)) (AnswersContent-refused capacity content characters text idx bytes e told within)
 
 -- a refusal handed on answers for the same content
-pub AnswersContent-err : {A B : Type 0} (capacity : ℕ) (content characters : List ℕ → Bool) (text rest : List ℕ) (e : SemanticStringError) (answer : Result B SemanticStringError)
+pub AnswersContent-err : {A B : Type 0} (capacity : ℕ) (content characters : List ℕ → Bool) (text rest : List ℕ)
+    (e : SemanticStringError) (answer : Result B SemanticStringError)
     → text ≡ rest → AnswersContent {A = A} capacity content characters text (Err e) → IsErrAnd answer (λ x. x ≡ e)
     → AnswersContent {A = B} capacity content characters rest answer
 AnswersContent-err {A} {B} capacity content characters text rest e answer same told is =
@@ -86,7 +97,8 @@ AnswersContent-err {A} {B} capacity content characters text rest e answer same t
     })
 
 pub AnswersContent-ok : {A B : Type 0} (capacity : ℕ) (content characters : List ℕ → Bool) (text rest : List ℕ) (a : A) (b : B)
-    → text ≡ rest → AnswersContent {A = A} capacity content characters text (Ok a) → AnswersContent {A = B} capacity content characters rest (Ok b)
+    → text ≡ rest → AnswersContent {A = A} capacity content characters text (Ok a)
+    → AnswersContent {A = B} capacity content characters rest (Ok b)
 AnswersContent-ok {A} {B} capacity content characters text rest a b same told =
     let here : AnswersContent {A = A} capacity content characters rest (Ok a) =
     (let T : List ℕ → Type 0 = λ t. AnswersContent {A = A} capacity content characters t (Ok a) in subst T same told) in

@@ -1,5 +1,6 @@
 -- Lists of free indices, as they are handed out and come back.
-use Rattle.std.proofs.Common.{ℕ, zero, suc, ◌≡◌, ◌+◌, ◌<◌, ◌≤◌, ◌∷◌, ◌++◌, [], List, Bool, true, false, not, ◌&&◌, ◌||◌, length, arith, refl, sym, ap, ◌∙◌, nat_lt, cond, replicate, reverse}
+use Rattle.std.proofs.Common.{ℕ, zero, suc, ◌≡◌, ◌+◌, ◌<◌, ◌≤◌, ◌∷◌, ◌++◌, [], List, Bool, true, false, not, ◌&&◌, ◌||◌, length, arith}
+use Rattle.std.proofs.Common.{refl, sym, ap, ◌∙◌, nat_lt, cond, replicate, reverse}
 use Rattle.std.proofs.Math.ListN.{set}
 use Rattle.std.proofs.Math.Logic.{⊎_elim}
 use Rattle.std.specs.List.{AllByRecursion, IsDistinct, count_by, range_with_len}
@@ -49,7 +50,8 @@ distinct-head index indices d = absent index indices d.0
 range-below : (n from index : ℕ) → is_among index (range_with_len from n) ≡ true → index < from + n
 range-below zero from index h = cc
 range-below (suc n) from index h =
-    ⊎_elim (λ same. omega (arith, same.1)) (λ other. let rest = range-below n (from + 1) index (rw other.0 at h) in omega (arith, rest)) (eqb_tells index from)
+    ⊎_elim (λ same. omega (arith, same.1)) (λ other. let rest = range-below n (from + 1) index (rw other.0 at h) in omega (arith, rest))
+    (eqb_tells index from)
 
 range-has : (n from index : ℕ) → from ≤ index → index < from + n → is_among index (range_with_len from n) ≡ true
 range-has zero from index low high = absurd (omega arith)
@@ -60,7 +62,8 @@ range-has (suc n) from index low high =
 range-lacks : (n from index : ℕ) → index < from → is_among index (range_with_len from n) ≡ false
 range-lacks zero from index low = refl
 range-lacks (suc n) from index low =
-    ⊎_elim (λ same. absurd (omega (arith, same.1))) (λ other. rw other.0 (range-lacks n (from + 1) index (omega arith))) (eqb_tells index from)
+    ⊎_elim (λ same. absurd (omega (arith, same.1))) (λ other. rw other.0 (range-lacks n (from + 1) index (omega arith)))
+    (eqb_tells index from)
 
 distinct-none : IsDistinct eqb []
 unfolding IsDistinct
@@ -68,7 +71,8 @@ distinct-none = tt
 
 range-distinct : (n from : ℕ) → IsDistinct eqb (range_with_len from n)
 range-distinct zero from = distinct-none
-range-distinct (suc n) from = distinct-cons from (range_with_len (from + 1) n) (range-lacks n (from + 1) from (omega arith)) (range-distinct n (from + 1))
+range-distinct (suc n) from = distinct-cons from (range_with_len (from + 1) n) (range-lacks n (from + 1) from (omega arith))
+    (range-distinct n (from + 1))
 
 -- no index is held at first
 pub AreFree-start : (n : ℕ) → AreFree (replicate n false) (range_with_len 0 n)
@@ -96,8 +100,10 @@ AreFree-taken held index free f = record {
   marked = λ other less.
       let inside : other < length held = rw (length-set held index true) at less in
       ⊎_elim
-      (λ same. rw same.1 (get_or-set_same held index true true (AreFree-first held index free f) ∙ sym (ap (λ b. not b) (distinct-head index free f.distinct))))
-      (λ apart. get_or-set_other held index other true true apart.1 ∙ f.marked other inside ∙ ap (λ b. not (b || is_among other free)) apart.0)
+      (λ same. rw same.1 (get_or-set_same held index true true (AreFree-first held index free f) ∙ sym
+      (ap (λ b. not b) (distinct-head index free f.distinct))))
+      (λ apart. get_or-set_other held index other true true apart.1 ∙ f.marked other inside ∙ ap (λ b. not (b || is_among other free))
+      apart.0)
       (eqb_tells other index);
 }
 
@@ -113,7 +119,8 @@ AreFree-freed held index free f less new = record {
       let inside : other < length held = rw (length-set held index false) at small in
       ⊎_elim
       (λ same. rw (same.1, eq-eqb index index refl) (get_or-set_same held index false true less))
-      (λ apart. get_or-set_other held index other false true apart.1 ∙ f.marked other inside ∙ sym (ap (λ b. not (b || is_among other free)) apart.0))
+      (λ apart. get_or-set_other held index other false true apart.1 ∙ f.marked other inside ∙ sym
+      (ap (λ b. not (b || is_among other free)) apart.0))
       (eqb_tells other index);
 }
 
@@ -130,15 +137,18 @@ and-false false b h = refl
 and-false true b h = h
 
 -- the first free index gets its holder, and no other index is touched
-pub Takes-first : (held : List Bool) (index : ℕ) (free : List ℕ) (capacity : ℕ) (before after : Bool) → AreFree held (index ∷ free) → capacity ≡ length held
-    → Takes index (record { capacity = capacity; free = index ∷ free; locked = before }) (record { capacity = capacity; free = free; locked = after })
+pub Takes-first : (held : List Bool) (index : ℕ) (free : List ℕ) (capacity : ℕ) (before after : Bool) → AreFree held (index ∷ free)
+    → capacity ≡ length held
+    → Takes index (record { capacity = capacity; free = index ∷ free; locked = before })
+    (record { capacity = capacity; free = free; locked = after })
 Takes-first held index free capacity before after f whole =
     let less : index < capacity = omega (arith, AreFree-first held index free f, whole) in
     record {
       was_free = and-false (nat_lt index capacity) (not (is_among index (index ∷ free))) (rw (eq-eqb index index refl) refl);
       is_taken = rw (distinct-head index free f.distinct) (grind (arith, nat_tests));
       others = λ other apart.
-          ⊎_elim (λ same. absurd (apart same.1)) (λ differs. ap (λ b. nat_lt other capacity && not (b || is_among other free)) (sym differs.0)) (eqb_tells other index);
+          ⊎_elim (λ same. absurd (apart same.1))
+          (λ differs. ap (λ b. nat_lt other capacity && not (b || is_among other free)) (sym differs.0)) (eqb_tells other index);
     }
 
 -- the last of a list is the first of its reverse
@@ -163,11 +173,13 @@ held-means index set h =
 abbrev pub count_absent : List ℕ → List ℕ → ℕ
 count_absent indices numbers = count_by (λ number. not (is_among number indices)) numbers
 
-absent-cons : (indices : List ℕ) (number : ℕ) (numbers : List ℕ) → count_absent indices (number ∷ numbers) ≡ cond (not (is_among number indices)) 1 0 + count_absent indices numbers
+absent-cons : (indices : List ℕ) (number : ℕ) (numbers : List ℕ)
+    → count_absent indices (number ∷ numbers) ≡ cond (not (is_among number indices)) 1 0 + count_absent indices numbers
 absent-cons indices number numbers = sum_by-cons (λ n. cond (not (is_among n indices)) 1 0) number numbers
 
 -- a number below the range changes nothing
-absent-skip : (n from index : ℕ) (indices : List ℕ) → index < from → count_absent (index ∷ indices) (range_with_len from n) ≡ count_absent indices (range_with_len from n)
+absent-skip : (n from index : ℕ) (indices : List ℕ) → index < from
+    → count_absent (index ∷ indices) (range_with_len from n) ≡ count_absent indices (range_with_len from n)
 absent-skip zero from index indices low = refl
 absent-skip (suc n) from index indices low =
     ⊎_elim (λ same. absurd (omega (arith, same.1)))
@@ -188,10 +200,25 @@ absent-one (suc n) from index indices new low high =
     (λ same.
     let here : ◌≡◌ {A = ℕ} (cond (not (is_among from (index ∷ indices))) 1 0) 0 = rw same.0 refl in
     let was : ◌≡◌ {A = ℕ} (cond (not (is_among from indices)) 1 0) 1 = rw (same.1, new) refl in
-    omega (arith, absent-cons (index ∷ indices) from rest, absent-cons indices from rest, here, was, absent-skip n (from + 1) index indices (omega (arith, same.1))))
+    omega (
+      arith,
+      absent-cons (index ∷ indices) from rest,
+      absent-cons indices from rest,
+      here,
+      was,
+      absent-skip n (from + 1) index
+          indices (omega (arith, same.1)),
+    ))
     (λ other.
     let same : ◌≡◌ {A = ℕ} (cond (not (is_among from (index ∷ indices))) 1 0) (cond (not (is_among from indices)) 1 0) = rw other.0 refl in
-    omega (arith, absent-cons (index ∷ indices) from rest, absent-cons indices from rest, same, absent-one n (from + 1) index indices new (omega (arith, other.1)) (omega arith)))
+    omega (
+      arith,
+      absent-cons (index ∷ indices) from rest,
+      absent-cons indices from rest,
+      same,
+      absent-one n (from + 1) index indices new
+          (omega (arith, other.1)) (omega arith),
+    ))
     (eqb_tells from index)
 
 absent-none : (n from : ℕ) → count_absent [] (range_with_len from n) ≡ n
@@ -207,11 +234,13 @@ absent-rest bound (index ∷ free) d below =
     omega (
       arith,
       absent-one bound 0 index free (distinct-head index free d) (omega arith) (omega (arith, first)),
-      absent-rest bound free (distinct-rest index free d) (λ other among. below other (or-true (eqb other index) (is_among other free) among)),
+      absent-rest bound free (distinct-rest index free d)
+          (λ other among. below other (or-true (eqb other index) (is_among other free) among)),
     )
 
 -- below the capacity, what is held is what isn't free
-held-absent : (n from : ℕ) (set : UniqueSetState) → from + n ≤ set.capacity → count_by (λ index. is_held index set) (range_with_len from n) ≡ count_absent set.free (range_with_len from n)
+held-absent : (n from : ℕ) (set : UniqueSetState) → from + n ≤ set.capacity
+    → count_by (λ index. is_held index set) (range_with_len from n) ≡ count_absent set.free (range_with_len from n)
 held-absent zero from set high = refl
 held-absent (suc n) from set high =
     let inside : nat_lt from set.capacity ≡ true = grind (arith, nat_tests) in

@@ -1,5 +1,6 @@
 -- Who had each place last, and what its list becomes as that changes.
-use Rattle.std.proofs.Common.{ℕ, zero, suc, ◌≡◌, ◌≢◌, ◌+◌, ◌^◌, ◌<◌, ◌≤◌, ◌∷◌, ◌++◌, [], List, length, arith, refl, sym, ap, subst, ◌∙◌, Option, Some, None, inl, inr}
+use Rattle.std.proofs.Common.{ℕ, zero, suc, ◌≡◌, ◌≢◌, ◌+◌, ◌^◌, ◌<◌, ◌≤◌, ◌∷◌, ◌++◌, [], List, length, arith, refl, sym, ap, subst, ◌∙◌}
+use Rattle.std.proofs.Common.{Option, Some, None, inl, inr}
 use Rattle.std.proofs.Math.ListN.{set}
 use Rattle.std.specs.List.{Contains, slice_get}
 use Rattle.std.specs.Prelude.{IfSome, IfNone}
@@ -49,7 +50,8 @@ module _ (last : List ℕ) (entries : List (ℕ × ℕ)) (lists : Lists last ent
 
   -- the owner's next place among them is the next that it had
   pub next-had : length entries < 2 ^ 64 → (owner from : ℕ) (answer : Option ℕ)
-      → IfSome answer (λ place. Contains entries (owner, place) × (from ≤ place) × ((other : ℕ) → from ≤ other → other < place → Contains entries (owner, other) → ⊥))
+      → IfSome answer (λ place. Contains entries (owner, place) × (from ≤ place)
+      × ((other : ℕ) → from ≤ other → other < place → Contains entries (owner, other) → ⊥))
       → IfSome answer (λ place. IsNext last owner from place)
   next-had bound owner from None found = tt
   next-had bound owner from (Some place) found = record {
@@ -71,7 +73,8 @@ module _ (last : List ℕ) (entries : List (ℕ × ℕ)) (lists : Lists last ent
     listed = λ place its read.
         elim (cases_eq place (length last)) [
           | inl same ↦
-              let one : its ≡ owner = same-owner its owner (sym read ∙ ap (λ k. slice_get (last ++ owner ∷ []) k) same ∙ push-there last owner) in
+              let one : its ≡ owner = same-owner its owner
+              (sym read ∙ ap (λ k. slice_get (last ++ owner ∷ []) k) same ∙ push-there last owner) in
               subst (λ (e : ℕ × ℕ). Contains came e) (sym (ap (λ o. (o, place)) one ∙ ap (λ p. (owner, p)) same)) with.here
           | inr other ↦ with.kept (its, place) (lists.listed place its (sym (push-elsewhere last place owner other) ∙ read))
         ];
@@ -81,14 +84,17 @@ module _ (last : List ℕ) (entries : List (ℕ × ℕ)) (lists : Lists last ent
               elim (cases_eq its owner) [
                 | inl one ↦ ap (λ k. slice_get (last ++ owner ∷ []) k) same ∙ push-there last owner ∙ ap Some (sym one)
                 | inr another ↦
-                    absurd (next-unlisted its (subst (λ p. Contains entries (its, p)) same (with.only (its, place) has (other-owner owner (length last) its place another))))
+                    absurd (next-unlisted its (subst (λ p. Contains entries (its, p)) same
+                    (with.only (its, place) has (other-owner owner (length last) its place another))))
               ]
-          | inr other ↦ push-elsewhere last place owner other ∙ lists.had place its (with.only (its, place) has (other-place owner (length last) its place other))
+          | inr other ↦ push-elsewhere last place owner other ∙ lists.had place its
+              (with.only (its, place) has (other-place owner (length last) its place other))
         ];
     as_many = with.more ∙ ap (λ n. n + 1) lists.as_many ∙ sym (length_push last owner);
   }
 
-  module _ (place before owner : ℕ) (was : slice_get last place ≡ Some before) (another : owner ≢ before) (gone : List (ℕ × ℕ)) (without : Without (before, place) entries gone) where
+  module _ (place before owner : ℕ) (was : slice_get last place ≡ Some before) (another : owner ≢ before) (gone : List (ℕ × ℕ))
+      (without : Without (before, place) entries gone) where
     -- a place whose owner left stands with nobody
     pub left-unlisted : Contains gone (owner, place) → ⊥
     left-unlisted has = another (same-owner owner before (sym (lists.had place owner (without.only (owner, place) has)) ∙ was))
@@ -102,11 +108,13 @@ module _ (last : List ℕ) (entries : List (ℕ × ℕ)) (lists : Lists last ent
           listed = λ at its read.
               elim (cases_eq at place) [
                 | inl same ↦
-                    let one : its ≡ owner = same-owner its owner (sym read ∙ ap (λ k. slice_get (set last place owner) k) same ∙ set-there last place owner within) in
+                    let one : its ≡ owner = same-owner its owner
+                    (sym read ∙ ap (λ k. slice_get (set last place owner) k) same ∙ set-there last place owner within) in
                     subst (λ (e : ℕ × ℕ). Contains came e) (sym (ap (λ o. (o, at)) one ∙ ap (λ p. (owner, p)) same)) with.here
                 | inr other ↦
                     with.kept (its, at)
-                    (without.kept (its, at) (lists.listed at its (sym (set-elsewhere last place at owner other) ∙ read)) (other-place before place its at other))
+                    (without.kept (its, at) (lists.listed at its (sym (set-elsewhere last place at owner other) ∙ read))
+                    (other-place before place its at other))
               ];
           had = λ at its has.
               elim (cases_eq at place) [

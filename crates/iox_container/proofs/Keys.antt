@@ -1,4 +1,5 @@
-use Rattle.std.proofs.Common.{ℕ, zero, suc, ◌≡◌, ◌⊎◌, inl, inr, ◌+◌, ◌<◌, ◌≤◌, List, [], ◌∷◌, ◌++◌, length, arith, refl, sym, ap, ◌∙◌, subst}
+use Rattle.std.proofs.Common.{ℕ, zero, suc, ◌≡◌, ◌⊎◌, inl, inr, ◌+◌, ◌<◌, ◌≤◌, List, [], ◌∷◌, ◌++◌, length, arith, refl, sym, ap, ◌∙◌}
+use Rattle.std.proofs.Common.{subst}
 use Rattle.std.proofs.lemmas.Bool.{cases_eq}
 use Rattle.std.proofs.lemmas.Bool.Decides.{nat_tests}
 use Rattle.std.specs.List.{range_with_len}
@@ -91,7 +92,8 @@ Among-in_range from (suc count) key above below =
 pub Distinct-range : (from count : ℕ) → Distinct (range_with_len from count)
 Distinct-range from zero = tt
 Distinct-range from (suc count) = (
-  λ there. let rest : (from + 1 ≤ from) × (from < from + 1 + count) = Among-range (from + 1) count from there in absurd (omega (arith, rest.0)),
+  λ there. let rest : (from + 1 ≤ from)
+      × (from < from + 1 + count) = Among-range (from + 1) count from there in absurd (omega (arith, rest.0)),
   Distinct-range (from + 1) count,
 )
 
@@ -136,5 +138,6 @@ without-append key [] ys absent = without_absent key ys absent
 without-append key (x ∷ xs) ys absent =
     elim (cases_eq key x) as (λ _. without key (x ∷ xs ++ ys) ≡ without key (x ∷ xs) ++ ys) [
       | inl e ↦ without_here key x (xs ++ ys) e ∙ without-append key xs ys absent ∙ ap (λ rest. rest ++ ys) (sym (without_here key x xs e))
-      | inr n ↦ without_there key x (xs ++ ys) n ∙ ap (λ rest. x ∷ rest) (without-append key xs ys absent) ∙ ap (λ rest. rest ++ ys) (sym (without_there key x xs n))
+      | inr n ↦ without_there key x (xs ++ ys) n ∙ ap (λ rest. x ∷ rest) (without-append key xs ys absent) ∙ ap (λ rest. rest ++ ys)
+          (sym (without_there key x xs n))
     ]

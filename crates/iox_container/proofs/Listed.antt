@@ -3,7 +3,8 @@ use Rattle.std.proofs.Common.{ℕ, ◌≡◌, ◌≢◌, ◌+◌, ◌-◌, ◌<�
 use Rattle.std.specs.List.{Contains, insert, remove}
 use Rattle.std.proofs.lemmas.Bool.{cases_lt}
 use Rattle.std.proofs.lemmas.List.{get_or_default}
-use Rattle.std.proofs.lemmas.List.Edits.{length-insert, get_or-insert_below, get_or-insert_at, get_or-insert_above, length-remove, get_or-remove_below, get_or-remove_above}
+use Rattle.std.proofs.lemmas.List.Edits.{length-insert, get_or-insert_below, get_or-insert_at, get_or-insert_above, length-remove}
+use Rattle.std.proofs.lemmas.List.Edits.{get_or-remove_below, get_or-remove_above}
 use Rattle.iox_container.specs.Owners.{IsBefore, IsBehind, Rises, StandsAt, With, Without}
 
 -- one doesn't come before itself
@@ -23,13 +24,15 @@ differs-back one other before same = differs one other before (sym same)
 before-all : (one middle other : ℕ × ℕ) → IsBefore one middle → IsBefore middle other → IsBefore one other
 before-all one middle other first second = record {
   owner = omega (arith, first.owner, second.owner);
-  place = λ not_higher. omega (arith, first.owner, second.owner, first.place (omega (arith, second.owner)), second.place (omega (arith, first.owner)));
+  place = λ not_higher. omega
+      (arith, first.owner, second.owner, first.place (omega (arith, second.owner)), second.place (omega (arith, first.owner)));
 }
 
 behind-all : (middle one other : ℕ × ℕ) → IsBehind middle other → IsBefore middle one → IsBehind one other
 behind-all middle one other first second = record {
   owner = omega (arith, first.owner, second.owner);
-  place = λ not_higher. omega (arith, first.owner, second.owner, first.place (omega (arith, second.owner)), second.place (omega (arith, first.owner)));
+  place = λ not_higher. omega
+      (arith, first.owner, second.owner, first.place (omega (arith, second.owner)), second.place (omega (arith, first.owner)));
 }
 
 -- what stands before one in the middle is passed with it, and what stands behind stays behind
@@ -37,21 +40,25 @@ module _ (entries : List (ℕ × ℕ)) (entry : ℕ × ℕ) (middle : ℕ) (any 
   there : (default : ℕ × ℕ) → get_or entries middle default ≡ get_or entries middle any
   there default = get_or_default entries middle default any more
 
-  pub lower-half : IsBefore (get_or entries middle any) entry → (k : ℕ) (default : ℕ × ℕ) → k < middle + 1 → IsBefore (get_or entries k default) entry
+  pub lower-half : IsBefore (get_or entries middle any) entry → (k : ℕ) (default : ℕ × ℕ) → k < middle + 1
+      → IsBefore (get_or entries k default) entry
   lower-half before k default less =
       elim (cases_lt k middle) [
         | inl lower ↦
-            before-all (get_or entries k default) (get_or entries middle any) entry (subst (λ e. IsBefore (get_or entries k default) e) (there default) (rises.before k middle default lower more)) before
+            before-all (get_or entries k default) (get_or entries middle any) entry
+            (subst (λ e. IsBefore (get_or entries k default) e) (there default) (rises.before k middle default lower more)) before
         | inr not_lower ↦
             let same : k ≡ middle = omega arith in
             subst (λ e. IsBefore e entry) (sym (ap (λ n. get_or entries n default) same ∙ there default)) before
       ]
 
-  pub upper-half : IsBehind (get_or entries middle any) entry → (k : ℕ) (default : ℕ × ℕ) → middle ≤ k → k < length entries → IsBehind (get_or entries k default) entry
+  pub upper-half : IsBehind (get_or entries middle any) entry → (k : ℕ) (default : ℕ × ℕ) → middle ≤ k → k < length entries
+      → IsBehind (get_or entries k default) entry
   upper-half behind k default least within =
       elim (cases_lt middle k) [
         | inl higher ↦
-            behind-all (get_or entries middle any) (get_or entries k default) entry behind (subst (λ e. IsBefore e (get_or entries k default)) (there default) (rises.before middle k default higher within))
+            behind-all (get_or entries middle any) (get_or entries k default) entry behind
+            (subst (λ e. IsBefore e (get_or entries k default)) (there default) (rises.before middle k default higher within))
         | inr not_higher ↦
             let same : k ≡ middle = omega arith in
             subst (λ e. IsBehind e entry) (sym (ap (λ n. get_or entries n default) same ∙ there default)) behind
@@ -59,7 +66,8 @@ module _ (entries : List (ℕ × ℕ)) (entry : ℕ × ℕ) (middle : ℕ) (any 
 
 -- it stands where what is one below comes before it, and what is there doesn't
 pub stands-between : (entries : List (ℕ × ℕ)) (entry : ℕ × ℕ) (at : ℕ) (any : ℕ × ℕ) → Rises entries → at ≤ length entries
-    → (0 < at → IsBefore (get_or entries (at - 1) any) entry) → (at < length entries → IsBehind (get_or entries at any) entry) → StandsAt entries entry at
+    → (0 < at → IsBefore (get_or entries (at - 1) any) entry) → (at < length entries → IsBehind (get_or entries at any) entry)
+    → StandsAt entries entry at
 stands-between entries entry at any rises within below there = record {
   within = within;
   before = λ k default less. lower-half entries entry (at - 1) any rises (omega arith) (below (omega arith)) k default (omega arith);
@@ -73,7 +81,9 @@ stands-there entries entry at rises stands there =
     elim (cases_lt there.0 at) [
       | inl before ↦ absurd (not_itself entry (subst (λ e. IsBefore e entry) there.2 (stands.before there.0 entry before)))
       | inr behind ↦ elim (cases_lt at there.0) [
-        | inl later ↦ absurd (apart (get_or entries at entry) entry (subst (λ e. IsBefore (get_or entries at entry) e) there.2 (rises.before at there.0 entry later there.1)) (stands.behind at entry (omega arith) (omega (arith, there.1))))
+        | inl later ↦ absurd (apart (get_or entries at entry) entry
+            (subst (λ e. IsBefore (get_or entries at entry) e) there.2 (rises.before at there.0 entry later there.1))
+            (stands.behind at entry (omega arith) (omega (arith, there.1))))
         | inr not_later ↦
             let same : there.0 ≡ at = omega arith in
             (omega (arith, there.1), ap (λ k. get_or entries k entry) (sym same) ∙ there.2)
@@ -115,11 +125,16 @@ module _ (entries : List (ℕ × ℕ)) (entry : ℕ × ℕ) (at : ℕ) (rises : 
                 | inl below ↦ (has.0, omega (arith, long), get_or-remove_below entries at other has.0 below more ∙ has.2)
                 | inr above ↦ elim (cases_lt at has.0) [
                   | inl later ↦
-                      let next : has.0 - 1 + 1 ≡ has.0 = omega arith in
-                      (has.0 - 1, omega (arith, long, has.1), get_or-remove_above entries at other (has.0 - 1) (omega arith) more ∙ ap (λ k. get_or entries k other) next ∙ has.2)
+                      let next : has.0 - 1 + 1 ≡ has.0 = omega arith in (
+                        has.0 - 1,
+                        omega (arith, long, has.1),
+                        get_or-remove_above entries at other (has.0 - 1) (omega arith) more ∙ ap
+                            (λ k. get_or entries k other) next ∙ has.2,
+                      )
                   | inr not_later ↦
                       let same : has.0 ≡ at = omega arith in
-                      absurd (other_one (sym has.2 ∙ ap (λ k. get_or entries k other) same ∙ get_or_default entries at other entry more ∙ found.1))
+                      absurd (other_one (sym has.2 ∙ ap (λ k. get_or entries k other) same ∙ get_or_default entries at other entry more
+                      ∙ found.1))
                 ]
               ];
           only = λ other has.
@@ -133,10 +148,12 @@ module _ (entries : List (ℕ × ℕ)) (entry : ℕ × ℕ) (at : ℕ) (rises : 
                     let read : get_or entries has.0 other ≡ other = sym (get_or-remove_below entries at other has.0 below more) ∙ has.2 in
                     differs-back other entry (subst (λ e. IsBefore e entry) read (stands.before has.0 other below))
                 | inr above ↦
-                    let read : get_or entries (has.0 + 1) other ≡ other = sym (get_or-remove_above entries at other has.0 above more) ∙ has.2 in
+                    let read : get_or entries (has.0 + 1) other ≡ other
+                    = sym (get_or-remove_above entries at other has.0 above more) ∙ has.2 in
                     let here : get_or entries at other ≡ entry = get_or_default entries at other entry more ∙ found.1 in
                     let before : IsBefore entry (get_or entries (has.0 + 1) other) =
-                    subst (λ e. IsBefore e (get_or entries (has.0 + 1) other)) here (rises.before at (has.0 + 1) other (omega arith) (omega (arith, long, has.1))) in
+                    subst (λ e. IsBefore e (get_or entries (has.0 + 1) other)) here
+                    (rises.before at (has.0 + 1) other (omega arith) (omega (arith, long, has.1))) in
                     differs entry other (subst (λ e. IsBefore entry e) read before)
               ];
           fewer = long;
@@ -144,10 +161,12 @@ module _ (entries : List (ℕ × ℕ)) (entry : ℕ × ℕ) (at : ℕ) (rises : 
       )
 
   -- what stands behind one that isn't among them comes after it
-  after_it : (Contains entries entry → ⊥) → (k : ℕ) (default : ℕ × ℕ) → at ≤ k → k < length entries → IsBefore entry (get_or entries k default)
+  after_it : (Contains entries entry → ⊥) → (k : ℕ) (default : ℕ × ℕ) → at ≤ k → k < length entries
+      → IsBefore entry (get_or entries k default)
   after_it new k default behind within =
       let later = stands.behind k default behind within in
-      let other : ((get_or entries k default) ≡ entry) → ⊥ = λ same. new (k, within, get_or_default entries k entry default within ∙ same) in
+      let other : ((get_or entries k default) ≡ entry)
+      → ⊥ = λ same. new (k, within, get_or_default entries k entry default within ∙ same) in
       record {
         owner = later.owner;
         place = λ not_higher.
@@ -166,13 +185,18 @@ module _ (entries : List (ℕ × ℕ)) (entry : ℕ × ℕ) (at : ℕ) (rises : 
         let long = length-insert entries at entry stands.within in
         elim (cases_lt j at) [
           | inl j_below ↦
-              rw (get_or-insert_below entries at entry default i (omega arith) stands.within, get_or-insert_below entries at entry default j j_below stands.within)
+              rw (
+                get_or-insert_below entries at entry default i (omega arith) stands.within,
+                get_or-insert_below entries at entry default
+                    j j_below stands.within,
+              )
               (rises.before i j default less (omega (arith, stands.within)))
           | inr j_not_below ↦ elim (cases_lt at j) [
             | inl j_above ↦
                 let back : j - 1 + 1 ≡ j = omega arith in
                 let read : get_or (insert entries at entry) j default ≡ get_or entries (j - 1) default =
-                ap (λ k. get_or (insert entries at entry) k default) (sym back) ∙ get_or-insert_above entries at entry default (j - 1) (omega arith) stands.within in
+                ap (λ k. get_or (insert entries at entry) k default) (sym back) ∙ get_or-insert_above entries at entry default (j - 1)
+                (omega arith) stands.within in
                 elim (cases_lt i at) [
                   | inl i_below ↦
                       rw (get_or-insert_below entries at entry default i i_below stands.within, read)
@@ -181,16 +205,23 @@ module _ (entries : List (ℕ × ℕ)) (entry : ℕ × ℕ) (at : ℕ) (rises : 
                     | inl i_above ↦
                         let back_too : i - 1 + 1 ≡ i = omega arith in
                         let read_too : get_or (insert entries at entry) i default ≡ get_or entries (i - 1) default =
-                        ap (λ k. get_or (insert entries at entry) k default) (sym back_too) ∙ get_or-insert_above entries at entry default (i - 1) (omega arith) stands.within in
+                        ap (λ k. get_or (insert entries at entry) k default) (sym back_too) ∙ get_or-insert_above entries at entry
+                        default (i - 1) (omega arith) stands.within in
                         rw (read_too, read) (rises.before (i - 1) (j - 1) default (omega arith) (omega (arith, long)))
                     | inr i_not_above ↦
                         let same : i ≡ at = omega arith in
-                        rw (same, get_or-insert_at entries at entry default stands.within, read) (after_it new (j - 1) default (omega arith) (omega (arith, long)))
+                        rw (same, get_or-insert_at entries at entry default stands.within, read)
+                        (after_it new (j - 1) default (omega arith) (omega (arith, long)))
                   ]
                 ]
             | inr j_not_above ↦
                 let same : j ≡ at = omega arith in
-                rw (same, get_or-insert_at entries at entry default stands.within, get_or-insert_below entries at entry default i (omega arith) stands.within)
+                rw (
+                  same,
+                  get_or-insert_at entries at entry default stands.within,
+                  get_or-insert_below entries at entry default i
+                      (omega arith) stands.within,
+                )
                 (stands.before i default (omega arith))
           ]
         ];
@@ -205,19 +236,40 @@ module _ (entries : List (ℕ × ℕ)) (entry : ℕ × ℕ) (at : ℕ) (rises : 
         here = (at, omega (arith, long, stands.within), get_or-insert_at entries at entry entry stands.within);
         kept = λ other has.
             elim (cases_lt has.0 at) [
-              | inl below ↦ (has.0, omega (arith, long, has.1), get_or-insert_below entries at entry other has.0 below stands.within ∙ has.2)
-              | inr above ↦ (has.0 + 1, omega (arith, long, has.1), get_or-insert_above entries at entry other has.0 above stands.within ∙ has.2)
+              | inl below ↦ (
+                has.0,
+                omega (arith, long, has.1),
+                get_or-insert_below entries at entry other has.0 below stands.within ∙
+                    has.2,
+              )
+              | inr above ↦ (
+                has.0 + 1,
+                omega (arith, long, has.1),
+                get_or-insert_above entries at entry other has.0 above stands.within ∙
+                    has.2,
+              )
             ];
         only = λ other has other_one.
             elim (cases_lt has.0 at) [
-              | inl below ↦ (has.0, omega (arith, stands.within), sym (get_or-insert_below entries at entry other has.0 below stands.within) ∙ has.2)
+              | inl below ↦ (
+                has.0,
+                omega (arith, stands.within),
+                sym
+                    (get_or-insert_below entries at entry other has.0 below stands.within) ∙ has.2,
+              )
               | inr not_below ↦ elim (cases_lt at has.0) [
                 | inl above ↦
-                    let back : has.0 - 1 + 1 ≡ has.0 = omega arith in
-                    (has.0 - 1, omega (arith, long, has.1), sym (get_or-insert_above entries at entry other (has.0 - 1) (omega arith) stands.within) ∙ ap (λ k. get_or (insert entries at entry) k other) back ∙ has.2)
+                    let back : has.0 - 1 + 1 ≡ has.0 = omega arith in (
+                      has.0 - 1,
+                      omega (arith, long, has.1),
+                      sym
+                          (get_or-insert_above entries at entry other (has.0 - 1) (omega arith) stands.within) ∙ ap
+                          (λ k. get_or (insert entries at entry) k other) back ∙ has.2,
+                    )
                 | inr not_above ↦
                     let same : has.0 ≡ at = omega arith in
-                    absurd (other_one (sym has.2 ∙ ap (λ k. get_or (insert entries at entry) k other) same ∙ get_or-insert_at entries at entry other stands.within))
+                    absurd (other_one (sym has.2 ∙ ap (λ k. get_or (insert entries at entry) k other) same ∙ get_or-insert_at entries at
+                    entry other stands.within))
               ]
             ];
         more = long;
@@ -230,19 +282,22 @@ module _ (entries : List (ℕ × ℕ)) (owner from at : ℕ) (rises : Rises entr
   from-there place least has =
       elim (cases_lt has.0 at) [
         | inl below ↦
-            let before : IsBefore (owner, place) (owner, from) = subst (λ e. IsBefore e (owner, from)) has.2 (stands.before has.0 (owner, place) below) in
+            let before : IsBefore (owner, place) (owner, from)
+            = subst (λ e. IsBefore e (owner, from)) has.2 (stands.before has.0 (owner, place) below) in
             absurd (omega (arith, before.place (omega arith)))
         | inr not_below ↦ not_below
       ]
 
   module _ (found : ℕ × ℕ) (more : at < length entries) (read : get_or entries at found ≡ found) where
     -- none of the owner's comes before what was found
-    not-before : (place : ℕ) → from ≤ place → (has : Contains entries (owner, place)) → (at < has.0 → IsBefore found (owner, place)) × (has.0 ≡ at → found ≡ (owner, place))
+    not-before : (place : ℕ) → from ≤ place → (has : Contains entries (owner, place)) → (at < has.0 → IsBefore found (owner, place))
+        × (has.0 ≡ at → found ≡ (owner, place))
     not-before place least has = (
       λ later.
           let before = rises.before at has.0 (owner, place) later has.1 in
           subst (λ e. IsBefore found e) has.2
-          (subst (λ e. IsBefore e (get_or entries has.0 (owner, place))) (get_or_default entries at (owner, place) found more ∙ read) before),
+          (subst (λ e. IsBefore e (get_or entries has.0 (owner, place))) (get_or_default entries at (owner, place) found more ∙ read)
+          before),
       λ same.
           sym read ∙ get_or_default entries at found (owner, place) more ∙ ap (λ k. get_or entries k (owner, place)) (sym same) ∙ has.2,
     )
@@ -252,16 +307,19 @@ module _ (entries : List (ℕ × ℕ)) (owner from at : ℕ) (rises : Rises entr
     none-found other place least has =
         let at_least = from-there place least has in
         let facts = not-before place least has in
-        let behind : IsBehind found (owner, from) = subst (λ e. IsBehind e (owner, from)) read (stands.behind at found (omega arith) more) in
+        let behind : IsBehind found (owner, from)
+        = subst (λ e. IsBehind e (owner, from)) read (stands.behind at found (omega arith) more) in
         elim (cases_lt at has.0) [
           | inl later ↦ let before = facts.0 later in other (omega (arith, before.owner, behind.owner))
           | inr not_later ↦ let same : has.0 ≡ at = omega arith in other (ap (λ e. e.0) (facts.1 same))
         ]
 
     -- one of the owner's was found
-    pub found-first : found.0 ≡ owner → Contains entries (owner, found.1) × (from ≤ found.1) × ((other : ℕ) → from ≤ other → other < found.1 → Contains entries (owner, other) → ⊥)
+    pub found-first : found.0 ≡ owner → Contains entries (owner, found.1) × (from ≤ found.1)
+        × ((other : ℕ) → from ≤ other → other < found.1 → Contains entries (owner, other) → ⊥)
     found-first own =
-        let behind : IsBehind found (owner, from) = subst (λ e. IsBehind e (owner, from)) read (stands.behind at found (omega arith) more) in
+        let behind : IsBehind found (owner, from)
+        = subst (λ e. IsBehind e (owner, from)) read (stands.behind at found (omega arith) more) in
         let same : found ≡ (owner, found.1) = ap (λ o. (o, found.1)) own in (
           (at, more, get_or_default entries at (owner, found.1) found more ∙ read ∙ same),
           behind.place (omega arith),

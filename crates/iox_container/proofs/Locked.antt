@@ -1,5 +1,6 @@
 -- What is locked has nothing that is held, also after cells were emptied.
-use Rattle.std.proofs.Common.{ℕ, zero, suc, ◌≡◌, ◌+◌, ◌<◌, ◌≤◌, ◌∷◌, [], List, length, get_or, Bool, true, false, not, cond, Option, None, Some, is_some, arith, refl, sym, ◌∙◌}
+use Rattle.std.proofs.Common.{ℕ, zero, suc, ◌≡◌, ◌+◌, ◌<◌, ◌≤◌, ◌∷◌, [], List, length, get_or, Bool, true, false, not, cond, Option, None}
+use Rattle.std.proofs.Common.{Some, is_some, arith, refl, sym, ◌∙◌}
 use Rattle.std.proofs.Math.ListN.{set}
 use Rattle.std.proofs.lemmas.Bool.{false≢true}
 use Rattle.std.specs.List.{count_by}
@@ -10,7 +11,8 @@ use Rattle.iox_container.specs.Release.{IsUnheldIfLocked}
 use Rattle.iox_container.specs.Recovery.{without_each}
 
 -- a cell more, and what it adds to the full ones
-pub count-cons : {C : Type 0} (cell : Option C) (cells : List (Option C)) → count_by is_some (cell ∷ cells) ≡ cond (is_some cell) 1 0 + count_by is_some cells
+pub count-cons : {C : Type 0} (cell : Option C) (cells : List (Option C))
+    → count_by is_some (cell ∷ cells) ≡ cond (is_some cell) 1 0 + count_by is_some cells
 count-cons cell cells = sum_by-cons (λ c. cond (is_some c) 1 0) cell cells
 
 -- no more cells are full once one was emptied
@@ -21,7 +23,8 @@ count-emptied (cell ∷ cells) (suc index) =
     omega (arith, count-cons cell cells, count-cons cell (set cells index None), count-emptied cells index)
 
 -- one more, where it was empty
-count-filled : {C : Type 0} (cells : List (Option C)) (index : ℕ) (content : C) → index < length cells → is_some (get_or cells index None) ≡ false
+count-filled : {C : Type 0} (cells : List (Option C)) (index : ℕ) (content : C) → index < length cells
+    → is_some (get_or cells index None) ≡ false
     → count_by is_some (set cells index (Some content)) ≡ count_by is_some cells + 1
 count-filled [] index content within empty = absurd (omega arith)
 count-filled (None ∷ cells) zero content within empty =
@@ -30,7 +33,13 @@ count-filled (None ∷ cells) zero content within empty =
     after ∙ (omega (arith, before))
 count-filled (Some one ∷ cells) zero content within empty = absurd (false≢true (sym empty))
 count-filled (first ∷ cells) (suc index) content within empty =
-    omega (arith, count-cons first cells, count-cons first (set cells index (Some content)), count-filled cells index content (omega arith) empty)
+    omega (
+      arith,
+      count-cons first cells,
+      count-cons first (set cells index (Some content)),
+      count-filled cells index content
+          (omega arith) empty,
+    )
 
 negated : (b : Bool) → not b ≡ true → b ≡ false
 negated true is = sym is
@@ -44,9 +53,11 @@ count-lowest cells index content lowest =
 
 module _ {C X : Type 0} (asked : ℕ → Option C → Option X) (index_of : X → ℕ) where
   -- nor once several were
-  count-emptied_each : (told : List X) (cells : List (Option C)) → count_by is_some (without_each asked index_of None told cells) ≤ count_by is_some cells
+  count-emptied_each : (told : List X) (cells : List (Option C))
+      → count_by is_some (without_each asked index_of None told cells) ≤ count_by is_some cells
   count-emptied_each [] cells = omega arith
-  count-emptied_each (x ∷ told) cells = omega (arith, count-emptied_each told (set cells (index_of x) None), count-emptied cells (index_of x))
+  count-emptied_each (x ∷ told) cells
+      = omega (arith, count-emptied_each told (set cells (index_of x) None), count-emptied cells (index_of x))
 
   -- so what was locked keeps none
   pub unheld-emptied : (told : List X) (old new : List (Option C)) (locked : Bool) → new ≡ without_each asked index_of None told old

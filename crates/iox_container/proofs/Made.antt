@@ -18,12 +18,14 @@ all_keys-next of more =
 
 pub length-all_keys : (of : KeysInOrder) → length (all_keys of) ≡ length of.keys + (of.room - of.made)
 length-all_keys of =
-    length-append of.keys (range_with_len of.made (of.room - of.made)) ∙ ap (λ n. length of.keys + n) (length-range_with_len of.made (of.room - of.made))
+    length-append of.keys (range_with_len of.made (of.room - of.made)) ∙ ap (λ n. length of.keys + n)
+    (length-range_with_len of.made (of.room - of.made))
 
 -- a key that was made is none of those behind
 pub made-not_behind : (of : KeysInOrder) (key : ℕ) → key < of.made → Among key (range_with_len of.made (of.room - of.made)) → ⊥
 made-not_behind of key low there =
-    let within : (of.made ≤ key) × (key < of.made + (of.room - of.made)) = Among-range of.made (of.room - of.made) key there in absurd (omega (arith, within.0))
+    let within : (of.made ≤ key) × (key < of.made + (of.room - of.made))
+    = Among-range of.made (of.room - of.made) key there in absurd (omega (arith, within.0))
 
 -- of all keys, one that was made is linked
 pub made-linked : (of : KeysInOrder) (key : ℕ) → key < of.made → Among key (all_keys of) → Among key of.keys
@@ -45,5 +47,6 @@ pub used-not_linked : (of : KeysInOrder) (key : ℕ) → (Among key (all_keys of
 used-not_linked of key absent there = absent (Among-left key of.keys _ there)
 
 -- all keys without one that was made
-pub all_keys-without : (of : KeysInOrder) (key : ℕ) → key < of.made → all_keys (record of { keys = without key of.keys }) ≡ without key (all_keys of)
+pub all_keys-without : (of : KeysInOrder) (key : ℕ) → key < of.made
+    → all_keys (record of { keys = without key of.keys }) ≡ without key (all_keys of)
 all_keys-without of key low = sym (without-append key of.keys _ (made-not_behind of key low))

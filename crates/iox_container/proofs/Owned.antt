@@ -1,5 +1,6 @@
 -- What is asked about, where only what one owner has is, and who had each place last is known.
-use Rattle.std.proofs.Common.{ℕ, zero, suc, ◌≡◌, ◌≢◌, ◌+◌, ◌-◌, ◌<◌, ◌≤◌, [], List, length, drop, get_or, Option, None, Some, is_some, not, false, arith, refl, sym, ap, ◌∙◌, inl, inr}
+use Rattle.std.proofs.Common.{ℕ, zero, suc, ◌≡◌, ◌≢◌, ◌+◌, ◌-◌, ◌<◌, ◌≤◌, [], List, length, drop, get_or, Option, None, Some, is_some}
+use Rattle.std.proofs.Common.{not, false, arith, refl, sym, ap, ◌∙◌, inl, inr}
 use Rattle.std.proofs.Math.ListN.{set}
 use Rattle.std.specs.List.{slice_get, cons_option}
 use Rattle.std.proofs.lemmas.Bool.{cases_lt, cases_eq}
@@ -19,14 +20,18 @@ filled-content (Some content) empty = (content, refl)
 
 module _ {C : Type 0} (owner_of : C → ℕ) where
   -- nobody has an emptied place
-  pub owned-emptied : (places : List (Option C)) (owners : OwnersState) (index : ℕ) → AreOwned owner_of places owners → AreOwned owner_of (set places index None) owners
+  pub owned-emptied : (places : List (Option C)) (owners : OwnersState) (index : ℕ) → AreOwned owner_of places owners
+      → AreOwned owner_of (set places index None) owners
   owned-emptied places owners index are = record {
     owned = λ place content read.
         elim (cases_eq place index) [
           | inl same ↦
               elim (cases_lt index (length places)) [
-                | inl within ↦ absurd (none-some content (sym (get_or-set_same places index None None within) ∙ ap (λ k. get_or (set places index None) k None) (sym same) ∙ read))
-                | inr past ↦ absurd (none-some content (sym (get_or_past (set places index None) place None (omega (arith, length-set places index None))) ∙ read))
+                | inl within ↦ absurd (none-some content
+                    (sym (get_or-set_same places index None None within) ∙ ap (λ k. get_or (set places index None) k None) (sym same) ∙
+                    read))
+                | inr past ↦ absurd (none-some content
+                    (sym (get_or_past (set places index None) place None (omega (arith, length-set places index None))) ∙ read))
               ]
           | inr other ↦ are.owned place content (sym (get_or-set_other places index place None None other) ∙ read)
         ];
@@ -34,7 +39,8 @@ module _ {C : Type 0} (owner_of : C → ℕ) where
   }
 
   -- the lowest empty place is one that was had, or the next
-  pub lowest-next_had : (places : List (Option C)) (owners : OwnersState) (index : ℕ) → AreOwned owner_of places owners → lowest_empty places ≡ Some index
+  pub lowest-next_had : (places : List (Option C)) (owners : OwnersState) (index : ℕ) → AreOwned owner_of places owners
+      → lowest_empty places ≡ Some index
       → (index < owners.room) × (index ≤ length owners.last)
   lowest-next_had places owners index are lowest =
       let found = position-Some (λ place. not (is_some place)) places index None lowest in (
@@ -70,16 +76,19 @@ module _ {C : Type 0} (owner_of : C → ℕ) where
           ]
 
       -- and so are several
-      passed-by : (n at : ℕ) → ((other : ℕ) → at ≤ other → other < at + n → slice_get owners.last other ≢ Some owner) → rest_from asked places at ≡ rest_from asked places (at + n)
+      passed-by : (n at : ℕ) → ((other : ℕ) → at ≤ other → other < at + n → slice_get owners.last other ≢ Some owner)
+          → rest_from asked places at ≡ rest_from asked places (at + n)
       passed-by zero at not_had = ap (λ k. rest_from asked places k) (omega arith)
       passed-by (suc n) at not_had =
           passed-one at (not_had at (omega arith) (omega arith))
           ∙ passed-by n (at + 1) (λ other least less. not_had other (omega arith) (omega arith))
           ∙ ap (λ k. rest_from asked places k) (omega arith)
 
-      pub passed : (at place : ℕ) → at ≤ place → ((other : ℕ) → at ≤ other → other < place → slice_get owners.last other ≢ Some owner) → rest_from asked places at ≡ rest_from asked places place
+      pub passed : (at place : ℕ) → at ≤ place → ((other : ℕ) → at ≤ other → other < place → slice_get owners.last other ≢ Some owner)
+          → rest_from asked places at ≡ rest_from asked places place
       passed at place least not_had =
-          passed-by (place - at) at (λ other least less. not_had other least (omega arith)) ∙ ap (λ k. rest_from asked places k) (omega arith)
+          passed-by (place - at) at (λ other least less. not_had other least (omega arith)) ∙ ap (λ k. rest_from asked places k)
+          (omega arith)
 
       -- where the owner had none of the others last, nothing is asked about
       pub none-left : (at : ℕ) → ((other : ℕ) → at ≤ other → slice_get owners.last other ≢ Some owner) → rest_from asked places at ≡ []
@@ -88,7 +97,8 @@ module _ {C : Type 0} (owner_of : C → ℕ) where
           ∙ ap (λ cells. asked_from asked (at + length places) cells) (drop_all (at + length places) places (omega arith))
 
       -- the place that comes next is asked about
-      pub told-next : (from at place : ℕ) (x : X) → from ≤ at → rest_from asked places from ≡ rest_from asked places at → IsNext owners.last owner at place
+      pub told-next : (from at place : ℕ) (x : X) → from ≤ at → rest_from asked places from ≡ rest_from asked places at
+          → IsNext owners.last owner at place
           → asked place (get_or places place None) ≡ Some x → IsToldNext asked places from place x
       told-next from at place x least so_far next is =
           elim (cases_lt place (length places)) [

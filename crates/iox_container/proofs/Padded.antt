@@ -1,5 +1,6 @@
 -- Places with empty ones behind them: what a change of the cells in front comes to, and which is the lowest empty one.
-use Rattle.std.proofs.Common.{ℕ, zero, suc, ◌≡◌, ◌+◌, ◌-◌, ◌<◌, ◌≤◌, ◌∷◌, ◌++◌, [], List, Bool, true, false, not, cond, length, replicate, Option, None, Some, is_some, arith, refl, sym, ap, ◌∙◌, nat_lt}
+use Rattle.std.proofs.Common.{ℕ, zero, suc, ◌≡◌, ◌+◌, ◌-◌, ◌<◌, ◌≤◌, ◌∷◌, ◌++◌, [], List, Bool, true, false, not, cond, length, replicate}
+use Rattle.std.proofs.Common.{Option, None, Some, is_some, arith, refl, sym, ap, ◌∙◌, nat_lt}
 use Rattle.std.proofs.Math.ListN.{set}
 use Rattle.std.specs.List.{prefix_len, cons_option}
 use Rattle.std.proofs.lemmas.List.{length-append, length-replicate, length-set, set-append_left}
@@ -38,20 +39,27 @@ module _ {C : Type 0} where
   -- there are as many places as were asked for
   length-padded : (count : ℕ) (cells : List (Option C)) → length cells ≤ count → length (padded count cells) ≡ count
   length-padded count cells fits =
-      omega (arith, length-append cells (replicate (count - length cells) None), length-replicate {A = Option C} (count - length cells) None)
+      omega (
+        arith,
+        length-append cells (replicate (count - length cells) None),
+        length-replicate {A = Option C} (count - length cells)
+            None,
+      )
 
   none-emptied : (n index : ℕ) → set {A = Option C} (replicate n None) index None ≡ replicate n None
   none-emptied zero index = refl
   none-emptied (suc n) zero = refl
   none-emptied (suc n) (suc index) = ap (λ (cells : List (Option C)). None ∷ cells) (none-emptied n index)
 
-  emptied-append : (cells : List (Option C)) (n index : ℕ) → set (cells ++ replicate n None) index None ≡ set cells index None ++ replicate n None
+  emptied-append : (cells : List (Option C)) (n index : ℕ)
+      → set (cells ++ replicate n None) index None ≡ set cells index None ++ replicate n None
   emptied-append [] n index = none-emptied n index
   emptied-append (cell ∷ cells) n zero = refl
   emptied-append (cell ∷ cells) n (suc index) = ap (λ (rest : List (Option C)). cell ∷ rest) (emptied-append cells n index)
 
   -- a place is emptied
-  pub emptied-padded : (count : ℕ) (cells : List (Option C)) (index : ℕ) → set (padded count cells) index None ≡ padded count (set cells index None)
+  pub emptied-padded : (count : ℕ) (cells : List (Option C)) (index : ℕ)
+      → set (padded count cells) index None ≡ padded count (set cells index None)
   emptied-padded count cells index =
       emptied-append cells (count - length cells) index
       ∙ ap (λ (n : ℕ). set cells index None ++ replicate (count - n) None) (sym (length-set cells index None))
@@ -87,7 +95,8 @@ module _ {C : Type 0} where
   abbrev first : List (Option C) → ℕ
   first cells = prefix_len (λ place. not (not (is_some place))) cells
 
-  lowest-padded : (count : ℕ) (cells : List (Option C)) → length cells ≤ count → lowest_empty (padded count cells) ≡ found (first cells) count
+  lowest-padded : (count : ℕ) (cells : List (Option C)) → length cells ≤ count
+      → lowest_empty (padded count cells) ≡ found (first cells) count
   lowest-padded count cells fits =
       ap (λ (n : ℕ). found n (length (padded count cells))) (first-append cells (count - length cells))
       ∙ ap (λ (n : ℕ). found (first cells) n) (length-padded count cells fits)
@@ -96,8 +105,11 @@ module _ {C : Type 0} where
   pub lowest-within : (count : ℕ) (cells : List (Option C)) (index : ℕ) → length cells ≤ count → lowest_empty cells ≡ Some index
       → (index < length cells) × (lowest_empty (padded count cells) ≡ Some index)
   lowest-within count cells index fits is =
-      let parts = found-some (first cells) (length cells) index is in
-      (omega (arith, parts.0, parts.1), lowest-padded count cells fits ∙ found-below (first cells) count index parts.1 (omega (arith, parts.0, parts.1)))
+      let parts = found-some (first cells) (length cells) index is in (
+        omega (arith, parts.0, parts.1),
+        lowest-padded count cells fits ∙ found-below (first cells) count index parts.1
+            (omega (arith, parts.0, parts.1)),
+      )
 
   -- else it is the first that has none
   pub lowest-next : (count : ℕ) (cells : List (Option C)) → lowest_empty cells ≡ None → length cells < count
@@ -114,7 +126,8 @@ module _ {C X : Type 0} (asked : ℕ → Option C → Option X) (silent : (index
   none-asked from (suc n) =
       ap (λ (x : Option X). cons_option x (asked_from asked (from + 1) (replicate n None))) (silent from) ∙ none-asked (from + 1) n
 
-  asked-append : (from : ℕ) (cells : List (Option C)) (n : ℕ) → asked_from asked from (cells ++ replicate n None) ≡ asked_from asked from cells
+  asked-append : (from : ℕ) (cells : List (Option C)) (n : ℕ)
+      → asked_from asked from (cells ++ replicate n None) ≡ asked_from asked from cells
   asked-append from [] n = none-asked from n
   asked-append from (cell ∷ cells) n = ap (λ (xs : List X). cons_option (asked from cell) xs) (asked-append (from + 1) cells n)
 

@@ -1,8 +1,10 @@
 -- Places with empty ones behind them: what a change of the cells in front comes to, and what is found.
-use Rattle.std.proofs.Common.{ℕ, zero, suc, ◌≡◌, inl, inr, ◌+◌, ◌-◌, ◌<◌, ◌≤◌, ◌∷◌, ◌++◌, [], List, length, replicate, Option, None, Some, IsSome, arith, refl, sym, ap, ◌∙◌}
+use Rattle.std.proofs.Common.{ℕ, zero, suc, ◌≡◌, inl, inr, ◌+◌, ◌-◌, ◌<◌, ◌≤◌, ◌∷◌, ◌++◌, [], List, length, replicate, Option, None, Some}
+use Rattle.std.proofs.Common.{IsSome, arith, refl, sym, ap, ◌∙◌}
 use Rattle.std.proofs.Math.ListN.{set}
 use Rattle.std.proofs.lemmas.Bool.{cases_lt}
-use Rattle.std.proofs.lemmas.List.{append_assoc, length-append, length-replicate, length-set, set-append_left, replicate-append-replicate, get_or_past}
+use Rattle.std.proofs.lemmas.List.{append_assoc, length-append, length-replicate, length-set, set-append_left, replicate-append-replicate}
+use Rattle.std.proofs.lemmas.List.{get_or_past}
 use Rattle.iox_container.specs.Places.{padded}
 use Rattle.iox_container.specs.PairTable.{pairs}
 use Rattle.iox_container.specs.SlotTable.{held_from, value_at}
@@ -12,13 +14,20 @@ module _ {T : Type 0} where
   -- there are as many places as were asked for
   pub length-padded : (count : ℕ) (cells : List (Option T)) → length cells ≤ count → length (padded count cells) ≡ count
   length-padded count cells fits =
-      omega (arith, length-append cells (replicate (count - length cells) None), length-replicate {A = Option T} (count - length cells) None)
+      omega (
+        arith,
+        length-append cells (replicate (count - length cells) None),
+        length-replicate {A = Option T} (count - length cells)
+            None,
+      )
 
   -- further empty cells change nothing
-  pub padded-more : (count more : ℕ) (cells : List (Option T)) → length cells + more ≤ count → padded count (cells ++ replicate more None) ≡ padded count cells
+  pub padded-more : (count more : ℕ) (cells : List (Option T)) → length cells + more ≤ count
+      → padded count (cells ++ replicate more None) ≡ padded count cells
   padded-more count more cells fits =
       let left = count - length (cells ++ replicate more None) in
-      let whole : more + left ≡ count - length cells = omega (arith, length-append cells (replicate more None), length-replicate {A = Option T} more None) in
+      let whole : more + left ≡ count - length cells
+      = omega (arith, length-append cells (replicate more None), length-replicate {A = Option T} more None) in
       append_assoc cells (replicate more None) (replicate left None)
       ∙ ap (λ (rest : List (Option T)). cells ++ rest) (replicate-append-replicate {A = Option T} more left None)
       ∙ ap (λ (n : ℕ). cells ++ replicate n None) whole
@@ -28,13 +37,15 @@ module _ {T : Type 0} where
   none-emptied (suc n) zero = refl
   none-emptied (suc n) (suc index) = ap (λ (cells : List (Option T)). None ∷ cells) (none-emptied n index)
 
-  emptied-append : (cells : List (Option T)) (n index : ℕ) → set (cells ++ replicate n None) index None ≡ set cells index None ++ replicate n None
+  emptied-append : (cells : List (Option T)) (n index : ℕ)
+      → set (cells ++ replicate n None) index None ≡ set cells index None ++ replicate n None
   emptied-append [] n index = none-emptied n index
   emptied-append (cell ∷ cells) n zero = refl
   emptied-append (cell ∷ cells) n (suc index) = ap (λ (rest : List (Option T)). cell ∷ rest) (emptied-append cells n index)
 
   -- a place is emptied
-  pub emptied-padded : (count : ℕ) (cells : List (Option T)) (index : ℕ) → set (padded count cells) index None ≡ padded count (set cells index None)
+  pub emptied-padded : (count : ℕ) (cells : List (Option T)) (index : ℕ)
+      → set (padded count cells) index None ≡ padded count (set cells index None)
   emptied-padded count cells index =
       emptied-append cells (count - length cells) index
       ∙ ap (λ (n : ℕ). set cells index None ++ replicate (count - n) None) (sym (length-set cells index None))
@@ -61,12 +72,15 @@ module _ {T : Type 0} where
   value_at-padded count cells index = value_at-append cells (count - length cells) index
 
   -- behind the cells there is no value
-  pub none-behind : (count : ℕ) (cells values : List (Option T)) (index : ℕ) → padded count cells ≡ values → length cells ≤ index → value_at values index ≡ None
+  pub none-behind : (count : ℕ) (cells values : List (Option T)) (index : ℕ) → padded count cells ≡ values → length cells ≤ index
+      → value_at values index ≡ None
   none-behind count cells values index whole past =
-      ap (λ (places : List (Option T)). value_at places index) (sym whole) ∙ value_at-padded count cells index ∙ get_or_past cells index None past
+      ap (λ (places : List (Option T)). value_at places index) (sym whole) ∙ value_at-padded count cells index ∙ get_or_past cells index
+      None past
 
   -- a place with a value has a cell
-  pub held-has_cell : (count : ℕ) (cells : List (Option T)) (index : ℕ) → IsSome (value_at (padded count cells) index) → index < length cells
+  pub held-has_cell : (count : ℕ) (cells : List (Option T)) (index : ℕ) → IsSome (value_at (padded count cells) index)
+      → index < length cells
   held-has_cell count cells index held =
       elim (cases_lt index (length cells)) as (λ _. index < length cells) [
         | inl h ↦ h
@@ -83,7 +97,8 @@ module _ {T : Type 0} where
   held_from-append at (Some value ∷ cells) n = ap (λ rest. (at, value) ∷ rest) (held_from-append (at + 1) cells n)
 
   -- the walk over the cells is that over all places
-  pub held_from-padded : (at count : ℕ) (cells values : List (Option T)) → padded count cells ≡ values → held_from at cells ≡ held_from at values
+  pub held_from-padded : (at count : ℕ) (cells values : List (Option T)) → padded count cells ≡ values
+      → held_from at cells ≡ held_from at values
   held_from-padded at count cells values whole =
       sym (held_from-append at cells (count - length cells)) ∙ ap (λ (places : List (Option T)). held_from at places) whole
 

@@ -1,4 +1,5 @@
-use Rattle.std.proofs.Common.{cond, Bool, true, false, ℕ, zero, suc, ◌≡◌, inl, inr, ◌+◌, ◌-◌, ◌<◌, ◌≤◌, List, [], ◌∷◌, length, drop, Option, Some, None, get_or, arith, refl, sym, ap, ◌∙◌, subst}
+use Rattle.std.proofs.Common.{cond, Bool, true, false, ℕ, zero, suc, ◌≡◌, inl, inr, ◌+◌, ◌-◌, ◌<◌, ◌≤◌, List, [], ◌∷◌, length, drop}
+use Rattle.std.proofs.Common.{Option, Some, None, get_or, arith, refl, sym, ap, ◌∙◌, subst}
 use Rattle.std.specs.Prelude.{◌↔◌, is_some, count_by, option_map, IsTrue, IsSome, IfSome, IfNone}
 use Rattle.std.proofs.Math.ListN.{set}
 use Rattle.std.proofs.lemmas.Bool.{cases_Bool, cases_eq}
@@ -25,14 +26,16 @@ module _ {K V : Type 0} where
       let F : Option (K × V) → Option (ℕ × (K × V)) = λ o. place_from test i (o ∷ drop (i + 1) xs) in
       at_drop_more (λ ys. place_from test i ys) xs i None within ∙ ap F none
 
-  pub place_at_other : (test : K → Bool) (xs : List (Option (K × V))) (i : ℕ) (p : K × V) → i < length xs → value_at xs i ≡ Some p → test p.0 ≡ false
+  pub place_at_other : (test : K → Bool) (xs : List (Option (K × V))) (i : ℕ) (p : K × V) → i < length xs → value_at xs i ≡ Some p
+      → test p.0 ≡ false
       → place_from test i (drop i xs) ≡ place_from test (i + 1) (drop (i + 1) xs)
   place_at_other test xs i p within some other =
       let F : Option (K × V) → Option (ℕ × (K × V)) = λ o. place_from test i (o ∷ drop (i + 1) xs) in
       let C : Bool → Option (ℕ × (K × V)) = λ b. cond b (Some (i, p)) (place_from test (i + 1) (drop (i + 1) xs)) in
       at_drop_more (λ ys. place_from test i ys) xs i None within ∙ ap F some ∙ ap C other
 
-  pub place_at_found : (test : K → Bool) (xs : List (Option (K × V))) (i : ℕ) (p : K × V) → i < length xs → value_at xs i ≡ Some p → test p.0 ≡ true
+  pub place_at_found : (test : K → Bool) (xs : List (Option (K × V))) (i : ℕ) (p : K × V) → i < length xs → value_at xs i ≡ Some p
+      → test p.0 ≡ true
       → place_from test i (drop i xs) ≡ Some (i, p)
   place_at_found test xs i p within some found =
       let F : Option (K × V) → Option (ℕ × (K × V)) = λ o. place_from test i (o ∷ drop (i + 1) xs) in
@@ -70,7 +73,8 @@ module _ {K V : Type 0} where
   pub place_of-found : (eq : K → K → Bool) (key : K) (t : SlotTable (K × V)) (i : ℕ) (p : K × V) → place_of eq key t ≡ Some (i, p)
       → (value_at t.values i ≡ Some p) × (eq p.0 key ≡ true)
   place_of-found eq key t i p e =
-      let found : (0 ≤ i) × (value_at t.values (i - 0) ≡ Some p) × (eq p.0 key ≡ true) = place_from-found (λ k. eq k key) 0 t.values i p e in
+      let found : (0 ≤ i) × (value_at t.values (i - 0) ≡ Some p)
+      × (eq p.0 key ≡ true) = place_from-found (λ k. eq k key) 0 t.values i p e in
       (ap (λ k. value_at t.values k) (omega arith) ∙ found.1, found.2)
 
   -- where the search found nothing, no place has the key
@@ -101,7 +105,8 @@ module _ {K V : Type 0} where
   place_of-none eq key t j q e some = place_from-none (λ k. eq k key) 0 t.values j q e some
 
   -- a pair whose key differs from those of the other places
-  pub KeysDiffer-set : (eq : K → K → Bool) → ((x y : K) → eq x y ≡ eq y x) → (xs : List (Option (K × V))) (i : ℕ) (r : K × V) → i < length xs → KeysDiffer eq xs
+  pub KeysDiffer-set : (eq : K → K → Bool) → ((x y : K) → eq x y ≡ eq y x) → (xs : List (Option (K × V))) (i : ℕ) (r : K × V)
+      → i < length xs → KeysDiffer eq xs
       → ((j : ℕ) (q : K × V) → (j ≡ i → ⊥) → value_at xs j ≡ Some q → eq q.0 r.0 ≡ false) → KeysDiffer eq (set xs i (Some r))
   KeysDiffer-set eq symm xs i r within differ apart = λ a b p q other at_a at_b.
       let here : get_or (set xs i (Some r)) i None ≡ Some r = get_or-set_same xs i (Some r) None within in
@@ -111,24 +116,28 @@ module _ {K V : Type 0} where
             let is_r : Some r ≡ Some p = sym here ∙ subst P e at_a in
             let r_p : r ≡ p = cc in
             let not_i : b ≡ i → ⊥ = λ f. other (e ∙ sym f) in
-            symm p.0 q.0 ∙ ap (λ (x : K × V). eq q.0 x.0) (sym r_p) ∙ apart b q not_i (sym (get_or-set_other xs i b (Some r) None not_i) ∙ at_b)
+            symm p.0 q.0 ∙ ap (λ (x : K × V). eq q.0 x.0) (sym r_p) ∙ apart b q not_i
+            (sym (get_or-set_other xs i b (Some r) None not_i) ∙ at_b)
         | inr not_a ↦ elim (cases_eq b i) as (λ _. eq p.0 q.0 ≡ false) [
           | inl f ↦
               let Q : ℕ → Type 0 = λ k. value_at (set xs i (Some r)) k ≡ Some q in
               let is_r : Some r ≡ Some q = sym here ∙ subst Q f at_b in
               let r_q : r ≡ q = cc in
               ap (λ (x : K × V). eq p.0 x.0) (sym r_q) ∙ apart a p not_a (sym (get_or-set_other xs i a (Some r) None not_a) ∙ at_a)
-          | inr not_b ↦ differ a b p q other (sym (get_or-set_other xs i a (Some r) None not_a) ∙ at_a) (sym (get_or-set_other xs i b (Some r) None not_b) ∙ at_b)
+          | inr not_b ↦ differ a b p q other (sym (get_or-set_other xs i a (Some r) None not_a) ∙ at_a)
+              (sym (get_or-set_other xs i b (Some r) None not_b) ∙ at_b)
         ]
       ]
 
-  pub KeysDiffer-released : (eq : K → K → Bool) (xs : List (Option (K × V))) (i : ℕ) → i < length xs → KeysDiffer eq xs → KeysDiffer eq (set xs i None)
+  pub KeysDiffer-released : (eq : K → K → Bool) (xs : List (Option (K × V))) (i : ℕ) → i < length xs → KeysDiffer eq xs
+      → KeysDiffer eq (set xs i None)
   KeysDiffer-released eq xs i within differ = λ a b p q other at_a at_b.
       let here : get_or (set xs i None) i None ≡ None = get_or-set_same xs i None None within in
       let not_i : (k : ℕ) (s : K × V) → value_at (set xs i None) k ≡ Some s → k ≡ i → ⊥ = λ k s there e.
       let S : ℕ → Type 0 = λ j. value_at (set xs i None) j ≡ Some s in
       let bad : None ≡ Some s = sym here ∙ subst S e there in absurd (cc) in
-      differ a b p q other (sym (get_or-set_other xs i a None None (not_i a p at_a)) ∙ at_a) (sym (get_or-set_other xs i b None None (not_i b q at_b)) ∙ at_b)
+      differ a b p q other (sym (get_or-set_other xs i a None None (not_i a p at_a)) ∙ at_a)
+      (sym (get_or-set_other xs i b None None (not_i b q at_b)) ∙ at_b)
 
   pub KeysDiffer-empty : (eq : K → K → Bool) (xs : List (Option (K × V))) → ((k : ℕ) → value_at xs k ≡ None) → KeysDiffer eq xs
   KeysDiffer-empty eq xs empty = λ a b p q other at_a at_b. let bad : None ≡ Some p = sym (empty a) ∙ at_a in absurd (cc)
@@ -154,7 +163,8 @@ module _ {K V : Type 0} where
 
   -- the value of a key is the one beside the key that the search found
   pub value_of_at : (eq : K → K → Bool) (key : K) (t : SlotTable (K × V)) (i : ℕ) (p : K × V)
-      → option_map (λ (found : ℕ × (K × V)). found.0) (place_of eq key t) ≡ Some i → value_at t.values i ≡ Some p → place_of eq key t ≡ Some (i, p)
+      → option_map (λ (found : ℕ × (K × V)). found.0) (place_of eq key t) ≡ Some i → value_at t.values i ≡ Some p
+      → place_of eq key t ≡ Some (i, p)
   value_of_at eq key t i p placed there =
       found_as eq key t i p (place_of eq key t) refl placed there
 
@@ -163,33 +173,40 @@ module _ {K V : Type 0} where
   place_holds eq key t i placed there = holds_as eq key t i (place_of eq key t) refl placed there
 
   -- where a test for the key fails, the search finds nothing
-  pub none_from_no_value : (o : Option (ℕ × (K × V))) (b : Bool) → (IsTrue b ↔ IsSome (option_map (λ (found : ℕ × (K × V)). found.1.1) o)) → b ≡ false → o ≡ None
+  pub none_from_no_value : (o : Option (ℕ × (K × V))) (b : Bool)
+      → (IsTrue b ↔ IsSome (option_map (λ (found : ℕ × (K × V)). found.1.1) o)) → b ≡ false → o ≡ None
   none_from_no_value None b told lacks = refl
   none_from_no_value (Some f) b told lacks = let bad : b ≡ true = told.1 refl in absurd (cc)
 
   -- the keys differ after a pair of a new key went to a place
-  pub KeysDiffer-inserted : (eq : K → K → Bool) → ((x y : K) → eq x y ≡ eq y x) → (t new : SlotTable (K × V)) (key : K) (value : V) (r : Option ℕ)
-      → KeysDiffer eq t.values → place_of eq key t ≡ None → IfSome r (λ i. new ≡ stored t i (key, value)) → IfSome r (λ i. i < length t.values) → IfNone r (new ≡ t)
+  pub KeysDiffer-inserted : (eq : K → K → Bool) → ((x y : K) → eq x y ≡ eq y x)
+      → (t new : SlotTable (K × V)) (key : K) (value : V) (r : Option ℕ)
+      → KeysDiffer eq t.values → place_of eq key t ≡ None → IfSome r (λ i. new ≡ stored t i (key, value))
+      → IfSome r (λ i. i < length t.values) → IfNone r (new ≡ t)
       → KeysDiffer eq new.values
   KeysDiffer-inserted eq symm t new key value None differ absent some within none =
       let D : SlotTable (K × V) → Type 0 = λ m. KeysDiffer eq m.values in subst D (sym none) differ
   KeysDiffer-inserted eq symm t new key value (Some i) differ absent some within none =
       let D : SlotTable (K × V) → Type 0 = λ m. KeysDiffer eq m.values in
-      subst D (sym some) (KeysDiffer-set eq symm t.values i (key, value) within differ (λ j q other there. place_of-none eq key t j q absent there))
+      subst D (sym some) (KeysDiffer-set eq symm t.values i (key, value) within differ
+      (λ j q other there. place_of-none eq key t j q absent there))
 
   -- what the callback is still to be called at
-  pub pairs_at_none : (xs : List (Option (K × V))) (i : ℕ) → i < length xs → value_at xs i ≡ None → pairs (drop i xs) ≡ pairs (drop (i + 1) xs)
+  pub pairs_at_none : (xs : List (Option (K × V))) (i : ℕ) → i < length xs → value_at xs i ≡ None
+      → pairs (drop i xs) ≡ pairs (drop (i + 1) xs)
   pairs_at_none xs i within none =
       let F : Option (K × V) → List (K × V) = λ o. pairs (o ∷ drop (i + 1) xs) in
       at_drop_more pairs xs i None within ∙ ap F none
 
-  pub pairs_at_some : (xs : List (Option (K × V))) (i : ℕ) (p : K × V) → i < length xs → value_at xs i ≡ Some p → pairs (drop i xs) ≡ p ∷ pairs (drop (i + 1) xs)
+  pub pairs_at_some : (xs : List (Option (K × V))) (i : ℕ) (p : K × V) → i < length xs → value_at xs i ≡ Some p
+      → pairs (drop i xs) ≡ p ∷ pairs (drop (i + 1) xs)
   pairs_at_some xs i p within some =
       let F : Option (K × V) → List (K × V) = λ o. pairs (o ∷ drop (i + 1) xs) in
       at_drop_more pairs xs i None within ∙ ap F some
 
   -- a call that answers `Stop` ends the calls
-  pub calls_stop : {F : Type 0} (step : F → K → CallbackProgression → F → Type 0) (first now next : F) (xs : List (Option (K × V))) (i : ℕ) (p : K × V)
+  pub calls_stop : {F : Type 0} (step : F → K → CallbackProgression → F → Type 0) (first now next : F) (xs : List (Option (K × V)))
+      (i : ℕ) (p : K × V)
       → i < length xs → value_at xs i ≡ Some p → step now p.0 Stop next
       → ((last : F) → CallsAtKeys step now (pairs (drop i xs)) last → CallsAtKeys step first (pairs xs) last)
       → CallsAtKeys step first (pairs xs) next
@@ -198,7 +215,8 @@ module _ {K V : Type 0} where
       before next (subst C (sym (pairs_at_some xs i p within some)) (Stop, next, call, refl))
 
   -- a call that answers `Continue` leaves the calls at the other pairs
-  pub calls_continue : {F : Type 0} (step : F → K → CallbackProgression → F → Type 0) (first now next : F) (xs : List (Option (K × V))) (i : ℕ) (p : K × V)
+  pub calls_continue : {F : Type 0} (step : F → K → CallbackProgression → F → Type 0) (first now next : F) (xs : List (Option (K × V)))
+      (i : ℕ) (p : K × V)
       → i < length xs → value_at xs i ≡ Some p → step now p.0 Continue next
       → ((last : F) → CallsAtKeys step now (pairs (drop i xs)) last → CallsAtKeys step first (pairs xs) last)
       → (last : F) → CallsAtKeys step next (pairs (drop (i + 1) xs)) last → CallsAtKeys step first (pairs xs) last
@@ -222,11 +240,13 @@ module _ {K V : Type 0} where
   place_from-no_pairs test at (Some p ∷ xs) seen = absurd (omega arith)
 
   -- pairs that are all seen leave no place to look at
-  pub place_at_seen : (test : K → Bool) (xs : List (Option (K × V))) (i : ℕ) → length (pairs (drop i xs)) ≡ 0 → place_from test i (drop i xs) ≡ None
+  pub place_at_seen : (test : K → Bool) (xs : List (Option (K × V))) (i : ℕ) → length (pairs (drop i xs)) ≡ 0
+      → place_from test i (drop i xs) ≡ None
   place_at_seen test xs i seen = place_from-no_pairs test i (drop i xs) seen
 
   -- how many pairs are left after one more place
-  pub unseen_at_none : (xs : List (Option (K × V))) (i : ℕ) → i < length xs → value_at xs i ≡ None → length (pairs (drop i xs)) ≡ length (pairs (drop (i + 1) xs))
+  pub unseen_at_none : (xs : List (Option (K × V))) (i : ℕ) → i < length xs → value_at xs i ≡ None
+      → length (pairs (drop i xs)) ≡ length (pairs (drop (i + 1) xs))
   unseen_at_none xs i within none = ap length (pairs_at_none xs i within none)
 
   pub unseen_at_some : (xs : List (Option (K × V))) (i : ℕ) (p : K × V) → i < length xs → value_at xs i ≡ Some p

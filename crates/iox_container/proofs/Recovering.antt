@@ -19,13 +19,16 @@ module _ {C X F : Type 0} (asked : ℕ → C → Option X) (index_of : X → ℕ
   Leads-start first old = record { whole = λ told last filtered. (told, filtered, refl) }
 
   -- nothing is asked about from `at` on
-  pub Leads-rest : (first : F) (old : List C) (now : F) (at : ℕ) (cells : List C) → Leads first old now at cells → asked_from asked at (drop at cells) ≡ []
+  pub Leads-rest : (first : F) (old : List C) (now : F) (at : ℕ) (cells : List C) → Leads first old now at cells
+      → asked_from asked at (drop at cells) ≡ []
       → Recovers asked index_of empty R first old cells now
   Leads-rest first old now at cells s none = s.whole [] now (rw none ([], refl, refl, refl))
 
   -- what is told next stays
-  pub Leads-kept : (first : F) (old : List C) (now : F) (at : ℕ) (cells : List C) (place : ℕ) (x : X) (next : F) → Leads first old now at cells
-      → asked_from asked at (drop at cells) ≡ x ∷ asked_from asked (place + 1) (drop (place + 1) cells) → R now x false next → Leads first old next (place + 1) cells
+  pub Leads-kept : (first : F) (old : List C) (now : F) (at : ℕ) (cells : List C) (place : ℕ) (x : X) (next : F)
+      → Leads first old now at cells
+      → asked_from asked at (drop at cells) ≡ x ∷ asked_from asked (place + 1) (drop (place + 1) cells) → R now x false next
+      → Leads first old next (place + 1) cells
   Leads-kept first old now at cells place x next s is call = record {
     whole = λ told last filtered.
         let P : List X → Type 0 = λ xs. KeepsAsAnswered R now xs told last in
@@ -33,14 +36,17 @@ module _ {C X F : Type 0} (asked : ℕ → C → Option X) (index_of : X → ℕ
   }
 
   -- what is told next is emptied
-  pub Leads-freed : (first : F) (old : List C) (now : F) (at : ℕ) (cells : List C) (place : ℕ) (x : X) (next : F) → Leads first old now at cells
-      → asked_from asked at (drop at cells) ≡ x ∷ asked_from asked (place + 1) (drop (place + 1) cells) → index_of x ≡ place → R now x true next
+  pub Leads-freed : (first : F) (old : List C) (now : F) (at : ℕ) (cells : List C) (place : ℕ) (x : X) (next : F)
+      → Leads first old now at cells
+      → asked_from asked at (drop at cells) ≡ x ∷ asked_from asked (place + 1) (drop (place + 1) cells) → index_of x ≡ place
+      → R now x true next
       → Leads first old next (place + 1) (set cells place empty)
   Leads-freed first old now at cells place x next s is same call = record {
     whole = λ told last filtered.
         let P : List X → Type 0 = λ xs. KeepsAsAnswered R now xs (x ∷ told) last in
         let Q : List C → Type 0 = λ cs. KeepsAsAnswered R next (asked_from asked (place + 1) cs) told last in
-        let W : ℕ → Type 0 = λ i. Recovers asked index_of empty R first old (without_each asked index_of empty told (set cells i empty)) last in
+        let W : ℕ → Type 0 = λ i. Recovers asked index_of empty R first old (without_each asked index_of empty told (set cells i empty))
+        last in
         let rest : KeepsAsAnswered R next (asked_from asked (place + 1) (drop (place + 1) cells)) told last =
         subst Q (drop-set-lt (place + 1) cells place empty (omega arith)) filtered in
         subst W same (s.whole (x ∷ told) last (subst P (sym is)
@@ -48,7 +54,8 @@ module _ {C X F : Type 0} (asked : ℕ → C → Option X) (index_of : X → ℕ
   }
 
 -- what is asked about of cells of which the first is asked about
-pub asked-first : {C X : Type 0} (asked : ℕ → C → Option X) (at : ℕ) (cells : List C) (cell : C) (tail : List C) (x : X) → cells ≡ cell ∷ tail
+pub asked-first : {C X : Type 0} (asked : ℕ → C → Option X) (at : ℕ) (cells : List C) (cell : C) (tail : List C) (x : X)
+    → cells ≡ cell ∷ tail
     → asked at cell ≡ Some x → asked_from asked at cells ≡ x ∷ asked_from asked (at + 1) tail
 asked-first asked at cells cell tail x split is =
     ap (λ cs. asked_from asked at cs) split ∙ ap (λ y. cons_option y (asked_from asked (at + 1) tail)) is

@@ -1,9 +1,11 @@
-use Rattle.std.proofs.Common.{ℕ, ◌≡◌, ◌+◌, ◌<◌, ◌≤◌, ◌++◌, ◌∷◌, [], List, Bool, true, false, cond, length, take, drop, arith, refl, sym, ap, ◌∙◌, subst}
+use Rattle.std.proofs.Common.{ℕ, ◌≡◌, ◌+◌, ◌<◌, ◌≤◌, ◌++◌, ◌∷◌, [], List, Bool, true, false, cond, length, take, drop, arith, refl, sym}
+use Rattle.std.proofs.Common.{ap, ◌∙◌, subst}
 use Rattle.std.proofs.Math.ListN.{get_or, set}
 use Rattle.std.specs.List.{items_where_true}
 use Rattle.std.specs.List.Retain.{IsFiltered, ReturnsInTurn}
 use Rattle.iox_container.specs.Retained.{KeepsAsAnswered}
-use Rattle.std.proofs.lemmas.List.{append-nil, drop-drop, drop-set-lt, get_or-drop, length-set, length-take-le, length_push, take_all, take_more, take_more_set}
+use Rattle.std.proofs.lemmas.List.{append-nil, drop-drop, drop-set-lt, get_or-drop, length-set, length-take-le, length_push, take_all}
+use Rattle.std.proofs.lemmas.List.{take_more, take_more_set}
 
 -- the items at which the answers say true, once one more item has its answer
 items_where_true-push : {X : Type 0} (bs : List Bool) (xs : List X) (b : Bool) (x : X) → length bs ≡ length xs
@@ -56,7 +58,8 @@ module _ {X P : Type 0} (R : P → X → Bool → P → Type 0) where
       (s.answers, now, s.count ∙ omega (arith, s.within), subst C whole s.calls, s.front ∙ ap (λ xs. items_where_true s.answers xs) whole)
 
   -- the same, with the state that just these calls leave
-  pub RetainedSoFar-asked : (first : P) (old new : List X) (now : P) (kept at : ℕ) → RetainedSoFar first old new now kept at → length old ≤ at
+  pub RetainedSoFar-asked : (first : P) (old new : List X) (now : P) (kept at : ℕ) → RetainedSoFar first old new now kept at
+      → length old ≤ at
       → KeepsAsAnswered R first old (take kept new) now
   RetainedSoFar-asked first old new now kept at s done =
       let whole : take at old ≡ old = take_all at old done in
@@ -64,15 +67,18 @@ module _ {X P : Type 0} (R : P → X → Bool → P → Type 0) where
       (s.answers, s.count ∙ omega (arith, s.within), subst C whole s.calls, s.front ∙ ap (λ xs. items_where_true s.answers xs) whole)
 
   -- the calls so far and one more, whatever it answers
-  next_calls : (first : P) (old new : List X) (now : P) (kept at : ℕ) (x : X) (b : Bool) (next : P) (s : RetainedSoFar first old new now kept at)
+  next_calls : (first : P) (old new : List X) (now : P) (kept at : ℕ) (x : X) (b : Bool) (next : P)
+      (s : RetainedSoFar first old new now kept at)
       → take (at + 1) old ≡ take at old ++ x ∷ [] → R now x b next → ReturnsInTurn R first (s.answers ++ b ∷ []) (take (at + 1) old) next
   next_calls first old new now kept at x b next s taken call =
       let C : List X → Type 0 = λ xs. ReturnsInTurn R first (s.answers ++ b ∷ []) xs next in
-      subst C (sym taken) (ReturnsInTurn-push first s.answers (take at old) now b x next (s.count ∙ sym (length-take-le at old s.within)) s.calls call)
+      subst C (sym taken) (ReturnsInTurn-push first s.answers (take at old) now b x next
+      (s.count ∙ sym (length-take-le at old s.within)) s.calls call)
 
   -- what was kept so far and the next item, if it is kept
   next_front : (first : P) (old new : List X) (now : P) (kept at : ℕ) (x : X) (b : Bool) (s : RetainedSoFar first old new now kept at)
-      → take (at + 1) old ≡ take at old ++ x ∷ [] → take kept new ++ cond b (x ∷ []) [] ≡ items_where_true (s.answers ++ b ∷ []) (take (at + 1) old)
+      → take (at + 1) old ≡ take at old ++ x ∷ []
+      → take kept new ++ cond b (x ∷ []) [] ≡ items_where_true (s.answers ++ b ∷ []) (take (at + 1) old)
   next_front first old new now kept at x b s taken =
       ap (λ xs. xs ++ cond b (x ∷ []) []) s.front
       ∙ sym (items_where_true-push s.answers (take at old) b x (s.count ∙ sym (length-take-le at old s.within)))
@@ -86,11 +92,13 @@ module _ {X P : Type 0} (R : P → X → Bool → P → Type 0) where
       → take (at + 1) old ≡ take at old ++ x ∷ []
   next_taken old new at d x rest more read =
       let here : get_or new at d ≡ get_or old at d =
-      ap (λ k. get_or new k d) (omega arith) ∙ sym (get_or-drop at new 0 d) ∙ ap (λ xs. get_or xs 0 d) rest ∙ get_or-drop at old 0 d ∙ ap (λ k. get_or old k d) (omega arith) in
+      ap (λ k. get_or new k d) (omega arith) ∙ sym (get_or-drop at new 0 d) ∙ ap (λ xs. get_or xs 0 d) rest ∙ get_or-drop at old 0 d ∙
+      ap (λ k. get_or old k d) (omega arith) in
       take_more old at d more ∙ ap (λ y. take at old ++ y ∷ []) (sym (read ∙ here))
 
   -- the item at `at` goes
-  pub RetainedSoFar-drop : (first : P) (old new : List X) (now : P) (kept at : ℕ) (d x : X) (next : P) → RetainedSoFar first old new now kept at
+  pub RetainedSoFar-drop : (first : P) (old new : List X) (now : P) (kept at : ℕ) (d x : X) (next : P)
+      → RetainedSoFar first old new now kept at
       → at < length old → x ≡ get_or new at d → R now x false next → RetainedSoFar first old new next kept (at + 1)
   RetainedSoFar-drop first old new now kept at d x next s more read call =
       let taken : take (at + 1) old ≡ take at old ++ x ∷ [] = next_taken old new at d x s.rest more read in
@@ -106,7 +114,8 @@ module _ {X P : Type 0} (R : P → X → Bool → P → Type 0) where
       }
 
   -- the item at `at` is kept
-  pub RetainedSoFar-keep : (first : P) (old new : List X) (now : P) (kept at : ℕ) (d x : X) (next : P) → RetainedSoFar first old new now kept at
+  pub RetainedSoFar-keep : (first : P) (old new : List X) (now : P) (kept at : ℕ) (d x : X) (next : P)
+      → RetainedSoFar first old new now kept at
       → at < length old → x ≡ get_or new at d → R now x true next → RetainedSoFar first old (set new kept x) next (kept + 1) (at + 1)
   RetainedSoFar-keep first old new now kept at d x next s more read call =
       let taken : take (at + 1) old ≡ take at old ++ x ∷ [] = next_taken old new at d x s.rest more read in

@@ -18,12 +18,14 @@ module _ {V : Type 0} (number next : ℕ) (entries : List (ℕ × V)) (rises : R
       grind (arith, nat_tests)
 
   -- at the place that was found stands the number
-  pub found-at : (answer : Result ℕ ℕ) → IsBinarySearchResult (λ entry. nat_cmp entry.0 number) entries answer → IfSome (result_ok answer) (λ place. HoldsAt (λ entry. entry.0 ≡ number) entries place)
+  pub found-at : (answer : Result ℕ ℕ) → IsBinarySearchResult (λ entry. nat_cmp entry.0 number) entries answer
+      → IfSome (result_ok answer) (λ place. HoldsAt (λ entry. entry.0 ≡ number) entries place)
   found-at (Ok place) equal = λ default. let here = equal default in grind (arith, nat_tests)
   found-at (Err place) parted = tt
 
   -- where none was found there is none
-  pub found-nowhere : (answer : Result ℕ ℕ) → IsBinarySearchResult (λ entry. nat_cmp entry.0 number) entries answer → IfNone (result_ok answer) (lookup (nat_eq number) entries ≡ None)
+  pub found-nowhere : (answer : Result ℕ ℕ) → IsBinarySearchResult (λ entry. nat_cmp entry.0 number) entries answer
+      → IfNone (result_ok answer) (lookup (nat_eq number) entries ≡ None)
   found-nowhere (Ok place) equal = tt
   found-nowhere (Err place) parted = lookup-nowhere number entries (λ at default within same. elim (cases_lt at place) [
     | inl before ↦ (let less = (parted comparisons_rise).0 at default (omega arith) before in grind (arith, nat_tests))

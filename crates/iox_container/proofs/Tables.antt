@@ -1,4 +1,5 @@
-use Rattle.std.proofs.Common.{cond, true, false, ℕ, zero, suc, ◌≡◌, inl, inr, ◌+◌, ◌-◌, ◌<◌, ◌≤◌, List, [], ◌∷◌, length, drop, Option, Some, None, get_or, arith, refl, sym, ap, ◌∙◌, subst}
+use Rattle.std.proofs.Common.{cond, true, false, ℕ, zero, suc, ◌≡◌, inl, inr, ◌+◌, ◌-◌, ◌<◌, ◌≤◌, List, [], ◌∷◌, length, drop, Option}
+use Rattle.std.proofs.Common.{Some, None, get_or, arith, refl, sym, ap, ◌∙◌, subst}
 use Rattle.std.specs.Prelude.{is_some, count_by, slice_get, replicate, IsSome}
 use Rattle.std.proofs.Math.ListN.{set}
 use Rattle.std.specs.List.{range_with_len}
@@ -6,8 +7,10 @@ use Rattle.std.proofs.lemmas.Bool.{cases_eq, cases_lt}
 use Rattle.std.proofs.lemmas.List.Sums.{sum_by-set}
 use Rattle.std.proofs.lemmas.List.{get_or-replicate, get_or-set_same, get_or-set_other, get_or_past, length-replicate, length-set}
 use Rattle.std.proofs.lemmas.List.FromFn.{length-range_with_len}
-use Rattle.iox_container.specs.SlotTable.{Among, Distinct, FreeKeysAreExact, HasItem, ListsHeldKeys, Rising, SlotTable, held_from, released, stored, value_at, without}
-use Rattle.iox_container.proofs.Keys.{Among-in_range, Among-kept, Among-range, Among-without, Distinct-range, Distinct-without, length-without, without_absent, without_first}
+use Rattle.iox_container.specs.SlotTable.{Among, Distinct, FreeKeysAreExact, HasItem, ListsHeldKeys, Rising, SlotTable, held_from}
+use Rattle.iox_container.specs.SlotTable.{released, stored, value_at, without}
+use Rattle.iox_container.proofs.Keys.{Among-in_range, Among-kept, Among-range, Among-without, Distinct-range, Distinct-without}
+use Rattle.iox_container.proofs.Keys.{length-without, without_absent, without_first}
 
 count_none : (T : Type 0) (n : ℕ) → let none : Option T = None in count_by is_some (replicate n none) ≡ 0
 count_none T zero = refl
@@ -22,17 +25,20 @@ module _ {T : Type 0} where
   counts_one (Some x) some = refl
 
   -- a value that comes where there was none is one more
-  count_more : (xs : List (Option T)) (i : ℕ) (v : T) → i < length xs → get_or xs i None ≡ None → count_by is_some (set xs i (Some v)) ≡ count_by is_some xs + 1
+  count_more : (xs : List (Option T)) (i : ℕ) (v : T) → i < length xs → get_or xs i None ≡ None
+      → count_by is_some (set xs i (Some v)) ≡ count_by is_some xs + 1
   count_more xs i v within none =
       omega (arith, sum_by-set one_if xs i (Some v) None within, ap one_if none)
 
   -- a value in the place of another leaves their number
-  count_same : (xs : List (Option T)) (i : ℕ) (v : T) → i < length xs → (get_or xs i None ≡ None → ⊥) → count_by is_some (set xs i (Some v)) ≡ count_by is_some xs
+  count_same : (xs : List (Option T)) (i : ℕ) (v : T) → i < length xs → (get_or xs i None ≡ None → ⊥)
+      → count_by is_some (set xs i (Some v)) ≡ count_by is_some xs
   count_same xs i v within some =
       omega (arith, sum_by-set one_if xs i (Some v) None within, counts_one (get_or xs i None) some)
 
   -- a value that goes is one less
-  count_less : (xs : List (Option T)) (i : ℕ) → i < length xs → (get_or xs i None ≡ None → ⊥) → count_by is_some (set xs i None) + 1 ≡ count_by is_some xs
+  count_less : (xs : List (Option T)) (i : ℕ) → i < length xs → (get_or xs i None ≡ None → ⊥)
+      → count_by is_some (set xs i None) + 1 ≡ count_by is_some xs
   count_less xs i within some =
       omega (arith, sum_by-set one_if xs i None None within, counts_one (get_or xs i None) some)
 
@@ -46,7 +52,8 @@ module _ {T : Type 0} where
   pub free_is_none : (t : SlotTable T) (key : ℕ) → FreeKeysAreExact t → Among key t.free → value_at t.values key ≡ None
   free_is_none t key table there = ((table.exact key).0 there).1
 
-  pub none_is_free : (t : SlotTable T) (key : ℕ) → FreeKeysAreExact t → key < length t.values → value_at t.values key ≡ None → Among key t.free
+  pub none_is_free : (t : SlotTable T) (key : ℕ) → FreeKeysAreExact t → key < length t.values → value_at t.values key ≡ None
+      → Among key t.free
   none_is_free t key table within none = (table.exact key).1 (within, none)
 
   pub held_is_not_free : (t : SlotTable T) (key : ℕ) → FreeKeysAreExact t → (value_at t.values key ≡ None → ⊥) → Among key t.free → ⊥
@@ -61,7 +68,8 @@ module _ {T : Type 0} where
       ]
 
   -- the table with a value at a key that was free
-  pub FreeKeysAreExact-taken : (t : SlotTable T) (key : ℕ) (v : T) → FreeKeysAreExact t → Among key t.free → FreeKeysAreExact (stored t key v)
+  pub FreeKeysAreExact-taken : (t : SlotTable T) (key : ℕ) (v : T) → FreeKeysAreExact t → Among key t.free
+      → FreeKeysAreExact (stored t key v)
   FreeKeysAreExact-taken t key v table there =
       let within : key < length t.values = free_within t key table there in
       let none : value_at t.values key ≡ None = free_is_none t key table there in
@@ -70,13 +78,26 @@ module _ {T : Type 0} where
           λ h. let kept : Among k t.free × (k ≡ key → ⊥) = Among-without key k t.free h in
               let was : (k < length t.values) × (value_at t.values k ≡ None) = (table.exact k).0 kept.0 in
               (omega (arith, was.0, length-set t.values key (Some v)), get_or-set_other t.values key k (Some v) None kept.1 ∙ was.1),
-          λ h. let other : k ≡ key → ⊥ = λ e. let here : value_at (set t.values key (Some v)) key ≡ Some v = get_or-set_same t.values key (Some v) None within in
+          λ h. let other : k ≡ key → ⊥ = λ e. let here : value_at (set t.values key (Some v)) key ≡ Some v
+              = get_or-set_same t.values key (Some v) None within in
               let V : ℕ → Type 0 = λ j. value_at (set t.values key (Some v)) j ≡ None in
               let gone : value_at (set t.values key (Some v)) key ≡ None = subst V e h.1 in absurd (cc) in
-              Among-kept key k t.free ((table.exact k).1 (omega (arith, h.0, length-set t.values key (Some v)), sym (get_or-set_other t.values key k (Some v) None other) ∙ h.1)) other,
+              Among-kept key k t.free
+              ((table.exact k).1 (
+                omega (arith, h.0, length-set t.values key (Some v)),
+                sym
+                    (get_or-set_other t.values key k (Some v) None other) ∙ h.1,
+              )) other,
         );
         distinct = Distinct-without key t.free table.distinct;
-        counted = omega (arith, count_more t.values key v within none, length-without key t.free table.distinct there, length-set t.values key (Some v), table.counted);
+        counted = omega (
+          arith,
+          count_more t.values key v within none,
+          length-without key t.free table.distinct there,
+          length-set t.values
+              key (Some v),
+          table.counted,
+        );
       }
 
   -- the table with another value at a key that held one
@@ -87,12 +108,20 @@ module _ {T : Type 0} where
       record {
         exact = λ k. (
           λ h. let was : (k < length t.values) × (value_at t.values k ≡ None) = (table.exact k).0 h in
-              let V : ℕ → Type 0 = λ j. value_at t.values j ≡ None in
-              (omega (arith, was.0, length-set t.values key (Some v)), get_or-set_other t.values key k (Some v) None (λ e. some (subst V e was.1)) ∙ was.1),
-          λ h. let other : k ≡ key → ⊥ = λ e. let here : value_at (set t.values key (Some v)) key ≡ Some v = get_or-set_same t.values key (Some v) None within in
+              let V : ℕ → Type 0 = λ j. value_at t.values j ≡ None in (
+                omega (arith, was.0, length-set t.values key (Some v)),
+                get_or-set_other t.values key k (Some v) None
+                    (λ e. some (subst V e was.1)) ∙ was.1,
+              ),
+          λ h. let other : k ≡ key → ⊥ = λ e. let here : value_at (set t.values key (Some v)) key ≡ Some v
+              = get_or-set_same t.values key (Some v) None within in
               let V : ℕ → Type 0 = λ j. value_at (set t.values key (Some v)) j ≡ None in
               let gone : value_at (set t.values key (Some v)) key ≡ None = subst V e h.1 in absurd (cc) in
-              (table.exact k).1 (omega (arith, h.0, length-set t.values key (Some v)), sym (get_or-set_other t.values key k (Some v) None other) ∙ h.1),
+              (table.exact k).1 (
+                omega (arith, h.0, length-set t.values key (Some v)),
+                sym
+                    (get_or-set_other t.values key k (Some v) None other) ∙ h.1,
+              ),
         );
         distinct = table.distinct;
         counted = omega (arith, count_same t.values key v within some, length-set t.values key (Some v), table.counted);
@@ -106,7 +135,8 @@ module _ {T : Type 0} where
       ap F (sym (without_absent key t.free (held_is_not_free t key table some)))
 
   -- the table without the value of a key
-  pub FreeKeysAreExact-released : (t : SlotTable T) (key : ℕ) → FreeKeysAreExact t → (value_at t.values key ≡ None → ⊥) → FreeKeysAreExact (released t key)
+  pub FreeKeysAreExact-released : (t : SlotTable T) (key : ℕ) → FreeKeysAreExact t → (value_at t.values key ≡ None → ⊥)
+      → FreeKeysAreExact (released t key)
   FreeKeysAreExact-released t key table some =
       let within : key < length t.values = held_within t key some in
       let E : ℕ → Type 0 = λ j. (j < length (set t.values key None)) × (value_at (set t.values key None) j ≡ None) in
@@ -115,12 +145,16 @@ module _ {T : Type 0} where
           λ h. elim h as (λ _. E k) [
             | inl e ↦ subst E (sym e) (omega (arith, length-set t.values key None), get_or-set_same t.values key None None within)
             | inr there ↦ let was : (k < length t.values) × (value_at t.values k ≡ None) = (table.exact k).0 there in
-                let V : ℕ → Type 0 = λ j. value_at t.values j ≡ None in
-                (omega (arith, was.0, length-set t.values key None), get_or-set_other t.values key k None None (λ e. some (subst V e was.1)) ∙ was.1)
+                let V : ℕ → Type 0 = λ j. value_at t.values j ≡ None in (
+                  omega (arith, was.0, length-set t.values key None),
+                  get_or-set_other t.values key k None None
+                      (λ e. some (subst V e was.1)) ∙ was.1,
+                )
           ],
           λ h. elim (cases_eq k key) as (λ _. Among k (key ∷ t.free)) [
             | inl e ↦ inl e
-            | inr other ↦ inr ((table.exact k).1 (omega (arith, h.0, length-set t.values key None), sym (get_or-set_other t.values key k None None other) ∙ h.1))
+            | inr other ↦ inr ((table.exact k).1
+                (omega (arith, h.0, length-set t.values key None), sym (get_or-set_other t.values key k None None other) ∙ h.1))
           ],
         );
         distinct = (held_is_not_free t key table some, table.distinct);
@@ -177,7 +211,8 @@ module _ {T : Type 0} where
       ]
 
   -- and what is held stands in the walk
-  held_from-has : (at : ℕ) (xs : List (Option T)) (j key : ℕ) (value : T) → key ≡ at + j → value_at xs j ≡ Some value → HasItem key value (held_from at xs)
+  held_from-has : (at : ℕ) (xs : List (Option T)) (j key : ℕ) (value : T) → key ≡ at + j → value_at xs j ≡ Some value
+      → HasItem key value (held_from at xs)
   held_from-has at [] j key value e held = absurd (cc)
   held_from-has at (None ∷ xs) zero key value e held = absurd (cc)
   held_from-has at (None ∷ xs) (suc j) key value e held = held_from-has (at + 1) xs j key value (omega arith) held
@@ -188,7 +223,8 @@ module _ {T : Type 0} where
   Rising-held_from at [] = tt
   Rising-held_from at (None ∷ xs) = Rising-held_from (at + 1) xs
   Rising-held_from at (Some x ∷ xs) = (
-    λ key value there. let told : (at + 1 ≤ key) × (value_at xs (key - (at + 1)) ≡ Some value) = held_from-told (at + 1) xs key value there in omega (arith, told.0),
+    λ key value there. let told : (at + 1 ≤ key)
+        × (value_at xs (key - (at + 1)) ≡ Some value) = held_from-told (at + 1) xs key value there in omega (arith, told.0),
     Rising-held_from (at + 1) xs,
   )
 

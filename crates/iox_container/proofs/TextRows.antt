@@ -1,5 +1,6 @@
 use Rattle.std.proofs.Common.{ℕ, ◌≡◌, ◌+◌, ◌-◌, ◌<◌, ◌≤◌, ◌++◌, List, length, take, drop, replicate, arith, refl, sym, ap, ◌∙◌, subst}
-use Rattle.std.proofs.lemmas.List.{append_assoc, drop-drop, drop-replicate, drop_at, length-append, length-drop, length-replicate, length-take-le, replicate-append-replicate, take-take, take_at}
+use Rattle.std.proofs.lemmas.List.{append_assoc, drop-drop, drop-replicate, drop_at, length-append, length-drop, length-replicate}
+use Rattle.std.proofs.lemmas.List.{length-take-le, replicate-append-replicate, take-take, take_at}
 use Rattle.std.proofs.lemmas.List.Elements.{All-append, All-drop, All-take}
 use Rattle.std.proofs.lemmas.Slice.{between_is}
 use borrow.Rule.Slice.PartMut.{put_mid}
@@ -39,7 +40,14 @@ IsStringBytes-range_replaced text from to bytes valid added =
 pub length-range_replaced : (text : List ℕ) (from to : ℕ) (bytes : List ℕ) → from ≤ to → to ≤ length text
     → length (range_replaced text from to bytes) ≡ length text - (to - from) + length bytes
 length-range_replaced text from to bytes ordered within =
-    omega (arith, length-append (take from text) (bytes ++ drop to text), length-append bytes (drop to text), length-take-le from text (omega arith), length-drop to text)
+    omega (
+      arith,
+      length-append (take from text) (bytes ++ drop to text),
+      length-append bytes (drop to text),
+      length-take-le from text
+          (omega arith),
+      length-drop to text,
+    )
 
 -- what a splice leaves is the new text, and then the cells past it
 pub spliced_cells : (len from to n : ℕ) (cells bytes : List ℕ) → from ≤ to → to ≤ len → from + length bytes + (len - to) ≡ n
@@ -49,7 +57,8 @@ spliced_cells len from to n cells bytes ordered within e =
     rw (e, between_is cells to len, ← take-take from len cells (omega arith), append_assoc, append_assoc)
 
 -- the text that a splice makes has its length
-length-spliced : (len from to n : ℕ) (cells bytes : List ℕ) → len ≤ length cells → from ≤ to → to ≤ len → from + length bytes + (len - to) ≡ n
+length-spliced : (len from to n : ℕ) (cells bytes : List ℕ) → len ≤ length cells → from ≤ to → to ≤ len
+    → from + length bytes + (len - to) ≡ n
     → length (range_replaced (take len cells) from to bytes) ≡ n
 length-spliced len from to n cells bytes filled ordered within e =
     let front : length (take len cells) ≡ len = length-take-le len cells filled in
@@ -92,7 +101,8 @@ HoldsText-shrunk capacity len from to n cells bytes new zeros row ordered within
     let measured : length text ≡ n = length-spliced len from to n cells bytes filled ordered within long in
     let front : take n new ≡ text = ap (λ xs. take n xs) now ∙ take_at text (drop n cells) n measured in
     let back : drop n new ≡ drop n cells = ap (λ xs. drop n xs) now ∙ drop_at text (drop n cells) n measured in
-    let as_long : length new ≡ capacity = ap length now ∙ omega (arith, length-append text (drop n cells), length-drop n cells, measured, row.full, row.within) in
+    let as_long : length new ≡ capacity
+    = ap length now ∙ omega (arith, length-append text (drop n cells), length-drop n cells, measured, row.full, row.within) in
     let left_over : length (take (len - n) (drop n new)) ≡ len - n =
     length-take-le (len - n) (drop n new) (omega (arith, length-drop n new, as_long, row.within)) in
     let there : n + (len - n) ≡ len = omega arith in

@@ -1,4 +1,5 @@
-use Rattle.std.proofs.Common.{ℕ, suc, ◌≡◌, ◌+◌, ◌-◌, ◌<◌, ◌≤◌, ◌++◌, ◌∷◌, [], List, length, take, drop, get_or, Option, Some, None, arith, refl, sym, ap, ◌∙◌, IsUtf8}
+use Rattle.std.proofs.Common.{ℕ, suc, ◌≡◌, ◌+◌, ◌-◌, ◌<◌, ◌≤◌, ◌++◌, ◌∷◌, [], List, length, take, drop, get_or, Option, Some, None, arith}
+use Rattle.std.proofs.Common.{refl, sym, ap, ◌∙◌, IsUtf8}
 use Rattle.std.specs.Prelude.{remove, slice_get}
 use Rattle.std.specs.Option.{option_to_list}
 use Rattle.std.proofs.lemmas.List.{append-nil, drop_all, drop_more, take-append-drop, take_at}
@@ -26,13 +27,15 @@ removed_last text some =
     let past : length text ≤ suc last = omega arith in
     let past' : length text ≤ last + 1 = omega arith in
     rw (drop_all (suc last) text past, append-nil (take last text), slice_get-get_or text last 0 within)
-    (sym (take-append-drop last text) ∙ ap (λ xs. take last text ++ xs) (drop_more text last 0 within ∙ ap (λ xs. get_or text last 0 ∷ xs) (drop_all (last + 1) text past')))
+    (sym (take-append-drop last text) ∙ ap (λ xs. take last text ++ xs)
+    (drop_more text last 0 within ∙ ap (λ xs. get_or text last 0 ∷ xs) (drop_all (last + 1) text past')))
 
 -- where each byte of the pattern stands, the pattern does
 OccursAt-from_reads : (text pattern : List ℕ) (k : ℕ) → search_word.OccursAt text pattern k → OccursAt text pattern k
 OccursAt-from_reads text pattern k there = record {
   fits = there.fits;
-  same = ap (λ xs. take (length pattern) xs) (at_from_reads 0 text pattern k there.fits there.reads) ∙ take_at pattern _ (length pattern) refl;
+  same = ap (λ xs. take (length pattern) xs) (at_from_reads 0 text pattern k there.fits there.reads) ∙ take_at pattern _
+      (length pattern) refl;
 }
 
 reads-from_OccursAt : (text pattern : List ℕ) (k : ℕ) → OccursAt text pattern k → search_word.OccursAt text pattern k
@@ -44,16 +47,26 @@ reads-from_OccursAt text pattern k there =
     }
 
 -- the library's first place is the first place
-pub FindsFirst-from_search : (text pattern : List ℕ) (answer : Option ℕ) → FindsNeedle text pattern 0 answer → FindsFirst text pattern answer
-FindsFirst-from_search text pattern None nowhere = λ k there. nowhere k (omega arith) (omega (arith, there.fits)) (reads-from_OccursAt text pattern k there)
-FindsFirst-from_search text pattern (Some i) first =
-    (OccursAt-from_reads text pattern i first.1, λ k below there. first.0.before k (omega arith) below (reads-from_OccursAt text pattern k there))
+pub FindsFirst-from_search : (text pattern : List ℕ) (answer : Option ℕ) → FindsNeedle text pattern 0 answer
+    → FindsFirst text pattern answer
+FindsFirst-from_search text pattern None nowhere
+    = λ k there. nowhere k (omega arith) (omega (arith, there.fits)) (reads-from_OccursAt text pattern k there)
+FindsFirst-from_search text pattern (Some i) first = (
+  OccursAt-from_reads text pattern i first.1,
+  λ k below there. first.0.before k (omega arith) below
+      (reads-from_OccursAt text pattern k there),
+)
 
 -- the library's last place is the last place
-pub FindsLast-from_search : (text pattern : List ℕ) (answer : Option ℕ) → FindsLastNeedle text pattern answer → FindsLast text pattern answer
-FindsLast-from_search text pattern None nowhere = λ k there. nowhere k (omega arith) (omega (arith, there.fits)) (reads-from_OccursAt text pattern k there)
-FindsLast-from_search text pattern (Some i) last =
-    (OccursAt-from_reads text pattern i last.1, λ k above there. last.0.after k (omega arith) (omega (arith, there.fits)) (reads-from_OccursAt text pattern k there))
+pub FindsLast-from_search : (text pattern : List ℕ) (answer : Option ℕ) → FindsLastNeedle text pattern answer
+    → FindsLast text pattern answer
+FindsLast-from_search text pattern None nowhere
+    = λ k there. nowhere k (omega arith) (omega (arith, there.fits)) (reads-from_OccursAt text pattern k there)
+FindsLast-from_search text pattern (Some i) last = (
+  OccursAt-from_reads text pattern i last.1,
+  λ k above there. last.0.after k (omega arith) (omega (arith, there.fits))
+      (reads-from_OccursAt text pattern k there),
+)
 
 -- a text without its end is its front
 pub without_end : (text : List ℕ) (from : ℕ) → range_replaced text from (length text) [] ≡ take from text

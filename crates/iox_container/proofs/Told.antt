@@ -1,5 +1,6 @@
 -- What is told of a member.
-use Rattle.std.proofs.Common.{ℕ, zero, suc, ◌≡◌, ◌∷◌, [], List, length, get_or, Bool, true, false, Option, None, Some, refl, sym, ap, ◌∙◌, if◌then◌else◌}
+use Rattle.std.proofs.Common.{ℕ, zero, suc, ◌≡◌, ◌∷◌, [], List, length, get_or, Bool, true, false, Option, None, Some, refl, sym, ap, ◌∙◌}
+use Rattle.std.proofs.Common.{if◌then◌else◌}
 use Rattle.std.specs.List.{slice_get}
 use Rattle.std.specs.Option.{unwrap_or}
 use Rattle.iox_container.specs.declared.container.Member.{Member}
@@ -23,12 +24,14 @@ pub told_of-index : {T : Type 0} (owner id at : ℕ) (member : Option (Member T)
 told_of-index owner id at member x h = told-index id at member (is_of owner member) x h
 
 -- what a place past the last tells is what an empty one does
-pub member_of-read : {T : Type 0} (members : List (Option (Member T))) (index : ℕ) → get_or members index None ≡ member_of (slice_get members index)
+pub member_of-read : {T : Type 0} (members : List (Option (Member T))) (index : ℕ)
+    → get_or members index None ≡ member_of (slice_get members index)
 member_of-read [] index = refl
 member_of-read (member ∷ members) zero = refl
 member_of-read (member ∷ members) (suc index) = member_of-read members index
 
-pub value_of-read : {T : Type 0} (members : List (Option (Member T))) (index : ℕ) → value_of (Some (get_or members index None)) ≡ value_of (slice_get members index)
+pub value_of-read : {T : Type 0} (members : List (Option (Member T))) (index : ℕ)
+    → value_of (Some (get_or members index None)) ≡ value_of (slice_get members index)
 value_of-read [] index = refl
 value_of-read (member ∷ members) zero = refl
 value_of-read (member ∷ members) (suc index) = value_of-read members index

@@ -2,7 +2,8 @@ use Rattle.std.proofs.Common.{ℕ, ◌≡◌, ◌+◌, ◌++◌, ◌∷◌, [], 
 use Rattle.iox_container.specs.Vectors.{MakesInTurn}
 
 -- one more call after the others
-pub MakesInTurn-push : {F X : Type 0} (step : F → ℕ → X → F → Type 0) (first : F) (at : ℕ) (xs : List X) (now : F) (n : ℕ) (x : X) (next : F)
+pub MakesInTurn-push : {F X : Type 0} (step : F → ℕ → X → F → Type 0) (first : F) (at : ℕ) (xs : List X) (now : F) (n : ℕ) (x : X)
+    (next : F)
     → MakesInTurn step first at xs now → n ≡ at + length xs → step now n x next → MakesInTurn step first at (xs ++ x ∷ []) next
 MakesInTurn-push {F} step first at [] now n x next made e call =
     let here : n ≡ at = e ∙ omega arith in

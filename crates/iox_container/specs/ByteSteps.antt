@@ -1,5 +1,6 @@
 -- A cell of bytes, stored to and loaded from one byte at a time.
-use Rattle.std.specs.Prelude.{ℕ, ◌≡◌, ◌<◌, ◌==◌, List, [], ◌∷◌, length, take, Option, Some, None, unwrap_or, slice_index, slice_index_or, nat_lt, if◌then◌else◌}
+use Rattle.std.specs.Prelude.{ℕ, ◌≡◌, ◌<◌, ◌==◌, List, [], ◌∷◌, length, take, Option, Some, None, unwrap_or, slice_index, slice_index_or}
+use Rattle.std.specs.Prelude.{nat_lt, if◌then◌else◌}
 use Rattle.std.specs.Option.{option_or}
 use Rattle.iox_container.specs.declared.byte_cells.byte_machine.ByteStep.{ByteStep}
 use Rattle.iox_container.specs.declared.byte_cells.byte_machine.ByteStep.TheVariants.{Store, Load}
@@ -29,4 +30,5 @@ pub record HoldsAfter (before : List ℕ) (steps : List ByteStep) (bytes : List 
 -- the answers to steps, each after those before it
 abbrev pub AnswersInTurn : List ℕ → List ByteStep → List ByteAnswer → Type 0
 AnswersInTurn before steps answers =
-    (length answers ≡ length steps) × ((k : ℕ) → k < length steps → slice_index_or answers k Skipped ≡ answer_after before (take k steps) (slice_index_or steps k (Load 0)))
+    (length answers ≡ length steps) × ((k : ℕ) → k < length steps
+    → slice_index_or answers k Skipped ≡ answer_after before (take k steps) (slice_index_or steps k (Load 0)))

@@ -1,5 +1,6 @@
 -- Bytes that end at a zero, and bytes as they are shown in a log.
-use Rattle.std.specs.Prelude.{ℕ, ◌≡◌, ◌<◌, ◌≤◌, ◌/◌, ◌%◌, ◌+◌, ◌++◌, ◌==◌, ◌&&◌, List, [], ◌∷◌, length, take, All, nat_le, nat_lt, slice_index, codes, if◌then◌else◌}
+use Rattle.std.specs.Prelude.{ℕ, ◌≡◌, ◌<◌, ◌≤◌, ◌/◌, ◌%◌, ◌+◌, ◌++◌, ◌==◌, ◌&&◌, List, [], ◌∷◌, length, take, All, nat_le, nat_lt}
+use Rattle.std.specs.Prelude.{slice_index, codes, if◌then◌else◌}
 
 -- the first zero of the bytes stands at n, or there is none and n is their number
 pub record EndsAtZero (bytes : List ℕ) (n : ℕ) : Type 0 where

@@ -12,4 +12,5 @@ UnlessStopped Stop go_on stop = stop
 abbrev pub CallsUntilStop : {F X : Type 0} → (F → X → CallbackProgression → F → Type 0) → F → List X → F → Type 0
 CallsUntilStop step first [] last = first ≡ last
 CallsUntilStop {F} step first (x ∷ rest) last =
-    (answer : CallbackProgression) × (next : F) × step first x answer next × UnlessStopped answer (CallsUntilStop step next rest last) (next ≡ last)
+    (answer : CallbackProgression) × (next : F) × step first x answer next
+    × UnlessStopped answer (CallsUntilStop step next rest last) (next ≡ last)

@@ -1,5 +1,6 @@
 -- A container: members at their indices, each with its owner.
-use Rattle.std.specs.Prelude.{ℕ, ◌≡◌, ◌≤◌, ◌+◌, ◌<◌, ◌^◌, Bool, true, false, not, ◌&&◌, ◌||◌, List, [], ◌∷◌, Option, None, Some, is_some, Result, Ok, Err, length, replicate, slice_get, slice_set, nat_eq, if◌then◌else◌}
+use Rattle.std.specs.Prelude.{ℕ, ◌≡◌, ◌≤◌, ◌+◌, ◌<◌, ◌^◌, Bool, true, false, not, ◌&&◌, ◌||◌, List, [], ◌∷◌, Option, None, Some, is_some}
+use Rattle.std.specs.Prelude.{Result, Ok, Err, length, replicate, slice_get, slice_set, nat_eq, if◌then◌else◌}
 use Rattle.std.specs.List.{count_by, position}
 use Rattle.iox_container.specs.declared.container.Member.{Member}
 use Rattle.iox_container.specs.declared.container.ContainerHandle.{ContainerHandle}

@@ -1,7 +1,8 @@
 -- The texts of a vector's errors.
 use Rattle.std.specs.Prelude.{ℕ, List, codes}
 use Rattle.iox_container.specs.declared.vector.error.VectorModificationError.{VectorModificationError}
-use Rattle.iox_container.specs.declared.vector.error.VectorModificationError.TheVariants.{InsertWouldExceedCapacity, OutOfBounds, OutOfMemory}
+use Rattle.iox_container.specs.declared.vector.error.VectorModificationError.TheVariants.{InsertWouldExceedCapacity, OutOfBounds}
+use Rattle.iox_container.specs.declared.vector.error.VectorModificationError.TheVariants.{OutOfMemory}
 
 -- how a refusal reads: its type's name and its own
 abbrev pub vector_error_text : VectorModificationError → List ℕ

@@ -1,5 +1,6 @@
 -- Who had each place last, and the list by which the places of one owner are found.
-use Rattle.std.specs.Prelude.{ℕ, ◌≡◌, ◌≢◌, ◌+◌, ◌^◌, ◌≤◌, ◌<◌, List, [], ◌∷◌, Option, Some, None, length, drop, slice_get, slice_index_or, get_or}
+use Rattle.std.specs.Prelude.{ℕ, ◌≡◌, ◌≢◌, ◌+◌, ◌^◌, ◌≤◌, ◌<◌, List, [], ◌∷◌, Option, Some, None, length, drop, slice_get, slice_index_or}
+use Rattle.std.specs.Prelude.{get_or}
 use Rattle.std.specs.List.{Contains}
 use Rattle.iox_container.specs.Recovery.{asked_from}
 

@@ -7,4 +7,5 @@ use Rattle.std.specs.List.Retain.{ReturnsInTurn}
 -- the items at which it answered true are those that are kept
 abbrev pub KeepsAsAnswered : {F X : Type 0} → (F → X → Bool → F → Type 0) → F → List X → List X → F → Type 0
 KeepsAsAnswered step first items kept after =
-    (answers : List Bool) × (length answers ≡ length items) × ReturnsInTurn step first answers items after × (kept ≡ items_where_true answers items)
+    (answers : List Bool) × (length answers ≡ length items) × ReturnsInTurn step first answers items after
+    × (kept ≡ items_where_true answers items)

@@ -1,5 +1,6 @@
 -- A set of indices that knows their holders.
-use Rattle.std.specs.Prelude.{ℕ, Bool, true, false, not, List, Option, None, Some, is_some, Result, Ok, Err, replicate, slice_get, slice_set, ◌==◌, ◌||◌, if◌then◌else◌}
+use Rattle.std.specs.Prelude.{ℕ, Bool, true, false, not, List, Option, None, Some, is_some, Result, Ok, Err, replicate, slice_get}
+use Rattle.std.specs.Prelude.{slice_set, ◌==◌, ◌||◌, if◌then◌else◌}
 use Rattle.std.specs.List.{count_by, position}
 use Rattle.iox_container.specs.declared.error.UniqueIndexSetAcquireFailure.{UniqueIndexSetAcquireFailure}
 use Rattle.iox_container.specs.declared.error.UniqueIndexSetAcquireFailure.TheVariants.{OutOfIndices, IsLocked}

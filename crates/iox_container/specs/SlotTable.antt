@@ -1,5 +1,6 @@
 -- A slot map: values at their keys, and the keys that are free.
-use Rattle.std.specs.Prelude.{ℕ, ◌≡◌, ◌⊎◌, ◌+◌, ◌<◌, ◌↔◌, ◌==◌, List, [], ◌∷◌, length, Option, Some, None, is_some, count_by, slice_index_or, slice_set, if◌then◌else◌}
+use Rattle.std.specs.Prelude.{ℕ, ◌≡◌, ◌⊎◌, ◌+◌, ◌<◌, ◌↔◌, ◌==◌, List, [], ◌∷◌, length, Option, Some, None, is_some, count_by}
+use Rattle.std.specs.Prelude.{slice_index_or, slice_set, if◌then◌else◌}
 
 -- a value or none at each key from 0 on, and the keys without one in the order in which they will be given out
 pub record SlotTable (T : Type 0) : Type 0 where

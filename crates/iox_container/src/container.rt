@@ -1,5 +1,6 @@
 //! Members at indices, each with its owner.
-ghost use Rattle.std.specs.Prelude.{◌≡◌, ◌≤◌, ◌<◌, ◌↔◌, ◌+◌, true, false, length, not, is_some, ℕ, List, Option, slice_get, nat_eq, [], IfOk, OnErr, IfSome, IfNone, IsErr, if◌then◌else◌};
+ghost use Rattle.std.specs.Prelude.{◌≡◌, ◌≤◌, ◌<◌, ◌↔◌, ◌+◌, true, false, length, not, is_some, ℕ, List, Option, slice_get, nat_eq, []};
+ghost use Rattle.std.specs.Prelude.{IfOk, OnErr, IfSome, IfNone, IsErr, if◌then◌else◌};
 ghost use Rattle.std.specs.Bool.{OnFalse};
 ghost use Rattle.std.specs.List.{FoldsTo, position};
 ghost use Rattle.iox_container.specs.Callback.{CallsUntilStop};
@@ -7,7 +8,10 @@ ghost use Rattle.iox_container.specs.Owners.{AreOwned, IsToldNext, rest_from};
 ghost use Rattle.iox_container.specs.Recovery.{asked_from};
 ghost use Rattle.iox_container.specs.CountedPlaces.{padded};
 ghost use Rattle.iox_container.specs.Release.{locks, state_of};
-ghost use Rattle.iox_container.specs.Container.{Contents, Copied, empty_container, count_members, lowest_free, handle_of, with_member, without_member, settled, owns, is_numbered, is_of, HasRoom, copy_of, may_update, IsCopyOf, value_of, member_of, handle_at, first_handle, told, told_of, members_of, Recovered, all_members};
+ghost use Rattle.iox_container.specs.Container.{Contents, Copied, empty_container, count_members, lowest_free, handle_of, with_member};
+ghost use Rattle.iox_container.specs.Container.{without_member, settled, owns, is_numbered, is_of, HasRoom, copy_of, may_update};
+ghost use Rattle.iox_container.specs.Container.{IsCopyOf, value_of, member_of, handle_at, first_handle, told, told_of, members_of};
+ghost use Rattle.iox_container.specs.Container.{Recovered, all_members};
 
 use crate::CallbackProgression;
 use crate::counted_places::Places;

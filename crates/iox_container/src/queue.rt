@@ -1,5 +1,6 @@
 //! First in, first out, with a fixed number of places.
-ghost use Rattle.std.specs.Prelude.{◌≡◌, ℕ, ◌+◌, ◌<◌, ◌≤◌, ◌↔◌, List, [], ◌∷◌, ◌++◌, length, drop, IsTrue, IsSome, IsOk, IfOk, IfNone, Option, Some, None, slice_get, slice_index_or, if◌then◌else◌};
+ghost use Rattle.std.specs.Prelude.{◌≡◌, ℕ, ◌+◌, ◌<◌, ◌≤◌, ◌↔◌, List, [], ◌∷◌, ◌++◌, length, drop, IsTrue, IsSome, IsOk, IfOk, IfNone};
+ghost use Rattle.std.specs.Prelude.{Option, Some, None, slice_get, slice_index_or, if◌then◌else◌};
 ghost use Rattle.std.specs.Option.{option_copied, option_copied_mut, option_to_list};
 ghost use Rattle.std.specs.Borrow.{sem};
 ghost use Rattle.std.specs.Cmp.{on_equiv, on_per};

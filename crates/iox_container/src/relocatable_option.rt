@@ -1,5 +1,6 @@
 //! An option whose shape is its own and not the compiler's.
-ghost use Rattle.std.specs.Prelude.{◌≡◌, ◌↔◌, Bool, IsTrue, IsSome, IsNone, IfSome, IfNone, MatchOption, MatchBool, IsSomeAnd, unwrap_or, Some, None};
+ghost use Rattle.std.specs.Prelude.{◌≡◌, ◌↔◌, Bool, IsTrue, IsSome, IsNone, IfSome, IfNone, MatchOption, MatchBool, IsSomeAnd, unwrap_or};
+ghost use Rattle.std.specs.Prelude.{Some, None};
 ghost use Rattle.std.specs.Fn.{FnOnceReturnsAt, FnOnceTakesAt, FnOnceTakesAtMut};
 ghost use Rattle.std.specs.Option.{ForSome, ForNone, option_copied, option_copied_mut, UnwrapsOrElse};
 ghost use Rattle.std.specs.Borrow.{MutBor, sem};
@@ -159,7 +160,8 @@ impl<T> RelocatableOption<T> {
         requires { ForSome (option_of self.old) (FnOnceTakesAtMut P.FnOnce predicate) }
         ensures none { IfNone (option_of self.old) ((option_of result ≡ None) × (option_of self.new ≡ None)) }
         ensures some { IfSome (option_of self.old) (λ x. (p q : MutBor T) × (b : Bool) × (p.now ≡ x) × P.post predicate p b q
-            × MatchBool b ((option_of result ≡ Some q.now) × (option_of self.new ≡ None)) ((option_of result ≡ None) × (option_of self.new ≡ Some q.now))) }
+            × MatchBool b ((option_of result ≡ Some q.now) × (option_of self.new ≡ None))
+            ((option_of result ≡ None) × (option_of self.new ≡ Some q.now))) }
     {
         match self {
             RelocatableOption::Some(value) => {

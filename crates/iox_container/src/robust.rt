@@ -3,7 +3,8 @@ ghost use Rattle.std.specs.Prelude.{◌≡◌, ℕ, List, [], Option, length, sl
 ghost use Rattle.std.specs.List.{FoldsTo};
 ghost use Rattle.iox_container.specs.Release.{state_of};
 ghost use Rattle.iox_container.specs.Owners.{AreOwned, IsToldNext, rest_from};
-ghost use Rattle.iox_container.specs.Robust.{RobustSetState, new_robust_set, is_held, lowest_free, borrowed, answer_of, freed, settled, is_of, index_of, held_by, Recovered};
+ghost use Rattle.iox_container.specs.Robust.{RobustSetState, new_robust_set, is_held, lowest_free, borrowed, answer_of, freed, settled};
+ghost use Rattle.iox_container.specs.Robust.{is_of, index_of, held_by, Recovered};
 
 use crate::counted_places::Places;
 use crate::error::UniqueIndexSetAcquireFailure;

@@ -1,5 +1,6 @@
 -- What is heard of a line that comes in pieces.
-use Rattle.std.proofs.Common.{◌≡◌, ℕ, ◌<◌, ◌≤◌, ◌==◌, Bool, true, false, not, List, [], ◌∷◌, ◌++◌, length, take, map, drop, min, ◌+◌, ◌-◌, zero, suc, get_or, refl, sym, ap, ◌∙◌, arith, add-one, drop-cons, append_assoc, take-append-drop}
+use Rattle.std.proofs.Common.{◌≡◌, ℕ, ◌<◌, ◌≤◌, ◌==◌, Bool, true, false, not, List, [], ◌∷◌, ◌++◌, length, take, map, drop, min, ◌+◌, ◌-◌}
+use Rattle.std.proofs.Common.{zero, suc, get_or, refl, sym, ap, ◌∙◌, arith, add-one, drop-cons, append_assoc, take-append-drop}
 use Rattle.std.specs.List.{list_all}
 use Rattle.std.proofs.lemmas.List.{append-nil, take_all, take_min}
 use Rattle.std.proofs.Math.Nat.{min_comm}
@@ -77,10 +78,12 @@ pub heard-cut : (xs rest : List ℕ) → is_unbroken xs ≡ true → heard (xs +
 heard-cut [] rest unbroken = refl
 heard-cut (x ∷ xs) rest unbroken =
     let cut : is_unbroken (take 1025 (x ∷ xs)) ≡ true = unbroken-take 1025 (x ∷ xs) unbroken in
-    rw (lines_of-joined (x ∷ xs) rest unbroken, lines_of-joined (take 1025 (x ∷ xs)) rest cut) (cut_alike x xs (take 1024 xs) (lines_of rest) (take-within 1025 (x ∷ xs)))
+    rw (lines_of-joined (x ∷ xs) rest unbroken, lines_of-joined (take 1025 (x ∷ xs)) rest cut)
+    (cut_alike x xs (take 1024 xs) (lines_of rest) (take-within 1025 (x ∷ xs)))
 
 -- bytes before the first newline
-pub unbroken-before : (xs : List ℕ) (n : ℕ) → n ≤ length xs → ((k : ℕ) → k < n → (get_or xs k 0 == 10) ≡ true → ⊥) → is_unbroken (take n xs) ≡ true
+pub unbroken-before : (xs : List ℕ) (n : ℕ) → n ≤ length xs → ((k : ℕ) → k < n → (get_or xs k 0 == 10) ≡ true → ⊥)
+    → is_unbroken (take n xs) ≡ true
 unbroken-before xs zero within none = refl
 unbroken-before [] (suc n) within none = refl
 unbroken-before (x ∷ xs) (suc n) within none =
@@ -101,11 +104,13 @@ unbroken-whole xs none =
     rw (take_all (length xs) xs (omega arith)) at all
 
 -- a newline, with what stands before and after it
-pub newline-at : (xs : List ℕ) (n : ℕ) → n < length xs → (get_or xs n 0 == 10) ≡ true → xs ≡ (take n xs ++ 10 ∷ []) ++ take (length xs - (n + 1)) (drop (n + 1) xs)
+pub newline-at : (xs : List ℕ) (n : ℕ) → n < length xs → (get_or xs n 0 == 10) ≡ true
+    → xs ≡ (take n xs ++ 10 ∷ []) ++ take (length xs - (n + 1)) (drop (n + 1) xs)
 newline-at xs n within is =
     let newline : get_or xs n 0 ≡ 10 = grind (arith, common_steps) in
     let after : drop n xs ≡ 10 ∷ drop (n + 1) xs = rw (add-one, drop-cons xs n 0) (ap (λ b. b ∷ drop (suc n) xs) newline) in
-    rw (take-rest xs (n + 1), append_assoc (take n xs) (10 ∷ []) (drop (n + 1) xs)) (sym (take-append-drop n xs) ∙ ap (λ l. take n xs ++ l) after)
+    rw (take-rest xs (n + 1), append_assoc (take n xs) (10 ∷ []) (drop (n + 1) xs))
+    (sym (take-append-drop n xs) ∙ ap (λ l. take n xs ++ l) after)
 
 -- bytes of which one is a newline
 pub broken-at : (xs : List ℕ) (n : ℕ) → n < length xs → (get_or xs n 0 == 10) ≡ true → is_unbroken xs ≡ false

@@ -1,6 +1,6 @@
 -- What is written for what is read. `answers` says what one line is answered, and what becomes of who answers; `used` counts how many of
 -- the numbers below 2^64 they have given out.
-use Rattle.std.specs.Prelude.{◌≡◌, ◌⊎◌, ℕ, ◌+◌, ◌<◌, ◌≤◌, ◌==◌, Bool, true, false, not, List, [], ◌∷◌, ◌++◌, Option, length}
+use Rattle.std.specs.Prelude.{◌≡◌, ◌⊎◌, ℕ, ◌+◌, ◌^◌, ◌<◌, ◌≤◌, ◌==◌, Bool, true, false, not, List, [], ◌∷◌, ◌++◌, Option, length}
 use Rattle.std.specs.List.{list_all}
 use Rattle.std.specs.Io.KnownBytes.{Consumes, Appends, IsAtEnd}
 use Rattle.iox_conversation.specs.Lines.{heard, heard_whole}
@@ -11,7 +11,8 @@ use Rattle.iox_conversation.specs.declared.error.ServeError.TheVariants.{ReadFau
 abbrev pub Served : {M : Type 0} → (M → List ℕ → List ℕ → M → Type 0) → M → List (List ℕ) → List ℕ → M → Type 0
 Served answers old [] out new = (out ≡ []) × (new ≡ old)
 Served {M} answers old (line ∷ lines) out new =
-    (text : List ℕ) × (rest : List ℕ) × (mid : M) × answers old line text mid × Served answers mid lines rest new × (out ≡ text ++ (10 ∷ rest))
+    (text : List ℕ) × (rest : List ℕ) × (mid : M) × answers old line text mid × Served answers mid lines rest new
+    × (out ≡ text ++ (10 ∷ rest))
 
 -- the output answers each line of the input, from here on
 abbrev pub IsConversation : {M : Type 0} → (M → List ℕ → List ℕ → M → Type 0) → M → List ℕ → List ℕ → Type 0
@@ -46,7 +47,8 @@ pub record Ends {M : Type 0} (answers : M → List ℕ → List ℕ → M → Ty
   pub final : M
   pub served : Served answers old.machine (heard (old.line ++ bytes)) out final
 
--- A conversation from here to the end of the input: what was left was read to its end, and what was written answers it.
+-- A conversation from here to the end of the input: what was left, of 2^36 bytes at most, was read to its end, and what was written answers
+-- it.
 pub record Converses {M : Type 0} (answers : M → List ℕ → List ℕ → M → Type 0) (used : M
     → ℕ) (old : SessionState M) (left leaves held holds : Option (List ℕ)) : Type 0 where
   pub bytes : List ℕ
@@ -55,6 +57,7 @@ pub record Converses {M : Type 0} (answers : M → List ℕ → List ℕ → M �
   pub mid : SessionState M
   pub consumed : Consumes left leaves bytes
   pub all : IsAtEnd leaves
+  pub few : length bytes ≤ 2 ^ 36
   pub written : Appends held holds (text ++ last)
   pub advances : Advances answers used old bytes text mid
   pub ends : Ends answers mid [] last
@@ -71,9 +74,9 @@ AreBegun {M} answers used ended old piece part =
 abbrev pub IsDue : {M : Type 0} → Bool → SessionState M → List ℕ → Type 0
 IsDue ended session piece = (list_all (λ b. not (b == 10)) piece ≡ false) ⊎ ((piece ≡ []) × (ended ≡ true) × (0 < length session.line))
 
--- A conversation from here that broke off. All that was read before a last piece is answered. After a read fault there is no such
--- piece, and after a write fault a beginning of what answers it is written. Where memory was wanting, nothing was read yet, or
--- that piece ends the first line that isn't answered.
+-- A conversation from here that broke off, of 2^36 bytes at most. All that was read before a last piece is answered. After a read fault
+-- there is no such piece, and after a write fault a beginning of what answers it is written. Where memory was wanting, nothing was read
+-- yet, or that piece ends the first line that isn't answered.
 pub record BreaksOff {M : Type 0} (answers : M → List ℕ → List ℕ → M → Type 0) (used : M → ℕ) (error : ServeError) (ended : Bool)
     (old : SessionState M) (left leaves held holds : Option (List ℕ)) : Type 0 where
   pub bytes : List ℕ
@@ -82,6 +85,7 @@ pub record BreaksOff {M : Type 0} (answers : M → List ℕ → List ℕ → M �
   pub part : List ℕ
   pub mid : SessionState M
   pub consumed : Consumes left leaves (bytes ++ piece)
+  pub few : length (bytes ++ piece) ≤ 2 ^ 36
   pub written : Appends held holds (text ++ part)
   pub advances : Advances answers used old bytes text mid
   pub whole : list_all (λ b. not (b == 10)) mid.line ≡ true
@@ -90,7 +94,8 @@ pub record BreaksOff {M : Type 0} (answers : M → List ℕ → List ℕ → M �
   pub begun : (part ≡ []) ⊎ ((error ≡ WriteFault) × AreBegun answers used ended mid piece part)
   pub due : error ≡ OutOfMemory → IsDue ended mid piece ⊎ ((bytes ≡ []) × (piece ≡ []))
 
--- What was written is a beginning of the reply lines, in order, of lines that were read whole: the first ones, one reply line for each.
+-- What was written is a beginning of the reply lines, in order, of lines that were read whole: the first ones, one reply line for each. Of
+-- the input at most 2^36 bytes were read.
 pub record WritesABeginning {M : Type 0} (answers : M → List ℕ → List ℕ → M
     → Type 0) (ended : Bool) (start : M) (left leaves held holds : Option (List ℕ)) : Type 0 where
   pub read : List ℕ
@@ -100,6 +105,7 @@ pub record WritesABeginning {M : Type 0} (answers : M → List ℕ → List ℕ 
   pub others : List (List ℕ)
   pub final : M
   pub consumed : Consumes left leaves read
+  pub few : length read ≤ 2 ^ 36
   pub appended : Appends held holds written
   pub whole : heard_whole ended read ≡ lines ++ others
   pub served : Served answers start lines (written ++ unwritten) final

@@ -1,5 +1,5 @@
 //! Bytes in, bytes out.
-ghost use Rattle.std.specs.Prelude.{◌≡◌, ◌==◌, ℕ, List, [], ◌⊎◌, ◌+◌, ◌<◌, ◌^◌, true, not, OnOk, OnErr, IfErr, IfSome, length};
+ghost use Rattle.std.specs.Prelude.{◌≡◌, ◌==◌, ℕ, List, [], ◌⊎◌, ◌+◌, ◌<◌, ◌≤◌, ◌^◌, true, not, OnOk, OnErr, IfErr, IfSome, length};
 ghost use Rattle.std.specs.List.{list_all};
 ghost use Rattle.std.specs.Io.KnownBytes.{Appends};
 ghost use Rattle.iox_conversation.specs.Conversation.{BreaksOff, IsConversation, Converses, WritesABeginning};
@@ -42,6 +42,8 @@ pub fn serve<M: AnswersLines, R: Read, W: Write>(
     ensures conversation { OnOk result (IfSome (R.remaining input.old.reader) (λ bytes.
         (text : List ℕ) × Appends (W.contents output.old.writer) (W.contents output.new.writer) text
         × IsConversation M.answers machine bytes text)) }
+    // As many bytes are read at most as so many read calls give.
+    ensures few { OnOk result (IfSome (R.remaining input.old.reader) (λ bytes. length bytes ≤ 2 ^ 36)) }
     ensures broken { IfErr result (λ error. BreaksOff M.answers M.used error input.new.ended (record { machine = machine; line = [] })
         (R.remaining input.old.reader) (R.remaining input.new.reader) (W.contents output.old.writer) (W.contents output.new.writer)) }
     ensures beginning { OnErr result (WritesABeginning M.answers input.new.ended machine

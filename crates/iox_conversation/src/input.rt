@@ -1,5 +1,6 @@
 //! A reader, with what its calls answered so far.
-ghost use Rattle.std.specs.Prelude.{◌≡◌, ◌≢◌, ◌+◌, ◌||◌, ◌<◌, ◌≤◌, ◌^◌, true, false, not, Ok, Some, take, length, IfOk, IfErr, OnErr, IfSome, IfNone, is_err};
+ghost use Rattle.std.specs.Prelude.{◌≡◌, ◌≢◌, ◌+◌, ◌||◌, ◌<◌, ◌≤◌, ◌^◌, true, false, not, Ok, Some, take, length, IfOk, IfErr, OnErr};
+ghost use Rattle.std.specs.Prelude.{IfSome, IfNone, is_err};
 ghost use Rattle.std.specs.Io.KnownBytes.{Consumes, IsAtEnd, Keeps};
 ghost use Rattle.std.specs.IoError.{error_kind};
 ghost use Rattle.iox_conversation.specs.Input.{InputState, is_end};

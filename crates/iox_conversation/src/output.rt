@@ -1,5 +1,6 @@
 //! A writer, with what its calls answered so far.
-ghost use Rattle.std.specs.Prelude.{◌≡◌, ◌≢◌, ◌||◌, ◌<◌, ◌≤◌, true, false, take, length, IfOk, IfErr, OnErr, IfSome, IfNone, is_none, is_err};
+ghost use Rattle.std.specs.Prelude.{◌≡◌, ◌≢◌, ◌||◌, ◌<◌, ◌≤◌, true, false, take, length, IfOk, IfErr, OnErr, IfSome, IfNone, is_none};
+ghost use Rattle.std.specs.Prelude.{is_err};
 ghost use Rattle.std.specs.Io.KnownBytes.{Appends, Keeps};
 ghost use Rattle.std.specs.IoError.{error_kind};
 ghost use Rattle.iox_conversation.specs.Output.{OutputState};

@@ -1,5 +1,6 @@
 -- What is held may be sent, and released.
-use Rattle.std.proofs.Common.{◌≡◌, ◌&&◌, ◌==◌, ◌∙◌, ℕ, Bool, true, false, cond, List, [], is_some, option_map, slice_get, unwrap_or, Option, None, Some, refl, sym, ap}
+use Rattle.std.proofs.Common.{◌≡◌, ◌&&◌, ◌==◌, ◌∙◌, ℕ, Bool, true, false, cond, List, [], is_some, option_map, slice_get, unwrap_or}
+use Rattle.std.proofs.Common.{Option, None, Some, refl, sym, ap}
 use Rattle.iox_domain.specs.DomainValues.declared.backpressure.BackpressureDecision.{BackpressureDecision}
 use Rattle.iox_domain.specs.DomainValues.declared.backpressure.BackpressureInfo.{BackpressureInfo}
 use Rattle.iox_domain.specs.DomainValues.declared.degradation.DegradationAction.{DegradationAction}
@@ -29,26 +30,35 @@ use Rattle.iox_delivery.specs.KindLaws.{left_of, right_of, sample_is_message}
 no : false ≡ true → ⊥
 no h = cc
 
-port_sends : {T U : Type 0} (may_degrade : DegradationInfo → DegradationAction → Type 0) (may : BackpressureInfo → BackpressureDecision → Type 0) (number slot : ℕ) (port : Option (PublisherPort T U)) (old new : ServicePorts T U)
-    → is_written_loan (loan_at_port slot port) ≡ true → passes_port is_blocked port ≡ false → AtPublisher number (SendsOne may_degrade may old.subscriber_list slot) port old None new → ⊥
+port_sends : {T U : Type 0} (may_degrade : DegradationInfo → DegradationAction → Type 0)
+    (may : BackpressureInfo → BackpressureDecision → Type 0) (number slot : ℕ) (port : Option (PublisherPort T U))
+    (old new : ServicePorts T U)
+    → is_written_loan (loan_at_port slot port) ≡ true → passes_port is_blocked port ≡ false
+    → AtPublisher number (SendsOne may_degrade may old.subscriber_list slot) port old None new → ⊥
 port_sends may_degrade may number slot None old new holds free sends = no holds
 port_sends may_degrade may number slot (Some port) old new holds free sends =
     ready_there slot port _ refl holds free (none_ready may_degrade may sends.1.0 old.subscriber_list.changes _ port sends.0 sends.1.2)
 
 -- a sample that is held by a publisher of which no send waits is sent
-pub sample_sends : {T U H : Type 0} (with_ports : ServicePorts T U → H) (may_degrade : DegradationInfo → DegradationAction → Type 0) (may : BackpressureInfo → BackpressureDecision → Type 0) (number slot : ℕ) (found : Option (ServicePorts T U)) (old new : H)
-    → is_written_loan (loan_found number slot found) ≡ true → publisher_blocked number found ≡ false → AtDomain with_ports (SendsBy may_degrade may number slot) found old None new → ⊥
+pub sample_sends : {T U H : Type 0} (with_ports : ServicePorts T U → H) (may_degrade : DegradationInfo → DegradationAction → Type 0)
+    (may : BackpressureInfo → BackpressureDecision → Type 0) (number slot : ℕ) (found : Option (ServicePorts T U)) (old new : H)
+    → is_written_loan (loan_found number slot found) ≡ true → publisher_blocked number found ≡ false
+    → AtDomain with_ports (SendsBy may_degrade may number slot) found old None new → ⊥
 sample_sends with_ports may_degrade may number slot None old new holds free sends = no holds
-sample_sends with_ports may_degrade may number slot (Some ports) old new holds free sends = port_sends may_degrade may number slot (port_of number ports.publishers) ports sends.0 holds free sends.1
+sample_sends with_ports may_degrade may number slot (Some ports) old new holds free sends
+    = port_sends may_degrade may number slot (port_of number ports.publishers) ports sends.0 holds free sends.1
 
-releases_at : {T U : Type 0} (number : ℕ) (taken : Taken) (port : Option (PublisherPort T U)) (old new : ServicePorts T U) (place : Option ℕ) → port_of taken.publisher old.publishers ≡ port
+releases_at : {T U : Type 0} (number : ℕ) (taken : Taken) (port : Option (PublisherPort T U)) (old new : ServicePorts T U)
+    (place : Option ℕ) → port_of taken.publisher old.publishers ≡ port
     → place ≡ place_of taken.slot (connection_in taken.publisher taken.index old.publishers)
     → is_some (sample_at_port taken port) ≡ true → ReleasesAt number taken place old false new → ⊥
 releases_at number taken None old new place there is holds releases = no holds
 releases_at number taken (Some port) old new (Some at) there is holds releases = no releases.0
 releases_at number taken (Some port) old new None there is holds releases =
-    let here : None ≡ place_of taken.slot (connection_of taken.index port) = is ∙ ap (λ found. place_of taken.slot (connection_at_port taken.index found)) there in
-    no (sym (ap (λ message. is_some message) (at_none (λ message. message.slot == taken.slot) (connection_of taken.index port).borrowed here)) ∙ holds)
+    let here : None ≡ place_of taken.slot (connection_of taken.index port)
+    = is ∙ ap (λ found. place_of taken.slot (connection_at_port taken.index found)) there in
+    no (sym (ap (λ message. is_some message)
+    (at_none (λ message. message.slot == taken.slot) (connection_of taken.index port).borrowed here)) ∙ holds)
 
 releases_of : {T U : Type 0} (subscriber : Option SubscriberPort) (number : ℕ) (taken : Taken) (old new : ServicePorts T U)
     → (is_some subscriber && is_some (sample_in taken old)) ≡ true → ReleasesOf subscriber number taken old false new → ⊥
@@ -57,7 +67,8 @@ releases_of (Some subscriber) number taken old new holds releases =
     releases_at number taken (port_of taken.publisher old.publishers) old new _ refl refl holds releases
 
 -- a sample that is held is released
-pub sample_releases : {T U : Type 0} (number : ℕ) (taken : Taken) (ports new : ServicePorts T U) → holds_message number taken (Some ports) ≡ true → Releases number taken ports false new → ⊥
+pub sample_releases : {T U : Type 0} (number : ℕ) (taken : Taken) (ports new : ServicePorts T U)
+    → holds_message number taken (Some ports) ≡ true → Releases number taken ports false new → ⊥
 sample_releases {T} {U} number taken ports new holds releases = found (taken.subscriber == number) holds releases
   where
     found : (own : Bool) → ((is_some (subscriber_of number ports.subscribers) && is_some (sample_in taken ports)) && own) ≡ true
@@ -71,6 +82,7 @@ pub held_sample : {T U : Type 0} (number : ℕ) (taken : Taken) (ports : Option 
 held_sample number taken ports holds = sample_is_message number taken ports holds
 
 -- the first value of a message
-pub first_value : {T U : Type 0} (found : Option (Message T U)) (values : List T) → Some values ≡ option_map (λ message. message.values) found → value_found 0 found ≡ slice_get values 0
+pub first_value : {T U : Type 0} (found : Option (Message T U)) (values : List T)
+    → Some values ≡ option_map (λ message. message.values) found → value_found 0 found ≡ slice_get values 0
 first_value None values is = cc
 first_value (Some message) values is = ap (λ some. slice_get (unwrap_or some []) 0) (sym is)

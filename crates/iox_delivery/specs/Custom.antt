@@ -23,5 +23,6 @@ values_of number elements ports = min (elements * unit_of (publisher_found numbe
 abbrev pub LendsElements : {T U K H : Type 0} → (DomainId → H → Option (ServicePorts T U)) → (DomainId → ServicePorts T U → H → H)
     → PortId → ℕ → H → Result (Lent T U K Uninit) LoanError → H → Type 0
 LendsElements ports_of with_ports port elements old answer new =
-    (lent : Result ℕ LoanError) × LendsSlot ports_of with_ports port (values_of port.number elements (ports_of port.domain old)) elements old lent new
+    (lent : Result ℕ LoanError) × LendsSlot ports_of with_ports port (values_of port.number elements (ports_of port.domain old))
+    elements old lent new
     × (answer ≡ lent_of (values_of port.number elements (ports_of port.domain old)) port lent)

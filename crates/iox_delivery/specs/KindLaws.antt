@@ -16,7 +16,8 @@ pub right_of : (a b : Bool) → (a && b) ≡ true → b ≡ true
 right_of true b h = h
 right_of false b h = cc
 
-value_of_message : {T U : Type 0} (found : Option (Message T U)) (there own : Bool) → ((there && is_some (value_found 0 found)) && own) ≡ true
+value_of_message : {T U : Type 0} (found : Option (Message T U)) (there own : Bool)
+    → ((there && is_some (value_found 0 found)) && own) ≡ true
     → ((there && is_some found) && own) ≡ true
 value_of_message None true own holds = holds
 value_of_message None false own holds = holds
@@ -24,7 +25,8 @@ value_of_message (Some message) true own holds = right_of _ _ holds
 value_of_message (Some message) false own holds = holds
 
 -- a sample with a value is a message that is held
-pub sample_is_message : {T U : Type 0} (number : ℕ) (taken : Taken) (ports : Option (ServicePorts T U)) → holds_sample number taken ports ≡ true → holds_message number taken ports ≡ true
+pub sample_is_message : {T U : Type 0} (number : ℕ) (taken : Taken) (ports : Option (ServicePorts T U))
+    → holds_sample number taken ports ≡ true → holds_message number taken ports ≡ true
 sample_is_message number taken ports holds =
     value_of_message (message_found taken ports) (is_some (subscriber_found number ports)) (taken.subscriber == number) holds
 

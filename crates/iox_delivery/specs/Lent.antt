@@ -15,7 +15,8 @@ abbrev pub IsFresh : {T U : Type 0} → ℕ → ℕ → ℕ → ℕ → ServiceP
 IsFresh {T} {U} number values elements slot old new =
     (port : PublisherPort T U) × (port_of number old.publishers ≡ Some port)
     × (loan_in number slot new ≡ Some (new_loan slot values elements port.sender.user_header))
-    × (loan_header_in number slot new ≡ Some (record { node_id = port.owner.node_id; publisher_id = port.number; number_of_elements = elements }))
+    × (loan_header_in number slot new ≡ Some
+    (record { node_id = port.owner.node_id; publisher_id = port.number; number_of_elements = elements }))
     × (passes number (λ port. port.stands) new ≡ true) × (passes number is_blocked new ≡ false)
 
 -- A loan that was just made is such a one.
@@ -26,5 +27,6 @@ LoanIsFresh T U = (number values elements slot : ℕ) (old new : ServicePorts T 
 -- The loan in a slot has just these values, each written, and so many elements; and no send of its publisher waits.
 abbrev pub IsReady : {T U : Type 0} → ℕ → List T → ℕ → ℕ → Option (ServicePorts T U) → Type 0
 IsReady {T} {U} number values elements slot ports =
-    (user_header : U) × (loan_found number slot ports ≡ Some (record { slot = slot; elements = elements; user_header = user_header; values = map Some values }))
+    (user_header : U) × (loan_found number slot ports
+    ≡ Some (record { slot = slot; elements = elements; user_header = user_header; values = map Some values }))
     × (publisher_blocked number ports ≡ false)

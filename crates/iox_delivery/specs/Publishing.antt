@@ -59,7 +59,8 @@ loan_header_found number slot (Some ports) = loan_header_in number slot ports
 abbrev pub LendsSlot : {T U H : Type 0} → (DomainId → H → Option (ServicePorts T U)) → (DomainId → ServicePorts T U → H → H) → PortId
     → ℕ → ℕ → H → Result ℕ LoanError → H → Type 0
 LendsSlot ports_of with_ports port values elements old answer new =
-    AtDomain (λ after. with_ports port.domain after old) (LoansBy port.number values elements) (ports_of port.domain old) old (Some answer) new
+    AtDomain (λ after. with_ports port.domain after old) (LoansBy port.number values elements) (ports_of port.domain old) old
+    (Some answer) new
 
 -- A publisher lends a value to be written.
 abbrev pub LendsUninit : {T U K H : Type 0} → (DomainId → H → Option (ServicePorts T U)) → (DomainId → ServicePorts T U → H → H) → PortId
@@ -81,25 +82,30 @@ written_of port (Err error) = Err error
 abbrev pub FollowsSubscribers : {T U H : Type 0} → (DomainId → H → Option (ServicePorts T U)) → (DomainId → ServicePorts T U → H → H)
     → (DomainId → ℕ → H → DegradationInfo → DegradationAction → Type 0) → PortId → H → Result (Unit {0}) ConnectionFailure → H → Type 0
 FollowsSubscribers ports_of with_ports degrades port old answer new =
-    AtDomain (λ after. with_ports port.domain after old) (UpdatesBy (degrades port.domain port.number old) port.number) (ports_of port.domain old) old (Some answer) new
+    AtDomain (λ after. with_ports port.domain after old) (UpdatesBy (degrades port.domain port.number old) port.number)
+    (ports_of port.domain old) old (Some answer) new
 
 -- A publisher leaves.
 abbrev pub PublisherGoes : {T U H : Type 0} → (DomainId → H → Option (ServicePorts T U)) → (DomainId → ServicePorts T U → H → H)
     → (DomainId → ℕ → H → H) → PortId → H → H → Type 0
 PublisherGoes ports_of with_ports without port old new =
-    LeavesDomain (λ after. with_ports port.domain after old) (without port.domain port.number) (PublisherLeaves port.number) (ports_of port.domain old) old true new
+    LeavesDomain (λ after. with_ports port.domain after old) (without port.domain port.number) (PublisherLeaves port.number)
+    (ports_of port.domain old) old true new
 
 -- A publisher that is let go leaves; nothing happens where it can't.
 abbrev pub EndsPublisher : {T U H : Type 0} → (DomainId → H → Option (ServicePorts T U)) → (DomainId → ServicePorts T U → H → H)
     → (DomainId → ℕ → H → H) → PortId → H → Bool → H → Type 0
 EndsPublisher ports_of with_ports without port old left new =
-    LeavesDomain (λ after. with_ports port.domain after old) (without port.domain port.number) (PublisherLeaves port.number) (ports_of port.domain old) old left new
+    LeavesDomain (λ after. with_ports port.domain after old) (without port.domain port.number) (PublisherLeaves port.number)
+    (ports_of port.domain old) old left new
 
 -- The value of a loan of one value is written.
 abbrev pub WritesPayload : {T U H : Type 0} → (DomainId → H → Option (ServicePorts T U)) → (DomainId → ServicePorts T U → H → H)
     → PortId → ℕ → T → H → H → Type 0
 WritesPayload ports_of with_ports port slot value old new =
-    new ≡ changed_at (λ after. with_ports port.domain after old) (written_in port.number (λ publisher. has_length slot 1 publisher.sender.uses) slot (write_value 0 value)) (ports_of port.domain old) old
+    new ≡ changed_at (λ after. with_ports port.domain after old)
+    (written_in port.number (λ publisher. has_length slot 1 publisher.sender.uses) slot (write_value 0 value))
+    (ports_of port.domain old) old
 
 -- The value of the loan in a slot is written, and the slot is answered.
 abbrev pub WritesLent : {T U H : Type 0} → (DomainId → H → Option (ServicePorts T U)) → (DomainId → ServicePorts T U → H → H) → PortId
@@ -118,7 +124,8 @@ LendsValue {T} {U} {H} ports_of with_ports port value old answer new =
 abbrev pub LendsDefault : {T U K H : Type 0} → (DomainId → H → Option (ServicePorts T U)) → (DomainId → ServicePorts T U → H → H)
     → (T → Type 0) → PortId → H → Result (Lent T U K Written) LoanError → H → Type 0
 LendsDefault {T} {U} {K} {H} ports_of with_ports is_default port old answer new =
-    (value : T) × is_default value × (lent : Result ℕ LoanError) × LendsValue ports_of with_ports port value old lent new × (answer ≡ written_of port lent)
+    (value : T) × is_default value × (lent : Result ℕ LoanError) × LendsValue ports_of with_ports port value old lent new
+    × (answer ≡ written_of port lent)
 
 -- what the home ends as once the loan in a slot changed; nothing changes where the domain isn't here
 abbrev pub loan_changed : {T U H : Type 0} → (DomainId → H → Option (ServicePorts T U)) → (DomainId → ServicePorts T U → H → H) → PortId
@@ -130,7 +137,9 @@ loan_changed ports_of with_ports port slot change home
 abbrev pub WritesUserHeader : {T U H : Type 0} → (DomainId → H → Option (ServicePorts T U)) → (DomainId → ServicePorts T U → H → H)
     → PortId → ℕ → U → H → H → Type 0
 WritesUserHeader ports_of with_ports port slot user_header old new =
-    new ≡ changed_at (λ after. with_ports port.domain after old) (written_in port.number (λ publisher. has_loan slot publisher.sender.uses) slot (write_user_header user_header)) (ports_of port.domain old) old
+    new ≡ changed_at (λ after. with_ports port.domain after old)
+    (written_in port.number (λ publisher. has_loan slot publisher.sender.uses) slot (write_user_header user_header))
+    (ports_of port.domain old) old
 
 -- A loan is given up.
 abbrev pub GivesUpLoan : {T U H : Type 0} → (DomainId → H → Option (ServicePorts T U)) → (DomainId → ServicePorts T U → H → H) → PortId
@@ -144,7 +153,9 @@ abbrev pub SendsSample : {T U H : Type 0} → (DomainId → H → Option (Servic
     → (DomainId → ℕ → H → BackpressureInfo → BackpressureDecision → Type 0) → PortId → ℕ → H → Result (Sent T U) SendError → H → Type 0
 SendsSample ports_of with_ports degrades decides port slot old answer new =
     (outcome : Result Sending SendError)
-    × AtDomain (λ after. with_ports port.domain after old) (SendsBy (degrades port.domain port.number old) (decides port.domain port.number old) port.number slot) (ports_of port.domain old) old (Some outcome) new
+    × AtDomain (λ after. with_ports port.domain after old)
+    (SendsBy (degrades port.domain port.number old) (decides port.domain port.number old) port.number slot)
+    (ports_of port.domain old) old (Some outcome) new
     × (answer ≡ sent_of port outcome)
 
 -- A value is lent, written and sent.
@@ -161,7 +172,8 @@ abbrev pub RetriesSend : {T U H : Type 0} → (DomainId → H → Option (Servic
     → (DomainId → ℕ → H → BackpressureInfo → BackpressureDecision → Type 0) → PortId → ℕ → H → Result (Sent T U) SendError → H → Type 0
 RetriesSend ports_of with_ports decides port elapsed old answer new =
     (outcome : Result Sending SendError)
-    × AtDomain (λ after. with_ports port.domain after old) (RetriesBy (decides port.domain port.number old) port.number elapsed) (ports_of port.domain old) old (Some outcome) new
+    × AtDomain (λ after. with_ports port.domain after old) (RetriesBy (decides port.domain port.number old) port.number elapsed)
+    (ports_of port.domain old) old (Some outcome) new
     × (answer ≡ sent_of port outcome)
 
 -- A send that waits is given up.

@@ -37,13 +37,17 @@ LendsSlice ports_of with_ports port len old answer new =
 abbrev pub WritesAt : {T U H : Type 0} → (DomainId → H → Option (ServicePorts T U)) → (DomainId → ServicePorts T U → H → H) → PortId → ℕ
     → ℕ → T → H → H → Type 0
 WritesAt ports_of with_ports port slot place value old new =
-    new ≡ changed_at (λ after. with_ports port.domain after old) (written_in port.number (λ publisher. has_place slot place publisher.sender.uses) slot (write_value place value)) (ports_of port.domain old) old
+    new ≡ changed_at (λ after. with_ports port.domain after old)
+    (written_in port.number (λ publisher. has_place slot place publisher.sender.uses) slot (write_value place value))
+    (ports_of port.domain old) old
 
 -- All values of a loan are written, if it has as many.
 abbrev pub WritesAll : {T U H : Type 0} → (DomainId → H → Option (ServicePorts T U)) → (DomainId → ServicePorts T U → H → H) → PortId
     → ℕ → List T → H → H → Type 0
 WritesAll ports_of with_ports port slot values old new =
-    new ≡ changed_at (λ after. with_ports port.domain after old) (written_in port.number (λ publisher. has_length slot (length values) publisher.sender.uses) slot (write_all values)) (ports_of port.domain old) old
+    new ≡ changed_at (λ after. with_ports port.domain after old)
+    (written_in port.number (λ publisher. has_length slot (length values) publisher.sender.uses) slot (write_all values))
+    (ports_of port.domain old) old
 
 -- Values are written from a place of the loan in a slot on, one after the other, each where the loan has its place.
 abbrev pub each_written : {T U : Type 0} → ℕ → ℕ → List T → PublisherPort T U → PublisherPort T U
@@ -74,13 +78,15 @@ abbrev pub LendsFilled : {T U H : Type 0} → (DomainId → H → Option (Servic
     → ℕ → T → H → Result ℕ LoanError → H → Type 0
 LendsFilled {T} {U} {H} ports_of with_ports port len value old answer new =
     (lent : Result ℕ LoanError) × (middle : H)
-    × LendsSlot ports_of with_ports port len len old lent middle × AfterLoan Err (FillsLent ports_of with_ports port len value) lent middle answer new
+    × LendsSlot ports_of with_ports port len len old lent middle
+    × AfterLoan Err (FillsLent ports_of with_ports port len value) lent middle answer new
 
 -- A publisher lends so many values that are written: each is one default.
 abbrev pub LendsDefaults : {T U K H : Type 0} → (DomainId → H → Option (ServicePorts T U)) → (DomainId → ServicePorts T U → H → H)
     → (T → Type 0) → PortId → ℕ → H → Result (Lent T U K Written) LoanError → H → Type 0
 LendsDefaults {T} {U} {K} {H} ports_of with_ports is_default port len old answer new =
-    (value : T) × is_default value × (lent : Result ℕ LoanError) × LendsFilled ports_of with_ports port len value old lent new × (answer ≡ written_of port lent)
+    (value : T) × is_default value × (lent : Result ℕ LoanError) × LendsFilled ports_of with_ports port len value old lent new
+    × (answer ≡ written_of port lent)
 
 -- the values are written in the loan in a slot, which is sent then
 abbrev pub SendsAll : {T U H : Type 0} → (DomainId → H → Option (ServicePorts T U)) → (DomainId → ServicePorts T U → H → H)
@@ -88,7 +94,8 @@ abbrev pub SendsAll : {T U H : Type 0} → (DomainId → H → Option (ServicePo
     → (DomainId → ℕ → H → BackpressureInfo → BackpressureDecision → Type 0) → PortId → List T → ℕ → H → Result (Sent T U) SendError → H
     → Type 0
 SendsAll {T} {U} {H} ports_of with_ports degrades decides port values slot old answer new =
-    (middle : H) × WritesAll ports_of with_ports port slot values old middle × SendsSample ports_of with_ports degrades decides port slot middle answer new
+    (middle : H) × WritesAll ports_of with_ports port slot values old middle
+    × SendsSample ports_of with_ports degrades decides port slot middle answer new
 
 -- Values are lent, written and sent.
 abbrev pub SendsSlice : {T U H : Type 0} → (DomainId → H → Option (ServicePorts T U)) → (DomainId → ServicePorts T U → H → H)
@@ -105,8 +112,11 @@ abbrev pub WritesAndSends : {T U H : Type 0} → (DomainId → H → Option (Ser
     → (DomainId → ℕ → H → BackpressureInfo → BackpressureDecision → Type 0) → PortId → List T → ℕ → H → Result Sending SendError → H
     → Type 0
 WritesAndSends {T} {U} {H} ports_of with_ports degrades decides port values slot old answer new =
-    (middle : H) × WritesAll ports_of with_ports port slot values old middle × IsReady port.number values (length values) slot (ports_of port.domain middle)
-    × AtDomain (λ after. with_ports port.domain after middle) (SendsBy (degrades port.domain port.number middle) (decides port.domain port.number middle) port.number slot) (ports_of port.domain middle) middle (Some answer) new
+    (middle : H) × WritesAll ports_of with_ports port slot values old middle
+    × IsReady port.number values (length values) slot (ports_of port.domain middle)
+    × AtDomain (λ after. with_ports port.domain after middle)
+    (SendsBy (degrades port.domain port.number middle) (decides port.domain port.number middle) port.number slot)
+    (ports_of port.domain middle) middle (Some answer) new
 
 -- Values are lent, written and sent, as `SendsSlice` says; the answer is what the send came to, or the loan's refusal.
 abbrev pub SendsValues : {T U H : Type 0} → (DomainId → H → Option (ServicePorts T U)) → (DomainId → ServicePorts T U → H → H)
@@ -115,4 +125,5 @@ abbrev pub SendsValues : {T U H : Type 0} → (DomainId → H → Option (Servic
 SendsValues {T} {U} {H} ports_of with_ports degrades decides port values old answer new =
     (lent : Result ℕ LoanError) × (middle : H)
     × LendsSlot ports_of with_ports port (length values) (length values) old lent middle
-    × AfterLoan (λ error. Err (refusal.LoanError error)) (WritesAndSends ports_of with_ports degrades decides port values) lent middle answer new
+    × AfterLoan (λ error. Err (refusal.LoanError error)) (WritesAndSends ports_of with_ports degrades decides port values) lent middle
+    answer new

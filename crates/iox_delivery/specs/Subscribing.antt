@@ -35,38 +35,44 @@ header_found taken (Some ports) = header_in taken ports
 abbrev pub FollowsPublishers : {T U H : Type 0} → (DomainId → H → Option (ServicePorts T U)) → (DomainId → ServicePorts T U → H → H)
     → (DomainId → ℕ → H → DegradationInfo → DegradationAction → Type 0) → PortId → H → Result (Unit {0}) ConnectionFailure → H → Type 0
 FollowsPublishers ports_of with_ports degrades port old answer new =
-    AtDomain (λ after. with_ports port.domain after old) (FollowsBy (degrades port.domain port.number old) port.number) (ports_of port.domain old) old (Some answer) new
+    AtDomain (λ after. with_ports port.domain after old) (FollowsBy (degrades port.domain port.number old) port.number)
+    (ports_of port.domain old) old (Some answer) new
 
 -- It is told whether some connection of a subscriber has data.
 abbrev pub TellsSamples : {T U H : Type 0} → (DomainId → H → Option (ServicePorts T U)) → (DomainId → ServicePorts T U → H → H)
     → (DomainId → ℕ → H → DegradationInfo → DegradationAction → Type 0) → PortId → H → Result Bool ConnectionFailure → H → Type 0
 TellsSamples ports_of with_ports degrades port old answer new =
-    AtDomain (λ after. with_ports port.domain after old) (TellsBy (degrades port.domain port.number old) port.number) (ports_of port.domain old) old (Some answer) new
+    AtDomain (λ after. with_ports port.domain after old) (TellsBy (degrades port.domain port.number old) port.number)
+    (ports_of port.domain old) old (Some answer) new
 
 -- A subscriber takes the message that comes next, if one comes.
 abbrev pub TakesMessage : {T U H : Type 0} → (DomainId → H → Option (ServicePorts T U)) → (DomainId → ServicePorts T U → H → H)
     → (DomainId → ℕ → H → DegradationInfo → DegradationAction → Type 0) → PortId → H → Result (Option Taken) ReceiveError → H → Type 0
 TakesMessage ports_of with_ports degrades port old answer new =
-    AtDomain (λ after. with_ports port.domain after old) (ReceivesBy (degrades port.domain port.number old) port.number) (ports_of port.domain old) old (Some answer) new
+    AtDomain (λ after. with_ports port.domain after old) (ReceivesBy (degrades port.domain port.number old) port.number)
+    (ports_of port.domain old) old (Some answer) new
 
 -- A subscriber receives.
 abbrev pub ReceivesSample : {T U K H : Type 0} → (DomainId → H → Option (ServicePorts T U)) → (DomainId → ServicePorts T U → H → H)
     → (DomainId → ℕ → H → DegradationInfo → DegradationAction → Type 0) → PortId → H → Result (Option (Sample T U K)) ReceiveError → H
     → Type 0
 ReceivesSample ports_of with_ports degrades port old answer new =
-    (received : Result (Option Taken) ReceiveError) × TakesMessage ports_of with_ports degrades port old received new × (answer ≡ received_of port received)
+    (received : Result (Option Taken) ReceiveError) × TakesMessage ports_of with_ports degrades port old received new
+    × (answer ≡ received_of port received)
 
 -- A subscriber leaves.
 abbrev pub SubscriberGoes : {T U H : Type 0} → (DomainId → H → Option (ServicePorts T U)) → (DomainId → ServicePorts T U → H → H)
     → (DomainId → ℕ → H → H) → PortId → H → H → Type 0
 SubscriberGoes ports_of with_ports without port old new =
-    LeavesDomain (λ after. with_ports port.domain after old) (without port.domain port.number) (SubscriberLeaves port.number) (ports_of port.domain old) old true new
+    LeavesDomain (λ after. with_ports port.domain after old) (without port.domain port.number) (SubscriberLeaves port.number)
+    (ports_of port.domain old) old true new
 
 -- A subscriber that is let go leaves; nothing happens where it can't.
 abbrev pub EndsSubscriber : {T U H : Type 0} → (DomainId → H → Option (ServicePorts T U)) → (DomainId → ServicePorts T U → H → H)
     → (DomainId → ℕ → H → H) → PortId → H → Bool → H → Type 0
 EndsSubscriber ports_of with_ports without port old left new =
-    LeavesDomain (λ after. with_ports port.domain after old) (without port.domain port.number) (SubscriberLeaves port.number) (ports_of port.domain old) old left new
+    LeavesDomain (λ after. with_ports port.domain after old) (without port.domain port.number) (SubscriberLeaves port.number)
+    (ports_of port.domain old) old left new
 
 -- what a sample's release answers
 abbrev pub ReleasesOne : {T U : Type 0} → ℕ → Taken → ServicePorts T U → Option (Unit {0}) → ServicePorts T U → Type 0

@@ -2,7 +2,8 @@
 ghost use Rattle.iox_domain.specs.Homes as homes;
 ghost use Rattle.std.specs.Prelude.{◌≡◌, true, Some, option_map};
 ghost use Rattle.iox_delivery.specs.Holding.{subscriber_stands, message_found, holds_message};
-ghost use Rattle.iox_delivery.specs.Subscribing.{header_found, FollowsPublishers, TellsSamples, TakesMessage, SubscriberGoes, EndsSubscriber, ReleasesSample, DropsSample};
+ghost use Rattle.iox_delivery.specs.Subscribing.{header_found, FollowsPublishers, TellsSamples, TakesMessage, SubscriberGoes};
+ghost use Rattle.iox_delivery.specs.Subscribing.{EndsSubscriber, ReleasesSample, DropsSample};
 
 use crate::port_id::PortId;
 use iox_describe_base::Header;

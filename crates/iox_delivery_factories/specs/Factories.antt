@@ -38,13 +38,29 @@ nobody_named strategy = record { strategy = strategy; backpressure = None; degra
 abbrev pub new_publisher_builder : {T U X Y Z : Type 0} {F : X → Type 0} {G : Y → Type 0} {K : Z → Type 0} → DomainId → ℕ → ℕ → ℕ
     → PortFactoryPublisher T U (Handlers X Y F G) (PreallocatedSamplesOverride Z K)
 new_publisher_builder domain unit node_id owner =
-    record { domain = domain; owner = record { number = owner; node_id = node_id }; unit = unit; settings = publisher_defaults; handlers = nobody_named RetryUntilDelivered; overriding = WorstCase; of = record {} }
+    record {
+      domain = domain;
+      owner = record { number = owner; node_id = node_id };
+      unit = unit;
+      settings = publisher_defaults;
+      handlers
+          = nobody_named RetryUntilDelivered;
+      overriding = WorstCase;
+      of = record {};
+    }
 
 -- a builder of subscribers where nothing is named
 abbrev pub new_subscriber_builder : {T U Y : Type 0} {G : Y → Type 0} → DomainId → ℕ → ℕ
     → PortFactorySubscriber T U (DegradationHandler Y G)
 new_subscriber_builder domain node_id owner =
-    record { domain = domain; owner = record { number = owner; node_id = node_id }; settings = subscriber_defaults; handler = Fixed Warn; of = record {} }
+    record {
+      domain = domain;
+      owner = record { number = owner; node_id = node_id };
+      settings = subscriber_defaults;
+      handler
+          = Fixed Warn;
+      of = record {};
+    }
 
 -- a builder with this strategy
 abbrev pub with_strategy : {T U X Y O : Type 0} {F : X → Type 0} {G : Y → Type 0} → BackpressureStrategy
@@ -81,7 +97,14 @@ single_config owner settings = record
 -- what a publisher of slices of elements of so many values is made with
 abbrev pub slice_config : PortOwner → ℕ → PublisherSettings → PublisherConfig
 slice_config owner unit settings =
-    record { owner = owner; max_loaned_samples = settings.max_loaned_samples; values = room_of unit settings.initial_max_slice_len; unit = unit; allocation = settings.allocation }
+    record {
+      owner = owner;
+      max_loaned_samples = settings.max_loaned_samples;
+      values = room_of unit settings.initial_max_slice_len;
+      unit
+          = unit;
+      allocation = settings.allocation;
+    }
 
 -- what a subscriber is made with
 abbrev pub subscriber_config : PortOwner → SubscriberSettings → SubscriberConfig
@@ -101,7 +124,12 @@ buffer_at settings (Some ports) = allowed (buffer_of settings.buffer_size ports.
 abbrev pub publisher_of : {T U : Type 0} → DomainId → PublisherSettings → Result ℕ PublisherCreateError
     → Result (Port T U Single PublisherSide) PublisherCreateError
 publisher_of domain settings (Ok number) =
-    Ok (record { port = record { domain = domain; number = number }; side = record { strategy = settings.strategy; initial_max_slice_len = 1 }; of = record {} })
+    Ok (record {
+      port = record { domain = domain; number = number };
+      side
+          = record { strategy = settings.strategy; initial_max_slice_len = 1 };
+      of = record {};
+    })
 publisher_of domain settings (Err error) = Err error
 
 -- the publisher of slices that came, as a value

@@ -6,7 +6,8 @@ ghost use Rattle.iox_domain.specs.AtHomes.{MakesAt};
 ghost use Rattle.iox_domain.specs.Steps.{PublisherComes, why_no_publisher};
 ghost use Rattle.iox_domain.specs.DomainValues.declared.create_error.PublisherCreateError.{PublisherCreateError};
 ghost use Rattle.iox_delivery_factories.specs.Elements.{room_of};
-ghost use Rattle.iox_delivery_factories.specs.Factories.{single_config, slice_config, publisher_of, slice_publisher_of, with_strategy, with_degradation, with_backpressure, cloned};
+ghost use Rattle.iox_delivery_factories.specs.Factories.{single_config, slice_config, publisher_of, slice_publisher_of, with_strategy};
+ghost use Rattle.iox_delivery_factories.specs.Factories.{with_degradation, with_backpressure, cloned};
 
 use iox_delivery::{PortId, Publisher, slices as slice};
 use iox_domain::ports::PublisherConfig;
@@ -204,9 +205,12 @@ impl<T: Copy, U: Copy + Default, B: Decides + Degrades, O: Overrides> PortFactor
     ) -> Result<Publisher<T, U>, PublisherCreateError>
         requires { IsSome (homes.ports_of H.domain_of self.domain home.old) }
         ensures { (user_header : U) × U.is_default user_header × (answer : Result ℕ PublisherCreateError)
-            × MakesAt (λ after. homes.with_ports H.changed self.domain after home.old) (λ number. homes.with_publisher H.changed self.domain number self.handlers)
-            (PublisherComes (O.overrides self.overriding) (B.degrades self.handlers FailedToEstablishConnection) (single_config self.owner self.settings) user_header) (why_no_publisher (single_config self.owner self.settings))
-            (homes.ports_of H.domain_of self.domain home.old) home.old (Some answer) home.new × (result ≡ publisher_of self.domain self.settings answer) }
+            × MakesAt (λ after. homes.with_ports H.changed self.domain after home.old)
+            (λ number. homes.with_publisher H.changed self.domain number self.handlers)
+            (PublisherComes (O.overrides self.overriding) (B.degrades self.handlers FailedToEstablishConnection)
+            (single_config self.owner self.settings) user_header) (why_no_publisher (single_config self.owner self.settings))
+            (homes.ports_of H.domain_of self.domain home.old) home.old (Some answer) home.new
+            × (result ≡ publisher_of self.domain self.settings answer) }
     {
         let domain = self.domain;
         let settings = self.settings;
@@ -235,9 +239,13 @@ impl<T: Copy, U: Copy + Default, B: Decides + Degrades, O: Overrides> PortFactor
     ) -> Result<slice::Publisher<T, U>, PublisherCreateError>
         requires { IsSome (homes.ports_of H.domain_of self.domain home.old) }
         ensures { (user_header : U) × U.is_default user_header × (answer : Result ℕ PublisherCreateError)
-            × MakesAt (λ after. homes.with_ports H.changed self.domain after home.old) (λ number. homes.with_publisher H.changed self.domain number self.handlers)
-            (PublisherComes (O.overrides self.overriding) (B.degrades self.handlers FailedToEstablishConnection) (slice_config self.owner self.unit self.settings) user_header) (why_no_publisher (slice_config self.owner self.unit self.settings))
-            (homes.ports_of H.domain_of self.domain home.old) home.old (Some answer) home.new × (result ≡ slice_publisher_of self.domain self.settings answer) }
+            × MakesAt (λ after. homes.with_ports H.changed self.domain after home.old)
+            (λ number. homes.with_publisher H.changed self.domain number self.handlers)
+            (PublisherComes (O.overrides self.overriding) (B.degrades self.handlers FailedToEstablishConnection)
+            (slice_config self.owner self.unit self.settings) user_header)
+            (why_no_publisher (slice_config self.owner self.unit self.settings))
+            (homes.ports_of H.domain_of self.domain home.old) home.old (Some answer) home.new
+            × (result ≡ slice_publisher_of self.domain self.settings answer) }
     {
         let domain = self.domain;
         let settings = self.settings;
@@ -265,8 +273,10 @@ impl<T: Copy, U: Copy + Default, B: Decides + Degrades, O: Overrides> PortFactor
     ) -> Result<u64, PublisherCreateError>
         requires { IsSome (homes.ports_of H.domain_of self.domain home.old) }
         ensures { (user_header : U) × U.is_default user_header
-            × MakesAt (λ after. homes.with_ports H.changed self.domain after home.old) (λ number. homes.with_publisher H.changed self.domain number self.handlers)
-            (PublisherComes (O.overrides self.overriding) (B.degrades self.handlers FailedToEstablishConnection) config user_header) (why_no_publisher config)
+            × MakesAt (λ after. homes.with_ports H.changed self.domain after home.old)
+            (λ number. homes.with_publisher H.changed self.domain number self.handlers)
+            (PublisherComes (O.overrides self.overriding) (B.degrades self.handlers FailedToEstablishConnection) config user_header)
+            (why_no_publisher config)
             (homes.ports_of H.domain_of self.domain home.old) home.old (Some result) home.new }
     {
         let PortFactoryPublisher {

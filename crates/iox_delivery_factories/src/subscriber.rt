@@ -122,8 +122,10 @@ impl<T: Copy, U: Copy, D: Degrades> PortFactorySubscriber<T, U, D> {
     ) -> Result<Subscriber<T, U>, SubscriberCreateError>
         requires { IsSome (homes.ports_of H.domain_of self.domain home.old) }
         ensures { (answer : Result ℕ SubscriberCreateError)
-            × MakesAt (λ after. homes.with_ports H.changed self.domain after home.old) (λ number. homes.with_subscriber H.changed self.domain number self.handler)
-            (SubscriberComes (D.degrades self.handler FailedToEstablishConnection) (subscriber_config self.owner self.settings)) (why_no_subscriber (subscriber_config self.owner self.settings))
+            × MakesAt (λ after. homes.with_ports H.changed self.domain after home.old)
+            (λ number. homes.with_subscriber H.changed self.domain number self.handler)
+            (SubscriberComes (D.degrades self.handler FailedToEstablishConnection) (subscriber_config self.owner self.settings))
+            (why_no_subscriber (subscriber_config self.owner self.settings))
             (homes.ports_of H.domain_of self.domain home.old) home.old (Some answer) home.new
             × (result ≡ subscriber_of self.domain (buffer_at self.settings (homes.ports_of H.domain_of self.domain home.old)) answer) }
     {
@@ -144,8 +146,10 @@ impl<T: Copy, U: Copy, D: Degrades> PortFactorySubscriber<T, U, D> {
     ) -> Result<slice::Subscriber<T, U>, SubscriberCreateError>
         requires { IsSome (homes.ports_of H.domain_of self.domain home.old) }
         ensures { (answer : Result ℕ SubscriberCreateError)
-            × MakesAt (λ after. homes.with_ports H.changed self.domain after home.old) (λ number. homes.with_subscriber H.changed self.domain number self.handler)
-            (SubscriberComes (D.degrades self.handler FailedToEstablishConnection) (subscriber_config self.owner self.settings)) (why_no_subscriber (subscriber_config self.owner self.settings))
+            × MakesAt (λ after. homes.with_ports H.changed self.domain after home.old)
+            (λ number. homes.with_subscriber H.changed self.domain number self.handler)
+            (SubscriberComes (D.degrades self.handler FailedToEstablishConnection) (subscriber_config self.owner self.settings))
+            (why_no_subscriber (subscriber_config self.owner self.settings))
             (homes.ports_of H.domain_of self.domain home.old) home.old (Some answer) home.new
             × (result ≡ subscriber_of self.domain (buffer_at self.settings (homes.ports_of H.domain_of self.domain home.old)) answer) }
     {
@@ -164,7 +168,8 @@ impl<T: Copy, U: Copy, D: Degrades> PortFactorySubscriber<T, U, D> {
         requires { IsSome (homes.ports_of H.domain_of self.domain home.old) }
         ensures { MakesAt (λ after. homes.with_ports H.changed self.domain after home.old)
             (λ number. homes.with_subscriber H.changed self.domain number self.handler)
-            (SubscriberComes (D.degrades self.handler FailedToEstablishConnection) (subscriber_config self.owner self.settings)) (why_no_subscriber (subscriber_config self.owner self.settings))
+            (SubscriberComes (D.degrades self.handler FailedToEstablishConnection) (subscriber_config self.owner self.settings))
+            (why_no_subscriber (subscriber_config self.owner self.settings))
             (homes.ports_of H.domain_of self.domain home.old) home.old (Some result) home.new }
     {
         let PortFactorySubscriber {

@@ -1,5 +1,5 @@
 //! Ports of a payload that only the description says.
-use iox_delivery::slices::{Publisher, SampleMutUninit, Subscriber};
+use iox_delivery::slices::{Publisher, Sample, SampleMut, SampleMutUninit, Subscriber};
 use iox_delivery::{BlockedSend, Sent, UpdateConnections};
 use iox_delivery_factories::{publisher_builder, subscriber_builder};
 use iox_describe_base::{
@@ -10,7 +10,8 @@ use iox_describe_settings::{Description, Settings};
 use iox_domain::settings::{CustomHeaderMarker, CustomPayloadMarker};
 use iox_domain::{Domain, DomainId, Home, calls};
 use iox_domain_values::{
-    AllocationStrategy, LoanError, PublisherCreateError, SendError, SubscriberCreateError,
+    AllocationStrategy, LoanError, PublisherCreateError, ReceiveError, SendError,
+    SubscriberCreateError,
 };
 use std::alloc::Global;
 use std::process::Abort;
@@ -132,7 +133,34 @@ fn room(domain: &Domain<Byte, Any>, publisher: &Publisher<Byte, Any>) -> Option<
     Some(publisher.sender.room())
 }
 
-// Sends so many elements, of bytes that are all 7.
+// A byte of what is sent.
+fn seven(_place: usize) -> CustomPayloadMarker {
+    CustomPayloadMarker { byte: 7 }
+}
+
+// What was lent is written: bytes that are all 7.
+fn written(
+    rt: &impl Abort,
+    domain: &mut Domain<Byte, Any>,
+    loan: SampleMutUninit<Byte, Any>,
+) -> SampleMut<Byte, Any> {
+    assert!(rt; loan.holds(domain));
+    loan.write_from_fn(domain, &mut seven)
+}
+
+// What was written is sent.
+fn send_written(
+    rt: &impl Abort,
+    alloc: Global,
+    domain: &mut Domain<Byte, Any>,
+    sample: SampleMut<Byte, Any>,
+) -> Result<Sent<Byte, Any>, SendError> {
+    assert!(rt; sample.holds(domain));
+    assert!(rt; !sample.is_blocked(domain));
+    sample.send(alloc, domain)
+}
+
+// Sends so many elements.
 fn send(
     rt: &impl Abort,
     alloc: Global,
@@ -141,11 +169,8 @@ fn send(
     len: usize,
 ) -> Result<Sent<Byte, Any>, SendError> {
     let loan = lends(rt, alloc, domain, publisher, len)?;
-    assert!(rt; loan.holds(domain));
-    let sample = loan.write_from_fn(domain, &mut |_: usize| CustomPayloadMarker { byte: 7 });
-    assert!(rt; sample.holds(domain));
-    assert!(rt; !sample.is_blocked(domain));
-    sample.send(alloc, domain)
+    let sample = written(rt, domain, loan);
+    send_written(rt, alloc, domain, sample)
 }
 
 // Whether one connection takes so many elements.
@@ -183,7 +208,7 @@ fn waits(
     panic!(rt; "three are taken");
 }
 
-// A publisher that is let go while its send waits is given back, and leaves once that was given up.
+// A publisher is let go while its send waits.
 fn leave(
     rt: &impl Abort,
     alloc: Global,
@@ -195,6 +220,16 @@ fn leave(
     assert!(rt; subscriber.holds(domain));
     assert!(rt; subscriber.update_connections(alloc, domain) == Ok(()));
     let blocked = waits(rt, alloc, domain, &publisher);
+    give_up(rt, domain, publisher, blocked);
+}
+
+// Such a publisher is given back, and leaves once its send was given up.
+fn give_up(
+    rt: &impl Abort,
+    domain: &mut Domain<Byte, Any>,
+    publisher: Publisher<Byte, Any>,
+    blocked: BlockedSend<Byte, Any>,
+) {
     let Err(publisher) = publisher.drop_with(domain) else {
         panic!(rt; "it left while its send waits");
     };
@@ -205,7 +240,24 @@ fn leave(
     }
 }
 
-// How many elements and bytes are received, where the last byte is 7 or there is none; they are released.
+// How many elements and bytes came, where the last byte is 7 or there is none; they are released.
+fn taken(
+    rt: &impl Abort,
+    received: Result<Option<Sample<Byte, Any>>, ReceiveError>,
+    domain: &mut Domain<Byte, Any>,
+) -> Option<(u64, usize)> {
+    let Ok(Some(sample)) = received else {
+        return None;
+    };
+    assert!(rt; sample.holds(domain));
+    let bytes = sample.payload(domain);
+    let came = (sample.header(domain).number_of_elements, bytes.len());
+    let last = bytes.last().copied().unwrap_or(seven(0));
+    sample.release(domain);
+    if last.byte == 7 { Some(came) } else { None }
+}
+
+// How many elements and bytes come next.
 fn receives(
     rt: &impl Abort,
     alloc: Global,
@@ -213,16 +265,8 @@ fn receives(
     subscriber: &Subscriber<Byte, Any>,
 ) -> Option<(u64, usize)> {
     assert!(rt; subscriber.holds(domain));
-    let sample = subscriber.receive_custom_payload(alloc, domain).ok()??;
-    assert!(rt; sample.holds(domain));
-    let bytes = sample.payload(domain);
-    let came = (sample.header(domain).number_of_elements, bytes.len());
-    let last = bytes
-        .last()
-        .copied()
-        .unwrap_or(CustomPayloadMarker { byte: 7 });
-    sample.release(domain);
-    if last.byte == 7 { Some(came) } else { None }
+    let received = subscriber.receive_custom_payload(alloc, domain);
+    taken(rt, received, domain)
 }
 
 // Whether a call goes so.
@@ -279,21 +323,33 @@ fn converse(
     }
 }
 
-// Whether a case goes so in a new domain.
-fn go(rt: &impl Abort, alloc: Global, case: &Case) -> bool {
-    let Some(mut domain) = make(alloc, case.size) else {
-        return false;
-    };
-    let Ok(subscriber) = subscribe(alloc, &mut domain) else {
-        return false;
-    };
-    let gone = converse(rt, alloc, &mut domain, &subscriber, case);
-    match subscriber.drop_with(&mut domain) {
-        Ok(()) => gone,
+// Whether a subscriber leaves.
+fn leaves(domain: &mut Domain<Byte, Any>, subscriber: Subscriber<Byte, Any>) -> bool {
+    match subscriber.drop_with(domain) {
+        Ok(()) => true,
         Err(subscriber) => {
             let _ = subscriber.into_port();
             false
         }
+    }
+}
+
+// Whether a subscriber comes, a case goes so, and the subscriber leaves.
+fn goes_in(rt: &impl Abort, alloc: Global, domain: &mut Domain<Byte, Any>, case: &Case) -> bool {
+    match subscribe(alloc, domain) {
+        Ok(subscriber) => {
+            let gone = converse(rt, alloc, domain, &subscriber, case);
+            leaves(domain, subscriber) && gone
+        }
+        Err(_) => false,
+    }
+}
+
+// Whether a case goes so in a new domain.
+fn go(rt: &impl Abort, alloc: Global, case: &Case) -> bool {
+    match make(alloc, case.size) {
+        Some(mut domain) => goes_in(rt, alloc, &mut domain, case),
+        None => false,
     }
 }
 

@@ -1,15 +1,16 @@
 //! Messages of slices go from node to node.
 ghost use Rattle.std.specs.Prelude.{◌≤◌};
 
-use crate::services::{CONFIG, Messages, Service, create, is_delivered, wanted};
-use iox_delivery::Sent;
-use iox_delivery::slices::{Publisher, SampleMut, Subscriber};
+use crate::services::{
+    Course, How, Messages, Service, come_new, go, is_delivered, publisher_leaves, subscriber_leaves,
+};
+use iox_delivery::slices::{Publisher, Sample, SampleMut, SampleMutUninit, Subscriber};
 use iox_delivery_factories::PortFactoryPublisher;
 use iox_describe::Header;
 use iox_domain_values::{
-    LoanError, PreallocatedSamplesFn, PreallocatedSamplesOverride, PublisherCreateError, SendError,
+    LoanError, PreallocatedSamplesFn, PreallocatedSamplesOverride, PublisherCreateError,
+    ReceiveError, SubscriberCreateError,
 };
-use iox_hub_base::Hub;
 use iox_negotiate::Slice;
 use std::alloc::Global;
 use std::cell::Cell;
@@ -51,94 +52,185 @@ fn kept_once(alloc: Global) -> Result<PreallocatedSamplesOverride, PublisherCrea
     }
 }
 
-// A publisher of slices of so many values at first.
-fn publish(
-    builder: PortFactoryPublisher<u64, u8>,
+// What makes publishers of slices of so many values at first, with so many slots as it is decided once.
+fn overridden(
     alloc: Global,
-    hub: &mut Messages,
-    overriding: PreallocatedSamplesOverride,
+    builder: PortFactoryPublisher<u64, u8>,
     len: usize,
-) -> Result<Publisher<u64, u8>, PublisherCreateError> {
-    let builder = builder
-        .override_sample_preallocation(overriding)
-        .initial_max_slice_len(len);
-    if builder.holds(hub) {
-        builder.create_slice(alloc, hub)
-    } else {
-        Err(PublisherCreateError::ExceedsMaxSupportedPublishers)
+) -> Result<PortFactoryPublisher<u64, u8>, PublisherCreateError> {
+    match kept_once(alloc) {
+        Ok(overriding) => Ok(
+            builder
+                .override_sample_preallocation(overriding)
+                .initial_max_slice_len(len),
+        ),
+        Err(error) => Err(error),
     }
 }
 
-// Defaults are lent.
-fn lends_defaults(
+// A publisher that a builder makes.
+fn made(
     rt: &impl Abort,
     alloc: Global,
     hub: &mut Messages,
-    publisher: &Publisher<u64, u8>,
-    len: usize,
-) -> Result<SampleMut<u64, u8>, LoanError> {
-    assert!(rt; publisher.holds(hub));
-    assert!(rt; !publisher.is_blocked(hub));
-    publisher.loan_slice(alloc, hub, len)
+    builder: Result<PortFactoryPublisher<u64, u8>, PublisherCreateError>,
+) -> Result<Publisher<u64, u8>, PublisherCreateError> {
+    match builder {
+        Ok(builder) => {
+            assert!(rt; builder.holds(hub));
+            builder.create_slice(alloc, hub)
+        }
+        Err(error) => Err(error),
+    }
 }
 
-// Values are lent, of which each is its place.
-fn lends_places(
+// A publisher of slices of so many values at first.
+fn publish(
     rt: &impl Abort,
     alloc: Global,
     hub: &mut Messages,
-    publisher: &Publisher<u64, u8>,
+    service: &Service,
     len: usize,
-) -> Result<SampleMut<u64, u8>, LoanError> {
-    assert!(rt; publisher.holds(hub));
-    assert!(rt; !publisher.is_blocked(hub));
-    let loan = publisher.loan_slice_uninit(alloc, hub, len)?;
+) -> Result<Publisher<u64, u8>, PublisherCreateError> {
+    assert!(rt; hub.holds(service));
+    match hub.publisher_builder(service) {
+        Some(builder) => made(rt, alloc, hub, overridden(alloc, builder, len)),
+        None => Err(PublisherCreateError::ExceedsMaxSupportedPublishers),
+    }
+}
+
+// A subscriber of slices.
+fn subscribe(
+    rt: &impl Abort,
+    alloc: Global,
+    hub: &mut Messages,
+    service: &Service,
+) -> Result<Subscriber<u64, u8>, SubscriberCreateError> {
+    assert!(rt; hub.holds(service));
+    let Some(builder) = hub.subscriber_builder(service) else {
+        return Err(SubscriberCreateError::ExceedsMaxSupportedSubscribers);
+    };
+    assert!(rt; builder.holds(hub));
+    builder.create_slice(alloc, hub)
+}
+
+// Whether the header of what was lent names the node, the second one, and so many values.
+fn is_headed(rt: &impl Abort, hub: &Messages, sample: &SampleMut<u64, u8>, len: usize) -> bool {
+    assert!(rt; sample.holds(hub));
+    let header = sample.header(hub);
+    (header.node_id, header.number_of_elements) == (2, len as u64)
+}
+
+// Whether what was written is sent to one mailbox.
+fn is_sent(rt: &impl Abort, alloc: Global, hub: &mut Messages, sample: SampleMut<u64, u8>) -> bool {
+    assert!(rt; sample.holds(hub));
+    assert!(rt; !sample.is_blocked(hub));
+    let sent = sample.send(alloc, hub);
+    is_delivered(hub, sent)
+}
+
+// Whether what was written has its header, and is sent to one mailbox.
+fn is_headed_and_sent(
+    rt: &impl Abort,
+    alloc: Global,
+    hub: &mut Messages,
+    sample: SampleMut<u64, u8>,
+    len: usize,
+) -> bool {
+    let headed = is_headed(rt, hub, &sample, len);
+    is_sent(rt, alloc, hub, sample) && headed
+}
+
+// Whether defaults that were lent are sent.
+fn defaults_are_sent(
+    rt: &impl Abort,
+    alloc: Global,
+    lent: Result<SampleMut<u64, u8>, LoanError>,
+    hub: &mut Messages,
+    len: usize,
+) -> bool {
+    match lent {
+        Ok(sample) => is_headed_and_sent(rt, alloc, hub, sample, len),
+        Err(_) => false,
+    }
+}
+
+// The place of a value, as the value.
+fn place(place: usize) -> u64 {
+    place as u64
+}
+
+// Values are written, of which each is its place.
+fn written(
+    rt: &impl Abort,
+    hub: &mut Messages,
+    loan: SampleMutUninit<u64, u8>,
+) -> SampleMut<u64, u8> {
     assert!(rt; loan.holds(hub));
-    Ok(loan.write_from_fn(hub, &mut |place: usize| place as u64))
+    loan.write_from_fn(hub, &mut place)
 }
 
-// A slice is sent at once.
-fn sends_sevens(
+// Whether what was lent is written, and sent.
+fn places_are_sent(
     rt: &impl Abort,
     alloc: Global,
+    lent: Result<SampleMutUninit<u64, u8>, LoanError>,
     hub: &mut Messages,
-    publisher: &Publisher<u64, u8>,
     len: usize,
-) -> Result<Sent<u64, u8>, SendError> {
-    assert!(rt; publisher.holds(hub));
-    assert!(rt; !publisher.is_blocked(hub));
-    publisher.send_slice(alloc, hub, SEVENS.get(..len).unwrap_or(&[]))
+) -> bool {
+    match lent {
+        Ok(loan) => {
+            let sample = written(rt, hub, loan);
+            is_headed_and_sent(rt, alloc, hub, sample, len)
+        }
+        Err(_) => false,
+    }
 }
 
-// What was lent is sent. Its header names the node, the second one, and the values.
+// What is sent.
+#[derive(Clone, Copy, Debug)]
+enum Values {
+    Defaults,
+    Places,
+    Sevens,
+}
+
+// Whether a slice of so many values is sent to one mailbox.
 fn sends(
     rt: &impl Abort,
     alloc: Global,
     hub: &mut Messages,
-    lent: Result<SampleMut<u64, u8>, LoanError>,
+    publisher: &Publisher<u64, u8>,
+    values: Values,
     len: usize,
-) -> Result<Sent<u64, u8>, SendError> {
-    let sample = lent?;
-    assert!(rt; sample.holds(hub));
-    let Header {
-        node_id,
-        number_of_elements,
-        publisher_id: _,
-    } = sample.header(hub);
-    assert!(rt; (node_id, number_of_elements) == (2, len as u64));
-    assert!(rt; !sample.is_blocked(hub));
-    sample.send(alloc, hub)
+) -> bool {
+    assert!(rt; publisher.holds(hub));
+    assert!(rt; !publisher.is_blocked(hub));
+    match values {
+        Values::Defaults => {
+            let lent = publisher.loan_slice(alloc, hub, len);
+            defaults_are_sent(rt, alloc, lent, hub, len)
+        }
+        Values::Places => {
+            let lent = publisher.loan_slice_uninit(alloc, hub, len);
+            places_are_sent(rt, alloc, lent, hub, len)
+        }
+        Values::Sevens => {
+            let sent = publisher.send_slice(alloc, hub, SEVENS.get(..len).unwrap_or(&[]));
+            is_delivered(hub, sent)
+        }
+    }
 }
 
-// How many values come next, and the last one of them; they are released again.
-fn receives(
+// How many values came, and the last one of them; they are released again.
+fn taken(
     rt: &impl Abort,
-    alloc: Global,
+    received: Result<Option<Sample<u64, u8>>, ReceiveError>,
     hub: &mut Messages,
-    subscriber: &Subscriber<u64, u8>,
 ) -> Option<(usize, Option<u64>)> {
-    assert!(rt; subscriber.holds(hub));
-    let sample = subscriber.receive(alloc, hub).ok()??;
+    let Ok(Some(sample)) = received else {
+        return None;
+    };
     assert!(rt; sample.holds(hub));
     let values = sample.payload(hub);
     let came = (values.len(), values.last().copied());
@@ -146,9 +238,16 @@ fn receives(
     Some(came)
 }
 
-// The last of so many values, which is this one.
-fn last(len: usize, value: usize) -> Option<u64> {
-    if len == 0 { None } else { Some(value as u64) }
+// How many values come next, and the last one of them.
+fn receives(
+    rt: &impl Abort,
+    alloc: Global,
+    hub: &mut Messages,
+    subscriber: &Subscriber<u64, u8>,
+) -> Option<(usize, Option<u64>)> {
+    assert!(rt; subscriber.holds(hub));
+    let received = subscriber.receive(alloc, hub);
+    taken(rt, received, hub)
 }
 
 // Three slices of so many values must be sent.
@@ -159,14 +258,17 @@ fn are_sent(
     publisher: &Publisher<u64, u8>,
     len: usize,
 ) {
-    let lent = lends_defaults(rt, alloc, hub, publisher, len);
-    let sent = sends(rt, alloc, hub, lent, len);
-    assert!(rt; is_delivered(hub, sent), "{len} defaults");
-    let lent = lends_places(rt, alloc, hub, publisher, len);
-    let sent = sends(rt, alloc, hub, lent, len);
-    assert!(rt; is_delivered(hub, sent), "{len} places");
-    let sent = sends_sevens(rt, alloc, hub, publisher, len);
-    assert!(rt; is_delivered(hub, sent), "{len} sevens");
+    for values in &[Values::Defaults, Values::Places, Values::Sevens] {
+        assert!(rt;
+            sends(rt, alloc, hub, publisher, *values, len),
+            "{len} {values:?}"
+        );
+    }
+}
+
+// The last of so many values, which is this one.
+fn last(len: usize, value: usize) -> Option<u64> {
+    if len == 0 { None } else { Some(value as u64) }
 }
 
 // They must be received.
@@ -192,57 +294,54 @@ fn is_heard(
     subscriber: &Subscriber<u64, u8>,
     len: usize,
 ) -> bool {
-    assert!(rt; hub.holds(service));
-    let Some(builder) = hub.publisher_builder(service) else {
-        return false;
-    };
-    let Ok(overriding) = kept_once(alloc) else {
-        return false;
-    };
-    let Ok(publisher) = publish(builder, alloc, hub, overriding, len) else {
-        return false;
-    };
-    are_sent(rt, alloc, hub, &publisher, len);
-    are_received(rt, alloc, hub, subscriber, len);
-    assert!(rt; publisher.holds(hub));
-    assert!(rt; !publisher.is_blocked(hub));
-    publisher.leave(hub);
-    true
+    match publish(rt, alloc, hub, service, len) {
+        Ok(publisher) => {
+            are_sent(rt, alloc, hub, &publisher, len);
+            are_received(rt, alloc, hub, subscriber, len);
+            publisher_leaves(rt, hub, publisher);
+            true
+        }
+        Err(_) => false,
+    }
 }
 
-// A publisher for each length must be heard by one subscriber.
+// A publisher for each length must be heard.
+fn each_is_heard(
+    rt: &impl Abort,
+    alloc: Global,
+    hub: &mut Messages,
+    service: &Service,
+    subscriber: &Subscriber<u64, u8>,
+) {
+    for len in &LENGTHS {
+        assert!(rt;
+            is_heard(rt, alloc, hub, service, subscriber, *len),
+            "{len}"
+        );
+    }
+}
+
+// One subscriber hears all.
 fn all_are_heard(
     rt: &impl Abort,
     alloc: Global,
     hub: &mut Messages,
     service: &Service,
 ) -> Result<(), Fail> {
-    assert!(rt; hub.holds(service));
-    let Some(builder) = hub.subscriber_builder(service) else {
-        return wanted(false, "there is a builder");
-    };
-    assert!(rt; builder.holds(hub));
-    let subscriber = builder.create_slice(alloc, hub)?;
-    for len in &LENGTHS {
-        assert!(rt;
-            is_heard(rt, alloc, hub, service, &subscriber, *len),
-            "{len}"
-        );
-    }
-    assert!(rt; subscriber.holds(hub));
-    subscriber.leave(hub);
+    let subscriber = subscribe(rt, alloc, hub, service)?;
+    each_is_heard(rt, alloc, hub, service, &subscriber);
+    subscriber_leaves(rt, hub, subscriber);
     Ok(())
 }
 
-// The second node creates a service of slices.
-fn agree(rt: &impl Abort, alloc: Global, hub: &mut Messages) -> Result<(), Fail> {
+/// The second node creates a service of slices.
+pub(crate) fn agree(rt: &impl Abort, alloc: Global, hub: &mut Messages) -> Result<(), Fail> {
     let _ = hub.new_node()?;
-    let second = hub.new_node()?;
-    let service = create::<Slice<u64>>(rt, alloc, hub, &second, b"A")?;
+    let service = come_new::<Slice<u64>>(rt, alloc, hub, How::Create)?;
     all_are_heard(rt, alloc, hub, &service)
 }
 
 #[test]
 fn slices_of_all_lengths_are_sent(rt: HostRuntime) -> Result<(), Fail> {
-    agree(&rt, rt.alloc(), &mut Hub::new(rt.alloc(), CONFIG))
+    go(&rt, rt.alloc(), Course::Slices)
 }

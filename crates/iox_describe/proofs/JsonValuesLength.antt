@@ -1,9 +1,11 @@
 -- How long the text of a plain value is at most.
-use Rattle.std.proofs.Common.{◌≤◌, ◌<◌, ◌+◌, ◌*◌, ◌^◌, ◌/◌, ◌%◌, nat_lt, ℕ, zero, suc, List, [], ◌∷◌, ◌++◌, Bool, true, false, cond, length, arith, lit<, length-append}
+use Rattle.std.proofs.Common.{◌≤◌, ◌<◌, ◌+◌, ◌*◌, ◌^◌, ◌/◌, ◌%◌, nat_lt, ℕ, zero, suc, List, [], ◌∷◌, ◌++◌, Bool, true, false, cond}
+use Rattle.std.proofs.Common.{length, arith, lit<, length-append}
 use Rattle.std.proofs.lemmas.Fmt.{length-decimal-le}
 use Rattle.std.specs.Char.{digit_char}
 use Rattle.json.specs.Print.{escape, escape_byte, escape_letter, quoted}
-use Rattle.serde_json.specs.Data.{unsigned, negative, float, Data, null, boolean, number, string, array, object, Items, no_items, item, Members, no_members, member}
+use Rattle.serde_json.specs.Data.{unsigned, negative, float, Data, null, boolean, number, string, array, object, Items, no_items, item}
+use Rattle.serde_json.specs.Data.{Members, no_members, member}
 use Rattle.serde_json.specs.Written.{comma_if, compact_text, items_text, members_text}
 use Rattle.iox_describe.specs.Plain.{IsPlain, AreItems, AreMembers}
 
@@ -57,7 +59,8 @@ mutual
   text_bound n null h = omega arith
   text_bound n (boolean true) h = omega arith
   text_bound n (boolean false) h = omega arith
-  text_bound n (number (unsigned m)) h = length-decimal-le 20 m (omega arith) (let large : 2 ^ 64 < 10 ^ 20 = lit< tt in omega (arith, h, large)) h
+  text_bound n (number (unsigned m)) h
+      = length-decimal-le 20 m (omega arith) (let large : 2 ^ 64 < 10 ^ 20 = lit< tt in omega (arith, h, large)) h
   text_bound n (number (negative z)) h = absurd h
   text_bound n (number (float x)) h = absurd h
   text_bound n (string s) h = in_quotes s
@@ -69,7 +72,15 @@ mutual
   items : (n : ℕ) (later : Bool) (ds : Items) → AreItems n ds → length (items_text later ds) ≤ items_bound ds
   items n later no_items h = omega arith
   items n later (item d ds) h =
-      omega (arith, length-append (comma_if later) (compact_text d ++ items_text true ds), length-append (compact_text d) (items_text true ds), comma later, text_bound n d h.0, items n true ds h.1)
+      omega (
+        arith,
+        length-append (comma_if later) (compact_text d ++ items_text true ds),
+        length-append (compact_text d)
+            (items_text true ds),
+        comma later,
+        text_bound n d h.0,
+        items n true ds h.1,
+      )
 
   members : (n : ℕ) (later : Bool) (ms : Members) → AreMembers n ms → length (members_text later ms) ≤ members_bound ms
   members n later no_members h = omega arith

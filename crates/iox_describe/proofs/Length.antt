@@ -13,8 +13,10 @@ use Rattle.iox_describe_verdict.specs.DescribeBase.Attributes.{IsAttribute}
 use Rattle.iox_describe_verdict.specs.DescribeBase.Detail.{Detail}
 use Rattle.iox_describe_verdict.specs.DescribeSettings.Agreement.{Agreement, pattern_of}
 use Rattle.iox_describe_verdict.specs.DescribeSettings.declared.static_config.Settings.{Settings}
-use Rattle.iox_describe_verdict.specs.DescribeSettings.declared.static_config.Settings.TheVariants.{RequestResponse, PublishSubscribe, Event}
-use Rattle.iox_describe.specs.Line.{attribute_tree, detail_tree, line, option_tree, pattern_word, settings_tree, tree, types_tree, variant_word}
+use Rattle.iox_describe_verdict.specs.DescribeSettings.declared.static_config.Settings.TheVariants.{RequestResponse, PublishSubscribe}
+use Rattle.iox_describe_verdict.specs.DescribeSettings.declared.static_config.Settings.TheVariants.{Event}
+use Rattle.iox_describe.specs.Line.{attribute_tree, detail_tree, line, option_tree, pattern_word, settings_tree, tree, types_tree}
+use Rattle.iox_describe.specs.Line.{variant_word}
 use Rattle.iox_describe.specs.Within.{AreSettings, AreTypes, IsTypeDetail, IsWithinLimits}
 use Rattle.iox_describe.proofs.Plain.{plain}
 
@@ -38,9 +40,11 @@ option None = omega arith
 option (Some n) = omega arith
 
 settings : (s : Settings) → AreSettings s → bound (settings_tree s) ≤ 13200
-settings (RequestResponse c) h = omega (arith, types c.request_types h.1.1.1.1.1.1.1.1.1.1.0, types c.response_types h.1.1.1.1.1.1.1.1.1.1.1.0)
+settings (RequestResponse c) h = omega
+    (arith, types c.request_types h.1.1.1.1.1.1.1.1.1.1.0, types c.response_types h.1.1.1.1.1.1.1.1.1.1.1.0)
 settings (PublishSubscribe c) h = omega (arith, types c.types h.1.1.1.1.1.1.1.0)
-settings (Event c) h = omega (arith, option c.deadline, option c.notifier_created_event, option c.notifier_dead_event, option c.notifier_dropped_event)
+settings (Event c) h = omega
+    (arith, option c.deadline, option c.notifier_created_event, option c.notifier_dead_event, option c.notifier_dropped_event)
 
 attributes : (pairs : List Attribute) → All IsAttribute pairs → items_bound (items_of (map attribute_tree pairs)) ≤ 1 + 2000 * length pairs
 attributes [] h = omega arith

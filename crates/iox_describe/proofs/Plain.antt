@@ -24,11 +24,13 @@ use Rattle.iox_describe_verdict.specs.DescribeSettings.Agreement.{Agreement, pat
 use Rattle.iox_describe_verdict.specs.DescribeSettings.declared.setting.SettingValue.{SettingValue}
 use Rattle.iox_describe_verdict.specs.DescribeSettings.declared.setting.SettingValue.TheVariants.{Switch, Number, OptionalNumber, Types}
 use Rattle.iox_describe_verdict.specs.DescribeSettings.declared.static_config.Settings.{Settings}
-use Rattle.iox_describe_verdict.specs.DescribeSettings.declared.static_config.Settings.TheVariants.{RequestResponse, PublishSubscribe, Event}
+use Rattle.iox_describe_verdict.specs.DescribeSettings.declared.static_config.Settings.TheVariants.{RequestResponse, PublishSubscribe}
+use Rattle.iox_describe_verdict.specs.DescribeSettings.declared.static_config.Settings.TheVariants.{Event}
 use Rattle.iox_describe_verdict.specs.DescribeSettings.RequestResponseSettings as request_response
 use Rattle.iox_describe_verdict.specs.DescribeSettings.PublishSubscribeSettings as publish_subscribe
 use Rattle.iox_describe_verdict.specs.DescribeSettings.EventSettings as event
-use Rattle.iox_describe.specs.Line.{attribute_tree, detail_tree, line, option_tree, pattern_word, settings_members, settings_tree, tree, types_tree, value_tree, variant_word}
+use Rattle.iox_describe.specs.Line.{attribute_tree, detail_tree, line, option_tree, pattern_word, settings_members, settings_tree, tree}
+use Rattle.iox_describe.specs.Line.{types_tree, value_tree, variant_word}
 use Rattle.iox_describe.specs.Within.{AreSettings, AreTypes, AreValues, IsTypeDetail, IsValue, IsWithinLimits, IsOption}
 
 -- ---- texts are UTF-8
@@ -107,7 +109,8 @@ abbrev keys_ascii : {S : Type 0} → (S → List ℕ) → List S → Bool
 keys_ascii key [] = true
 keys_ascii key (s ∷ more) = are_ascii (key s) && keys_ascii key more
 
-members : {S C : Type 0} (key : S → List ℕ) (value : S → C → SettingValue) (all : List S) (c : C) → keys_ascii key all ≡ true → AreValues value c all → AreMembers 2 (settings_members key value all c)
+members : {S C : Type 0} (key : S → List ℕ) (value : S → C → SettingValue) (all : List S) (c : C) → keys_ascii key all ≡ true
+    → AreValues value c all → AreMembers 2 (settings_members key value all c)
 members key value [] c e h = tt
 members key value (s ∷ more) c e h = (
   IsUtf8-are_ascii (key s) (first_so (are_ascii (key s)) (keys_ascii key more) e),
@@ -175,7 +178,8 @@ settings-float : (s : Settings) → has_float (settings_tree s) ≡ false
 settings-float (RequestResponse c) = refl
 settings-float (PublishSubscribe c) = refl
 settings-float (Event c) =
-    λ i. option-float c.deadline i || (option-float c.notifier_created_event i || (option-float c.notifier_dead_event i || (option-float c.notifier_dropped_event i || false)))
+    λ i. option-float c.deadline i || (option-float c.notifier_created_event i
+    || (option-float c.notifier_dead_event i || (option-float c.notifier_dropped_event i || false)))
 
 pub tree-float : (a : Agreement) → has_float (tree a) ≡ false
 tree-float a = λ i. attributes-float a.attributes i || (settings-float a.settings i || false)

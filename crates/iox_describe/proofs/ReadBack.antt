@@ -1,5 +1,6 @@
 -- A plain value is read back from its text.
-use Rattle.std.proofs.Common.{◌≡◌, ◌≤◌, ℕ, zero, suc, List, [], ◌∷◌, ◌||◌, Bool, true, false, Option, Some, option_map, option_and_then, refl, sym, ap, ◌∙◌, arith, append-nil}
+use Rattle.std.proofs.Common.{◌≡◌, ◌≤◌, ℕ, zero, suc, List, [], ◌∷◌, ◌||◌, Bool, true, false, Option, Some, option_map, option_and_then}
+use Rattle.std.proofs.Common.{refl, sym, ap, ◌∙◌, arith, append-nil}
 use Rattle.std.specs.Str.{IsUtf8}
 use Rattle.std.proofs.lemmas.Str.{IsUtf8-append, IsUtf8-from_ascii, IsUtf8-nil}
 use Rattle.std.proofs.lemmas.Fmt.{IsAscii-decimal}
@@ -13,9 +14,11 @@ use Rattle.json.proofs.Printed.Tokens.{tokens-print}
 use Rattle.json.proofs.Printed.Trees.{value-json_tokens, ArePrintable-json_tokens}
 pub use Rattle.json.proofs.Printed.Utf8.{are_ascii, IsUtf8-are_ascii}
 use Rattle.json.proofs.Printed.Utf8.{IsUtf8-boolean, IsUtf8-quoted}
-use Rattle.serde_json.specs.Data.{unsigned, negative, float, Data, null, boolean, number, string, array, object, Items, no_items, item, Members, no_members, member, put}
+use Rattle.serde_json.specs.Data.{unsigned, negative, float, Data, null, boolean, number, string, array, object, Items, no_items, item}
+use Rattle.serde_json.specs.Data.{Members, no_members, member, put}
 use Rattle.serde_json.specs.Read.{of_json, of_items, of_members, read, max_depth}
-use Rattle.serde_json.specs.Written.{outline, items_outline, members_outline, has_float, items_have_float, members_have_float, comma_if, compact_text, items_text, members_text}
+use Rattle.serde_json.specs.Written.{outline, items_outline, members_outline, has_float, items_have_float, members_have_float, comma_if}
+use Rattle.serde_json.specs.Written.{compact_text, items_text, members_text}
 use Rattle.serde_json.proofs.Numbers.{number_of-decimal}
 use Rattle.serde_json.proofs.Texts.{print-outline}
 use Rattle.iox_describe.specs.Plain.{put_all, IsPlain, AreItems, AreMembers}
@@ -80,19 +83,23 @@ mutual
       }
 
   reads_items : (n : ℕ) (ds : Items) → AreItems n ds → ReadsItems n ds
-  reads_items n no_items h = record { numbers = tt; depth = omega arith; back = refl; floats = refl; utf8 = λ later. IsUtf8-are_ascii (93 ∷ []) refl }
+  reads_items n no_items h
+      = record { numbers = tt; depth = omega arith; back = refl; floats = refl; utf8 = λ later. IsUtf8-are_ascii (93 ∷ []) refl }
   reads_items n (item d ds) h =
       let a = reads n d h.0 in
       let b = reads_items n ds h.1 in record {
         numbers = (a.numbers, b.numbers);
         depth = omega (arith, a.depth, b.depth);
-        back = ap (λ o. option_and_then (λ x. option_map (item x) (of_items (items_outline ds))) o) a.back ∙ ap (option_map (item d)) b.back;
+        back = ap (λ o. option_and_then (λ x. option_map (item x) (of_items (items_outline ds))) o) a.back ∙ ap (option_map (item d))
+            b.back;
         floats = λ i. a.floats i || b.floats i;
-        utf8 = λ later. IsUtf8-append (comma_if later) _ (comma later) (IsUtf8-append (compact_text d) (items_text true ds) a.utf8 (b.utf8 true));
+        utf8 = λ later. IsUtf8-append (comma_if later) _ (comma later)
+            (IsUtf8-append (compact_text d) (items_text true ds) a.utf8 (b.utf8 true));
       }
 
   reads_members : (n : ℕ) (ms : Members) → AreMembers n ms → ReadsMembers n ms
-  reads_members n no_members h = record { numbers = tt; depth = omega arith; back = λ found. refl; floats = refl; utf8 = λ later. IsUtf8-are_ascii (125 ∷ []) refl }
+  reads_members n no_members h = record
+      { numbers = tt; depth = omega arith; back = λ found. refl; floats = refl; utf8 = λ later. IsUtf8-are_ascii (125 ∷ []) refl }
   reads_members n (member k d ms) h =
       let a = reads n d h.1 in
       let b = reads_members n ms h.2 in record {
@@ -123,5 +130,7 @@ plain-utf8 n d h = (reads n d h).utf8
 pub plain-read : (n : ℕ) (d : Data) → n ≤ 127 → IsPlain n d → read (compact_text d) ≡ Some d
 plain-read n d shallow h =
     let r = reads n d h in
-    let same : tokens (compact_text d) ≡ tree.json_tokens (outline d) = ap tokens (sym (print-outline d)) ∙ tokens-print _ (ArePrintable-json_tokens (outline d) r.numbers) in
-    ap whole (ap (json.value max_depth) (same ∙ sym (append-nil _)) ∙ value-json_tokens (outline d) max_depth [] (omega (arith, r.depth, shallow))) ∙ r.back
+    let same : tokens (compact_text d) ≡ tree.json_tokens (outline d)
+    = ap tokens (sym (print-outline d)) ∙ tokens-print _ (ArePrintable-json_tokens (outline d) r.numbers) in
+    ap whole (ap (json.value max_depth) (same ∙ sym (append-nil _)) ∙ value-json_tokens (outline d) max_depth []
+    (omega (arith, r.depth, shallow))) ∙ r.back

@@ -21,7 +21,8 @@ same_items (x ∷ xs) (y ∷ ys) e =
     λ i. first i ∷ more i
 
 -- the items of the attributes' JSON are those of the attributes
-pub items_are : (values : List Value) (pairs : List Attribute) (d : Data) → d ≡ attributes_tree pairs → Some (items_view values) ≡ as_array d → map view values ≡ map attribute_tree pairs
+pub items_are : (values : List Value) (pairs : List Attribute) (d : Data) → d ≡ attributes_tree pairs
+    → Some (items_view values) ≡ as_array d → map view values ≡ map attribute_tree pairs
 items_are values pairs d is found =
     let both : Some (items_view values) ≡ Some (items_of (map attribute_tree pairs)) = found ∙ ap as_array is in
     same_items (map view values) (map attribute_tree pairs) (let e : items_view values ≡ items_of (map attribute_tree pairs) = cc in e)
@@ -29,7 +30,8 @@ items_are values pairs d is found =
 pub as_many : (values : List Value) (pairs : List Attribute) → map view values ≡ map attribute_tree pairs → length values ≡ length pairs
 as_many values pairs e = sym (length-map values view) ∙ ap length e ∙ length-map pairs attribute_tree
 
-item_at : (values : List Value) (pairs : List Attribute) (i : ℕ) (v : Value) (a : Attribute) → map view values ≡ map attribute_tree pairs → i < length values → view (get_or values i v) ≡ attribute_tree (get_or pairs i a)
+item_at : (values : List Value) (pairs : List Attribute) (i : ℕ) (v : Value) (a : Attribute)
+    → map view values ≡ map attribute_tree pairs → i < length values → view (get_or values i v) ≡ attribute_tree (get_or pairs i a)
 item_at [] pairs i v a e lt = absurd (omega arith)
 item_at (x ∷ xs) [] i v a e lt = absurd cc
 item_at (x ∷ xs) (y ∷ ys) zero v a e lt = cc
@@ -42,7 +44,8 @@ pub record IsNext (pairs old : List Attribute) (i : ℕ) (value : Value) (pair :
   pub is : view value ≡ attribute_tree pair
   pub grown : old ++ pair ∷ [] ≡ take (i + 1) pairs
 
-pub next : (values : List Value) (pairs old : List Attribute) (i : ℕ) (v : Value) → map view values ≡ map attribute_tree pairs → AreAttributes pairs → old ≡ take i pairs → i < length values → v ≡ get_or values i v
+pub next : (values : List Value) (pairs old : List Attribute) (i : ℕ) (v : Value) → map view values ≡ map attribute_tree pairs
+    → AreAttributes pairs → old ≡ take i pairs → i < length values → v ≡ get_or values i v
     → IsNext pairs old i v (get_or pairs i (attribute [] []))
 next values pairs old i v e within before lt is =
     let many = as_many values pairs e in

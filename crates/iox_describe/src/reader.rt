@@ -1,5 +1,6 @@
 //! The description that a line spells.
-ghost use Rattle.std.specs.Prelude.{◌≡◌, ◌⊎◌, ◌↔◌, ◌<◌, ◌++◌, ◌∷◌, [], List, ℕ, length, Ok, Err, Some, IfOk, IfSome, IsSomeAnd, IsTrue, MatchResult};
+ghost use Rattle.std.specs.Prelude.{◌≡◌, ◌⊎◌, ◌↔◌, ◌<◌, ◌++◌, ◌∷◌, [], List, ℕ, length, Ok, Err, Some, IfOk, IfSome, IsSomeAnd, IsTrue};
+ghost use Rattle.std.specs.Prelude.{MatchResult};
 ghost use Rattle.serde_json.specs.Find.{get};
 ghost use Rattle.serde_json.specs.View.{view};
 ghost use Rattle.iox_describe_verdict.specs.DescribeBase.declared.attribute.Attribute.{Attribute};
@@ -13,7 +14,8 @@ ghost use Rattle.iox_describe_verdict.specs.DescribeSettings.Setting.{IsOfKind};
 ghost use Rattle.iox_describe_verdict.specs.DescribeBase.Attributes.{AreAttributes, IsAttribute};
 ghost use Rattle.iox_describe_verdict.specs.DescribeBase.Hash.{hash_text};
 ghost use Rattle.iox_describe.specs.declared.error.DescriptionError.TheVariants.{Invalid, OutOfMemory};
-ghost use Rattle.iox_describe.specs.Line.{attribute_tree, attributes_tree, detail_tree, line, pattern_word, settings_tree, tree, types_tree, value_tree};
+ghost use Rattle.iox_describe.specs.Line.{attribute_tree, attributes_tree, detail_tree, line, pattern_word, settings_tree, tree};
+ghost use Rattle.iox_describe.specs.Line.{types_tree, value_tree};
 ghost use Rattle.serde_json.specs.Data.{string};
 ghost use Rattle.iox_describe.specs.Reading.{AreFound};
 ghost use Rattle.iox_describe.specs.Within.{AreSettings, AreTypes, AreValues, HasForm, IsHash, IsTypeDetail, IsValue, IsWithinLimits};

@@ -3,7 +3,8 @@ ghost use Rattle.std.specs.Prelude.{◌≡◌, map, List, ℕ, IfOk, OnOk};
 ghost use Rattle.serde_json.specs.Data.{object, no_members, put};
 ghost use Rattle.serde_json.specs.View.{items_view, members_view, view};
 ghost use Rattle.iox_describe.specs.Plain.{put_all};
-ghost use Rattle.iox_describe.specs.Line.{attribute_tree, attributes_tree, detail_tree, line, pattern_word, settings_members, settings_tree, tree, types_tree, value_tree, variant_word};
+ghost use Rattle.iox_describe.specs.Line.{attribute_tree, attributes_tree, detail_tree, line, pattern_word, settings_members};
+ghost use Rattle.iox_describe.specs.Line.{settings_tree, tree, types_tree, value_tree, variant_word};
 
 use iox_container::string::String as _;
 use iox_describe_base::{Attribute, MessageTypeDetails, MessagingPattern, TypeDetail, TypeVariant};

@@ -87,7 +87,8 @@ compatible-from a b h =
     (le-leb _ _ h.alignment)
 
 pub compatible-itself : (a : MessageTypeDetails) → is_compatible a a ≡ true
-compatible-itself a = compatible-from a a (record { header = refl; user_header = refl; variant = refl; name = refl; size = refl; alignment = omega arith })
+compatible-itself a = compatible-from a a
+    (record { header = refl; user_header = refl; variant = refl; name = refl; size = refl; alignment = omega arith })
 
 chain : (a b c : MessageTypeDetails) → IsCompatible a b → IsCompatible b c → IsCompatible a c
 chain a b c p q = record {

@@ -5,7 +5,9 @@ use Rattle.iox_describe_settings.specs.Setting.{number, optional_number, default
 use Rattle.iox_describe_settings.specs.declared.setting.SettingValue.{SettingValue}
 use Rattle.iox_describe_settings.specs.declared.setting.SettingValue.TheVariants.{Number, OptionalNumber}
 use Rattle.iox_describe_settings.specs.declared.static_config.event.Setting.{Setting}
-use Rattle.iox_describe_settings.specs.declared.static_config.event.Setting.TheVariants.{Deadline, EventIdMaxValue, MaxListeners, MaxNodes, MaxNotifiers, NotifierCreatedEvent, NotifierDeadEvent, NotifierDroppedEvent}
+use Rattle.iox_describe_settings.specs.declared.static_config.event.Setting.TheVariants.{Deadline, EventIdMaxValue, MaxListeners}
+use Rattle.iox_describe_settings.specs.declared.static_config.event.Setting.TheVariants.{MaxNodes, MaxNotifiers, NotifierCreatedEvent}
+use Rattle.iox_describe_settings.specs.declared.static_config.event.Setting.TheVariants.{NotifierDeadEvent, NotifierDroppedEvent}
 use Rattle.iox_describe_settings.specs.declared.static_config.event.StaticConfig.{StaticConfig}
 
 -- all of them, in rising order of their keys

@@ -6,7 +6,15 @@ use Rattle.iox_describe_settings.specs.Setting.{number, switch, types as types_r
 use Rattle.iox_describe_settings.specs.declared.setting.SettingValue.{SettingValue}
 use Rattle.iox_describe_settings.specs.declared.setting.SettingValue.TheVariants.{Switch, Number, Types}
 use Rattle.iox_describe_settings.specs.declared.static_config.request_response.Setting.{Setting}
-use Rattle.iox_describe_settings.specs.declared.static_config.request_response.Setting.TheVariants.{EnableFireAndForgetRequests, EnableSafeOverflowForRequests, EnableSafeOverflowForResponses, MaxActiveRequestsPerClient, MaxBorrowedResponsesPerPendingResponse, MaxClients, MaxLoanedRequests, MaxNodes, MaxResponseBufferSize, MaxServers, RequestTypes, ResponseTypes}
+use Rattle.iox_describe_settings.specs.declared.static_config.request_response.Setting.TheVariants.{EnableFireAndForgetRequests}
+use Rattle.iox_describe_settings.specs.declared.static_config.request_response.Setting.TheVariants.{EnableSafeOverflowForRequests}
+use Rattle.iox_describe_settings.specs.declared.static_config.request_response.Setting.TheVariants.{EnableSafeOverflowForResponses}
+use Rattle.iox_describe_settings.specs.declared.static_config.request_response.Setting.TheVariants.{MaxActiveRequestsPerClient}
+use Rattle.iox_describe_settings.specs.declared.static_config.request_response.Setting.TheVariants.{MaxBorrowedResponsesPerPendingResponse}
+use Rattle.iox_describe_settings.specs.declared.static_config.request_response.Setting.TheVariants.{MaxClients, MaxLoanedRequests}
+use Rattle.iox_describe_settings.specs.declared.static_config.request_response.Setting.TheVariants.{MaxNodes, MaxResponseBufferSize}
+use Rattle.iox_describe_settings.specs.declared.static_config.request_response.Setting.TheVariants.{MaxServers, RequestTypes}
+use Rattle.iox_describe_settings.specs.declared.static_config.request_response.Setting.TheVariants.{ResponseTypes}
 use Rattle.iox_describe_settings.specs.declared.static_config.request_response.StaticConfig.{StaticConfig}
 
 -- all of them, in rising order of their keys

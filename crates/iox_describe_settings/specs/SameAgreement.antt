@@ -29,7 +29,8 @@ same_settings a b = false
 -- whether name, hash, settings and attributes are the same
 abbrev pub same_agreement : Agreement → Agreement → Bool
 same_agreement a b =
-    pointwise nat_eq a.name b.name && (pointwise nat_eq a.service_hash.digest b.service_hash.digest && (same_settings a.settings b.settings && same_attributes a.attributes b.attributes))
+    pointwise nat_eq a.name b.name && (pointwise nat_eq a.service_hash.digest b.service_hash.digest
+    && (same_settings a.settings b.settings && same_attributes a.attributes b.attributes))
 
 -- ---- the tests tell whether they are one
 
@@ -48,10 +49,13 @@ options (Some a) (Some b) = (λ e. ap Some (eqb-true a b e), λ e. eq-eqb a b (l
 types : (a b : MessageTypeDetails) → Decides (same_types a b) (a ≡ b)
 types a b = (
   λ e.
-      let p = same_detail-true a.header b.header (first_so (same_detail a.header b.header) (same_detail a.user_header b.user_header && same_detail a.payload b.payload) e) in
+      let p = same_detail-true a.header b.header
+      (first_so (same_detail a.header b.header) (same_detail a.user_header b.user_header && same_detail a.payload b.payload) e) in
       let rest = second_so (same_detail a.header b.header) (same_detail a.user_header b.user_header && same_detail a.payload b.payload) e in
-      let q = same_detail-true a.user_header b.user_header (first_so (same_detail a.user_header b.user_header) (same_detail a.payload b.payload) rest) in
-      let r = same_detail-true a.payload b.payload (second_so (same_detail a.user_header b.user_header) (same_detail a.payload b.payload) rest) in
+      let q = same_detail-true a.user_header b.user_header
+      (first_so (same_detail a.user_header b.user_header) (same_detail a.payload b.payload) rest) in
+      let r = same_detail-true a.payload b.payload
+      (second_so (same_detail a.user_header b.user_header) (same_detail a.payload b.payload) rest) in
       λ i. record { header = p i; user_header = q i; payload = r i },
   λ e.
       let p = same_detail-refl a.header b.header (ap (λ (t : MessageTypeDetails). t.header) e) in

@@ -2,7 +2,8 @@
 ghost use Rattle.std.specs.Prelude.{◌≡◌, ◌↔◌, ℕ, List, true, All, IfSome, IsTrue};
 ghost use Rattle.iox_describe_settings.specs.declared.setting.Rule.{Rule};
 ghost use Rattle.iox_describe_settings.specs.declared.setting.SettingValue.{SettingValue};
-ghost use Rattle.iox_describe_settings.specs.Setting.{adjusted, adjusted_value, all_same, default_of, defaulted, filled, keys_rise, same_value, IsAllowed, IsOfKind};
+ghost use Rattle.iox_describe_settings.specs.Setting.{adjusted, adjusted_value, all_same, default_of, defaulted, filled, keys_rise};
+ghost use Rattle.iox_describe_settings.specs.Setting.{same_value, IsAllowed, IsOfKind};
 
 use iox_describe_base::message_type::MessageTypeDetails;
 

@@ -4,7 +4,9 @@ use Rattle.iox_describe_verdict.specs.declared.requirement.event.Requirement.{Re
 use Rattle.iox_describe_verdict.specs.declared.requirement.event.ClauseError.{ClauseError}
 use Rattle.iox_describe_verdict.specs.declared.requirement.event.ClauseError.TheVariants as error
 use Rattle.iox_describe_settings.specs.declared.static_config.event.Setting.{Setting}
-use Rattle.iox_describe_settings.specs.declared.static_config.event.Setting.TheVariants.{Deadline, EventIdMaxValue, MaxListeners, MaxNodes, MaxNotifiers, NotifierCreatedEvent, NotifierDeadEvent, NotifierDroppedEvent}
+use Rattle.iox_describe_settings.specs.declared.static_config.event.Setting.TheVariants.{Deadline, EventIdMaxValue, MaxListeners}
+use Rattle.iox_describe_settings.specs.declared.static_config.event.Setting.TheVariants.{MaxNodes, MaxNotifiers, NotifierCreatedEvent}
+use Rattle.iox_describe_settings.specs.declared.static_config.event.Setting.TheVariants.{NotifierDeadEvent, NotifierDroppedEvent}
 use Rattle.iox_describe_settings.specs.declared.static_config.event.StaticConfig.{StaticConfig}
 use Rattle.iox_describe_settings.specs.declared.static_config.Settings.{Settings}
 use Rattle.iox_describe_settings.specs.declared.static_config.Settings.TheVariants.{RequestResponse, PublishSubscribe, Event}

@@ -7,7 +7,9 @@ use Rattle.iox_describe_verdict.specs.declared.requirement.event.Requirement.{Re
 use Rattle.iox_describe_settings.specs.declared.static_config.event.StaticConfig.{StaticConfig}
 use Rattle.iox_describe_settings.specs.declared.static_config.Settings.{Settings}
 use Rattle.iox_describe_settings.specs.declared.static_config.Settings.TheVariants.{RequestResponse, PublishSubscribe, Event}
-use Rattle.iox_describe_settings.specs.declared.static_config.event.Setting.TheVariants.{Deadline, EventIdMaxValue, MaxListeners, MaxNodes, MaxNotifiers, NotifierCreatedEvent, NotifierDeadEvent, NotifierDroppedEvent}
+use Rattle.iox_describe_settings.specs.declared.static_config.event.Setting.TheVariants.{Deadline, EventIdMaxValue, MaxListeners}
+use Rattle.iox_describe_settings.specs.declared.static_config.event.Setting.TheVariants.{MaxNodes, MaxNotifiers, NotifierCreatedEvent}
+use Rattle.iox_describe_settings.specs.declared.static_config.event.Setting.TheVariants.{NotifierDeadEvent, NotifierDroppedEvent}
 use Rattle.iox_describe_settings.specs.EventSettings.{value}
 use Rattle.iox_describe_verdict.specs.Verdict.{first_unmet, unmet_clause}
 use Rattle.iox_describe_verdict.specs.EventClauses.{clauses_on, clauses_of, named, IsWeaker}
@@ -20,10 +22,14 @@ on weak strong given c h =
     (step _ _ _ _ _ (setting (named Deadline weak) (named Deadline strong) (value Deadline c) (h.settings Deadline))
     (step _ _ _ _ _ (setting (named MaxNotifiers weak) (named MaxNotifiers strong) (value MaxNotifiers c) (h.settings MaxNotifiers))
     (step _ _ _ _ _ (setting (named MaxListeners weak) (named MaxListeners strong) (value MaxListeners c) (h.settings MaxListeners))
-    (step _ _ _ _ _ (setting (named EventIdMaxValue weak) (named EventIdMaxValue strong) (value EventIdMaxValue c) (h.settings EventIdMaxValue))
-    (step _ _ _ _ _ (setting (named NotifierCreatedEvent weak) (named NotifierCreatedEvent strong) (value NotifierCreatedEvent c) (h.settings NotifierCreatedEvent))
-    (step _ _ _ _ _ (setting (named NotifierDroppedEvent weak) (named NotifierDroppedEvent strong) (value NotifierDroppedEvent c) (h.settings NotifierDroppedEvent))
-    (step _ _ _ _ _ (setting (named NotifierDeadEvent weak) (named NotifierDeadEvent strong) (value NotifierDeadEvent c) (h.settings NotifierDeadEvent))
+    (step _ _ _ _ _ (setting (named EventIdMaxValue weak) (named EventIdMaxValue strong) (value EventIdMaxValue c)
+    (h.settings EventIdMaxValue))
+    (step _ _ _ _ _ (setting (named NotifierCreatedEvent weak) (named NotifierCreatedEvent strong) (value NotifierCreatedEvent c)
+    (h.settings NotifierCreatedEvent))
+    (step _ _ _ _ _ (setting (named NotifierDroppedEvent weak) (named NotifierDroppedEvent strong) (value NotifierDroppedEvent c)
+    (h.settings NotifierDroppedEvent))
+    (step _ _ _ _ _ (setting (named NotifierDeadEvent weak) (named NotifierDeadEvent strong) (value NotifierDeadEvent c)
+    (h.settings NotifierDeadEvent))
     (step _ _ _ _ _ (setting (named MaxNodes weak) (named MaxNodes strong) (value MaxNodes c) (h.settings MaxNodes))
     (λ e. e)))))))))
 

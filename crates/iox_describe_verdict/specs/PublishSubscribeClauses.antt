@@ -5,7 +5,11 @@ use Rattle.iox_describe_verdict.specs.declared.requirement.publish_subscribe.Req
 use Rattle.iox_describe_verdict.specs.declared.requirement.publish_subscribe.ClauseError.{ClauseError}
 use Rattle.iox_describe_verdict.specs.declared.requirement.publish_subscribe.ClauseError.TheVariants as error
 use Rattle.iox_describe_settings.specs.declared.static_config.publish_subscribe.Setting.{Setting}
-use Rattle.iox_describe_settings.specs.declared.static_config.publish_subscribe.Setting.TheVariants.{EnableSafeOverflow, HistorySize, MaxNodes, MaxPublishers, MaxSubscribers, SubscriberMaxBorrowedSamples, SubscriberMaxBufferSize, Types}
+use Rattle.iox_describe_settings.specs.declared.static_config.publish_subscribe.Setting.TheVariants.{EnableSafeOverflow, HistorySize}
+use Rattle.iox_describe_settings.specs.declared.static_config.publish_subscribe.Setting.TheVariants.{MaxNodes, MaxPublishers}
+use Rattle.iox_describe_settings.specs.declared.static_config.publish_subscribe.Setting.TheVariants.{MaxSubscribers}
+use Rattle.iox_describe_settings.specs.declared.static_config.publish_subscribe.Setting.TheVariants.{SubscriberMaxBorrowedSamples}
+use Rattle.iox_describe_settings.specs.declared.static_config.publish_subscribe.Setting.TheVariants.{SubscriberMaxBufferSize, Types}
 use Rattle.iox_describe_settings.specs.declared.static_config.publish_subscribe.StaticConfig.{StaticConfig}
 use Rattle.iox_describe_settings.specs.declared.static_config.Settings.{Settings}
 use Rattle.iox_describe_settings.specs.declared.static_config.Settings.TheVariants.{RequestResponse, PublishSubscribe, Event}

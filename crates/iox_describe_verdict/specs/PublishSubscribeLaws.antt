@@ -7,7 +7,11 @@ use Rattle.iox_describe_verdict.specs.declared.requirement.publish_subscribe.Req
 use Rattle.iox_describe_settings.specs.declared.static_config.publish_subscribe.StaticConfig.{StaticConfig}
 use Rattle.iox_describe_settings.specs.declared.static_config.Settings.{Settings}
 use Rattle.iox_describe_settings.specs.declared.static_config.Settings.TheVariants.{RequestResponse, PublishSubscribe, Event}
-use Rattle.iox_describe_settings.specs.declared.static_config.publish_subscribe.Setting.TheVariants.{EnableSafeOverflow, HistorySize, MaxNodes, MaxPublishers, MaxSubscribers, SubscriberMaxBorrowedSamples, SubscriberMaxBufferSize, Types}
+use Rattle.iox_describe_settings.specs.declared.static_config.publish_subscribe.Setting.TheVariants.{EnableSafeOverflow, HistorySize}
+use Rattle.iox_describe_settings.specs.declared.static_config.publish_subscribe.Setting.TheVariants.{MaxNodes, MaxPublishers}
+use Rattle.iox_describe_settings.specs.declared.static_config.publish_subscribe.Setting.TheVariants.{MaxSubscribers}
+use Rattle.iox_describe_settings.specs.declared.static_config.publish_subscribe.Setting.TheVariants.{SubscriberMaxBorrowedSamples}
+use Rattle.iox_describe_settings.specs.declared.static_config.publish_subscribe.Setting.TheVariants.{SubscriberMaxBufferSize, Types}
 use Rattle.iox_describe_settings.specs.PublishSubscribeSettings.{value}
 use Rattle.iox_describe_verdict.specs.Verdict.{first_unmet, unmet_clause}
 use Rattle.iox_describe_verdict.specs.PublishSubscribeClauses.{clauses_on, clauses_of, named, IsWeaker}
@@ -18,12 +22,15 @@ on : (weak strong : Requirement) (given : List Attribute) (c : StaticConfig) →
 on weak strong given c h =
     step _ _ _ _ _ (setting (named Types weak) (named Types strong) (value Types c) (h.settings Types))
     (step _ _ _ _ _ (attributes weak.attributes strong.attributes given h.attributes)
-    (step _ _ _ _ _ (setting (named EnableSafeOverflow weak) (named EnableSafeOverflow strong) (value EnableSafeOverflow c) (h.settings EnableSafeOverflow))
+    (step _ _ _ _ _ (setting (named EnableSafeOverflow weak) (named EnableSafeOverflow strong) (value EnableSafeOverflow c)
+    (h.settings EnableSafeOverflow))
     (step _ _ _ _ _ (setting (named MaxPublishers weak) (named MaxPublishers strong) (value MaxPublishers c) (h.settings MaxPublishers))
     (step _ _ _ _ _ (setting (named MaxSubscribers weak) (named MaxSubscribers strong) (value MaxSubscribers c) (h.settings MaxSubscribers))
-    (step _ _ _ _ _ (setting (named SubscriberMaxBufferSize weak) (named SubscriberMaxBufferSize strong) (value SubscriberMaxBufferSize c) (h.settings SubscriberMaxBufferSize))
+    (step _ _ _ _ _ (setting (named SubscriberMaxBufferSize weak) (named SubscriberMaxBufferSize strong)
+    (value SubscriberMaxBufferSize c) (h.settings SubscriberMaxBufferSize))
     (step _ _ _ _ _ (setting (named HistorySize weak) (named HistorySize strong) (value HistorySize c) (h.settings HistorySize))
-    (step _ _ _ _ _ (setting (named SubscriberMaxBorrowedSamples weak) (named SubscriberMaxBorrowedSamples strong) (value SubscriberMaxBorrowedSamples c) (h.settings SubscriberMaxBorrowedSamples))
+    (step _ _ _ _ _ (setting (named SubscriberMaxBorrowedSamples weak) (named SubscriberMaxBorrowedSamples strong)
+    (value SubscriberMaxBorrowedSamples c) (h.settings SubscriberMaxBorrowedSamples))
     (step _ _ _ _ _ (setting (named MaxNodes weak) (named MaxNodes strong) (value MaxNodes c) (h.settings MaxNodes))
     (λ e. e)))))))))
 

@@ -5,7 +5,15 @@ use Rattle.iox_describe_verdict.specs.declared.requirement.request_response.Requ
 use Rattle.iox_describe_verdict.specs.declared.requirement.request_response.ClauseError.{ClauseError}
 use Rattle.iox_describe_verdict.specs.declared.requirement.request_response.ClauseError.TheVariants as error
 use Rattle.iox_describe_settings.specs.declared.static_config.request_response.Setting.{Setting}
-use Rattle.iox_describe_settings.specs.declared.static_config.request_response.Setting.TheVariants.{EnableFireAndForgetRequests, EnableSafeOverflowForRequests, EnableSafeOverflowForResponses, MaxActiveRequestsPerClient, MaxBorrowedResponsesPerPendingResponse, MaxClients, MaxLoanedRequests, MaxNodes, MaxResponseBufferSize, MaxServers, RequestTypes, ResponseTypes}
+use Rattle.iox_describe_settings.specs.declared.static_config.request_response.Setting.TheVariants.{EnableFireAndForgetRequests}
+use Rattle.iox_describe_settings.specs.declared.static_config.request_response.Setting.TheVariants.{EnableSafeOverflowForRequests}
+use Rattle.iox_describe_settings.specs.declared.static_config.request_response.Setting.TheVariants.{EnableSafeOverflowForResponses}
+use Rattle.iox_describe_settings.specs.declared.static_config.request_response.Setting.TheVariants.{MaxActiveRequestsPerClient}
+use Rattle.iox_describe_settings.specs.declared.static_config.request_response.Setting.TheVariants.{MaxBorrowedResponsesPerPendingResponse}
+use Rattle.iox_describe_settings.specs.declared.static_config.request_response.Setting.TheVariants.{MaxClients, MaxLoanedRequests}
+use Rattle.iox_describe_settings.specs.declared.static_config.request_response.Setting.TheVariants.{MaxNodes, MaxResponseBufferSize}
+use Rattle.iox_describe_settings.specs.declared.static_config.request_response.Setting.TheVariants.{MaxServers, RequestTypes}
+use Rattle.iox_describe_settings.specs.declared.static_config.request_response.Setting.TheVariants.{ResponseTypes}
 use Rattle.iox_describe_settings.specs.declared.static_config.request_response.StaticConfig.{StaticConfig}
 use Rattle.iox_describe_settings.specs.declared.static_config.Settings.{Settings}
 use Rattle.iox_describe_settings.specs.declared.static_config.Settings.TheVariants.{RequestResponse, PublishSubscribe, Event}

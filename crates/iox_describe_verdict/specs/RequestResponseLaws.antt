@@ -7,7 +7,15 @@ use Rattle.iox_describe_verdict.specs.declared.requirement.request_response.Requ
 use Rattle.iox_describe_settings.specs.declared.static_config.request_response.StaticConfig.{StaticConfig}
 use Rattle.iox_describe_settings.specs.declared.static_config.Settings.{Settings}
 use Rattle.iox_describe_settings.specs.declared.static_config.Settings.TheVariants.{RequestResponse, PublishSubscribe, Event}
-use Rattle.iox_describe_settings.specs.declared.static_config.request_response.Setting.TheVariants.{EnableFireAndForgetRequests, EnableSafeOverflowForRequests, EnableSafeOverflowForResponses, MaxActiveRequestsPerClient, MaxBorrowedResponsesPerPendingResponse, MaxClients, MaxLoanedRequests, MaxNodes, MaxResponseBufferSize, MaxServers, RequestTypes, ResponseTypes}
+use Rattle.iox_describe_settings.specs.declared.static_config.request_response.Setting.TheVariants.{EnableFireAndForgetRequests}
+use Rattle.iox_describe_settings.specs.declared.static_config.request_response.Setting.TheVariants.{EnableSafeOverflowForRequests}
+use Rattle.iox_describe_settings.specs.declared.static_config.request_response.Setting.TheVariants.{EnableSafeOverflowForResponses}
+use Rattle.iox_describe_settings.specs.declared.static_config.request_response.Setting.TheVariants.{MaxActiveRequestsPerClient}
+use Rattle.iox_describe_settings.specs.declared.static_config.request_response.Setting.TheVariants.{MaxBorrowedResponsesPerPendingResponse}
+use Rattle.iox_describe_settings.specs.declared.static_config.request_response.Setting.TheVariants.{MaxClients, MaxLoanedRequests}
+use Rattle.iox_describe_settings.specs.declared.static_config.request_response.Setting.TheVariants.{MaxNodes, MaxResponseBufferSize}
+use Rattle.iox_describe_settings.specs.declared.static_config.request_response.Setting.TheVariants.{MaxServers, RequestTypes}
+use Rattle.iox_describe_settings.specs.declared.static_config.request_response.Setting.TheVariants.{ResponseTypes}
 use Rattle.iox_describe_settings.specs.RequestResponseSettings.{value}
 use Rattle.iox_describe_verdict.specs.Verdict.{first_unmet, unmet_clause}
 use Rattle.iox_describe_verdict.specs.RequestResponseClauses.{clauses_on, clauses_of, named, IsWeaker}
@@ -19,15 +27,22 @@ on weak strong given c h =
     step _ _ _ _ _ (setting (named RequestTypes weak) (named RequestTypes strong) (value RequestTypes c) (h.settings RequestTypes))
     (step _ _ _ _ _ (setting (named ResponseTypes weak) (named ResponseTypes strong) (value ResponseTypes c) (h.settings ResponseTypes))
     (step _ _ _ _ _ (attributes weak.attributes strong.attributes given h.attributes)
-    (step _ _ _ _ _ (setting (named EnableSafeOverflowForRequests weak) (named EnableSafeOverflowForRequests strong) (value EnableSafeOverflowForRequests c) (h.settings EnableSafeOverflowForRequests))
-    (step _ _ _ _ _ (setting (named EnableSafeOverflowForResponses weak) (named EnableSafeOverflowForResponses strong) (value EnableSafeOverflowForResponses c) (h.settings EnableSafeOverflowForResponses))
-    (step _ _ _ _ _ (setting (named EnableFireAndForgetRequests weak) (named EnableFireAndForgetRequests strong) (value EnableFireAndForgetRequests c) (h.settings EnableFireAndForgetRequests))
-    (step _ _ _ _ _ (setting (named MaxLoanedRequests weak) (named MaxLoanedRequests strong) (value MaxLoanedRequests c) (h.settings MaxLoanedRequests))
-    (step _ _ _ _ _ (setting (named MaxActiveRequestsPerClient weak) (named MaxActiveRequestsPerClient strong) (value MaxActiveRequestsPerClient c) (h.settings MaxActiveRequestsPerClient))
-    (step _ _ _ _ _ (setting (named MaxResponseBufferSize weak) (named MaxResponseBufferSize strong) (value MaxResponseBufferSize c) (h.settings MaxResponseBufferSize))
+    (step _ _ _ _ _ (setting (named EnableSafeOverflowForRequests weak) (named EnableSafeOverflowForRequests strong)
+    (value EnableSafeOverflowForRequests c) (h.settings EnableSafeOverflowForRequests))
+    (step _ _ _ _ _ (setting (named EnableSafeOverflowForResponses weak) (named EnableSafeOverflowForResponses strong)
+    (value EnableSafeOverflowForResponses c) (h.settings EnableSafeOverflowForResponses))
+    (step _ _ _ _ _ (setting (named EnableFireAndForgetRequests weak) (named EnableFireAndForgetRequests strong)
+    (value EnableFireAndForgetRequests c) (h.settings EnableFireAndForgetRequests))
+    (step _ _ _ _ _ (setting (named MaxLoanedRequests weak) (named MaxLoanedRequests strong) (value MaxLoanedRequests c)
+    (h.settings MaxLoanedRequests))
+    (step _ _ _ _ _ (setting (named MaxActiveRequestsPerClient weak) (named MaxActiveRequestsPerClient strong)
+    (value MaxActiveRequestsPerClient c) (h.settings MaxActiveRequestsPerClient))
+    (step _ _ _ _ _ (setting (named MaxResponseBufferSize weak) (named MaxResponseBufferSize strong) (value MaxResponseBufferSize c)
+    (h.settings MaxResponseBufferSize))
     (step _ _ _ _ _ (setting (named MaxServers weak) (named MaxServers strong) (value MaxServers c) (h.settings MaxServers))
     (step _ _ _ _ _ (setting (named MaxClients weak) (named MaxClients strong) (value MaxClients c) (h.settings MaxClients))
-    (step _ _ _ _ _ (setting (named MaxBorrowedResponsesPerPendingResponse weak) (named MaxBorrowedResponsesPerPendingResponse strong) (value MaxBorrowedResponsesPerPendingResponse c) (h.settings MaxBorrowedResponsesPerPendingResponse))
+    (step _ _ _ _ _ (setting (named MaxBorrowedResponsesPerPendingResponse weak) (named MaxBorrowedResponsesPerPendingResponse strong)
+    (value MaxBorrowedResponsesPerPendingResponse c) (h.settings MaxBorrowedResponsesPerPendingResponse))
     (step _ _ _ _ _ (setting (named MaxNodes weak) (named MaxNodes strong) (value MaxNodes c) (h.settings MaxNodes))
     (λ e. e)))))))))))))
 

@@ -1,5 +1,6 @@
 -- The verdict of a list of clauses, and what single clauses ask.
-use Rattle.std.specs.Prelude.{ℕ, ◌≡◌, ◌≤◌, List, [], ◌∷◌, Bool, true, false, not, nat_le, Option, Some, None, option_map, IfSome, Result, Ok, Err}
+use Rattle.std.specs.Prelude.{ℕ, ◌≡◌, ◌≤◌, List, [], ◌∷◌, Bool, true, false, not, nat_le, Option, Some, None, option_map, IfSome, Result}
+use Rattle.std.specs.Prelude.{Ok, Err}
 use Rattle.std.specs.List.{find}
 use Rattle.iox_describe_settings.specs.DescribeBase.Compatible.{is_compatible}
 use Rattle.iox_describe_settings.specs.declared.setting.Rule.{Rule}

@@ -1,10 +1,12 @@
 -- A clause that is weaker is met where the stronger one is.
-use Rattle.std.proofs.Common.{◌≡◌, ℕ, ◌≤◌, nat_le, zero, suc, ◌<◌, Bool, true, false, cond, not, List, [], ◌∷◌, length, get_or, Option, Some, None, is_none, Result, Ok, refl, subst, arith}
+use Rattle.std.proofs.Common.{◌≡◌, ℕ, ◌≤◌, nat_le, zero, suc, ◌<◌, Bool, true, false, cond, not, List, [], ◌∷◌, length, get_or, Option}
+use Rattle.std.proofs.Common.{Some, None, is_none, Result, Ok, refl, subst, arith}
 use Rattle.std.specs.List.{find}
 use Rattle.std.specs.Prelude.{Contains, All}
 use Rattle.std.proofs.lemmas.Bool.{leb-true, le-leb}
 use Rattle.iox_describe_settings.specs.DescribeBase.declared.attribute.Attribute.{Attribute}
-use Rattle.iox_describe_settings.specs.DescribeBase.Attributes.{Required, has_pair, has_key, unmet_pair, unmet_lone_key, key_or, has_required, IsFewer}
+use Rattle.iox_describe_settings.specs.DescribeBase.Attributes.{Required, has_pair, has_key, unmet_pair, unmet_lone_key, key_or}
+use Rattle.iox_describe_settings.specs.DescribeBase.Attributes.{has_required, IsFewer}
 use Rattle.iox_describe_settings.specs.CompatibleLemmas.{compatible-chain}
 use Rattle.iox_describe_settings.specs.declared.setting.SettingValue.{SettingValue}
 use Rattle.iox_describe_settings.specs.declared.setting.SettingValue.TheVariants.{Switch, Number, OptionalNumber, Types}

@@ -25,8 +25,10 @@ use Rattle.iox_domain.specs.declared.domain.Domain.{Domain}
 abbrev agree : ℕ → ServiceSizes → DomainId → StaticConfig → Bool
 agree service sizes id agreed =
     (service == id.service) && (sizes.max_publishers == agreed.max_publishers) && (sizes.max_subscribers == agreed.max_subscribers)
-    && (sizes.subscriber_max_buffer_size == agreed.subscriber_max_buffer_size) && (sizes.subscriber_max_borrowed_samples == agreed.subscriber_max_borrowed_samples)
-    && (sizes.history_size == agreed.history_size) && beq sizes.enable_safe_overflow agreed.enable_safe_overflow && nat_le agreed.subscriber_max_borrowed_samples sizes.expired_connections
+    && (sizes.subscriber_max_buffer_size == agreed.subscriber_max_buffer_size)
+    && (sizes.subscriber_max_borrowed_samples == agreed.subscriber_max_borrowed_samples)
+    && (sizes.history_size == agreed.history_size) && beq sizes.enable_safe_overflow agreed.enable_safe_overflow
+    && nat_le agreed.subscriber_max_borrowed_samples sizes.expired_connections
 
 same_number : (n : ℕ) → (n == n) ≡ true
 same_number n = ⊎_elim (λ same. same.0) (λ other. absurd (other.1 refl)) (eqb_tells n n)
@@ -40,16 +42,21 @@ within n m = le-leb n (max m n) (omega arith)
 
 -- new ones
 agree_new : (expired : ℕ) (id : DomainId) (agreed : StaticConfig) → agree id.service (sizes expired agreed) id agreed ≡ true
-agree_new expired id agreed = rw (same_number id.service) (rw (same_number agreed.max_publishers) (rw (same_number agreed.max_subscribers) (rw (same_number agreed.subscriber_max_buffer_size)
-    (rw (same_number agreed.subscriber_max_borrowed_samples) (rw (same_number agreed.history_size) (rw (same_switch agreed.enable_safe_overflow) (within agreed.subscriber_max_borrowed_samples expired)))))))
+agree_new expired id agreed = rw (same_number id.service)
+    (rw (same_number agreed.max_publishers) (rw (same_number agreed.max_subscribers) (rw (same_number agreed.subscriber_max_buffer_size)
+    (rw (same_number agreed.subscriber_max_borrowed_samples)
+    (rw (same_number agreed.history_size)
+    (rw (same_switch agreed.enable_safe_overflow) (within agreed.subscriber_max_borrowed_samples expired)))))))
 
-new : {T U B D : Type 0} (which : DomainId) (expired : ℕ) (settings : Settings) (domain : Domain T U B D) → IsNewDomain which expired settings domain → agrees (parts_of domain) ≡ true
+new : {T U B D : Type 0} (which : DomainId) (expired : ℕ) (settings : Settings) (domain : Domain T U B D)
+    → IsNewDomain which expired settings domain → agrees (parts_of domain) ≡ true
 new which expired settings domain made =
     ap (λ service. agree service domain.state.ports.sizes domain.id domain.agreed) (ap (λ ports. ports.service) made.ports)
     ∙ ap (λ counts. agree which.service counts domain.id domain.agreed) (ap (λ ports. ports.sizes) made.ports)
     ∙ ap (λ id. agree which.service (sizes expired domain.agreed) id domain.agreed) made.id ∙ agree_new expired which domain.agreed
 
-same_parts : {T U B D : Type 0} (old new : Domain T U B D) → SameService old.state.ports new.state.ports → new.id ≡ old.id → new.agreed ≡ old.agreed → agrees (parts_of new) ≡ agrees (parts_of old)
+same_parts : {T U B D : Type 0} (old new : Domain T U B D) → SameService old.state.ports new.state.ports → new.id ≡ old.id
+    → new.agreed ≡ old.agreed → agrees (parts_of new) ≡ agrees (parts_of old)
 same_parts old new same id agreed =
     ap (λ service. agree service new.state.ports.sizes new.id new.agreed) same.service
     ∙ ap (λ counts. agree old.state.ports.service counts new.id new.agreed) same.sizes
@@ -57,8 +64,10 @@ same_parts old new same id agreed =
     ∙ ap (λ config. agree old.state.ports.service old.state.ports.sizes old.id config) agreed
 
 -- both
-pub parts_agree : {T U B D : Type 0} (overrides : ℕ → ℕ → Type 0) (may : DegradationInfo → DegradationAction → Type 0) (decide : BackpressureInfo → BackpressureDecision → Type 0) → PartsAgree T U B D overrides may decide
+pub parts_agree : {T U B D : Type 0} (overrides : ℕ → ℕ → Type 0) (may : DegradationInfo → DegradationAction → Type 0)
+    (decide : BackpressureInfo → BackpressureDecision → Type 0) → PartsAgree T U B D overrides may decide
 parts_agree overrides may decide = record {
   new = new;
-  stays = λ call old after happens id agreed before. same_parts old after ((service_stays overrides may decide).stays call old.state.ports after.state.ports happens) id agreed ∙ before;
+  stays = λ call old after happens id agreed before. same_parts old after
+      ((service_stays overrides may decide).stays call old.state.ports after.state.ports happens) id agreed ∙ before;
 }

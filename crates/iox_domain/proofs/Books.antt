@@ -1,5 +1,6 @@
 -- What a publisher and one of its connections keep of what was sent and taken.
-use Rattle.std.proofs.Common.{arith, ◌≡◌, ◌≢◌, ◌≤◌, ◌&&◌, ◌-◌, ◌⊎◌, ◌∷◌, [], ◌++◌, append_assoc, ℕ, Bool, true, false, List, get_or, length, drop, nat_lt, None, Some, Result, refl, sym, ap, ◌∙◌, subst, if◌then◌else◌, inl, inr}
+use Rattle.std.proofs.Common.{arith, ◌≡◌, ◌≢◌, ◌≤◌, ◌&&◌, ◌-◌, ◌⊎◌, ◌∷◌, [], ◌++◌, append_assoc, ℕ, Bool, true, false, List, get_or}
+use Rattle.std.proofs.Common.{length, drop, nat_lt, None, Some, Result, refl, sym, ap, ◌∙◌, subst, if◌then◌else◌, inl, inr}
 use Rattle.iox_domain.specs.DomainValues.declared.backpressure.BackpressureDecision.{BackpressureDecision}
 use Rattle.iox_domain.specs.DomainValues.declared.backpressure.BackpressureInfo.{BackpressureInfo}
 use Rattle.iox_domain.specs.DomainValues.declared.port_error.SendError.{SendError}
@@ -20,16 +21,21 @@ use Rattle.iox_domain.proofs.PortLawsParts.{part_same, part_on, part_behind, par
 -- nothing before it is tied.
 pub record Books {T U : Type 0} (index subscriber : ℕ) (sent taken : List (Message T U)) (port : PublisherPort T U) : Type 0 where
   pub history : IsPartOf port.sender.uses.history sent
-  pub last : (message : Message T U) → port.sender.uses.sending ≡ Some message → (before : List (Message T U)) × (sent ≡ before ++ message ∷ [])
+  pub last : (message : Message T U) → port.sender.uses.sending ≡ Some message → (before : List (Message T U))
+      × (sent ≡ before ++ message ∷ [])
   pub left : port.stands ≡ false → port.sender.uses.sending ≡ None
   pub part : leads_at index subscriber port ≡ true → IsPartOf (taken ++ (connection_of index port).waiting) sent
-  pub due : leads_at index subscriber port ≡ true → (message : Message T U) (before : List (Message T U)) → port.sender.uses.sending ≡ Some message → sent ≡ before ++ message ∷ [] → (place : ℕ)
-      → port.progress.place ≤ place → get_or port.ties.items place None ≡ Some index → IsPartOf (taken ++ (connection_of index port).waiting) before
-  pub idle : leads_at index subscriber port ≡ true → port.stands ≡ true → ((place : ℕ) → get_or port.ties.items place None ≢ Some index) → taken ++ (connection_of index port).waiting ≡ []
+  pub due : leads_at index subscriber port ≡ true → (message : Message T U) (before : List (Message T U))
+      → port.sender.uses.sending ≡ Some message → sent ≡ before ++ message ∷ [] → (place : ℕ)
+      → port.progress.place ≤ place → get_or port.ties.items place None ≡ Some index
+      → IsPartOf (taken ++ (connection_of index port).waiting) before
+  pub idle : leads_at index subscriber port ≡ true → port.stands ≡ true → ((place : ℕ) → get_or port.ties.items place None ≢ Some index)
+      → taken ++ (connection_of index port).waiting ≡ []
 
 -- Where no such connection is there, nothing was taken from it yet, or nothing more is sent.
 abbrev pub Missing : {T U : Type 0} → ℕ → ℕ → List (Message T U) → List (Message T U) → PublisherPort T U → Type 0
-Missing index subscriber sent taken port = leads_at index subscriber port ≡ false → (taken ≡ []) ⊎ ((port.stands ≡ false) × IsPartOf taken sent)
+Missing index subscriber sent taken port = leads_at index subscriber port ≡ false → (taken ≡ [])
+    ⊎ ((port.stands ≡ false) × IsPartOf taken sent)
 
 -- A publisher is as far as it was, and the connection, if it is there, was there and as much waits.
 pub record Still {T U : Type 0} (index subscriber : ℕ) (old new : PublisherPort T U) : Type 0 where
@@ -38,89 +44,121 @@ pub record Still {T U : Type 0} (index subscriber : ℕ) (old new : PublisherPor
   pub stands : new.stands ≡ old.stands
   pub place : new.progress.place ≡ old.progress.place
   pub ties : new.ties ≡ old.ties
-  pub leads : leads_at index subscriber new ≡ true → (leads_at index subscriber old ≡ true) × ((connection_of index new).waiting ≡ (connection_of index old).waiting)
+  pub leads : leads_at index subscriber new ≡ true → (leads_at index subscriber old ≡ true)
+      × ((connection_of index new).waiting ≡ (connection_of index old).waiting)
 
-pub books_still : {T U : Type 0} (index subscriber : ℕ) (sent taken : List (Message T U)) (old new : PublisherPort T U) → Still index subscriber old new → Books index subscriber sent taken old → Books index subscriber sent taken new
+pub books_still : {T U : Type 0} (index subscriber : ℕ) (sent taken : List (Message T U)) (old new : PublisherPort T U)
+    → Still index subscriber old new → Books index subscriber sent taken old → Books index subscriber sent taken new
 books_still {T} {U} index subscriber sent taken old new still books = record {
   history = subst (λ (all : List (Message T U)). IsPartOf all sent) (sym still.history) books.history;
   last = λ message sending. books.last message (sym still.sending ∙ sending);
   left = λ left. still.sending ∙ books.left (sym still.stands ∙ left);
-  part = λ leads. let was = still.leads leads in subst (λ (all : List (Message T U)). IsPartOf (taken ++ all) sent) (sym was.1) (books.part was.0);
+  part = λ leads. let was = still.leads leads in subst (λ (all : List (Message T U)). IsPartOf (taken ++ all) sent) (sym was.1)
+      (books.part was.0);
   due = λ leads message before sending is place from tie.
       let was = still.leads leads in
       subst (λ (all : List (Message T U)). IsPartOf (taken ++ all) before) (sym was.1)
-      (books.due was.0 message before (sym still.sending ∙ sending) is place (omega (arith, from, still.place)) (ap (λ ties. get_or ties.items place None) (sym still.ties) ∙ tie));
+      (books.due was.0 message before (sym still.sending ∙ sending) is place (omega (arith, from, still.place))
+      (ap (λ ties. get_or ties.items place None) (sym still.ties) ∙ tie));
   idle = λ leads stands untied.
       let was = still.leads leads in
-      ap (λ all. taken ++ all) was.1 ∙ books.idle was.0 (sym still.stands ∙ stands) (λ place tie. untied place (ap (λ ties. get_or ties.items place None) still.ties ∙ tie));
+      ap (λ all. taken ++ all) was.1 ∙ books.idle was.0 (sym still.stands ∙ stands)
+      (λ place tie. untied place (ap (λ ties. get_or ties.items place None) still.ties ∙ tie));
 }
 
 -- neither connections nor readers changed
-pub leads_same : {T U : Type 0} (index subscriber : ℕ) (old new : PublisherPort T U) → new.sender.uses.connections ≡ old.sender.uses.connections → new.readers ≡ old.readers → leads_at index subscriber new ≡ leads_at index subscriber old
+pub leads_same : {T U : Type 0} (index subscriber : ℕ) (old new : PublisherPort T U)
+    → new.sender.uses.connections ≡ old.sender.uses.connections → new.readers ≡ old.readers
+    → leads_at index subscriber new ≡ leads_at index subscriber old
 leads_same index subscriber old new connections readers =
     ap (λ all. goes_on (get_or all index nobody).stage && leads_to subscriber (get_or new.readers index None)) connections
     ∙ ap (λ all. goes_on (get_or old.sender.uses.connections index nobody).stage && leads_to subscriber (get_or all index None)) readers
 
-pub still_same : {T U : Type 0} (index subscriber : ℕ) (old new : PublisherPort T U) → new.sender.uses.connections ≡ old.sender.uses.connections → new.readers ≡ old.readers → new.sender.uses.sending ≡ old.sender.uses.sending
-    → new.sender.uses.history ≡ old.sender.uses.history → new.stands ≡ old.stands → new.progress.place ≡ old.progress.place → new.ties ≡ old.ties → Still index subscriber old new
+pub still_same : {T U : Type 0} (index subscriber : ℕ) (old new : PublisherPort T U)
+    → new.sender.uses.connections ≡ old.sender.uses.connections → new.readers ≡ old.readers
+    → new.sender.uses.sending ≡ old.sender.uses.sending
+    → new.sender.uses.history ≡ old.sender.uses.history → new.stands ≡ old.stands → new.progress.place ≡ old.progress.place
+    → new.ties ≡ old.ties → Still index subscriber old new
 still_same index subscriber old new connections readers sending history stands place ties = record {
   sending = sending;
   history = history;
   stands = stands;
   place = place;
   ties = ties;
-  leads = λ leads. (sym (leads_same index subscriber old new connections readers) ∙ leads, ap (λ all. (get_or all index nobody).waiting) connections);
+  leads = λ leads. (
+    sym (leads_same index subscriber old new connections readers) ∙ leads,
+    ap (λ all. (get_or all index nobody).waiting)
+        connections,
+  );
 }
 
 pub still_is : {T U : Type 0} (index subscriber : ℕ) (old new : PublisherPort T U) → new ≡ old → Still index subscriber old new
 still_is index subscriber old new is =
-    still_same index subscriber old new (ap (λ port. port.sender.uses.connections) is) (ap (λ port. port.readers) is) (ap (λ port. port.sender.uses.sending) is) (ap (λ port. port.sender.uses.history) is)
+    still_same index subscriber old new (ap (λ port. port.sender.uses.connections) is) (ap (λ port. port.readers) is)
+    (ap (λ port. port.sender.uses.sending) is) (ap (λ port. port.sender.uses.history) is)
     (ap (λ port. port.stands) is) (ap (λ port. port.progress.place) is) (ap (λ port. port.ties) is)
 
 -- a message is put into a mailbox
-put_part : {T U : Type 0} (overflows fits : Bool) (waiting : List (Message T U)) (message : Message T U) → IsPartOf (if overflows then (if fits then waiting ++ message ∷ [] else drop 1 (waiting ++ message ∷ [])) else (if fits then waiting ++ message ∷ [] else waiting)) (waiting ++ message ∷ [])
+put_part : {T U : Type 0} (overflows fits : Bool) (waiting : List (Message T U)) (message : Message T U)
+    → IsPartOf (if overflows then (if fits then waiting ++ message ∷ [] else drop 1 (waiting ++ message ∷ [])) else
+    (if fits then waiting ++ message ∷ [] else waiting)) (waiting ++ message ∷ [])
 put_part true true waiting message = part_same (waiting ++ message ∷ [])
 put_part true false waiting message = part_drop 1 (waiting ++ message ∷ [])
 put_part false true waiting message = part_same (waiting ++ message ∷ [])
 put_part false false waiting message = part_behind waiting waiting (message ∷ []) (part_same waiting)
 
-offered_part : {T U : Type 0} (overflows : Bool) (message : Message T U) (connection : Connection (Message T U)) → IsPartOf (offered overflows message connection).waiting (connection.waiting ++ message ∷ [])
-offered_part overflows message connection = put_part overflows (nat_lt (length connection.waiting) connection.limit) connection.waiting message
+offered_part : {T U : Type 0} (overflows : Bool) (message : Message T U) (connection : Connection (Message T U))
+    → IsPartOf (offered overflows message connection).waiting (connection.waiting ++ message ∷ [])
+offered_part overflows message connection
+    = put_part overflows (nat_lt (length connection.waiting) connection.limit) connection.waiting message
 
 -- the message that is last came there
-put_books : {T U : Type 0} (overflows : Bool) (message : Message T U) (connection : Connection (Message T U)) (taken before sent : List (Message T U)) → sent ≡ before ++ message ∷ [] → IsPartOf (taken ++ connection.waiting) before
+put_books : {T U : Type 0} (overflows : Bool) (message : Message T U) (connection : Connection (Message T U))
+    (taken before sent : List (Message T U)) → sent ≡ before ++ message ∷ [] → IsPartOf (taken ++ connection.waiting) before
     → IsPartOf (taken ++ (offered overflows message connection).waiting) sent
 put_books {T} {U} overflows message connection taken before sent is part =
     let waits = connection.waiting in
     let longer : IsPartOf (taken ++ (offered overflows message connection).waiting) (taken ++ (waits ++ message ∷ [])) =
     part_within taken (offered overflows message connection).waiting (waits ++ message ∷ []) (offered_part overflows message connection) in
     let last : IsPartOf ((taken ++ waits) ++ message ∷ []) (before ++ message ∷ []) = part_last message (taken ++ waits) before part in
-    let same : IsPartOf (taken ++ (waits ++ message ∷ [])) (before ++ message ∷ []) = subst (λ (all : List (Message T U)). IsPartOf all (before ++ message ∷ [])) (append_assoc taken waits (message ∷ [])) last in
-    subst (λ (all : List (Message T U)). IsPartOf (taken ++ (offered overflows message connection).waiting) all) (sym is) (part_on _ _ _ longer same)
+    let same : IsPartOf (taken ++ (waits ++ message ∷ [])) (before ++ message ∷ [])
+    = subst (λ (all : List (Message T U)). IsPartOf all (before ++ message ∷ [])) (append_assoc taken waits (message ∷ [])) last in
+    subst (λ (all : List (Message T U)). IsPartOf (taken ++ (offered overflows message connection).waiting) all) (sym is)
+    (part_on _ _ _ longer same)
 
 -- What came of a message at one connection: it leads where it did, and got the message at most once.
-pub got_leads : {T U : Type 0} (index subscriber : ℕ) (old new : PublisherPort T U) → (connection_of index new).stage ≡ (connection_of index old).stage → new.readers ≡ old.readers → leads_at index subscriber new ≡ leads_at index subscriber old
+pub got_leads : {T U : Type 0} (index subscriber : ℕ) (old new : PublisherPort T U)
+    → (connection_of index new).stage ≡ (connection_of index old).stage → new.readers ≡ old.readers
+    → leads_at index subscriber new ≡ leads_at index subscriber old
 got_leads index subscriber old new stages readers =
     ap (λ one. goes_on one && leads_to subscriber (get_or new.readers index None)) stages
     ∙ ap (λ all. goes_on (connection_of index old).stage && leads_to subscriber (get_or all index None)) readers
 
-delivered_books : {T U : Type 0} (index subscriber : ℕ) (sent taken : List (Message T U)) (old new : PublisherPort T U) → AreTiesApart old → Gone old new → GotAtMostOnce index old new → Books index subscriber sent taken old → Books index subscriber sent taken new
+delivered_books : {T U : Type 0} (index subscriber : ℕ) (sent taken : List (Message T U)) (old new : PublisherPort T U)
+    → AreTiesApart old → Gone old new → GotAtMostOnce index old new → Books index subscriber sent taken old
+    → Books index subscriber sent taken new
 delivered_books {T} {U} index subscriber sent taken old new apart gone (inl same) books =
-    let leads_is : leads_at index subscriber new ≡ leads_at index subscriber old = got_leads index subscriber old new (ap (λ one. one.stage) same) gone.same.rest.readers in
+    let leads_is : leads_at index subscriber new ≡ leads_at index subscriber old
+    = got_leads index subscriber old new (ap (λ one. one.stage) same) gone.same.rest.readers in
     let waits : (connection_of index new).waiting ≡ (connection_of index old).waiting = ap (λ one. one.waiting) same in
     record {
       history = subst (λ (all : List (Message T U)). IsPartOf all sent) (sym gone.same.rest.history) books.history;
       last = λ message sending. books.last message (sym gone.same.sending ∙ sending);
       left = λ left. gone.same.sending ∙ books.left (sym gone.same.rest.stands ∙ left);
       part = λ leads. subst (λ (all : List (Message T U)). IsPartOf (taken ++ all) sent) (sym waits) (books.part (sym leads_is ∙ leads));
-      due = λ leads message before sending is place from tie. subst (λ (all : List (Message T U)). IsPartOf (taken ++ all) before) (sym waits)
-          (books.due (sym leads_is ∙ leads) message before (sym gone.same.sending ∙ sending) is place (omega (arith, from, gone.forward)) (ap (λ ties. get_or ties.items place None) (sym gone.same.ties) ∙ tie));
+      due = λ leads message before sending is place from tie. subst (λ (all : List (Message T U)). IsPartOf (taken ++ all) before)
+          (sym waits)
+          (books.due (sym leads_is ∙ leads) message before (sym gone.same.sending ∙ sending) is place
+          (omega (arith, from, gone.forward)) (ap (λ ties. get_or ties.items place None) (sym gone.same.ties) ∙ tie));
       idle = λ leads stands untied. ap (λ all. taken ++ all) waits
-          ∙ books.idle (sym leads_is ∙ leads) (sym gone.same.rest.stands ∙ stands) (λ place tie. untied place (ap (λ ties. get_or ties.items place None) gone.same.ties ∙ tie));
+          ∙ books.idle (sym leads_is ∙ leads) (sym gone.same.rest.stands ∙ stands)
+          (λ place tie. untied place (ap (λ ties. get_or ties.items place None) gone.same.ties ∙ tie));
     }
 delivered_books {T} {U} index subscriber sent taken old new apart gone (inr (at, message, from, to, tie, sending, is)) books =
-    let leads_is : leads_at index subscriber new ≡ leads_at index subscriber old = got_leads index subscriber old new (ap (λ one. one.stage) is) gone.same.rest.readers in
-    let waits : (connection_of index new).waiting ≡ (offered old.sender.uses.overflows message (connection_of index old)).waiting = ap (λ one. one.waiting) is in
+    let leads_is : leads_at index subscriber new ≡ leads_at index subscriber old
+    = got_leads index subscriber old new (ap (λ one. one.stage) is) gone.same.rest.readers in
+    let waits : (connection_of index new).waiting ≡ (offered old.sender.uses.overflows message (connection_of index old)).waiting
+    = ap (λ one. one.waiting) is in
     record {
       history = subst (λ (all : List (Message T U)). IsPartOf all sent) (sym gone.same.rest.history) books.history;
       last = λ one sends. books.last one (sym gone.same.sending ∙ sends);
@@ -128,16 +166,19 @@ delivered_books {T} {U} index subscriber sent taken old new apart gone (inr (at,
       part = λ leads.
           let (before, all) = books.last message sending in
           subst (λ (one : List (Message T U)). IsPartOf (taken ++ one) sent) (sym waits)
-          (put_books old.sender.uses.overflows message (connection_of index old) taken before sent all (books.due (sym leads_is ∙ leads) message before sending all at from tie));
+          (put_books old.sender.uses.overflows message (connection_of index old) taken before sent all
+          (books.due (sym leads_is ∙ leads) message before sending all at from tie));
       due = λ leads one before sends all place further there.
-          let was : get_or old.ties.items place None ≡ Some index = ap (λ ties. get_or ties.items place None) (sym gone.same.ties) ∙ there in
+          let was : get_or old.ties.items place None ≡ Some index
+          = ap (λ ties. get_or ties.items place None) (sym gone.same.ties) ∙ there in
           let same : place ≡ at = apart place at index was tie in
           absurd (omega (arith, same, further, to));
       idle = λ leads stands untied. absurd (untied at (ap (λ ties. get_or ties.items at None) gone.same.ties ∙ tie));
     }
 
 -- a send that came to its end is over
-concluded_books : {T U : Type 0} (index subscriber : ℕ) (sent taken : List (Message T U)) (arrived : Bool) (port : PublisherPort T U) → Books index subscriber sent taken port → Books index subscriber sent taken (concluded arrived port)
+concluded_books : {T U : Type 0} (index subscriber : ℕ) (sent taken : List (Message T U)) (arrived : Bool) (port : PublisherPort T U)
+    → Books index subscriber sent taken port → Books index subscriber sent taken (concluded arrived port)
 concluded_books index subscriber sent taken false port books = books
 concluded_books index subscriber sent taken true port books = record {
   history = books.history;
@@ -148,24 +189,30 @@ concluded_books index subscriber sent taken true port books = record {
   idle = books.idle;
 }
 
-pub finishes_books : {T U : Type 0} (index subscriber : ℕ) (sent taken : List (Message T U)) (decide : BackpressureInfo → BackpressureDecision → Type 0) (old new : PublisherPort T U) (answer : Result Sent SendError) → AreTiesApart old
+pub finishes_books : {T U : Type 0} (index subscriber : ℕ) (sent taken : List (Message T U))
+    (decide : BackpressureInfo → BackpressureDecision → Type 0) (old new : PublisherPort T U) (answer : Result Sent SendError)
+    → AreTiesApart old
     → Finishes decide old answer new → Books index subscriber sent taken old → Books index subscriber sent taken new
 finishes_books {T} {U} index subscriber sent taken decide old new answer apart finishes books =
     let (arrived, gone, delivers, is_answer, is_new) = finishes in
     let all : Gone old gone = delivers_got decide (length old.ties.items - old.progress.place) old gone arrived apart delivers in
     let delivered = delivered_books index subscriber sent taken old gone apart all (all.got index) books in
-    books_still index subscriber sent taken (concluded arrived gone) new (still_is index subscriber (concluded arrived gone) new is_new) (concluded_books index subscriber sent taken arrived gone delivered)
+    books_still index subscriber sent taken (concluded arrived gone) new (still_is index subscriber (concluded arrived gone) new is_new)
+    (concluded_books index subscriber sent taken arrived gone delivered)
 
-pub given_up_books : {T U : Type 0} (index subscriber : ℕ) (sent taken : List (Message T U)) (port : PublisherPort T U) → Books index subscriber sent taken port → Books index subscriber sent taken (concluded true port)
+pub given_up_books : {T U : Type 0} (index subscriber : ℕ) (sent taken : List (Message T U)) (port : PublisherPort T U)
+    → Books index subscriber sent taken port → Books index subscriber sent taken (concluded true port)
 given_up_books index subscriber sent taken port books = concluded_books index subscriber sent taken true port books
 
 -- a send begins: its message is the last that was sent
-pub begun_books : {T U : Type 0} (index subscriber : ℕ) (sent taken : List (Message T U)) (at : ℕ) (loan : Loan T U) (port : PublisherPort T U) → port.stands ≡ true → Books index subscriber sent taken port
+pub begun_books : {T U : Type 0} (index subscriber : ℕ) (sent taken : List (Message T U)) (at : ℕ) (loan : Loan T U)
+    (port : PublisherPort T U) → port.stands ≡ true → Books index subscriber sent taken port
     → Books index subscriber (sent ++ sent_as loan ∷ []) taken (begun_by at (Some loan) port)
 begun_books {T} {U} index subscriber sent taken at loan port stands books =
     let message : Message T U = sent_as loan in
     record {
-      history = part_on _ (port.sender.uses.history ++ message ∷ []) _ (part_drop (length (port.sender.uses.history ++ message ∷ []) - port.sender.uses.kept) (port.sender.uses.history ++ message ∷ []))
+      history = part_on _ (port.sender.uses.history ++ message ∷ []) _
+          (part_drop (length (port.sender.uses.history ++ message ∷ []) - port.sender.uses.kept) (port.sender.uses.history ++ message ∷ []))
           (part_last message port.sender.uses.history sent books.history);
       last = λ one sending. let same : message ≡ one = cc in (sent, ap (λ m. sent ++ m ∷ []) same);
       left = λ left. let no : true ≡ false = sym stands ∙ left in absurd (cc);

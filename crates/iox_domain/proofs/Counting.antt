@@ -1,5 +1,6 @@
 -- What counts as living.
-use Rattle.std.proofs.Common.{arith, ◌≡◌, ◌==◌, ◌≤◌, ℕ, Bool, true, false, List, [], ◌∷◌, length, get_or, is_some, Option, None, Some, if◌then◌else◌, refl}
+use Rattle.std.proofs.Common.{arith, ◌≡◌, ◌==◌, ◌≤◌, ℕ, Bool, true, false, List, [], ◌∷◌, length, get_or, is_some, Option, None, Some}
+use Rattle.std.proofs.Common.{if◌then◌else◌, refl}
 use Rattle.std.specs.Map.{values_of}
 use Rattle.std.proofs.lemmas.List.Sums.{sum_by-le, sum_by-le-sum_by, get_or-le-sum_by}
 use Rattle.iox_domain.specs.DomainPorts.declared.publisher_port.PublisherPort.{PublisherPort}
@@ -51,8 +52,10 @@ pub none_of_silent : {T U : Type 0} (ports : ServicePorts T U) → NothingLives 
 none_of_silent ports silent =
     omega (
       arith,
-      sum_by-le living_of_publisher 0 (values_of ports.publishers) (λ place port below. of_silent (get_or (values_of ports.publishers) place port) (silent.0 place port below)),
-      sum_by-le living_of_subscriber 0 (values_of ports.subscribers) (λ place port below. of_emptied (get_or (values_of ports.subscribers) place port) (silent.1 place port below)),
+      sum_by-le living_of_publisher 0 (values_of ports.publishers)
+          (λ place port below. of_silent (get_or (values_of ports.publishers) place port) (silent.0 place port below)),
+      sum_by-le living_of_subscriber 0 (values_of ports.subscribers)
+          (λ place port below. of_emptied (get_or (values_of ports.subscribers) place port) (silent.1 place port below)),
     )
 
 some_counted : (same : Bool) (count : ℕ) → (if same then count else 0) ≤ count
@@ -65,8 +68,11 @@ counted_within owner number count = some_counted (owner == number) count
 
 pub owner_within : {T U : Type 0} (owner : ℕ) (ports : ServicePorts T U) → living (Some owner) ports ≤ living None ports
 owner_within {T} {U} owner ports =
-    let publishers = sum_by-le-sum_by {X = PublisherPort T U} (λ port. counted (Some owner) port.owner.number (living_of_publisher port)) (λ port. counted None port.owner.number (living_of_publisher port))
+    let publishers = sum_by-le-sum_by {X = PublisherPort T U}
+    (λ port. counted (Some owner) port.owner.number (living_of_publisher port))
+    (λ port. counted None port.owner.number (living_of_publisher port))
     (values_of ports.publishers) (λ port. counted_within owner port.owner.number (living_of_publisher port)) in
-    let subscribers = sum_by-le-sum_by {X = SubscriberPort} (λ port. counted (Some owner) port.owner.number (living_of_subscriber port)) (λ port. counted None port.owner.number (living_of_subscriber port))
+    let subscribers = sum_by-le-sum_by {X = SubscriberPort} (λ port. counted (Some owner) port.owner.number (living_of_subscriber port))
+    (λ port. counted None port.owner.number (living_of_subscriber port))
     (values_of ports.subscribers) (λ port. counted_within owner port.owner.number (living_of_subscriber port)) in
     omega (arith, publishers, subscribers)

@@ -1,5 +1,6 @@
 -- The keys of a subscriber stay in order.
-use Rattle.std.proofs.Common.{arith, ◌≡◌, ◌≢◌, ◌+◌, ◌<◌, ◌≤◌, ◌==◌, ◌∷◌, [], ◌++◌, ℕ, zero, suc, Bool, true, false, List, length, get_or, set, remove, replicate, slice_get, Option, None, Some, refl, sym, ap, ◌∙◌, if◌then◌else◌}
+use Rattle.std.proofs.Common.{arith, ◌≡◌, ◌≢◌, ◌+◌, ◌<◌, ◌≤◌, ◌==◌, ◌∷◌, [], ◌++◌, ℕ, zero, suc, Bool, true, false, List, length, get_or}
+use Rattle.std.proofs.Common.{set, remove, replicate, slice_get, Option, None, Some, refl, sym, ap, ◌∙◌, if◌then◌else◌}
 use Rattle.std.proofs.lemmas.Bool.{eq-eqb, eqb-true}
 use Rattle.iox_domain.specs.DomainSlots.Counting.{times}
 use Rattle.iox_domain.proofs.DomainSlots.Counts.{times_cons}
@@ -47,7 +48,8 @@ pub often_without : (key out : ℕ) (xs : List ℕ) → key ≢ out → how_ofte
 often_without key out [] not = refl
 often_without key out (x ∷ xs) not = by_case (x == out) refl (often_without key out xs not)
   where
-    by_case : (b : Bool) → (x == out) ≡ b → how_often key (without out xs) ≡ how_often key xs → how_often key (if b then without out xs else x ∷ without out xs) ≡ how_often key (x ∷ xs)
+    by_case : (b : Bool) → (x == out) ≡ b → how_often key (without out xs) ≡ how_often key xs
+        → how_often key (if b then without out xs else x ∷ without out xs) ≡ how_often key (x ∷ xs)
     by_case true is rest = omega (arith, rest, adds_other key x (λ same. not (same ∙ eqb-true x out is)))
     by_case false is rest = omega (arith, rest)
 
@@ -55,19 +57,22 @@ pub none_without : (key : ℕ) (xs : List ℕ) → how_often key (without key xs
 none_without key [] = refl
 none_without key (x ∷ xs) = by_case (x == key) refl (none_without key xs)
   where
-    by_case : (b : Bool) → (x == key) ≡ b → how_often key (without key xs) ≡ 0 → how_often key (if b then without key xs else x ∷ without key xs) ≡ 0
+    by_case : (b : Bool) → (x == key) ≡ b → how_often key (without key xs) ≡ 0
+        → how_often key (if b then without key xs else x ∷ without key xs) ≡ 0
     by_case true is rest = rest
     by_case false is rest = omega (arith, rest, adds_other key x (λ same. let no : true ≡ false = sym (eq-eqb x key (sym same)) ∙ is in cc))
 
 -- the keys of places
-pub keys_untied : (key place out : ℕ) (places : List (Option ℕ)) → get_or places place None ≡ Some out → how_often key (keys_at (set places place None)) + adds key out ≡ how_often key (keys_at places)
+pub keys_untied : (key place out : ℕ) (places : List (Option ℕ)) → get_or places place None ≡ Some out
+    → how_often key (keys_at (set places place None)) + adds key out ≡ how_often key (keys_at places)
 keys_untied key place out [] is = cc
 keys_untied key zero out (None ∷ places) is = cc
 keys_untied key zero out (Some there ∷ places) is = let same : there ≡ out = cc in omega (arith, ap (λ n. adds key n) same)
 keys_untied key (suc place) out (None ∷ places) is = keys_untied key place out places is
 keys_untied key (suc place) out (Some there ∷ places) is = omega (arith, keys_untied key place out places is)
 
-pub keys_tied : (key place new : ℕ) (places : List (Option ℕ)) → place < length places → get_or places place None ≡ None → how_often key (keys_at (set places place (Some new))) ≡ how_often key (keys_at places) + adds key new
+pub keys_tied : (key place new : ℕ) (places : List (Option ℕ)) → place < length places → get_or places place None ≡ None
+    → how_often key (keys_at (set places place (Some new))) ≡ how_often key (keys_at places) + adds key new
 keys_tied key place new [] within is = absurd (omega (arith, within))
 keys_tied key zero new (None ∷ places) within is = omega arith
 keys_tied key zero new (Some there ∷ places) within is = cc
@@ -88,7 +93,8 @@ keys_few [] = omega arith
 keys_few (None ∷ places) = omega (arith, keys_few places)
 keys_few (Some key ∷ places) = omega (arith, keys_few places)
 
-pub keys_fewer : (place : ℕ) (places : List (Option ℕ)) → place < length places → get_or places place None ≡ None → length (keys_at places) < length places
+pub keys_fewer : (place : ℕ) (places : List (Option ℕ)) → place < length places → get_or places place None ≡ None
+    → length (keys_at places) < length places
 keys_fewer place [] within is = absurd (omega (arith, within))
 keys_fewer zero (None ∷ places) within is = omega (arith, keys_few places)
 keys_fewer zero (Some key ∷ places) within is = cc

@@ -13,7 +13,8 @@ use Rattle.iox_domain.specs.Laws.{TypesFit, FitMeans, WhatFitsHasSizes}
 
 -- what stands for any is given, or what is asked stays
 stands : (any asked given : Detail) → (asked ≡ any) ⊎ (stood_for any asked given ≡ asked)
-stands any asked given = ⊎_elim (λ same. inl (same_detail-true asked any same)) (λ other. inr (rw other refl)) (cases_Bool (same_detail asked any))
+stands any asked given = ⊎_elim (λ same. inl (same_detail-true asked any same)) (λ other. inr (rw other refl))
+    (cases_Bool (same_detail asked any))
 
 -- where it stands for any, what is given is taken
 taken : (any asked given : Detail) → asked ≡ any → stood_for any asked given ≡ given
@@ -21,14 +22,20 @@ taken any asked given same = rw (same_detail-refl asked any same) refl
 
 -- what a builder finds compatible fits
 from_builder : (variant : TypeVariant) (payload user_header : Detail) (types : MessageTypeDetails)
-    → IsCompatible (asked_types variant (stood_for any_payload payload types.payload) (stood_for any_user_header user_header types.user_header)) types
+    → IsCompatible (asked_types variant (stood_for any_payload payload types.payload)
+    (stood_for any_user_header user_header types.user_header)) types
     → TypesFit payload user_header types
 from_builder variant payload user_header types is = record {
   header = sym is.header;
   user_header = ⊎_elim (λ any. inl any) (λ asked. inr (sym is.user_header ∙ asked)) (stands any_user_header user_header types.user_header);
   payload = ⊎_elim
       (λ any. inl any)
-      (λ asked. inr (sym is.name ∙ ap (λ one. one.name) asked, sym is.size ∙ ap (λ one. one.size) asked, omega (arith, is.alignment, ap (λ one. one.alignment) asked)))
+      (λ asked. inr (
+        sym is.name ∙ ap (λ one. one.name) asked,
+        sym is.size ∙ ap (λ one. one.size) asked,
+        omega
+            (arith, is.alignment, ap (λ one. one.alignment) asked),
+      ))
       (stands any_payload payload types.payload);
 }
 
@@ -37,7 +44,8 @@ user_header_is : (user_header : Detail) (types : MessageTypeDetails) → (user_h
     → stood_for any_user_header user_header types.user_header ≡ types.user_header
 user_header_is user_header types either = ⊎_elim
     (λ any. taken any_user_header user_header types.user_header any)
-    (λ same. ⊎_elim (λ any. taken any_user_header user_header types.user_header any) (λ asked. asked ∙ sym same) (stands any_user_header user_header types.user_header))
+    (λ same. ⊎_elim (λ any. taken any_user_header user_header types.user_header any) (λ asked. asked ∙ sym same)
+    (stands any_user_header user_header types.user_header))
     either
 
 -- and so is a payload, but for its variant and alignment
@@ -47,7 +55,8 @@ record PayloadIs (asked given : Detail) : Type 0 where
   alignment : asked.alignment ≤ given.alignment
 
 payload_is : (payload : Detail) (types : MessageTypeDetails)
-    → (payload ≡ any_payload) ⊎ ((types.payload.name ≡ payload.name) × (types.payload.size ≡ payload.size) × (payload.alignment ≤ types.payload.alignment))
+    → (payload ≡ any_payload) ⊎ ((types.payload.name ≡ payload.name) × (types.payload.size ≡ payload.size)
+    × (payload.alignment ≤ types.payload.alignment))
     → PayloadIs (stood_for any_payload payload types.payload) types.payload
 payload_is payload types either =
     let any_is : payload ≡ any_payload → PayloadIs (stood_for any_payload payload types.payload) types.payload = λ any.
@@ -61,13 +70,24 @@ payload_is payload types either =
     either
 
 -- what fits a builder finds compatible that asks for that variant
-compatible : (variant : TypeVariant) (payload user_header : Detail) (types : MessageTypeDetails) → types.payload.variant ≡ variant → TypesFit payload user_header types
-    → IsCompatible (asked_types variant (stood_for any_payload payload types.payload) (stood_for any_user_header user_header types.user_header)) types
+compatible : (variant : TypeVariant) (payload user_header : Detail) (types : MessageTypeDetails) → types.payload.variant ≡ variant
+    → TypesFit payload user_header types
+    → IsCompatible (asked_types variant (stood_for any_payload payload types.payload)
+    (stood_for any_user_header user_header types.user_header)) types
 compatible variant payload user_header types is fit =
     let one = payload_is payload types fit.payload in
-    record { header = sym fit.header; user_header = user_header_is user_header types fit.user_header; variant = sym is; name = one.name; size = one.size; alignment = one.alignment }
+    record {
+      header = sym fit.header;
+      user_header = user_header_is user_header types fit.user_header;
+      variant = sym is;
+      name
+          = one.name;
+      size = one.size;
+      alignment = one.alignment;
+    }
 
-to_builder : (variant : TypeVariant) (payload user_header : Detail) (types : MessageTypeDetails) → types.payload.variant ≡ variant → TypesFit payload user_header types
+to_builder : (variant : TypeVariant) (payload user_header : Detail) (types : MessageTypeDetails) → types.payload.variant ≡ variant
+    → TypesFit payload user_header types
     → FitTypes payload user_header types
 to_builder FixedSize payload user_header types is fit = inl (compatible-from _ _ (compatible FixedSize payload user_header types is fit))
 to_builder Dynamic payload user_header types is fit = inr (compatible-from _ _ (compatible Dynamic payload user_header types is fit))

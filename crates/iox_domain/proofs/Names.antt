@@ -8,5 +8,7 @@ within : (byte : ℕ) → (nat_le 1 byte && nat_le byte 127) ≡ true → (1 ≤
 within byte passes = (grind (arith, passes), grind (arith, passes))
 
 -- bytes that all pass
-pub are_bytes : (bytes : List ℕ) → list_all (λ byte. nat_le 1 byte && nat_le byte 127) bytes ≡ true → All (λ byte. (1 ≤ byte) × (byte ≤ 127)) bytes
-are_bytes bytes pass = λ k d there. within (slice_index_or bytes k d) (AllPass-from_list_all (λ byte. nat_le 1 byte && nat_le byte 127) bytes pass k d there)
+pub are_bytes : (bytes : List ℕ) → list_all (λ byte. nat_le 1 byte && nat_le byte 127) bytes ≡ true
+    → All (λ byte. (1 ≤ byte) × (byte ≤ 127)) bytes
+are_bytes bytes pass = λ k d there. within (slice_index_or bytes k d)
+    (AllPass-from_list_all (λ byte. nat_le 1 byte && nat_le byte 127) bytes pass k d there)

@@ -1,5 +1,6 @@
 -- What a step of a publisher leaves held.
-use Rattle.std.proofs.Common.{◌≡◌, ◌==◌, ◌∷◌, [], ◌++◌, ℕ, zero, suc, Bool, true, false, List, get_or, set, length, take, Option, None, Some, refl, sym, ap, ◌∙◌, if◌then◌else◌, arith, ◌≤◌}
+use Rattle.std.proofs.Common.{◌≡◌, ◌==◌, ◌∷◌, [], ◌++◌, ℕ, zero, suc, Bool, true, false, List, get_or, set, length, take, Option, None}
+use Rattle.std.proofs.Common.{Some, refl, sym, ap, ◌∙◌, if◌then◌else◌, arith, ◌≤◌}
 use Rattle.std.specs.List.{find}
 use Rattle.std.specs.Option.{option_or}
 use Rattle.std.proofs.lemmas.List.Folds.{find-append}
@@ -21,7 +22,8 @@ pub record Keeps {T U : Type 0} (old new : Connection (Message T U)) : Type 0 wh
 pub record PortKeeps {T U : Type 0} (old new : PublisherPort T U) : Type 0 where
   pub each : (index : ℕ) → Keeps (connection_of index old) (connection_of index new)
   pub sizes : made_for new ≡ made_for old
-  pub within : ((index : ℕ) → IsWithin (made_for old) (connection_of index old)) → (index : ℕ) → IsWithin (made_for new) (connection_of index new)
+  pub within : ((index : ℕ) → IsWithin (made_for old) (connection_of index old)) → (index : ℕ)
+      → IsWithin (made_for new) (connection_of index new)
 
 pub keeps_same : {T U : Type 0} (old new : Connection (Message T U)) → new ≡ old → Keeps old new
 keeps_same old new is = record {
@@ -30,18 +32,22 @@ keeps_same old new is = record {
 }
 
 pub port_stays : {T U : Type 0} (port : PublisherPort T U) → PortKeeps port port
-port_stays port = record { each = λ index. keeps_same (connection_of index port) (connection_of index port) refl; sizes = refl; within = λ all. all }
+port_stays port = record
+    { each = λ index. keeps_same (connection_of index port) (connection_of index port) refl; sizes = refl; within = λ all. all }
 
 -- a connection that is the same keeps within the same
-within_same : {X : Type 0} (sizes sizes_after : MadeFor) (old new : Connection X) → new ≡ old → sizes_after ≡ sizes → IsWithin sizes old → IsWithin sizes_after new
+within_same : {X : Type 0} (sizes sizes_after : MadeFor) (old new : Connection X) → new ≡ old → sizes_after ≡ sizes → IsWithin sizes old
+    → IsWithin sizes_after new
 within_same sizes sizes_after old new is same within = rw is (rw same within)
 
 -- the connections are the same, and so is what it is made for
-pub port_same : {T U : Type 0} (old new : PublisherPort T U) → new.sender.uses.connections ≡ old.sender.uses.connections → made_for new ≡ made_for old → PortKeeps old new
+pub port_same : {T U : Type 0} (old new : PublisherPort T U) → new.sender.uses.connections ≡ old.sender.uses.connections
+    → made_for new ≡ made_for old → PortKeeps old new
 port_same old new is sizes = record {
   each = λ index. keeps_same (connection_of index old) (connection_of index new) (ap (λ all. get_or all index nobody) is);
   sizes = sizes;
-  within = λ all index. within_same (made_for old) (made_for new) (connection_of index old) (connection_of index new) (ap (λ all. get_or all index nobody) is) sizes (all index);
+  within = λ all index. within_same (made_for old) (made_for new) (connection_of index old) (connection_of index new)
+      (ap (λ all. get_or all index nobody) is) sizes (all index);
 }
 
 pub port_is : {T U : Type 0} (old new : PublisherPort T U) → new ≡ old → PortKeeps old new
@@ -61,7 +67,8 @@ port_on old between new one two = record {
 pub port_to : {T U : Type 0} (old new other : PublisherPort T U) → other ≡ new → PortKeeps old new → PortKeeps old other
 port_to old new other is keeps = port_on old new other keeps (port_is new other is)
 
-set_keeps : {T U : Type 0} (connections : List (Connection (Message T U))) (index : ℕ) (connection : Connection (Message T U)) → Keeps (get_or connections index nobody) connection → (other : ℕ)
+set_keeps : {T U : Type 0} (connections : List (Connection (Message T U))) (index : ℕ) (connection : Connection (Message T U))
+    → Keeps (get_or connections index nobody) connection → (other : ℕ)
     → Keeps (get_or connections other nobody) (get_or (set connections index connection) other nobody)
 set_keeps [] index connection keeps other = keeps_same _ _ refl
 set_keeps (x ∷ xs) zero connection keeps zero = keeps
@@ -70,27 +77,42 @@ set_keeps (x ∷ xs) (suc index) connection keeps zero = keeps_same _ _ refl
 set_keeps (x ∷ xs) (suc index) connection keeps (suc other) = set_keeps xs index connection keeps other
 
 -- one that keeps within takes the place of another
-pub set_within : {X : Type 0} (sizes : MadeFor) (connections : List (Connection X)) (index : ℕ) (connection : Connection X) → IsWithin sizes connection → ((other : ℕ) → IsWithin sizes (get_or connections other nobody)) → (other : ℕ)
+pub set_within : {X : Type 0} (sizes : MadeFor) (connections : List (Connection X)) (index : ℕ) (connection : Connection X)
+    → IsWithin sizes connection → ((other : ℕ) → IsWithin sizes (get_or connections other nobody)) → (other : ℕ)
     → IsWithin sizes (get_or (set connections index connection) other nobody)
 set_within sizes [] index connection within all other = all other
 set_within sizes (x ∷ xs) zero connection within all zero = within
 set_within sizes (x ∷ xs) zero connection within all (suc other) = all (suc other)
 set_within sizes (x ∷ xs) (suc index) connection within all zero = all zero
-set_within sizes (x ∷ xs) (suc index) connection within all (suc other) = set_within sizes xs index connection within (λ k. all (suc k)) other
+set_within sizes (x ∷ xs) (suc index) connection within all (suc other)
+    = set_within sizes xs index connection within (λ k. all (suc k)) other
 
 -- nobody's connection is empty
 pub nobody_within : (X : Type 0) (sizes : MadeFor) → IsWithin {X = X} sizes nobody
 nobody_within X sizes = (omega arith, omega arith, omega arith)
 
 -- one connection changes
-pub port_set : {T U : Type 0} (old new : PublisherPort T U) (index : ℕ) (connection : Connection (Message T U)) → new.sender.uses.connections ≡ set old.sender.uses.connections index connection
-    → made_for new ≡ made_for old → (IsWithin (made_for old) (connection_of index old) → IsWithin (made_for old) connection) → Keeps (connection_of index old) connection → PortKeeps old new
+pub port_set : {T U : Type 0} (old new : PublisherPort T U) (index : ℕ) (connection : Connection (Message T U))
+    → new.sender.uses.connections ≡ set old.sender.uses.connections index connection
+    → made_for new ≡ made_for old → (IsWithin (made_for old) (connection_of index old) → IsWithin (made_for old) connection)
+    → Keeps (connection_of index old) connection → PortKeeps old new
 port_set {T} {U} old new index connection is sizes within keeps =
-    let changed : PublisherPort T U = record old { sender = record old.sender { uses = record old.sender.uses { connections = set old.sender.uses.connections index connection } } } in
-    port_on old changed new (record { each = set_keeps old.sender.uses.connections index connection keeps; sizes = refl; within = λ all. set_within (made_for old) old.sender.uses.connections index connection (within (all index)) all }) (port_same changed new is sizes)
+    let changed : PublisherPort T U
+    = record old {
+      sender
+          = record old.sender { uses = record old.sender.uses { connections = set old.sender.uses.connections index connection } };
+    } in
+    port_on old changed new
+    (record {
+      each = set_keeps old.sender.uses.connections index connection keeps;
+      sizes = refl;
+      within
+          = λ all. set_within (made_for old) old.sender.uses.connections index connection (within (all index)) all;
+    }) (port_same changed new is sizes)
 
 -- one that ends keeps what is borrowed
-ended_by : {T U : Type 0} (connection : Connection (Message T U)) (borrowed : List (Message T U)) → connection.borrowed ≡ borrowed → Keeps connection (settled stage.Ended connection.limit [] borrowed)
+ended_by : {T U : Type 0} (connection : Connection (Message T U)) (borrowed : List (Message T U)) → connection.borrowed ≡ borrowed
+    → Keeps connection (settled stage.Ended connection.limit [] borrowed)
 ended_by connection [] is = record {
   held = λ slot message held. let no : None ≡ Some message = ap (λ all. find (λ one. one.slot == slot) all) (sym is) ∙ held in cc;
   tidy = λ tidy vacant. refl;
@@ -111,7 +133,8 @@ still_found (Some y) other x is = is
 pub keeps_taken : {T U : Type 0} (connection : Connection (Message T U)) → Keeps connection (taken connection)
 keeps_taken connection = record {
   held = λ slot message held. find-append (λ one. one.slot == slot) connection.borrowed (take 1 connection.waiting)
-      ∙ still_found (find (λ one. one.slot == slot) connection.borrowed) (find (λ one. one.slot == slot) (take 1 connection.waiting)) message held;
+      ∙ still_found (find (λ one. one.slot == slot) connection.borrowed) (find (λ one. one.slot == slot) (take 1 connection.waiting))
+      message held;
   tidy = λ tidy vacant. ap (λ one. taken one) (tidy vacant);
 }
 
@@ -122,7 +145,8 @@ not_vacant stage.Live live vacant = cc
 not_vacant stage.Ended live vacant = cc
 
 -- only what waits changes, where it goes on
-pub keeps_waiting : {T U : Type 0} (connection : Connection (Message T U)) (waiting : List (Message T U)) → goes_on connection.stage ≡ true → Keeps connection (record connection { waiting = waiting })
+pub keeps_waiting : {T U : Type 0} (connection : Connection (Message T U)) (waiting : List (Message T U))
+    → goes_on connection.stage ≡ true → Keeps connection (record connection { waiting = waiting })
 keeps_waiting connection waiting live = record {
   held = λ slot message held. held;
   tidy = λ tidy vacant. absurd (not_vacant connection.stage live vacant);
@@ -135,50 +159,75 @@ keeps_new old limit none = record {
   tidy = λ tidy vacant. let no : stage.Live ≡ stage.Vacant = vacant in cc;
 }
 
-append_keeps : {T U : Type 0} (connections : List (Connection (Message T U))) (limit other : ℕ) → Keeps (get_or connections other nobody) (get_or (connections ++ connected limit ∷ []) other nobody)
+append_keeps : {T U : Type 0} (connections : List (Connection (Message T U))) (limit other : ℕ)
+    → Keeps (get_or connections other nobody) (get_or (connections ++ connected limit ∷ []) other nobody)
 append_keeps [] limit zero = keeps_new nobody limit refl
 append_keeps [] limit (suc other) = keeps_same _ _ refl
 append_keeps (x ∷ xs) limit zero = keeps_same _ _ refl
 append_keeps (x ∷ xs) limit (suc other) = append_keeps xs limit other
 
-placed_by : {T U : Type 0} (behind : Bool) (connections : List (Connection (Message T U))) (index limit other : ℕ) → get_or connections index nobody ≡ nobody
-    → Keeps (get_or connections other nobody) (get_or (if behind then connections ++ connected limit ∷ [] else set connections index (connected limit)) other nobody)
+placed_by : {T U : Type 0} (behind : Bool) (connections : List (Connection (Message T U))) (index limit other : ℕ)
+    → get_or connections index nobody ≡ nobody
+    → Keeps (get_or connections other nobody)
+    (get_or (if behind then connections ++ connected limit ∷ [] else set connections index (connected limit)) other nobody)
 placed_by true connections index limit other none = append_keeps connections limit other
-placed_by false connections index limit other none = set_keeps connections index (connected limit) (keeps_new (get_or connections index nobody) limit none) other
+placed_by false connections index limit other none
+    = set_keeps connections index (connected limit) (keeps_new (get_or connections index nobody) limit none) other
 
-append_within : {X : Type 0} (sizes : MadeFor) (limit : ℕ) (connections : List (Connection X)) → limit ≤ sizes.most_waiting → ((other : ℕ) → IsWithin sizes (get_or connections other nobody)) → (other : ℕ)
+append_within : {X : Type 0} (sizes : MadeFor) (limit : ℕ) (connections : List (Connection X)) → limit ≤ sizes.most_waiting
+    → ((other : ℕ) → IsWithin sizes (get_or connections other nobody)) → (other : ℕ)
     → IsWithin sizes (get_or (connections ++ connected limit ∷ []) other nobody)
 append_within sizes limit [] fits all zero = (omega arith, fits, omega arith)
 append_within sizes limit [] fits all (suc other) = all (suc other)
 append_within sizes limit (x ∷ xs) fits all zero = all zero
 append_within sizes limit (x ∷ xs) fits all (suc other) = append_within sizes limit xs fits (λ k. all (suc k)) other
 
-placed_within : {X : Type 0} (behind : Bool) (sizes : MadeFor) (limit index : ℕ) (connections : List (Connection X)) → limit ≤ sizes.most_waiting → ((other : ℕ) → IsWithin sizes (get_or connections other nobody)) → (other : ℕ)
+placed_within : {X : Type 0} (behind : Bool) (sizes : MadeFor) (limit index : ℕ) (connections : List (Connection X))
+    → limit ≤ sizes.most_waiting → ((other : ℕ) → IsWithin sizes (get_or connections other nobody)) → (other : ℕ)
     → IsWithin sizes (get_or (if behind then connections ++ connected limit ∷ [] else set connections index (connected limit)) other nobody)
 placed_within true sizes limit index connections fits all other = append_within sizes limit connections fits all other
-placed_within false sizes limit index connections fits all other = set_within sizes connections index (connected limit) (omega arith, fits, omega arith) all other
+placed_within false sizes limit index connections fits all other
+    = set_within sizes connections index (connected limit) (omega arith, fits, omega arith) all other
 
-pub port_placed : {T U : Type 0} (old new : PublisherPort T U) (index limit : ℕ) → limit ≤ old.sender.uses.most_waiting → connection_of index old ≡ nobody → new.sender.uses.connections ≡ placed index (connected limit) old.sender.uses.connections → made_for new ≡ made_for old → PortKeeps old new
+pub port_placed : {T U : Type 0} (old new : PublisherPort T U) (index limit : ℕ) → limit ≤ old.sender.uses.most_waiting
+    → connection_of index old ≡ nobody → new.sender.uses.connections ≡ placed index (connected limit) old.sender.uses.connections
+    → made_for new ≡ made_for old → PortKeeps old new
 port_placed {T} {U} old new index limit fits none is sizes =
-    let changed : PublisherPort T U = record old { sender = record old.sender { uses = record old.sender.uses { connections = placed index (connected limit) old.sender.uses.connections } } } in
+    let changed : PublisherPort T U
+    = record old {
+      sender
+          = record old.sender {
+            uses
+                = record old.sender.uses { connections = placed index (connected limit) old.sender.uses.connections };
+          };
+    } in
     port_on old changed new
-    (record { each = λ other. placed_by (index == length old.sender.uses.connections) old.sender.uses.connections index limit other none; sizes = refl; within = placed_within (index == length old.sender.uses.connections) (made_for old) limit index old.sender.uses.connections fits }) (port_same changed new is sizes)
+    (record {
+      each = λ other. placed_by (index == length old.sender.uses.connections) old.sender.uses.connections index limit other none;
+      sizes = refl;
+      within = placed_within (index == length old.sender.uses.connections) (made_for old) limit index old.sender.uses.connections fits;
+    }) (port_same changed new is sizes)
 
-ended_within_by : {X : Type 0} (sizes : MadeFor) (limit : ℕ) (borrowed : List X) → limit ≤ sizes.most_waiting → length borrowed ≤ sizes.most_borrowed → IsWithin sizes (settled stage.Ended limit [] borrowed)
+ended_within_by : {X : Type 0} (sizes : MadeFor) (limit : ℕ) (borrowed : List X) → limit ≤ sizes.most_waiting
+    → length borrowed ≤ sizes.most_borrowed → IsWithin sizes (settled stage.Ended limit [] borrowed)
 ended_within_by {X} sizes limit [] fits few = nobody_within X sizes
 ended_within_by sizes limit (x ∷ xs) fits few = (omega arith, fits, few)
 
 ended_within : {X : Type 0} (sizes : MadeFor) (connection : Connection X) → IsWithin sizes connection → IsWithin sizes (ended connection)
 ended_within sizes connection within = ended_within_by sizes connection.limit connection.borrowed within.1 within.2
 
-either_keeps : {T U : Type 0} (live : Bool) (old one other : PublisherPort T U) → PortKeeps old one → PortKeeps old other → PortKeeps old (if live then one else other)
+either_keeps : {T U : Type 0} (live : Bool) (old one other : PublisherPort T U) → PortKeeps old one → PortKeeps old other
+    → PortKeeps old (if live then one else other)
 either_keeps true old one other keeps_one keeps_other = keeps_one
 either_keeps false old one other keeps_one keeps_other = keeps_other
 
-pub port_if : {T U : Type 0} (live : Bool) (old one other : PublisherPort T U) → (live ≡ true → PortKeeps old one) → (live ≡ false → PortKeeps old other) → PortKeeps old (if live then one else other)
+pub port_if : {T U : Type 0} (live : Bool) (old one other : PublisherPort T U) → (live ≡ true → PortKeeps old one)
+    → (live ≡ false → PortKeeps old other) → PortKeeps old (if live then one else other)
 port_if true old one other keeps_one keeps_other = keeps_one refl
 port_if false old one other keeps_one keeps_other = keeps_other refl
 
 pub port_ended : {T U : Type 0} (index : ℕ) (port : PublisherPort T U) → PortKeeps port (ended_at index port)
 port_ended index port =
-    either_keeps (is_live index port) port _ port (port_set port _ index (ended (connection_of index port)) refl refl (ended_within (made_for port) (connection_of index port)) (keeps_ended (connection_of index port))) (port_stays port)
+    either_keeps (is_live index port) port _ port
+    (port_set port _ index (ended (connection_of index port)) refl refl (ended_within (made_for port) (connection_of index port))
+    (keeps_ended (connection_of index port))) (port_stays port)

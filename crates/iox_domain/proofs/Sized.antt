@@ -14,13 +14,16 @@ use Rattle.iox_domain.specs.SizeLaws.{IsMadeFor, allowed_by, AreAllowed, SizesAg
 use Rattle.iox_domain.proofs.Held.{sized_stays}
 use Rattle.iox_domain.proofs.Serviced.{service_stays}
 
-module _ {T U : Type 0} (overrides : ℕ → ℕ → Type 0) (may : DegradationInfo → DegradationAction → Type 0) (decide : BackpressureInfo → BackpressureDecision → Type 0) where
+module _ {T U : Type 0} (overrides : ℕ → ℕ → Type 0) (may : DegradationInfo → DegradationAction → Type 0)
+    (decide : BackpressureInfo → BackpressureDecision → Type 0) where
   goes_on : (call : PortCall T U) (old new : ServicePorts T U) → Happens overrides may decide call old new → AreAllowed old → AreAllowed new
   goes_on call old new happens all =
-      subst (λ sizes. All (IsMadeFor (allowed_by sizes)) new.publishers) (sym ((service_stays {T = T} {U = U} overrides may decide).stays call old new happens).sizes)
+      subst (λ sizes. All (IsMadeFor (allowed_by sizes)) new.publishers)
+      (sym ((service_stays {T = T} {U = U} overrides may decide).stays call old new happens).sizes)
       (sized_stays overrides may decide call old new happens all)
 
-  through : (calls : List (PortCall T U × ServicePorts T U)) (old new : ServicePorts T U) → Happen overrides may decide calls old new → AreAllowed old → (new.sizes ≡ old.sizes) × AreAllowed new
+  through : (calls : List (PortCall T U × ServicePorts T U)) (old new : ServicePorts T U) → Happen overrides may decide calls old new
+      → AreAllowed old → (new.sizes ≡ old.sizes) × AreAllowed new
   through [] old new is all = rw is (refl, all)
   through ((call, next) ∷ calls) old new happen all =
       let rest = through calls next new happen.1 (goes_on call old next happen.0 all) in

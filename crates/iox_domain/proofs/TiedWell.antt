@@ -1,5 +1,7 @@
 -- The ties of a publisher stay apart through its own steps.
-use Rattle.std.proofs.Common.{arith, ◌≡◌, ◌≢◌, ◌+◌, ◌-◌, ◌<◌, ◌≤◌, ◌==◌, ◌∷◌, [], ◌++◌, ℕ, zero, suc, Bool, true, false, List, get_or, set, length, length-append, replicate, Option, None, Some, Result, Ok, Err, refl, sym, ap, ◌∙◌, if◌then◌else◌, inl, inr}
+use Rattle.std.proofs.Common.{arith, ◌≡◌, ◌≢◌, ◌+◌, ◌-◌, ◌<◌, ◌≤◌, ◌==◌, ◌∷◌, [], ◌++◌, ℕ, zero, suc, Bool, true, false, List, get_or}
+use Rattle.std.proofs.Common.{set, length, length-append, replicate, Option, None, Some, Result, Ok, Err, refl, sym, ap, ◌∙◌}
+use Rattle.std.proofs.Common.{if◌then◌else◌, inl, inr}
 use Rattle.std.proofs.lemmas.Bool.{cases_eq, eqb-true, eq-eqb}
 use Rattle.std.proofs.lemmas.List.{get_or-set_other, get_or-set_same, get_or_push, length-replicate}
 use Rattle.std.proofs.lemmas.List.Quantifiers.{position-Some}
@@ -11,9 +13,11 @@ use Rattle.iox_domain.specs.DomainValues.declared.degradation.DegradationInfo.{D
 use Rattle.iox_domain.specs.DomainSlots.Uses.{Connection, nobody, connected, ended, welcomed}
 use Rattle.iox_domain.specs.DomainPorts.Messages.{Message}
 use Rattle.iox_domain.specs.DomainPorts.Places.{reached, leads_to}
-use Rattle.iox_domain.specs.DomainPorts.Ports.{connection_of, connection_to, goes_on, is_live, greeted_at, with_connection_of, Connects, Joins, Attaches, attached_at}
+use Rattle.iox_domain.specs.DomainPorts.Ports.{connection_of, connection_to, goes_on, is_live, greeted_at, with_connection_of, Connects}
+use Rattle.iox_domain.specs.DomainPorts.Ports.{Joins, Attaches, attached_at}
 use Rattle.iox_domain.specs.DomainPorts.Ties.{tie_put}
-use Rattle.iox_domain.specs.DomainPorts.PublisherUpdating.{is_tie_to, let_go_of, untied, untied_from, within_reach, tied, Ties, Follows, FollowsTo, FollowsAll, UpdatesIf, Updates}
+use Rattle.iox_domain.specs.DomainPorts.PublisherUpdating.{is_tie_to, let_go_of, untied, untied_from, within_reach, tied, Ties, Follows}
+use Rattle.iox_domain.specs.DomainPorts.PublisherUpdating.{FollowsTo, FollowsAll, UpdatesIf, Updates}
 use Rattle.iox_domain.specs.DomainPorts.declared.publisher_port.PublisherPort.{PublisherPort}
 use Rattle.iox_domain.specs.DomainPorts.declared.reader.Reader.{Reader}
 use Rattle.iox_domain.specs.DomainPorts.declared.subscriber_entry.SubscriberEntry.{SubscriberEntry}
@@ -24,15 +28,19 @@ use Rattle.iox_domain.proofs.Numbered.{bool_false}
 pub record Kept {T U : Type 0} (old new : PublisherPort T U) : Type 0 where
   pub ties : new.ties ≡ old.ties
   pub live : (index : ℕ) → is_live index old ≡ true → is_live index new ≡ true
-  pub leads : (subscriber index : ℕ) → is_live index old ≡ true → leads_to subscriber (get_or new.readers index None) ≡ leads_to subscriber (get_or old.readers index None)
+  pub leads : (subscriber index : ℕ) → is_live index old ≡ true
+      → leads_to subscriber (get_or new.readers index None) ≡ leads_to subscriber (get_or old.readers index None)
   pub read : (subscriber index : ℕ) → leads_to subscriber (get_or new.readers index None) ≡ true → is_live index new ≡ true
 
-tie_kept : {T U : Type 0} (old new : PublisherPort T U) (subscriber : ℕ) (tie : Option ℕ) → ((index : ℕ) → tie ≡ Some index → leads_to subscriber (get_or new.readers index None) ≡ leads_to subscriber (get_or old.readers index None))
+tie_kept : {T U : Type 0} (old new : PublisherPort T U) (subscriber : ℕ) (tie : Option ℕ)
+    → ((index : ℕ) → tie ≡ Some index
+    → leads_to subscriber (get_or new.readers index None) ≡ leads_to subscriber (get_or old.readers index None))
     → is_tie_to subscriber tie new ≡ is_tie_to subscriber tie old
 tie_kept old new subscriber None same = refl
 tie_kept old new subscriber (Some index) same = same index refl
 
-pub well_kept : {T U : Type 0} (next : ℕ) (places : List (Option (Member SubscriberEntry))) (old new : PublisherPort T U) → Kept old new → IsTiedWell next places old → IsTiedWell next places new
+pub well_kept : {T U : Type 0} (next : ℕ) (places : List (Option (Member SubscriberEntry))) (old new : PublisherPort T U) → Kept old new
+    → IsTiedWell next places old → IsTiedWell next places new
 well_kept {T} {U} next places old new kept well = record {
   apart = λ one other index is_one is_other. well.apart one other index (before one index is_one) (before other index is_other);
   live = λ place index is. kept.live index (well.live place index (before place index is));
@@ -45,13 +53,16 @@ well_kept {T} {U} next places old new kept well = record {
     before : (place index : ℕ) → get_or new.ties.items place None ≡ Some index → get_or old.ties.items place None ≡ Some index
     before place index is = ap (λ ties. get_or ties.items place None) (sym kept.ties) ∙ is
 
-    tie_same : (subscriber place : ℕ) → is_tie_to subscriber (get_or new.ties.items place None) new ≡ is_tie_to subscriber (get_or old.ties.items place None) old
+    tie_same : (subscriber place : ℕ) → is_tie_to subscriber (get_or new.ties.items place None) new
+        ≡ is_tie_to subscriber (get_or old.ties.items place None) old
     tie_same subscriber place =
         ap (λ ties. is_tie_to subscriber (get_or ties.items place None) new) kept.ties
-        ∙ tie_kept old new subscriber (get_or old.ties.items place None) (λ index is. kept.leads subscriber index (well.live place index is))
+        ∙ tie_kept old new subscriber (get_or old.ties.items place None)
+        (λ index is. kept.leads subscriber index (well.live place index is))
 
 -- a value that isn't there after it was taken away
-pub gone_there : {A : Type 0} (xs : List (Option A)) (place : ℕ) → get_or (set xs place None) place None ≡ (let none : Option A = None in none)
+pub gone_there : {A : Type 0} (xs : List (Option A)) (place : ℕ)
+    → get_or (set xs place None) place None ≡ (let none : Option A = None in none)
 gone_there [] place = refl
 gone_there (x ∷ xs) zero = refl
 gone_there (x ∷ xs) (suc place) = gone_there xs place
@@ -69,7 +80,8 @@ long_enough {A} xs count =
     omega (arith, length-append xs (replicate (count - length xs) none), length-replicate {A = Option A} (count - length xs) none)
 
 -- where one connection goes on if the one before did, so does each
-live_set : {T U : Type 0} (connections : List (Connection (Message T U))) (index : ℕ) (connection : Connection (Message T U)) → goes_on connection.stage ≡ goes_on (get_or connections index nobody).stage → (other : ℕ)
+live_set : {T U : Type 0} (connections : List (Connection (Message T U))) (index : ℕ) (connection : Connection (Message T U))
+    → goes_on connection.stage ≡ goes_on (get_or connections index nobody).stage → (other : ℕ)
     → goes_on (get_or (set connections index connection) other nobody).stage ≡ goes_on (get_or connections other nobody).stage
 live_set [] index connection same other = refl
 live_set (x ∷ xs) zero connection same zero = same
@@ -84,7 +96,8 @@ pub record Alike {T U : Type 0} (old new : PublisherPort T U) : Type 0 where
   pub stands : new.stands ≡ old.stands
   pub live : (index : ℕ) → is_live index new ≡ is_live index old
 
-pub alike_waiting : {T U : Type 0} (index : ℕ) (connection : Connection (Message T U)) (port : PublisherPort T U) → goes_on connection.stage ≡ is_live index port → Alike port (with_connection_of index connection port)
+pub alike_waiting : {T U : Type 0} (index : ℕ) (connection : Connection (Message T U)) (port : PublisherPort T U)
+    → goes_on connection.stage ≡ is_live index port → Alike port (with_connection_of index connection port)
 alike_waiting index connection port same = record {
   ties = refl;
   readers = refl;
@@ -108,7 +121,8 @@ alike_on old between new one two = record {
   live = λ index. two.live index ∙ one.live index;
 }
 
-pub alike_still : {T U : Type 0} (old new : PublisherPort T U) → new.sender.uses.connections ≡ old.sender.uses.connections → new.ties ≡ old.ties → new.readers ≡ old.readers → new.stands ≡ old.stands → Alike old new
+pub alike_still : {T U : Type 0} (old new : PublisherPort T U) → new.sender.uses.connections ≡ old.sender.uses.connections
+    → new.ties ≡ old.ties → new.readers ≡ old.readers → new.stands ≡ old.stands → Alike old new
 alike_still old new connections ties readers stands = record {
   ties = ties;
   readers = readers;
@@ -116,12 +130,14 @@ alike_still old new connections ties readers stands = record {
   live = λ index. ap (λ all. goes_on (get_or all index nobody).stage) connections;
 }
 
-pub well_alike : {T U : Type 0} (next : ℕ) (places : List (Option (Member SubscriberEntry))) (old new : PublisherPort T U) → Alike old new → IsTiedWell next places old → IsTiedWell next places new
+pub well_alike : {T U : Type 0} (next : ℕ) (places : List (Option (Member SubscriberEntry))) (old new : PublisherPort T U)
+    → Alike old new → IsTiedWell next places old → IsTiedWell next places new
 well_alike next places old new alike well = well_kept next places old new (record {
   ties = alike.ties;
   live = λ index live. alike.live index ∙ live;
   leads = λ subscriber index live. ap (λ readers. leads_to subscriber (get_or readers index None)) alike.readers;
-  read = λ subscriber index leads. alike.live index ∙ well.read subscriber index (ap (λ readers. leads_to subscriber (get_or readers index None)) (sym alike.readers) ∙ leads);
+  read = λ subscriber index leads. alike.live index ∙ well.read subscriber index
+      (ap (λ readers. leads_to subscriber (get_or readers index None)) (sym alike.readers) ∙ leads);
 }) well
 
 -- the connection that a place is tied to ends
@@ -132,19 +148,22 @@ record Ended {T U : Type 0} (place index : ℕ) (old new : PublisherPort T U) : 
   readers : new.readers ≡ set old.readers index None
   live : (other : ℕ) → other ≢ index → is_live other new ≡ is_live other old
 
-well_ended : {T U : Type 0} (next : ℕ) (places : List (Option (Member SubscriberEntry))) (place index : ℕ) (old new : PublisherPort T U) → get_or old.ties.items place None ≡ Some index → Ended place index old new
+well_ended : {T U : Type 0} (next : ℕ) (places : List (Option (Member SubscriberEntry))) (place index : ℕ) (old new : PublisherPort T U)
+    → get_or old.ties.items place None ≡ Some index → Ended place index old new
     → IsTiedWell next places old → IsTiedWell next places new
 well_ended {T} {U} next places place index old new tie ended well = record {
   apart = λ one other at is_one is_other. well.apart one other at (before one at is_one).1 (before other at is_other).1;
   live = λ one at is. ended.live at (apart one at is) ∙ well.live one at (before one at is).1;
   read = λ subscriber at leads. let there = still_leads subscriber at leads in ended.live at there.0 ∙ well.read subscriber at there.1;
   alone = λ one other member listed not. elim (cases_eq other place) [
-    | inl same ↦ ap (λ at. is_tie_to member.value.subscriber (get_or new.ties.items at None) new) same ∙ ap (λ t. is_tie_to member.value.subscriber t new) gone
+    | inl same ↦ ap (λ at. is_tie_to member.value.subscriber (get_or new.ties.items at None) new) same ∙ ap
+        (λ t. is_tie_to member.value.subscriber t new) gone
     | inr apart ↦ tie_other member.value.subscriber other apart ∙ well.alone one other member listed not
   ];
   below = λ one subscriber is. elim (cases_eq one place) [
     | inl same ↦
-        let no : false ≡ true = sym (ap (λ at. is_tie_to subscriber (get_or new.ties.items at None) new) same ∙ ap (λ t. is_tie_to subscriber t new) gone) ∙ is in cc
+        let no : false ≡ true = sym (ap (λ at. is_tie_to subscriber (get_or new.ties.items at None) new) same ∙ ap
+        (λ t. is_tie_to subscriber t new) gone) ∙ is in cc
     | inr apart ↦ well.below one subscriber (sym (tie_other subscriber one apart) ∙ is)
   ];
   room = omega (arith, well.room, ended.room);
@@ -163,17 +182,24 @@ well_ended {T} {U} next places place index old new tie ended well = record {
         let there = before one at is in
         there.0 (well.apart one place at there.1 (tie ∙ ap (λ i. Some i) (sym same)))
 
-    still_leads : (subscriber at : ℕ) → leads_to subscriber (get_or new.readers at None) ≡ true → (at ≢ index) × (leads_to subscriber (get_or old.readers at None) ≡ true)
+    still_leads : (subscriber at : ℕ) → leads_to subscriber (get_or new.readers at None) ≡ true → (at ≢ index)
+        × (leads_to subscriber (get_or old.readers at None) ≡ true)
     still_leads subscriber at leads =
         let not : at ≢ index = λ same.
         let none : leads_to subscriber (get_or new.readers at None) ≡ false = ap (λ i. leads_to subscriber (get_or new.readers i None)) same
-        ∙ ap (λ readers. leads_to subscriber (get_or readers index None)) ended.readers ∙ ap (λ reader. leads_to subscriber reader) (gone_there old.readers index) in
-        let no : false ≡ true = sym none ∙ leads in cc in
-        (not, sym (ap (λ readers. leads_to subscriber (get_or readers at None)) ended.readers ∙ ap (λ reader. leads_to subscriber reader) (get_or-set_other old.readers index at None None not)) ∙ leads)
+        ∙ ap (λ readers. leads_to subscriber (get_or readers index None)) ended.readers ∙ ap (λ reader. leads_to subscriber reader)
+        (gone_there old.readers index) in
+        let no : false ≡ true = sym none ∙ leads in cc in (
+          not,
+          sym (ap (λ readers. leads_to subscriber (get_or readers at None)) ended.readers ∙ ap (λ reader. leads_to subscriber reader)
+              (get_or-set_other old.readers index at None None not)) ∙ leads,
+        )
 
-    tie_other : (subscriber other : ℕ) → other ≢ place → is_tie_to subscriber (get_or new.ties.items other None) new ≡ is_tie_to subscriber (get_or old.ties.items other None) old
+    tie_other : (subscriber other : ℕ) → other ≢ place
+        → is_tie_to subscriber (get_or new.ties.items other None) new ≡ is_tie_to subscriber (get_or old.ties.items other None) old
     tie_other subscriber other not =
-        let same : get_or new.ties.items other None ≡ get_or old.ties.items other None = ap (λ items. get_or items other None) ended.items ∙ get_or-set_other old.ties.items place other None None not in
+        let same : get_or new.ties.items other None ≡ get_or old.ties.items other None
+        = ap (λ items. get_or items other None) ended.items ∙ get_or-set_other old.ties.items place other None None not in
         ap (λ t. is_tie_to subscriber t new) same
         ∙ tie_kept old new subscriber (get_or old.ties.items other None) (λ at is.
         ap (λ readers. leads_to subscriber (get_or readers at None)) ended.readers
@@ -184,27 +210,35 @@ pub record Steps {T U : Type 0} (next : ℕ) (places : List (Option (Member Subs
   pub stands : new.stands ≡ old.stands
   pub well : IsTiedWell next places old → IsTiedWell next places new
 
-steps_stay : {T U : Type 0} (next : ℕ) (places : List (Option (Member SubscriberEntry))) (port : PublisherPort T U) → Steps next places port port
+steps_stay : {T U : Type 0} (next : ℕ) (places : List (Option (Member SubscriberEntry))) (port : PublisherPort T U)
+    → Steps next places port port
 steps_stay next places port = record { stands = refl; well = λ well. well }
 
-steps_on : {T U : Type 0} (next : ℕ) (places : List (Option (Member SubscriberEntry))) (old between new : PublisherPort T U) → Steps next places old between → Steps next places between new → Steps next places old new
+steps_on : {T U : Type 0} (next : ℕ) (places : List (Option (Member SubscriberEntry))) (old between new : PublisherPort T U)
+    → Steps next places old between → Steps next places between new → Steps next places old new
 steps_on next places old between new one two = record { stands = two.stands ∙ one.stands; well = λ well. two.well (one.well well) }
 
-steps_alike : {T U : Type 0} (next : ℕ) (places : List (Option (Member SubscriberEntry))) (old new : PublisherPort T U) → Alike old new → Steps next places old new
+steps_alike : {T U : Type 0} (next : ℕ) (places : List (Option (Member SubscriberEntry))) (old new : PublisherPort T U) → Alike old new
+    → Steps next places old new
 steps_alike next places old new alike = record { stands = alike.stands; well = well_alike next places old new alike }
 
-steps_is : {T U : Type 0} (next : ℕ) (places : List (Option (Member SubscriberEntry))) (old new : PublisherPort T U) → new ≡ old → Steps next places old new
+steps_is : {T U : Type 0} (next : ℕ) (places : List (Option (Member SubscriberEntry))) (old new : PublisherPort T U) → new ≡ old
+    → Steps next places old new
 steps_is next places old new is = steps_alike next places old new (alike_is old new is)
 
-steps_to : {T U : Type 0} (next : ℕ) (places : List (Option (Member SubscriberEntry))) (old new other : PublisherPort T U) → other ≡ new → Steps next places old new → Steps next places old other
+steps_to : {T U : Type 0} (next : ℕ) (places : List (Option (Member SubscriberEntry))) (old new other : PublisherPort T U) → other ≡ new
+    → Steps next places old new → Steps next places old other
 steps_to next places old new other is steps = steps_on next places old new other steps (steps_is next places new other is)
 
 -- a place is untied
-let_go_by : {T U : Type 0} (next : ℕ) (places : List (Option (Member SubscriberEntry))) (place index : ℕ) (live : Bool) (port gone : PublisherPort T U) → get_or port.ties.items place None ≡ Some index → is_live index port ≡ live
+let_go_by : {T U : Type 0} (next : ℕ) (places : List (Option (Member SubscriberEntry))) (place index : ℕ) (live : Bool)
+    (port gone : PublisherPort T U) → get_or port.ties.items place None ≡ Some index → is_live index port ≡ live
     → gone ≡ record port { ties = tie_put place None port.ties }
-    → Steps next places port (if live then record (with_connection_of index (ended (connection_of index gone)) gone) { readers = set gone.readers index None } else gone)
+    → Steps next places port (if live then record (with_connection_of index (ended (connection_of index gone)) gone)
+    { readers = set gone.readers index None } else gone)
 let_go_by {T} {U} next places place index true port gone tie live is =
-    let new : PublisherPort T U = record (with_connection_of index (ended (connection_of index gone)) gone) { readers = set gone.readers index None } in
+    let new : PublisherPort T U = record (with_connection_of index (ended (connection_of index gone)) gone)
+    { readers = set gone.readers index None } in
     let stands : new.stands ≡ port.stands = ap (λ one. one.stands) is in
     record {
       stands = stands;
@@ -213,7 +247,8 @@ let_go_by {T} {U} next places place index true port gone tie live is =
         room = ap (λ one. one.ties.room) is;
         stands = stands;
         readers = ap (λ one. set one.readers index None) is;
-        live = λ other not. ap (λ one. goes_on one.stage) (get_or-set_other gone.sender.uses.connections index other (ended (connection_of index gone)) nobody not)
+        live = λ other not. ap (λ one. goes_on one.stage)
+            (get_or-set_other gone.sender.uses.connections index other (ended (connection_of index gone)) nobody not)
             ∙ ap (λ one. is_live other one) is;
       });
     }
@@ -222,18 +257,22 @@ let_go_by next places place index false port gone tie live is = record {
   well = λ well. let no : true ≡ false = sym (well.live place index tie) ∙ live in absurd (cc);
 }
 
-steps_let_go : {T U : Type 0} (next : ℕ) (places : List (Option (Member SubscriberEntry))) (place : ℕ) (tie : Option ℕ) (port : PublisherPort T U) → get_or port.ties.items place None ≡ tie → Steps next places port (let_go_of place tie port)
+steps_let_go : {T U : Type 0} (next : ℕ) (places : List (Option (Member SubscriberEntry))) (place : ℕ) (tie : Option ℕ)
+    (port : PublisherPort T U) → get_or port.ties.items place None ≡ tie → Steps next places port (let_go_of place tie port)
 steps_let_go next places place None port is = steps_stay next places port
 steps_let_go {T} {U} next places place (Some index) port is =
     let_go_by next places place index (is_live index port) port (record port { ties = tie_put place None port.ties }) is refl refl
 
-pub steps_untied : {T U : Type 0} (next : ℕ) (places : List (Option (Member SubscriberEntry))) (place : ℕ) (port : PublisherPort T U) → Steps next places port (untied place port)
+pub steps_untied : {T U : Type 0} (next : ℕ) (places : List (Option (Member SubscriberEntry))) (place : ℕ) (port : PublisherPort T U)
+    → Steps next places port (untied place port)
 steps_untied next places place port = steps_let_go next places place (get_or port.ties.items place None) port refl
 
-steps_untied_from : {T U : Type 0} (next : ℕ) (places : List (Option (Member SubscriberEntry))) (count place : ℕ) (port : PublisherPort T U) → Steps next places port (untied_from count place port)
+steps_untied_from : {T U : Type 0} (next : ℕ) (places : List (Option (Member SubscriberEntry))) (count place : ℕ)
+    (port : PublisherPort T U) → Steps next places port (untied_from count place port)
 steps_untied_from next places zero place port = steps_stay next places port
 steps_untied_from next places (suc count) place port =
-    steps_on next places port (untied place port) _ (steps_untied next places place port) (steps_untied_from next places count (place + 1) (untied place port))
+    steps_on next places port (untied place port) _ (steps_untied next places place port)
+    (steps_untied_from next places count (place + 1) (untied place port))
 
 -- what a reader leads to is one subscriber
 pub leads_both : (one other : ℕ) (reader : Option Reader) → leads_to one reader ≡ true → leads_to other reader ≡ true → one ≡ other
@@ -253,7 +292,8 @@ pub record TiedTo {T U : Type 0} (place subscriber index : ℕ) (old new : Publi
   read : (one at : ℕ) → leads_to one (get_or new.readers at None) ≡ true → is_live at new ≡ true
   pub free : (other : ℕ) → other ≢ place → get_or old.ties.items other None ≡ Some index → ⊥
 
-well_tied : {T U : Type 0} (next : ℕ) (places : List (Option (Member SubscriberEntry))) (place index : ℕ) (member : Member SubscriberEntry) (old new : PublisherPort T U) → IsListApart next places → get_or places place None ≡ Some member
+well_tied : {T U : Type 0} (next : ℕ) (places : List (Option (Member SubscriberEntry))) (place index : ℕ)
+    (member : Member SubscriberEntry) (old new : PublisherPort T U) → IsListApart next places → get_or places place None ≡ Some member
     → TiedTo place member.value.subscriber index old new → IsTiedWell next places old → IsTiedWell next places new
 well_tied {T} {U} next places place index member old new list listed tied well = record {
   apart = apart;
@@ -264,15 +304,19 @@ well_tied {T} {U} next places place index member old new list listed tied well =
   read = tied.read;
   alone = λ one other second second_listed not. bool_false _ (λ is. elim (cases_eq other place) [
     | inl same ↦
-        let leads : leads_to second.value.subscriber (get_or new.readers index None) ≡ true = sym (tie_here second.value.subscriber other same) ∙ is in
-        not (same ∙ sym (list.apart one place second member second_listed listed (leads_both second.value.subscriber member.value.subscriber (get_or new.readers index None) leads tied.leads_there)))
+        let leads : leads_to second.value.subscriber (get_or new.readers index None) ≡ true
+        = sym (tie_here second.value.subscriber other same) ∙ is in
+        not (same ∙ sym (list.apart one place second member second_listed listed
+        (leads_both second.value.subscriber member.value.subscriber (get_or new.readers index None) leads tied.leads_there)))
     | inr apart_from ↦
-        let no : false ≡ true = sym (tie_other second.value.subscriber other apart_from ∙ well.alone one other second second_listed not) ∙ is in cc
+        let no : false ≡ true = sym (tie_other second.value.subscriber other apart_from ∙ well.alone one other second second_listed not)
+        ∙ is in cc
   ]);
   below = λ one subscriber is. elim (cases_eq one place) [
     | inl same ↦
         let leads : leads_to subscriber (get_or new.readers index None) ≡ true = sym (tie_here subscriber one same) ∙ is in
-        let is_member : subscriber ≡ member.value.subscriber = leads_both subscriber member.value.subscriber (get_or new.readers index None) leads tied.leads_there in
+        let is_member : subscriber ≡ member.value.subscriber
+        = leads_both subscriber member.value.subscriber (get_or new.readers index None) leads tied.leads_there in
         omega (arith, is_member, list.below place member listed)
     | inr not ↦ well.below one subscriber (sym (tie_other subscriber one not) ∙ is)
   ];
@@ -286,50 +330,62 @@ well_tied {T} {U} next places place index member old new list listed tied well =
     apart one other at is_one is_other = elim (cases_eq one place) [
       | inl one_here ↦ elim (cases_eq other place) [
         | inl other_here ↦ one_here ∙ sym other_here
-        | inr other_not ↦ absurd (tied.free other other_not (sym (tied.others other other_not) ∙ is_other ∙ ap (λ i. Some i) (sym (here_is one at one_here is_one))))
+        | inr other_not ↦ absurd (tied.free other other_not
+            (sym (tied.others other other_not) ∙ is_other ∙ ap (λ i. Some i) (sym (here_is one at one_here is_one))))
       ]
       | inr one_not ↦ elim (cases_eq other place) [
-        | inl other_here ↦ absurd (tied.free one one_not (sym (tied.others one one_not) ∙ is_one ∙ ap (λ i. Some i) (sym (here_is other at other_here is_other))))
+        | inl other_here ↦ absurd (tied.free one one_not
+            (sym (tied.others one one_not) ∙ is_one ∙ ap (λ i. Some i) (sym (here_is other at other_here is_other))))
         | inr other_not ↦ well.apart one other at (sym (tied.others one one_not) ∙ is_one) (sym (tied.others other other_not) ∙ is_other)
       ]
     ]
 
-    tie_here : (subscriber other : ℕ) → other ≡ place → is_tie_to subscriber (get_or new.ties.items other None) new ≡ leads_to subscriber (get_or new.readers index None)
-    tie_here subscriber other same = ap (λ p. is_tie_to subscriber (get_or new.ties.items p None) new) same ∙ ap (λ t. is_tie_to subscriber t new) tied.here
+    tie_here : (subscriber other : ℕ) → other ≡ place
+        → is_tie_to subscriber (get_or new.ties.items other None) new ≡ leads_to subscriber (get_or new.readers index None)
+    tie_here subscriber other same = ap (λ p. is_tie_to subscriber (get_or new.ties.items p None) new) same ∙ ap
+        (λ t. is_tie_to subscriber t new) tied.here
 
-    tie_other : (subscriber other : ℕ) → other ≢ place → is_tie_to subscriber (get_or new.ties.items other None) new ≡ is_tie_to subscriber (get_or old.ties.items other None) old
+    tie_other : (subscriber other : ℕ) → other ≢ place
+        → is_tie_to subscriber (get_or new.ties.items other None) new ≡ is_tie_to subscriber (get_or old.ties.items other None) old
     tie_other subscriber other not =
         ap (λ t. is_tie_to subscriber t new) (tied.others other not)
         ∙ tie_kept old new subscriber (get_or old.ties.items other None) (λ at is. tied.leads subscriber at (well.live other at is))
 
 -- greeting a connection is no matter to ties
-greeted_alike : {T U : Type 0} (index : ℕ) (live : Bool) (waiting : List (Message T U)) (port : PublisherPort T U) → Alike port (if live then greeted_at index waiting port else port)
+greeted_alike : {T U : Type 0} (index : ℕ) (live : Bool) (waiting : List (Message T U)) (port : PublisherPort T U)
+    → Alike port (if live then greeted_at index waiting port else port)
 greeted_alike index false waiting port = alike_is port port refl
 greeted_alike index true [] port = alike_waiting index (welcomed port.sender.uses.history (connection_of index port)) port refl
 greeted_alike index true (message ∷ waiting) port = alike_is port port refl
 
 -- the connection that leads to a subscriber
-pub found_leads : {T U : Type 0} (subscriber index : ℕ) (port : PublisherPort T U) → connection_to subscriber port ≡ Some index → leads_to subscriber (get_or port.readers index None) ≡ true
+pub found_leads : {T U : Type 0} (subscriber index : ℕ) (port : PublisherPort T U) → connection_to subscriber port ≡ Some index
+    → leads_to subscriber (get_or port.readers index None) ≡ true
 found_leads subscriber index port is = (position-Some (leads_to subscriber) port.readers index None is).1
 
 -- what comes of placing a connection
-append_other : {T U : Type 0} (connections : List (Connection (Message T U))) (connection : Connection (Message T U)) (at : ℕ) → at ≢ length connections → get_or (connections ++ connection ∷ []) at nobody ≡ get_or connections at nobody
+append_other : {T U : Type 0} (connections : List (Connection (Message T U))) (connection : Connection (Message T U)) (at : ℕ)
+    → at ≢ length connections → get_or (connections ++ connection ∷ []) at nobody ≡ get_or connections at nobody
 append_other [] connection zero not = absurd (not refl)
 append_other [] connection (suc at) not = refl
 append_other (x ∷ xs) connection zero not = refl
 append_other (x ∷ xs) connection (suc at) not = append_other xs connection at (λ same. not (ap (λ n. suc n) same))
 
-placed_here : {T U : Type 0} (behind : Bool) (connections : List (Connection (Message T U))) (index : ℕ) (connection : Connection (Message T U)) → (index == length connections) ≡ behind → index ≤ length connections
+placed_here : {T U : Type 0} (behind : Bool) (connections : List (Connection (Message T U))) (index : ℕ)
+    (connection : Connection (Message T U)) → (index == length connections) ≡ behind → index ≤ length connections
     → get_or (if behind then connections ++ connection ∷ [] else set connections index connection) index nobody ≡ connection
-placed_here true connections index connection is within = get_or_push connections connection nobody index (sym (eqb-true index (length connections) is))
+placed_here true connections index connection is within
+    = get_or_push connections connection nobody index (sym (eqb-true index (length connections) is))
 placed_here false connections index connection is within = elim (cases_eq index (length connections)) [
   | inl same ↦ let no : true ≡ false = sym (eq-eqb index (length connections) same) ∙ is in absurd (cc)
   | inr not ↦ get_or-set_same connections index connection nobody (omega (arith, within, not))
 ]
 
-placed_other : {T U : Type 0} (behind : Bool) (connections : List (Connection (Message T U))) (index at : ℕ) (connection : Connection (Message T U)) → (index == length connections) ≡ behind → at ≢ index
+placed_other : {T U : Type 0} (behind : Bool) (connections : List (Connection (Message T U))) (index at : ℕ)
+    (connection : Connection (Message T U)) → (index == length connections) ≡ behind → at ≢ index
     → get_or (if behind then connections ++ connection ∷ [] else set connections index connection) at nobody ≡ get_or connections at nobody
-placed_other true connections index at connection is not = append_other connections connection at (λ same. not (same ∙ sym (eqb-true index (length connections) is)))
+placed_other true connections index at connection is not
+    = append_other connections connection at (λ same. not (same ∙ sym (eqb-true index (length connections) is)))
 placed_other false connections index at connection is not = get_or-set_other connections index at connection nobody not
 
 -- What is known of a publisher once a connection was made at an index that had none.
@@ -344,71 +400,97 @@ pub record MadeAt {T U : Type 0} (subscriber index : ℕ) (old new : PublisherPo
   pub waits : (connection_of index new).waiting ≡ []
   pub others : (at : ℕ) → at ≢ index → connection_of at new ≡ connection_of at old
 
-pub connects_made : {T U : Type 0} (subscriber limit index : ℕ) (attached : Bool) (old new : PublisherPort T U) → Connects limit (record { subscriber = subscriber; attached = attached }) old (Ok index) new → MadeAt subscriber index old new
+pub connects_made : {T U : Type 0} (subscriber limit index : ℕ) (attached : Bool) (old new : PublisherPort T U)
+    → Connects limit (record { subscriber = subscriber; attached = attached }) old (Ok index) new → MadeAt subscriber index old new
 connects_made {T} {U} subscriber limit index attached old new connects =
     let reader : Reader = record { subscriber = subscriber; attached = attached } in
     let count = length old.sender.uses.connections + 1 in
     let (none, within, is) = connects in
     let readers : new.readers ≡ set (reached count old.readers) index (Some reader) = ap (λ port. port.readers) is in
     let there : get_or new.readers index None ≡ Some reader =
-    ap (λ all. get_or all index None) readers ∙ get_or-set_same (reached count old.readers) index (Some reader) None (omega (arith, within, long_enough old.readers count)) in
+    ap (λ all. get_or all index None) readers ∙ get_or-set_same (reached count old.readers) index (Some reader) None
+    (omega (arith, within, long_enough old.readers count)) in
     record {
       ties = ap (λ port. port.ties) is;
       stands = ap (λ port. port.stands) is;
       none = ap (λ one. goes_on one.stage) none;
       live = λ at not. ap (λ port. is_live at port) is
-          ∙ ap (λ one. goes_on one.stage) (placed_other (index == length old.sender.uses.connections) old.sender.uses.connections index at (connected limit) refl not);
-      goes = ap (λ port. is_live index port) is ∙ ap (λ one. goes_on one.stage) (placed_here (index == length old.sender.uses.connections) old.sender.uses.connections index (connected limit) refl within);
-      readers = λ at not. ap (λ all. get_or all at None) readers ∙ get_or-set_other (reached count old.readers) index at (Some reader) None not
+          ∙ ap (λ one. goes_on one.stage) (placed_other (index == length old.sender.uses.connections) old.sender.uses.connections index
+          at (connected limit) refl not);
+      goes = ap (λ port. is_live index port) is ∙ ap (λ one. goes_on one.stage)
+          (placed_here (index == length old.sender.uses.connections) old.sender.uses.connections index (connected limit) refl within);
+      readers = λ at not. ap (λ all. get_or all at None) readers ∙ get_or-set_other (reached count old.readers) index at (Some reader)
+          None not
           ∙ still_there old.readers (count - length old.readers) at;
       leads_there = ap (λ one. leads_to subscriber one) there ∙ eq-eqb subscriber subscriber refl;
-      waits = ap (λ port. (connection_of index port).waiting) is ∙ ap (λ one. one.waiting) (placed_here (index == length old.sender.uses.connections) old.sender.uses.connections index (connected limit) refl within);
-      others = λ at not. ap (λ port. connection_of at port) is ∙ placed_other (index == length old.sender.uses.connections) old.sender.uses.connections index at (connected limit) refl not;
+      waits = ap (λ port. (connection_of index port).waiting) is ∙ ap (λ one. one.waiting)
+          (placed_here (index == length old.sender.uses.connections) old.sender.uses.connections index (connected limit) refl within);
+      others = λ at not. ap (λ port. connection_of at port) is ∙ placed_other (index == length old.sender.uses.connections)
+          old.sender.uses.connections index at (connected limit) refl not;
     }
 
 pub ok_same : (one other : ℕ) (answer : Result ℕ AllocError) → answer ≡ Ok one → answer ≡ Ok other → other ≡ one
 ok_same one other answer first second = cc
 
 -- a place is tied to the connection of the subscriber that it lists
-pub tied_joined : {T U : Type 0} (next : ℕ) (places : List (Option (Member SubscriberEntry))) (place index limit : ℕ) (member : Member SubscriberEntry) (found : Option ℕ) (old joined new : PublisherPort T U)
+pub tied_joined : {T U : Type 0} (next : ℕ) (places : List (Option (Member SubscriberEntry))) (place index limit : ℕ)
+    (member : Member SubscriberEntry) (found : Option ℕ) (old joined new : PublisherPort T U)
     → IsTiedWell next places old → get_or places place None ≡ Some member → connection_to member.value.subscriber old ≡ found
-    → Joins member.value.subscriber limit found (within_reach place old) (Ok index) joined → new ≡ tied place index joined → TiedTo place member.value.subscriber index old new
-tied_joined {T} {U} next places place index limit member found old joined new well listed is_found joins is = elim found as (λ found. connection_to member.value.subscriber old ≡ found → Joins member.value.subscriber limit found (within_reach place old) (Ok index) joined → TiedTo place member.value.subscriber index old new) [
-  | Some there ↦ λ is_there joined_is.
-      let same : there ≡ index = ok_same index there (Ok index) refl joined_is.0 in
-      let leads : leads_to member.value.subscriber (get_or old.readers index None) ≡ true = found_leads member.value.subscriber index old (is_there ∙ ap (λ i. Some i) same) in
-      finish (ap (λ port. port.ties) joined_is.1) (ap (λ port. port.stands) joined_is.1)
-      (λ at live. ap (λ port. is_live at port) joined_is.1 ∙ live)
-      (λ one at live. ap (λ port. leads_to one (get_or port.readers at None)) joined_is.1)
-      (ap (λ port. is_live index port) joined_is.1 ∙ well.read member.value.subscriber index leads)
-      (ap (λ port. leads_to member.value.subscriber (get_or port.readers index None)) joined_is.1 ∙ leads)
-      (λ one at lead. ap (λ port. is_live at port) joined_is.1 ∙ well.read one at (ap (λ port. leads_to one (get_or port.readers at None)) (sym joined_is.1) ∙ lead))
-      (λ other not tie. let no : true ≡ false = sym leads ∙ ap (λ t. is_tie_to member.value.subscriber t old) (sym tie) ∙ well.alone place other member listed not in cc)
-  | None ↦ λ is_none made_is.
-      let made : MadeAt member.value.subscriber index (within_reach place old) joined = connects_made member.value.subscriber limit index false (within_reach place old) joined made_is in
-      let apart : (at : ℕ) → is_live at old ≡ true → at ≢ index = λ at live same. let no : true ≡ false = sym live ∙ ap (λ i. is_live i old) same ∙ made.none in cc in
-      finish made.ties made.stands
-      (λ at live. made.live at (apart at live) ∙ live)
-      (λ one at live. ap (λ reader. leads_to one reader) (made.readers at (apart at live)))
-      made.goes made.leads_there
-      (λ one at lead. elim (cases_eq at index) [
-        | inl same ↦ ap (λ i. is_live i joined) same ∙ made.goes
-        | inr not ↦ made.live at not ∙ well.read one at (ap (λ reader. leads_to one reader) (sym (made.readers at not)) ∙ lead)
-      ])
-      (λ other not tie. let no : true ≡ false = sym (well.live other index tie) ∙ made.none in cc)
-] is_found joins
+    → Joins member.value.subscriber limit found (within_reach place old) (Ok index) joined → new ≡ tied place index joined
+    → TiedTo place member.value.subscriber index old new
+tied_joined {T} {U} next places place index limit member found old joined new well listed is_found joins is
+    = elim found as (λ found. connection_to member.value.subscriber old ≡ found
+    → Joins member.value.subscriber limit found (within_reach place old) (Ok index) joined
+    → TiedTo place member.value.subscriber index old new) [
+      | Some there ↦ λ is_there joined_is.
+          let same : there ≡ index = ok_same index there (Ok index) refl joined_is.0 in
+          let leads : leads_to member.value.subscriber (get_or old.readers index None) ≡ true
+          = found_leads member.value.subscriber index old (is_there ∙ ap (λ i. Some i) same) in
+          finish (ap (λ port. port.ties) joined_is.1) (ap (λ port. port.stands) joined_is.1)
+          (λ at live. ap (λ port. is_live at port) joined_is.1 ∙ live)
+          (λ one at live. ap (λ port. leads_to one (get_or port.readers at None)) joined_is.1)
+          (ap (λ port. is_live index port) joined_is.1 ∙ well.read member.value.subscriber index leads)
+          (ap (λ port. leads_to member.value.subscriber (get_or port.readers index None)) joined_is.1 ∙ leads)
+          (λ one at lead. ap (λ port. is_live at port) joined_is.1 ∙ well.read one at
+          (ap (λ port. leads_to one (get_or port.readers at None)) (sym joined_is.1) ∙ lead))
+          (λ other not tie. let no : true ≡ false
+          = sym leads ∙ ap (λ t. is_tie_to member.value.subscriber t old) (sym tie) ∙ well.alone place other member listed not in cc)
+      | None ↦ λ is_none made_is.
+          let made : MadeAt member.value.subscriber index (within_reach place old) joined
+          = connects_made member.value.subscriber limit index false (within_reach place old) joined made_is in
+          let apart : (at : ℕ) → is_live at old ≡ true
+          → at ≢ index = λ at live same. let no : true ≡ false = sym live ∙ ap (λ i. is_live i old) same ∙ made.none in cc in
+          finish made.ties made.stands
+          (λ at live. made.live at (apart at live) ∙ live)
+          (λ one at live. ap (λ reader. leads_to one reader) (made.readers at (apart at live)))
+          made.goes made.leads_there
+          (λ one at lead. elim (cases_eq at index) [
+            | inl same ↦ ap (λ i. is_live i joined) same ∙ made.goes
+            | inr not ↦ made.live at not ∙ well.read one at (ap (λ reader. leads_to one reader) (sym (made.readers at not)) ∙ lead)
+          ])
+          (λ other not tie. let no : true ≡ false = sym (well.live other index tie) ∙ made.none in cc)
+    ] is_found joins
   where
-    finish : joined.ties ≡ (within_reach place old).ties → joined.stands ≡ old.stands → ((at : ℕ) → is_live at old ≡ true → is_live at joined ≡ true)
-        → ((one at : ℕ) → is_live at old ≡ true → leads_to one (get_or joined.readers at None) ≡ leads_to one (get_or old.readers at None)) → is_live index joined ≡ true
-        → leads_to member.value.subscriber (get_or joined.readers index None) ≡ true → ((one at : ℕ) → leads_to one (get_or joined.readers at None) ≡ true → is_live at joined ≡ true)
-        → ((other : ℕ) → other ≢ place → get_or old.ties.items other None ≡ Some index → ⊥) → TiedTo place member.value.subscriber index old new
+    finish : joined.ties ≡ (within_reach place old).ties → joined.stands ≡ old.stands
+        → ((at : ℕ) → is_live at old ≡ true → is_live at joined ≡ true)
+        → ((one at : ℕ) → is_live at old ≡ true
+        → leads_to one (get_or joined.readers at None) ≡ leads_to one (get_or old.readers at None)) → is_live index joined ≡ true
+        → leads_to member.value.subscriber (get_or joined.readers index None) ≡ true
+        → ((one at : ℕ) → leads_to one (get_or joined.readers at None) ≡ true → is_live at joined ≡ true)
+        → ((other : ℕ) → other ≢ place → get_or old.ties.items other None ≡ Some index → ⊥)
+        → TiedTo place member.value.subscriber index old new
     finish ties stands live leads goes leads_there read free =
         let given : PublisherPort T U = record joined { ties = tie_put place (Some index) joined.ties } in
-        let alike : Alike given new = alike_on given (tied place index joined) new (greeted_alike index (is_live index given) (connection_of index given).waiting given) (alike_is (tied place index joined) new is) in
-        let items : new.ties.items ≡ set (reached (place + 1) old.ties.items) place (Some index) = ap (λ ties. ties.items) alike.ties ∙ ap (λ all. set all.items place (Some index)) ties in
+        let alike : Alike given new = alike_on given (tied place index joined) new
+        (greeted_alike index (is_live index given) (connection_of index given).waiting given)
+        (alike_is (tied place index joined) new is) in
+        let items : new.ties.items ≡ set (reached (place + 1) old.ties.items) place (Some index)
+        = ap (λ ties. ties.items) alike.ties ∙ ap (λ all. set all.items place (Some index)) ties in
         record {
-          here = ap (λ all. get_or all place None) items ∙ get_or-set_same (reached (place + 1) old.ties.items) place (Some index) None (omega (arith, long_enough old.ties.items (place + 1)));
-          others = λ other not. ap (λ all. get_or all other None) items ∙ get_or-set_other (reached (place + 1) old.ties.items) place other (Some index) None not
+          here = ap (λ all. get_or all place None) items ∙ get_or-set_same (reached (place + 1) old.ties.items) place (Some index) None
+              (omega (arith, long_enough old.ties.items (place + 1)));
+          others = λ other not. ap (λ all. get_or all other None) items ∙ get_or-set_other (reached (place + 1) old.ties.items) place
+              other (Some index) None not
               ∙ still_there old.ties.items (place + 1 - length old.ties.items) other;
           room = ap (λ all. all.room) alike.ties ∙ ap (λ all. all.room) ties;
           stands = alike.stands ∙ stands;
@@ -416,23 +498,30 @@ tied_joined {T} {U} next places place index limit member found old joined new we
           leads = λ one at was. ap (λ readers. leads_to one (get_or readers at None)) alike.readers ∙ leads one at was;
           goes = alike.live index ∙ goes;
           leads_there = ap (λ readers. leads_to member.value.subscriber (get_or readers index None)) alike.readers ∙ leads_there;
-          read = λ one at lead. alike.live at ∙ read one at (ap (λ readers. leads_to one (get_or readers at None)) (sym alike.readers) ∙ lead);
+          read = λ one at lead. alike.live at ∙ read one at
+              (ap (λ readers. leads_to one (get_or readers at None)) (sym alike.readers) ∙ lead);
           free = free;
         }
 
-steps_ties : {T U : Type 0} (next : ℕ) (places : List (Option (Member SubscriberEntry))) (place : ℕ) (member : Member SubscriberEntry) (old new : PublisherPort T U) (outcome : Result (Unit {0}) AllocError) → IsListApart next places
-    → get_or places place None ≡ Some member → IsTiedWell next places old → Ties place member.value old outcome new → (new.stands ≡ old.stands) × IsTiedWell next places new
+steps_ties : {T U : Type 0} (next : ℕ) (places : List (Option (Member SubscriberEntry))) (place : ℕ) (member : Member SubscriberEntry)
+    (old new : PublisherPort T U) (outcome : Result (Unit {0}) AllocError) → IsListApart next places
+    → get_or places place None ≡ Some member → IsTiedWell next places old → Ties place member.value old outcome new
+    → (new.stands ≡ old.stands) × IsTiedWell next places new
 steps_ties next places place member old new (Err error) list listed well ties =
     let steps = steps_is next places old new ties.1 in
     (steps.stands, steps.well well)
 steps_ties {T} {U} next places place member old new (Ok done) list listed well ties =
     let (index, joined, joins, is) = ties in
-    let to = tied_joined next places place index _ member (connection_to member.value.subscriber old) old joined new well listed refl joins is in
+    let to = tied_joined next places place index _ member (connection_to member.value.subscriber old) old joined new well listed refl
+    joins is in
     (to.stands, well_tied next places place index member old new list listed to well)
 
 -- a place is followed
-follows_to_well : {T U : Type 0} (next : ℕ) (places : List (Option (Member SubscriberEntry))) (place : ℕ) (member : Member SubscriberEntry) (is_tie : Bool) (old new : PublisherPort T U) (outcome : Result (Unit {0}) AllocError) → IsListApart next places
-    → get_or places place None ≡ Some member → IsTiedWell next places old → FollowsTo place member.value is_tie old outcome new → (new.stands ≡ old.stands) × IsTiedWell next places new
+follows_to_well : {T U : Type 0} (next : ℕ) (places : List (Option (Member SubscriberEntry))) (place : ℕ)
+    (member : Member SubscriberEntry) (is_tie : Bool) (old new : PublisherPort T U) (outcome : Result (Unit {0}) AllocError)
+    → IsListApart next places
+    → get_or places place None ≡ Some member → IsTiedWell next places old → FollowsTo place member.value is_tie old outcome new
+    → (new.stands ≡ old.stands) × IsTiedWell next places new
 follows_to_well next places place member true old new outcome list listed well follows =
     let steps = steps_is next places old new follows.1 in
     (steps.stands, steps.well well)
@@ -441,16 +530,23 @@ follows_to_well next places place member false old new outcome list listed well 
     let two = steps_ties next places place member (untied place old) new outcome list listed (one.well well) follows in
     (two.0 ∙ one.stands, two.1)
 
-pub follows_well : {T U : Type 0} (next : ℕ) (places : List (Option (Member SubscriberEntry))) (place : ℕ) (item : Option (Member SubscriberEntry)) (old new : PublisherPort T U) (outcome : Result (Unit {0}) AllocError) → IsListApart next places
-    → get_or places place None ≡ item → IsTiedWell next places old → Follows place item old outcome new → (new.stands ≡ old.stands) × IsTiedWell next places new
+pub follows_well : {T U : Type 0} (next : ℕ) (places : List (Option (Member SubscriberEntry))) (place : ℕ)
+    (item : Option (Member SubscriberEntry)) (old new : PublisherPort T U) (outcome : Result (Unit {0}) AllocError)
+    → IsListApart next places
+    → get_or places place None ≡ item → IsTiedWell next places old → Follows place item old outcome new → (new.stands ≡ old.stands)
+    × IsTiedWell next places new
 follows_well next places place None old new outcome list listed well follows =
     let steps = steps_to next places old (untied place old) new follows.1 (steps_untied next places place old) in
     (steps.stands, steps.well well)
 follows_well next places place (Some member) old new outcome list listed well follows =
-    follows_to_well next places place member (is_tie_to member.value.subscriber (get_or old.ties.items place None) old) old new outcome list listed well follows
+    follows_to_well next places place member (is_tie_to member.value.subscriber (get_or old.ties.items place None) old) old new outcome
+    list listed well follows
 
-follows_all_well : {T U : Type 0} (next : ℕ) (places : List (Option (Member SubscriberEntry))) (may : DegradationInfo → DegradationAction → Type 0) (first : ℕ) (listed : List (Option (Member SubscriberEntry))) (found : Option ConnectionFailure)
-    (old new : PublisherPort T U) (answer : Result (Unit {0}) ConnectionFailure) → IsListApart next places → ((k : ℕ) → k < length listed → get_or places (first + k) None ≡ get_or listed k None) → IsTiedWell next places old
+follows_all_well : {T U : Type 0} (next : ℕ) (places : List (Option (Member SubscriberEntry)))
+    (may : DegradationInfo → DegradationAction → Type 0) (first : ℕ) (listed : List (Option (Member SubscriberEntry)))
+    (found : Option ConnectionFailure)
+    (old new : PublisherPort T U) (answer : Result (Unit {0}) ConnectionFailure) → IsListApart next places
+    → ((k : ℕ) → k < length listed → get_or places (first + k) None ≡ get_or listed k None) → IsTiedWell next places old
     → FollowsAll may first listed found old answer new → (new.stands ≡ old.stands) × IsTiedWell next places new
 follows_all_well next places may first [] found old new answer list same well follows =
     let steps = steps_to next places old _ new follows.1 (steps_untied_from next places (length old.ties.items - first) first old) in
@@ -463,8 +559,10 @@ follows_all_well {T} {U} next places may first (item ∷ rest) found old new ans
     (λ k within. ap (λ n. get_or places n None) (omega arith) ∙ same (suc k) (omega (arith, within))) step.1 further in
     (more.0 ∙ step.0, more.1)
 
-updates_well_by : {T U : Type 0} (next : ℕ) (places : List (Option (Member SubscriberEntry))) (seen : Bool) (may : DegradationInfo → DegradationAction → Type 0) (listed : List (Option (Member SubscriberEntry))) (changes : ℕ)
-    (old new : PublisherPort T U) (answer : Result (Unit {0}) ConnectionFailure) → IsListApart next places → ((k : ℕ) → k < length listed → get_or places k None ≡ get_or listed k None) → IsTiedWell next places old
+updates_well_by : {T U : Type 0} (next : ℕ) (places : List (Option (Member SubscriberEntry))) (seen : Bool)
+    (may : DegradationInfo → DegradationAction → Type 0) (listed : List (Option (Member SubscriberEntry))) (changes : ℕ)
+    (old new : PublisherPort T U) (answer : Result (Unit {0}) ConnectionFailure) → IsListApart next places
+    → ((k : ℕ) → k < length listed → get_or places k None ≡ get_or listed k None) → IsTiedWell next places old
     → UpdatesIf seen may listed changes old answer new → (new.stands ≡ old.stands) × IsTiedWell next places new
 updates_well_by next places true may listed changes old new answer list same well updates =
     let steps = steps_is next places old new updates.1 in
@@ -472,30 +570,42 @@ updates_well_by next places true may listed changes old new answer list same wel
 updates_well_by {T} {U} next places false may listed changes old new answer list same well updates =
     let begun : PublisherPort T U = record old { seen = changes } in
     let first = steps_alike next places old begun (alike_still old begun refl refl refl refl) in
-    let all = follows_all_well next places may 0 listed None begun new answer list (λ k within. ap (λ n. get_or places n None) (omega arith) ∙ same k within) (first.well well) updates in
+    let all = follows_all_well next places may 0 listed None begun new answer list
+    (λ k within. ap (λ n. get_or places n None) (omega arith) ∙ same k within) (first.well well) updates in
     (all.0 ∙ first.stands, all.1)
 
 -- an update
-pub updates_well : {T U : Type 0} (next : ℕ) (places : List (Option (Member SubscriberEntry))) (may : DegradationInfo → DegradationAction → Type 0) (listed : List (Option (Member SubscriberEntry))) (changes : ℕ)
-    (old new : PublisherPort T U) (answer : Result (Unit {0}) ConnectionFailure) → IsListApart next places → ((k : ℕ) → k < length listed → get_or places k None ≡ get_or listed k None) → IsTiedWell next places old
+pub updates_well : {T U : Type 0} (next : ℕ) (places : List (Option (Member SubscriberEntry)))
+    (may : DegradationInfo → DegradationAction → Type 0) (listed : List (Option (Member SubscriberEntry))) (changes : ℕ)
+    (old new : PublisherPort T U) (answer : Result (Unit {0}) ConnectionFailure) → IsListApart next places
+    → ((k : ℕ) → k < length listed → get_or places k None ≡ get_or listed k None) → IsTiedWell next places old
     → Updates may listed changes old answer new → (new.stands ≡ old.stands) × IsTiedWell next places new
-updates_well next places may listed changes old new answer list same well updates = updates_well_by next places (old.seen == changes) may listed changes old new answer list same well updates
+updates_well next places may listed changes old new answer list same well updates
+    = updates_well_by next places (old.seen == changes) may listed changes old new answer list same well updates
 
 -- a subscriber attaches
-attaches_kept : {T U : Type 0} (subscriber limit index : ℕ) (found : Option ℕ) (old joined new : PublisherPort T U) → ((one at : ℕ) → leads_to one (get_or old.readers at None) ≡ true → is_live at old ≡ true) → connection_to subscriber old ≡ found
-    → Joins subscriber limit found old (Ok index) joined → new ≡ attached_at subscriber index joined → (new.stands ≡ old.stands) × Kept old new
+attaches_kept : {T U : Type 0} (subscriber limit index : ℕ) (found : Option ℕ) (old joined new : PublisherPort T U)
+    → ((one at : ℕ) → leads_to one (get_or old.readers at None) ≡ true → is_live at old ≡ true) → connection_to subscriber old ≡ found
+    → Joins subscriber limit found old (Ok index) joined → new ≡ attached_at subscriber index joined → (new.stands ≡ old.stands)
+    × Kept old new
 attaches_kept {T} {U} subscriber limit index (Some there) old joined new read is_found joins is =
     let same : there ≡ index = ok_same index there (Ok index) refl joins.0 in
-    let leads : leads_to subscriber (get_or old.readers index None) ≡ true = found_leads subscriber index old (is_found ∙ ap (λ i. Some i) same) in
+    let leads : leads_to subscriber (get_or old.readers index None) ≡ true
+    = found_leads subscriber index old (is_found ∙ ap (λ i. Some i) same) in
     let reader : Reader = record { subscriber = subscriber; attached = true } in
-    let readers : new.readers ≡ set old.readers index (Some reader) = ap (λ port. port.readers) is ∙ ap (λ port. set port.readers index (Some reader)) joins.1 in
-    let live_same : (at : ℕ) → is_live at new ≡ is_live at old = λ at. ap (λ port. is_live at port) is ∙ ap (λ port. is_live at port) joins.1 in
+    let readers : new.readers ≡ set old.readers index (Some reader)
+    = ap (λ port. port.readers) is ∙ ap (λ port. set port.readers index (Some reader)) joins.1 in
+    let live_same : (at : ℕ) → is_live at new ≡ is_live at old
+    = λ at. ap (λ port. is_live at port) is ∙ ap (λ port. is_live at port) joins.1 in
     let within = (position-Some (leads_to subscriber) old.readers index None (is_found ∙ ap (λ i. Some i) same)).0 in
-    let leads_same : (one at : ℕ) → leads_to one (get_or new.readers at None) ≡ leads_to one (get_or old.readers at None) = λ one at. elim (cases_eq at index) [
+    let leads_same : (one at : ℕ) → leads_to one (get_or new.readers at None) ≡ leads_to one (get_or old.readers at None)
+    = λ one at. elim (cases_eq at index) [
       | inl here ↦
           ap (λ i. leads_to one (get_or new.readers i None)) here ∙ ap (λ all. leads_to one (get_or all index None)) readers
-          ∙ ap (λ r. leads_to one r) (get_or-set_same old.readers index (Some reader) None within) ∙ same_leads one (get_or old.readers index None) leads ∙ ap (λ i. leads_to one (get_or old.readers i None)) (sym here)
-      | inr not ↦ ap (λ all. leads_to one (get_or all at None)) readers ∙ ap (λ r. leads_to one r) (get_or-set_other old.readers index at (Some reader) None not)
+          ∙ ap (λ r. leads_to one r) (get_or-set_same old.readers index (Some reader) None within) ∙ same_leads one
+          (get_or old.readers index None) leads ∙ ap (λ i. leads_to one (get_or old.readers i None)) (sym here)
+      | inr not ↦ ap (λ all. leads_to one (get_or all at None)) readers ∙ ap (λ r. leads_to one r)
+          (get_or-set_other old.readers index at (Some reader) None not)
     ] in (
       ap (λ port. port.stands) is ∙ ap (λ port. port.stands) joins.1,
       record {
@@ -516,7 +626,8 @@ attaches_kept {T} {U} subscriber limit index None old joined new read is_found j
     let live_same : (at : ℕ) → is_live at new ≡ is_live at joined = λ at. ap (λ port. is_live at port) is in
     let reader_other : (at : ℕ) → at ≢ index → get_or new.readers at None ≡ get_or old.readers at None = λ at not.
     ap (λ all. get_or all at None) readers ∙ get_or-set_other joined.readers index at (Some reader) None not ∙ made.readers at not in
-    let apart : (at : ℕ) → is_live at old ≡ true → at ≢ index = λ at live same. let no : true ≡ false = sym live ∙ ap (λ i. is_live i old) same ∙ made.none in cc in (
+    let apart : (at : ℕ) → is_live at old ≡ true
+    → at ≢ index = λ at live same. let no : true ≡ false = sym live ∙ ap (λ i. is_live i old) same ∙ made.none in cc in (
       ap (λ port. port.stands) is ∙ made.stands,
       record {
         ties = ap (λ port. port.ties) is ∙ made.ties;
@@ -529,8 +640,10 @@ attaches_kept {T} {U} subscriber limit index None old joined new read is_found j
       },
     )
 
-pub attaches_well : {T U : Type 0} (next : ℕ) (places : List (Option (Member SubscriberEntry))) (subscriber limit index : ℕ) (old new : PublisherPort T U) → Attaches subscriber limit old (Ok index) new → IsTiedWell next places old
+pub attaches_well : {T U : Type 0} (next : ℕ) (places : List (Option (Member SubscriberEntry))) (subscriber limit index : ℕ)
+    (old new : PublisherPort T U) → Attaches subscriber limit old (Ok index) new → IsTiedWell next places old
     → (new.stands ≡ old.stands) × IsTiedWell next places new
 attaches_well {T} {U} next places subscriber limit index old new attaches well =
-    let kept = attaches_kept subscriber limit index (connection_to subscriber old) old attaches.0 new well.read refl attaches.1 attaches.2 in
+    let kept = attaches_kept subscriber limit index (connection_to subscriber old) old attaches.0 new well.read refl attaches.1
+    attaches.2 in
     (kept.0, well_kept next places old new kept.1 well)

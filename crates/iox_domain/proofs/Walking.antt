@@ -13,17 +13,22 @@ same_left : {T U : Type 0} (old new : List (ℕ × PublisherPort T U)) → new �
 same_left old new is = let same : left_among new ≡ left_among old = ap left_among is in omega (arith, same)
 
 -- a publisher took a step that leaves it as many loans
-stepped_left : {T U : Type 0} (number : ℕ) (step : PublisherPort T U → PublisherPort T U) (ports : List (ℕ × PublisherPort T U)) → ((port : PublisherPort T U) → allowance_of (step port) ≡ allowance_of port)
+stepped_left : {T U : Type 0} (number : ℕ) (step : PublisherPort T U → PublisherPort T U) (ports : List (ℕ × PublisherPort T U))
+    → ((port : PublisherPort T U) → allowance_of (step port) ≡ allowance_of port)
     → left_among (changed number step ports) ≤ left_among ports
-stepped_left number step ports alike = omega (arith, changed_left 0 number step ports (λ port. omega (arith, as_spare port (step port) (alike port))))
+stepped_left number step ports alike
+    = omega (arith, changed_left 0 number step ports (λ port. omega (arith, as_spare port (step port) (alike port))))
 
 -- and is gone if it is over then
-stepped_settled : {T U : Type 0} (number : ℕ) (step : PublisherPort T U → PublisherPort T U) (ports : List (ℕ × PublisherPort T U)) → ((port : PublisherPort T U) → allowance_of (step port) ≡ allowance_of port)
+stepped_settled : {T U : Type 0} (number : ℕ) (step : PublisherPort T U → PublisherPort T U) (ports : List (ℕ × PublisherPort T U))
+    → ((port : PublisherPort T U) → allowance_of (step port) ≡ allowance_of port)
     → left_among (settled number (changed number step ports)) ≤ left_among ports
-stepped_settled number step ports alike = omega (arith, settled_left number (changed number step ports), stepped_left number step ports alike)
+stepped_settled number step ports alike
+    = omega (arith, settled_left number (changed number step ports), stepped_left number step ports alike)
 
 -- a subscriber attaches
-attached_left : {T U : Type 0} (number subscriber limit : ℕ) (found : Option (PublisherPort T U)) (old new : List (ℕ × PublisherPort T U)) (answer : Option (Result ℕ AllocError)) → port_of number old ≡ found
+attached_left : {T U : Type 0} (number subscriber limit : ℕ) (found : Option (PublisherPort T U))
+    (old new : List (ℕ × PublisherPort T U)) (answer : Option (Result ℕ AllocError)) → port_of number old ≡ found
     → AttachesAtPort number subscriber limit found old answer new → left_among new ≤ left_among old
 attached_left number subscriber limit None old new answer there attaches = same_left old new attaches.1
 attached_left number subscriber limit (Some port) old new None there attaches = absurd attaches
@@ -35,7 +40,8 @@ attached_left number subscriber limit (Some port) old new (Some (Ok index)) ther
 )
 
 -- so it is with each step of a subscriber
-pub left_walks : {T U : Type 0} (subscriber : ℕ) → Walks subscriber (λ (old : List (ℕ × PublisherPort T U)) (new : List (ℕ × PublisherPort T U)). left_among new ≤ left_among old)
+pub left_walks : {T U : Type 0} (subscriber : ℕ)
+    → Walks subscriber (λ (old : List (ℕ × PublisherPort T U)) (new : List (ℕ × PublisherPort T U)). left_among new ≤ left_among old)
 left_walks subscriber = record {
   stays = λ ports. omega arith;
   on = λ old between new one two. omega (arith, one, two);
@@ -45,14 +51,18 @@ left_walks subscriber = record {
   detach = λ attached ports. stepped_left attached.publisher (detached_at attached.index) ports (λ port. refl);
 }
 
-pub left_takes : {T U : Type 0} → WalksTaking (λ (old : List (ℕ × PublisherPort T U)) (new : List (ℕ × PublisherPort T U)). left_among new ≤ left_among old)
+pub left_takes : {T U : Type 0} → WalksTaking
+    (λ (old : List (ℕ × PublisherPort T U)) (new : List (ℕ × PublisherPort T U)). left_among new ≤ left_among old)
 left_takes attached ports below = stepped_left attached.publisher (taken_at attached.index) ports (λ port. refl)
 
 -- a sample is released
-given_back_allows : {T U : Type 0} (index : ℕ) (place : Option ℕ) (port : PublisherPort T U) → allowance_of (given_back_at index place port) ≡ allowance_of port
+given_back_allows : {T U : Type 0} (index : ℕ) (place : Option ℕ) (port : PublisherPort T U)
+    → allowance_of (given_back_at index place port) ≡ allowance_of port
 given_back_allows index None port = refl
 given_back_allows index (Some at) port = refl
 
-pub released_left : {T U : Type 0} (number index : ℕ) (place : Option ℕ) (ports : List (ℕ × PublisherPort T U)) → left_among (released number index place ports) ≤ left_among ports
+pub released_left : {T U : Type 0} (number index : ℕ) (place : Option ℕ) (ports : List (ℕ × PublisherPort T U))
+    → left_among (released number index place ports) ≤ left_among ports
 released_left number index None ports = omega arith
-released_left number index (Some at) ports = stepped_settled number (given_back_at index (Some at)) ports (given_back_allows index (Some at))
+released_left number index (Some at) ports
+    = stepped_settled number (given_back_at index (Some at)) ports (given_back_allows index (Some at))

@@ -1,5 +1,6 @@
 -- When an update of a subscriber takes no memory.
-use Rattle.std.specs.Prelude.{ℕ, ◌+◌, ◌<◌, ◌≤◌, ◌≡◌, ◌≢◌, ◌++◌, ◌∷◌, [], true, false, Bool, is_some, List, length, get_or, Option, None, Some, Result, Err, if◌then◌else◌}
+use Rattle.std.specs.Prelude.{ℕ, ◌+◌, ◌<◌, ◌≤◌, ◌≡◌, ◌≢◌, ◌++◌, ◌∷◌, [], true, false, Bool, is_some, List, length, get_or, Option, None}
+use Rattle.std.specs.Prelude.{Some, Result, Err, if◌then◌else◌}
 use Rattle.iox_domain.specs.Container.declared.container.Member.{Member}
 use Rattle.iox_domain.specs.DomainValues.declared.connection_failure.ConnectionFailure.{ConnectionFailure}
 use Rattle.iox_domain.specs.DomainValues.declared.degradation.DegradationAction.{DegradationAction}
@@ -64,17 +65,21 @@ pub record AttachesWithoutMemory (T U : Type 0) (may : DegradationInfo → Degra
       → KeysFit (new_subscriber identity buffer_size most_connections most_expired)
   pub update : (listed : List (Option (Member PublisherEntry))) (changes : ℕ) (port new : SubscriberPort) (ports new_ports : List (ℕ
       × PublisherPort T U)) (answer : Result (Unit {0}) ConnectionFailure)
-      → KeysFit port → length listed ≤ port.places.room → ConnectsListed listed port.number ports → Updates may listed changes port ports answer new new_ports → answer ≢ Err no_memory
+      → KeysFit port → length listed ≤ port.places.room → ConnectsListed listed port.number ports
+      → Updates may listed changes port ports answer new new_ports → answer ≢ Err no_memory
   pub has_samples : (listed : List (Option (Member PublisherEntry))) (changes : ℕ) (port new : SubscriberPort)
       (ports new_ports : List (ℕ × PublisherPort T U)) (answer : Result Bool ConnectionFailure)
-      → KeysFit port → length listed ≤ port.places.room → ConnectsListed listed port.number ports → HasSamples may listed changes port ports answer new new_ports → answer ≢ Err no_memory
+      → KeysFit port → length listed ≤ port.places.room → ConnectsListed listed port.number ports
+      → HasSamples may listed changes port ports answer new new_ports → answer ≢ Err no_memory
   pub receive : (listed : List (Option (Member PublisherEntry))) (changes : ℕ) (port new : SubscriberPort) (ports new_ports : List (ℕ
       × PublisherPort T U)) (answer : Result (Option Taken) ReceiveError)
-      → KeysFit port → length listed ≤ port.places.room → ConnectsListed listed port.number ports → ReceivesNext may listed changes port ports answer new new_ports
+      → KeysFit port → length listed ≤ port.places.room → ConnectsListed listed port.number ports
+      → ReceivesNext may listed changes port ports answer new new_ports
       → answer ≢ Err (receiving.ConnectionFailure no_memory)
   pub goes_on : (listed : List (Option (Member PublisherEntry))) (changes : ℕ) (port new : SubscriberPort) (ports new_ports : List (ℕ
       × PublisherPort T U)) (answer : Result (Unit {0}) ConnectionFailure)
-      → KeysFit port → length listed ≤ port.places.room → Updates may listed changes port ports answer new new_ports → KeysFit new × (new.places.room ≡ port.places.room)
+      → KeysFit port → length listed ≤ port.places.room → Updates may listed changes port ports answer new new_ports → KeysFit new
+      × (new.places.room ≡ port.places.room)
   pub takes : (port new : SubscriberPort) (ports new_ports : List (ℕ × PublisherPort T U)) (answer : Result (Option Taken) ReceiveError)
       → KeysFit port → Receives port ports answer new new_ports → KeysFit new × (new.places.room ≡ port.places.room)
 

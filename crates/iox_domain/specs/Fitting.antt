@@ -33,8 +33,10 @@ asked_types variant payload user_header = record {
 -- A builder over values or over slices, with a user header, finds the types of messages compatible.
 abbrev pub FitTypes : Detail → Detail → MessageTypeDetails → Type 0
 FitTypes payload user_header types =
-    (is_compatible (asked_types FixedSize (stood_for any_payload payload types.payload) (stood_for any_user_header user_header types.user_header)) types ≡ true)
-    ⊎ (is_compatible (asked_types Dynamic (stood_for any_payload payload types.payload) (stood_for any_user_header user_header types.user_header)) types ≡ true)
+    (is_compatible (asked_types FixedSize (stood_for any_payload payload types.payload)
+    (stood_for any_user_header user_header types.user_header)) types ≡ true)
+    ⊎ (is_compatible (asked_types Dynamic (stood_for any_payload payload types.payload)
+    (stood_for any_user_header user_header types.user_header)) types ≡ true)
 
 -- Settings are those of a publish-subscribe service within the limits of a description, of which such a builder finds the types compatible.
 abbrev pub Fits : Detail → Detail → Settings → Type 0

@@ -15,7 +15,8 @@ one_id a b same = both (a.hub == b.hub) (a.service == b.service) refl refl same
   where
     both : (hub service : Bool) → (a.hub == b.hub) ≡ hub → (a.service == b.service) ≡ service → (hub && service) ≡ true → a ≡ b
     both true true hub service same =
-        ap (λ h. record { hub = h; service = a.service }) (eqb-true a.hub b.hub hub) ∙ ap (λ s. record { hub = b.hub; service = s }) (eqb-true a.service b.service service)
+        ap (λ h. record { hub = h; service = a.service }) (eqb-true a.hub b.hub hub) ∙ ap (λ s. record { hub = b.hub; service = s })
+        (eqb-true a.service b.service service)
     both true false hub service same = cc
     both false true hub service same = cc
     both false false hub service same = cc

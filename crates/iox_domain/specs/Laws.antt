@@ -14,7 +14,8 @@ pub record TypesFit (asked_payload asked_user_header : Detail) (types : MessageT
   pub header : types.header ≡ detail FixedSize (codes "Header") 24 8
   pub user_header : (asked_user_header ≡ any_user_header) ⊎ (types.user_header ≡ asked_user_header)
   pub payload : (asked_payload ≡ any_payload)
-      ⊎ ((types.payload.name ≡ asked_payload.name) × (types.payload.size ≡ asked_payload.size) × (asked_payload.alignment ≤ types.payload.alignment))
+      ⊎ ((types.payload.name ≡ asked_payload.name) × (types.payload.size ≡ asked_payload.size)
+      × (asked_payload.alignment ≤ types.payload.alignment))
 
 -- Types fit exactly if that holds.
 abbrev pub FitMeans : Type 0

@@ -76,7 +76,8 @@ pub record PublisherSteps (T U : Type 0) (may_degrade : DegradationInfo → Degr
       → AtPublisher number (UpdatesOne may_degrade old.subscriber_list) (Some port) old answer new → AsMuchLives old new
   pub send : (number slot : ℕ) (port : PublisherPort T U) (old new : ServicePorts T U) (answer : Option (Result Sent SendError))
       → port_of number old.publishers ≡ Some port
-      → AtPublisher number (SendsOne may_degrade may old.subscriber_list slot) (Some port) old answer new → SendTakes port.owner.number answer old new
+      → AtPublisher number (SendsOne may_degrade may old.subscriber_list slot) (Some port) old answer new
+      → SendTakes port.owner.number answer old new
   pub retry : (number elapsed : ℕ) (port : PublisherPort T U) (old new : ServicePorts T U) (answer : Option (Result Sent SendError))
       → port_of number old.publishers ≡ Some port
       → AtPublisher number (RetriesOne may elapsed) (Some port) old answer new → SendTakes port.owner.number answer old new
@@ -103,7 +104,8 @@ pub record SubscriberSteps (T U : Type 0) (may : DegradationInfo → Degradation
       → AtSubscriber number (HasSamplesOne may old.publisher_list) (Some port) old answer new → AsMuchLives old new
   pub receive : (number : ℕ) (port : SubscriberPort) (old new : ServicePorts T U) (answer : Option (Result (Option Taken) ReceiveError))
       → subscriber_of number old.subscribers ≡ Some port
-      → port.held + 1 < 2 ^ 64 → AtSubscriber number (ReceivesOne may old.publisher_list) (Some port) old answer new → ReceivingAdds port.owner.number answer old new
+      → port.held + 1 < 2 ^ 64 → AtSubscriber number (ReceivesOne may old.publisher_list) (Some port) old answer new
+      → ReceivingAdds port.owner.number answer old new
   pub release : (number : ℕ) (sample : Taken) (port : SubscriberPort) (old new : ServicePorts T U)
       → subscriber_of number old.subscribers ≡ Some port → 0 < port.held
       → Releases number sample old true new → OneLessLives port.owner.number old new

@@ -75,8 +75,11 @@ abbrev pub AddsPublisher : {T U : Type 0} → (DegradationInfo → DegradationAc
     → ServicePorts T U → Result ℕ AllocError → ServicePorts T U → Type 0
 AddsPublisher may config user_header place slots old (Err error) new = new ≡ old
 AddsPublisher {T} {U} may config user_header place slots old (Ok number) new =
-    (listed : List (Option (Member SubscriberEntry))) × IsListOf listed old.subscriber_list × (outcome : Result (Unit {0}) ConnectionFailure) × (port : PublisherPort T U)
-    × publisher.Updates may listed old.subscriber_list.changes (new_port (identity_of config.owner place old) old.sizes.max_subscribers config.allocation config.unit (sender_config config slots old) user_header) outcome port
+    (listed : List (Option (Member SubscriberEntry))) × IsListOf listed old.subscriber_list
+    × (outcome : Result (Unit {0}) ConnectionFailure) × (port : PublisherPort T U)
+    × publisher.Updates may listed old.subscriber_list.changes
+    (new_port (identity_of config.owner place old) old.sizes.max_subscribers config.allocation config.unit
+    (sender_config config slots old) user_header) outcome port
     × (number ≡ old.next_port)
     × (new ≡ record old {
       next_port = old.next_port + 1;
@@ -113,7 +116,8 @@ FollowsFirst may number None old new = new ≡ old
 FollowsFirst {T} {U} may number (Some port) old new =
     (listed : List (Option (Member PublisherEntry))) × IsListOf listed old.publisher_list × (outcome : Result (Unit {0}) ConnectionFailure)
     × (after : SubscriberPort) × (publishers_after : List (ℕ × PublisherPort T U))
-    × subscriber.Updates may listed old.publisher_list.changes port old.publishers outcome after publishers_after × (new ≡ with_both number after publishers_after old)
+    × subscriber.Updates may listed old.publisher_list.changes port old.publishers outcome after publishers_after
+    × (new ≡ with_both number after publishers_after old)
 
 -- a subscriber comes under the next number
 abbrev pub with_new : {T U : Type 0} → SubscriberPort → ServicePorts T U → ServicePorts T U
@@ -125,10 +129,15 @@ abbrev pub AddsSubscriber : {T U : Type 0} → (DegradationInfo → DegradationA
 AddsSubscriber may owner place buffer_size old (Err error) new = new ≡ old
 AddsSubscriber {T} {U} may owner place buffer_size old (Ok number) new =
     (between : ServicePorts T U)
-    × FollowsFirst may old.next_port (Some (new_subscriber (identity_of owner place old) buffer_size old.sizes.max_publishers old.sizes.expired_connections))
+    × FollowsFirst may old.next_port (Some
+    (new_subscriber (identity_of owner place old) buffer_size old.sizes.max_publishers old.sizes.expired_connections))
     (with_new (new_subscriber (identity_of owner place old) buffer_size old.sizes.max_publishers old.sizes.expired_connections) old) between
     × (number ≡ old.next_port)
-    × (new ≡ record between { next_port = old.next_port + 1; subscriber_list = entered place (record { subscriber = old.next_port; buffer_size = buffer_size }) old.subscriber_list })
+    × (new ≡ record between {
+      next_port = old.next_port + 1;
+      subscriber_list
+          = entered place (record { subscriber = old.next_port; buffer_size = buffer_size }) old.subscriber_list;
+    })
 
 -- what is answered of a subscriber that came, or didn't for want of memory
 abbrev pub subscriber_answer : Result ℕ AllocError → Result ℕ SubscriberCreateError

@@ -52,9 +52,11 @@ pub record NumbersStay (T U : Type 0) (overrides : ℕ → ℕ → Type 0) (may_
       → IsNumbered old → IsNumbered (written_in number test slot change old)
   pub drop_loan : (number slot : ℕ) (old : ServicePorts T U) → IsNumbered old → IsNumbered (gave_up_in number slot old)
   pub update_publisher : (number : ℕ) (old new : ServicePorts T U) (answer : Option (Result (Unit {0}) ConnectionFailure)) → IsNumbered old
-      → AtPublisher number (publishing.UpdatesOne may_degrade old.subscriber_list) (port_of number old.publishers) old answer new → IsNumbered new
+      → AtPublisher number (publishing.UpdatesOne may_degrade old.subscriber_list) (port_of number old.publishers) old answer new
+      → IsNumbered new
   pub send : (number slot : ℕ) (old new : ServicePorts T U) (answer : Option (Result Sent SendError)) → IsNumbered old
-      → AtPublisher number (SendsOne may_degrade may old.subscriber_list slot) (port_of number old.publishers) old answer new → IsNumbered new
+      → AtPublisher number (SendsOne may_degrade may old.subscriber_list slot) (port_of number old.publishers) old answer new
+      → IsNumbered new
   pub retry : (number elapsed : ℕ) (old new : ServicePorts T U) (answer : Option (Result Sent SendError)) → IsNumbered old
       → AtPublisher number (RetriesOne may elapsed) (port_of number old.publishers) old answer new → IsNumbered new
   pub give_up : (number : ℕ) (old new : ServicePorts T U) (answer : Option ℕ) → IsNumbered old
@@ -62,11 +64,14 @@ pub record NumbersStay (T U : Type 0) (overrides : ℕ → ℕ → Type 0) (may_
   pub leave_publisher : (number : ℕ) (old new : ServicePorts T U) (answer : Bool) → IsNumbered old
       → publishing.LeavesAt number (port_of number old.publishers) old answer new → IsNumbered new
   pub update_subscriber : (number : ℕ) (old new : ServicePorts T U) (answer : Option (Result (Unit {0}) ConnectionFailure)) → IsNumbered old
-      → AtSubscriber number (subscribing.UpdatesOne may_degrade old.publisher_list) (subscriber_of number old.subscribers) old answer new → IsNumbered new
+      → AtSubscriber number (subscribing.UpdatesOne may_degrade old.publisher_list) (subscriber_of number old.subscribers) old answer
+      new → IsNumbered new
   pub has_samples : (number : ℕ) (old new : ServicePorts T U) (answer : Option (Result Bool ConnectionFailure)) → IsNumbered old
-      → AtSubscriber number (HasSamplesOne may_degrade old.publisher_list) (subscriber_of number old.subscribers) old answer new → IsNumbered new
+      → AtSubscriber number (HasSamplesOne may_degrade old.publisher_list) (subscriber_of number old.subscribers) old answer new
+      → IsNumbered new
   pub receive : (number : ℕ) (old new : ServicePorts T U) (answer : Option (Result (Option Taken) ReceiveError)) → IsNumbered old
-      → AtSubscriber number (ReceivesOne may_degrade old.publisher_list) (subscriber_of number old.subscribers) old answer new → IsNumbered new
+      → AtSubscriber number (ReceivesOne may_degrade old.publisher_list) (subscriber_of number old.subscribers) old answer new
+      → IsNumbered new
   pub release : (number : ℕ) (sample : Taken) (old new : ServicePorts T U) (answer : Bool) → IsNumbered old
       → Releases number sample old answer new → IsNumbered new
   pub leave_subscriber : (number : ℕ) (old new : ServicePorts T U) (answer : Bool) → IsNumbered old

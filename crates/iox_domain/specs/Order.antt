@@ -1,5 +1,6 @@
 -- In which order a connection gives what its publisher sends.
-use Rattle.std.specs.Prelude.{ℕ, ◌≡◌, ◌==◌, ◌&&◌, ◌⊎◌, Bool, true, false, List, [], ◌∷◌, ◌++◌, take, if◌then◌else◌, get_or, Option, None, Some, Result, Ok, Err}
+use Rattle.std.specs.Prelude.{ℕ, ◌≡◌, ◌==◌, ◌&&◌, ◌⊎◌, Bool, true, false, List, [], ◌∷◌, ◌++◌, take, if◌then◌else◌, get_or, Option, None}
+use Rattle.std.specs.Prelude.{Some, Result, Ok, Err}
 use Rattle.iox_domain.specs.DomainValues.declared.backpressure.BackpressureDecision.{BackpressureDecision}
 use Rattle.iox_domain.specs.DomainValues.declared.backpressure.BackpressureInfo.{BackpressureInfo}
 use Rattle.iox_domain.specs.DomainValues.declared.degradation.DegradationAction.{DegradationAction}
@@ -107,9 +108,12 @@ pub record InOrder (T U : Type 0) (overrides : ℕ → ℕ → Type 0) (may : De
   pub order : (service : ℕ) (sizes : ServiceSizes) (calls : List (PortCall T U
       × ServicePorts T U)) (new : ServicePorts T U) (publisher index subscriber : ℕ)
       → Happen overrides may decide calls (no_ports service sizes) new → leads_in publisher index subscriber new ≡ true
-      → IsPartOf ((account_after publisher index subscriber calls (no_ports service sizes) nothing_yet).taken ++ (connection_in publisher index new.publishers).waiting)
+      → IsPartOf ((account_after publisher index subscriber calls (no_ports service sizes) nothing_yet).taken
+      ++ (connection_in publisher index new.publishers).waiting)
       (account_after publisher index subscriber calls (no_ports service sizes) nothing_yet).sent
   pub names : (service : ℕ) (sizes : ServiceSizes) (calls : List (PortCall T U
       × ServicePorts T U)) (old new : ServicePorts T U) (subscriber : ℕ) (taken : Taken)
-      → Happen overrides may decide calls (no_ports service sizes) old → Happens overrides may decide (Receives subscriber (Some (Ok (Some taken)))) old new
-      → (message : Message T U) × (taken_by taken.publisher taken.index (Receives subscriber (Some (Ok (Some taken)))) old ≡ message ∷ []) × (taken.slot ≡ message.slot)
+      → Happen overrides may decide calls (no_ports service sizes) old
+      → Happens overrides may decide (Receives subscriber (Some (Ok (Some taken)))) old new
+      → (message : Message T U) × (taken_by taken.publisher taken.index (Receives subscriber (Some (Ok (Some taken)))) old ≡ message
+      ∷ []) × (taken.slot ≡ message.slot)

@@ -45,7 +45,9 @@ domain_of parts = record {
 -- whether parts are of one service, and allow as much as its nodes agreed on
 abbrev pub agrees : {T U B D : Type 0} → DomainParts T U B D → Bool
 agrees parts =
-    (parts.service == parts.id.service) && (parts.sizes.max_publishers == parts.agreed.max_publishers) && (parts.sizes.max_subscribers == parts.agreed.max_subscribers)
+    (parts.service == parts.id.service) && (parts.sizes.max_publishers == parts.agreed.max_publishers)
+    && (parts.sizes.max_subscribers == parts.agreed.max_subscribers)
     && (parts.sizes.subscriber_max_buffer_size == parts.agreed.subscriber_max_buffer_size)
     && (parts.sizes.subscriber_max_borrowed_samples == parts.agreed.subscriber_max_borrowed_samples) && (parts.sizes.history_size == parts.agreed.history_size)
-    && beq parts.sizes.enable_safe_overflow parts.agreed.enable_safe_overflow && nat_le parts.agreed.subscriber_max_borrowed_samples parts.sizes.expired_connections
+    && beq parts.sizes.enable_safe_overflow parts.agreed.enable_safe_overflow
+    && nat_le parts.agreed.subscriber_max_borrowed_samples parts.sizes.expired_connections

@@ -1,5 +1,6 @@
 -- What the calls of the ports of a service come to, in other words than their steps.
-use Rattle.std.specs.Prelude.{ℕ, ◌≡◌, ◌≢◌, ◌<◌, ◌≤◌, ◌==◌, ◌&&◌, ◌⊎◌, Bool, true, false, List, length, get_or, is_some, Option, None, Some, Result, Ok, Err}
+use Rattle.std.specs.Prelude.{ℕ, ◌≡◌, ◌≢◌, ◌<◌, ◌≤◌, ◌==◌, ◌&&◌, ◌⊎◌, Bool, true, false, List, length, get_or, is_some, Option, None}
+use Rattle.std.specs.Prelude.{Some, Result, Ok, Err}
 use Rattle.std.specs.List.{All}
 use Rattle.iox_domain.specs.DomainValues.declared.backpressure.BackpressureDecision.{BackpressureDecision}
 use Rattle.iox_domain.specs.DomainValues.declared.backpressure.BackpressureInfo.{BackpressureInfo}
@@ -62,7 +63,8 @@ pub record HeldStays (T U : Type 0) (overrides : ℕ → ℕ → Type 0) (may : 
 -- What a subscriber receives is held then: it can be read at once.
 abbrev pub ReceivedIsHeld : (T U : Type 0) → (DegradationInfo → DegradationAction → Type 0) → Type 0
 ReceivedIsHeld T U may =
-    (number : ℕ) (old new : ServicePorts T U) (sample : Taken) → AtSubscriber number (ReceivesOne may old.publisher_list) (subscriber_of number old.subscribers) old (Some (Ok (Some sample))) new
+    (number : ℕ) (old new : ServicePorts T U) (sample : Taken)
+    → AtSubscriber number (ReceivesOne may old.publisher_list) (subscriber_of number old.subscribers) old (Some (Ok (Some sample))) new
     → (message : Message T U) × (sample_in sample new ≡ Some message)
 
 -- no two places of the list of subscribers are tied to one connection
@@ -103,8 +105,10 @@ pub record IsApart {T U : Type 0} (ports : ServicePorts T U) : Type 0 where
 abbrev pub GotAtMostOnce : {T U : Type 0} → ℕ → PublisherPort T U → PublisherPort T U → Type 0
 GotAtMostOnce {T} {U} index old new =
     (connection_of index new ≡ connection_of index old)
-    ⊎ ((place : ℕ) × (message : Message T U) × (old.progress.place ≤ place) × (place < new.progress.place) × (get_or old.ties.items place None ≡ Some index)
-    × (old.sender.uses.sending ≡ Some message) × (connection_of index new ≡ offered old.sender.uses.overflows message (connection_of index old)))
+    ⊎ ((place : ℕ) × (message : Message T U) × (old.progress.place ≤ place) × (place < new.progress.place)
+    × (get_or old.ties.items place None ≡ Some index)
+    × (old.sender.uses.sending ≡ Some message)
+    × (connection_of index new ≡ offered old.sender.uses.overflows message (connection_of index old)))
 
 -- The ties of each publisher that stands are apart, of a service that is, as a new one is and as each call leaves it, also in the middle of
 -- a send after its update; so a send, and one that is tried again, comes to each mailbox at most once.
@@ -124,7 +128,8 @@ pub record AtMostOnce (T U : Type 0) (overrides : ℕ → ℕ → Type 0) (may :
 -- each subscriber that is listed has a connection at a publisher
 abbrev pub ConnectsAll : {T U : Type 0} → ServicePorts T U → PublisherPort T U → Type 0
 ConnectsAll ports port =
-    (place : ℕ) (member : Member SubscriberEntry) → get_or ports.subscriber_list.places place None ≡ Some member → is_some (connection_to member.value.subscriber port) ≡ true
+    (place : ℕ) (member : Member SubscriberEntry) → get_or ports.subscriber_list.places place None ≡ Some member
+    → is_some (connection_to member.value.subscriber port) ≡ true
 
 -- A publisher that has a connection to each listed subscriber follows the list without memory: its update never fails, and its send is
 -- never refused for it, whatever its handlers would say.
@@ -135,5 +140,6 @@ pub record NeedsNoMemory (T U : Type 0) (may : DegradationInfo → DegradationAc
       → ConnectsAll ports port → UpdatesOne may ports.subscriber_list port (Some outcome) after → outcome ≡ Ok tt
   pub send : (ports : ServicePorts T U) (number slot : ℕ) (port after : PublisherPort T U) (outcome : Result Sent SendError)
       (failure : ConnectionFailure) → IsApart ports
-      → port_of number ports.publishers ≡ Some port → ConnectsAll ports port → SendsOne may decide ports.subscriber_list slot port (Some outcome) after
+      → port_of number ports.publishers ≡ Some port → ConnectsAll ports port
+      → SendsOne may decide ports.subscriber_list slot port (Some outcome) after
       → outcome ≢ Err (sending.ConnectionError failure)

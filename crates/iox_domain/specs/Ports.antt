@@ -44,6 +44,8 @@ abbrev pub AtSubscriber : {T U A : Type 0} → ℕ
     → Option SubscriberPort → ServicePorts T U → Option A → ServicePorts T U → Type 0
 AtSubscriber number step None old answer new = (answer ≡ None) × (new ≡ old)
 AtSubscriber {T} {U} number step (Some port) old None new =
-    (after : SubscriberPort) × (publishers_after : List (ℕ × PublisherPort T U)) × step port old.publishers None after publishers_after × (new ≡ old)
+    (after : SubscriberPort) × (publishers_after : List (ℕ × PublisherPort T U)) × step port old.publishers None after publishers_after
+    × (new ≡ old)
 AtSubscriber {T} {U} number step (Some port) old (Some value) new =
-    (after : SubscriberPort) × (publishers_after : List (ℕ × PublisherPort T U)) × step port old.publishers (Some value) after publishers_after × (new ≡ with_both number after publishers_after old)
+    (after : SubscriberPort) × (publishers_after : List (ℕ × PublisherPort T U))
+    × step port old.publishers (Some value) after publishers_after × (new ≡ with_both number after publishers_after old)

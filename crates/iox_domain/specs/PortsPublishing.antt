@@ -44,14 +44,16 @@ abbrev pub SendsOne : {T U : Type 0} → (DegradationInfo → DegradationAction 
     → (BackpressureInfo → BackpressureDecision → Type 0) → RollState SubscriberEntry → ℕ → PublisherPort T U
     → Option (Result Sent SendError) → PublisherPort T U → Type 0
 SendsOne may_degrade may list slot port answer after =
-    (listed : List (Option (Member SubscriberEntry))) × IsListOf listed list × Sends may_degrade may listed list.changes (ready_loan slot port) port answer after
+    (listed : List (Option (Member SubscriberEntry))) × IsListOf listed list
+    × Sends may_degrade may listed list.changes (ready_loan slot port) port answer after
 
 -- the send that waits is tried again, if one waits
 abbrev pub RetriesIf : {T U : Type 0} → Bool → (BackpressureInfo → BackpressureDecision → Type 0) → ℕ → PublisherPort T U
     → Option (Result Sent SendError) → PublisherPort T U → Type 0
 RetriesIf false may elapsed port answer after = (answer ≡ None) × (after ≡ port)
 RetriesIf true may elapsed port answer after =
-    (outcome : Result Sent SendError) × Finishes may (with_progress (tried_again elapsed port.progress) port) outcome after × (answer ≡ Some outcome)
+    (outcome : Result Sent SendError) × Finishes may (with_progress (tried_again elapsed port.progress) port) outcome after
+    × (answer ≡ Some outcome)
 
 -- The send of a publisher that waits is tried again.
 abbrev pub RetriesOne : {T U : Type 0} → (BackpressureInfo → BackpressureDecision → Type 0) → ℕ → PublisherPort T U

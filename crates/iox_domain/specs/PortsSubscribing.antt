@@ -24,7 +24,8 @@ abbrev pub UpdatesIf : {T U : Type 0} → Bool → (DegradationInfo → Degradat
 UpdatesIf false may list port ports answer after ports_after = (answer ≡ None) × (after ≡ port) × (ports_after ≡ ports)
 UpdatesIf true may list port ports answer after ports_after =
     (listed : List (Option (Member PublisherEntry))) × IsListOf listed list
-    × (outcome : Result (Unit {0}) ConnectionFailure) × Updates may listed list.changes port ports outcome after ports_after × (answer ≡ Some outcome)
+    × (outcome : Result (Unit {0}) ConnectionFailure) × Updates may listed list.changes port ports outcome after ports_after
+    × (answer ≡ Some outcome)
 
 -- A subscriber follows the list of publishers.
 abbrev pub UpdatesOne : {T U : Type 0} → (DegradationInfo → DegradationAction → Type 0) → RollState PublisherEntry → SubscriberPort
@@ -38,7 +39,8 @@ abbrev pub HasSamplesIf : {T U : Type 0} → Bool → (DegradationInfo → Degra
 HasSamplesIf false may list port ports answer after ports_after = (answer ≡ None) × (after ≡ port) × (ports_after ≡ ports)
 HasSamplesIf true may list port ports answer after ports_after =
     (listed : List (Option (Member PublisherEntry))) × IsListOf listed list
-    × (outcome : Result Bool ConnectionFailure) × HasSamples may listed list.changes port ports outcome after ports_after × (answer ≡ Some outcome)
+    × (outcome : Result Bool ConnectionFailure) × HasSamples may listed list.changes port ports outcome after ports_after
+    × (answer ≡ Some outcome)
 
 -- It is told whether some connection of a subscriber has data, after an update.
 abbrev pub HasSamplesOne : {T U : Type 0} → (DegradationInfo → DegradationAction → Type 0) → RollState PublisherEntry → SubscriberPort
@@ -58,7 +60,8 @@ abbrev pub ReceivesIf : {T U : Type 0} → Bool → (DegradationInfo → Degrada
 ReceivesIf false may list port ports answer after ports_after = (answer ≡ None) × (after ≡ port) × (ports_after ≡ ports)
 ReceivesIf true may list port ports answer after ports_after =
     (listed : List (Option (Member PublisherEntry))) × IsListOf listed list
-    × (outcome : Result (Option Taken) ReceiveError) × (received : SubscriberPort) × ReceivesNext may listed list.changes port ports outcome received ports_after
+    × (outcome : Result (Option Taken) ReceiveError) × (received : SubscriberPort)
+    × ReceivesNext may listed list.changes port ports outcome received ports_after
     × (after ≡ counted_by outcome received) × (answer ≡ Some outcome)
 
 -- A subscriber receives, after an update; a sample that came is held.
@@ -73,7 +76,8 @@ let_go_at number (Some port) ports = with_subscriber number ports (record port {
 
 -- the subscriber of a number holds one sample less, and is gone if it is over then
 abbrev pub let_go : {T U : Type 0} → ℕ → ServicePorts T U → ServicePorts T U
-let_go number ports = record ports { subscribers = settled number (let_go_at number (subscriber_of number ports.subscribers) ports.subscribers) }
+let_go number ports = record ports
+    { subscribers = settled number (let_go_at number (subscriber_of number ports.subscribers) ports.subscribers) }
 
 -- a sample at a place of what is borrowed is given back; without one nothing happens
 abbrev pub ReleasesAt : {T U : Type 0} → ℕ → Taken → Option ℕ → ServicePorts T U → Bool → ServicePorts T U → Type 0

@@ -16,7 +16,8 @@ abbrev pub MakesPublisher : {T U B D : Type 0} → (ℕ → ℕ → Type 0) → 
 MakesPublisher overrides may config user_header handlers old (Err error) new =
     (error ≡ publisher_refusal (slots_needed config old.ports) (publisher_place old.ports)) × (new ≡ old)
 MakesPublisher overrides may config user_header handlers old (Ok number) new =
-    CreatesPublisher overrides may config user_header (slots_needed config old.ports) (publisher_place old.ports) old.ports (Ok number) new.ports
+    CreatesPublisher overrides may config user_header (slots_needed config old.ports) (publisher_place old.ports) old.ports (Ok number)
+    new.ports
     × (new ≡ record (with_ports new.ports old) { publisher_handlers = kept old.ports.next_port handlers old.publisher_handlers })
 
 -- who decides for a port is kept until it left

@@ -1,5 +1,6 @@
 -- The list of the ports of one kind.
-use Rattle.std.specs.Prelude.{ℕ, ◌≡◌, ◌+◌, ◌^◌, Bool, not, List, length, replicate, get_or, slice_set, is_some, nat_lt, Option, None, Some, if◌then◌else◌}
+use Rattle.std.specs.Prelude.{ℕ, ◌≡◌, ◌+◌, ◌^◌, Bool, not, List, length, replicate, get_or, slice_set, is_some, nat_lt, Option, None}
+use Rattle.std.specs.Prelude.{Some, if◌then◌else◌}
 use Rattle.std.specs.List.{position}
 use Rattle.iox_domain_ports.specs.Container.CountedPlaces.{padded}
 use Rattle.iox_domain_ports.specs.Container.declared.container.Member.{Member}

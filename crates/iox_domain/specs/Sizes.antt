@@ -24,4 +24,5 @@ abbrev pub SizesOf : ℕ → Settings → Option ServiceSizes → Type 0
 SizesOf expired_connection_buffer settings None = (config : StaticConfig) → settings ≡ PublishSubscribe config
     → AreWithinLimits settings → ⊥
 SizesOf expired_connection_buffer settings (Some found) =
-    (config : StaticConfig) × (settings ≡ PublishSubscribe config) × AreWithinLimits settings × (found ≡ sizes expired_connection_buffer config)
+    (config : StaticConfig) × (settings ≡ PublishSubscribe config) × AreWithinLimits settings
+    × (found ≡ sizes expired_connection_buffer config)

@@ -17,5 +17,6 @@ abbrev pub MakesSubscriber : {T U B D : Type 0} → (DegradationInfo → Degrada
 MakesSubscriber may config handler old (Err error) new =
     (error ≡ subscriber_refusal (buffer_of config.buffer_size old.ports.sizes) (subscriber_place old.ports)) × (new ≡ old)
 MakesSubscriber may config handler old (Ok number) new =
-    CreatesSubscriber may config.owner (buffer_of config.buffer_size old.ports.sizes) (subscriber_place old.ports) old.ports (Ok number) new.ports
+    CreatesSubscriber may config.owner (buffer_of config.buffer_size old.ports.sizes) (subscriber_place old.ports) old.ports (Ok number)
+    new.ports
     × (new ≡ record (with_ports new.ports old) { subscriber_handlers = kept old.ports.next_port handler old.subscriber_handlers })

@@ -1,5 +1,6 @@
 -- A send with all of its tries: who took its message, and how many of them are counted.
-use Rattle.std.specs.Prelude.{ℕ, ◌+◌, ◌<◌, ◌≤◌, ◌≡◌, ◌==◌, ◌++◌, ◌∷◌, [], true, false, Bool, is_some, List, length, get_or, None, Some, Result, Ok, if◌then◌else◌}
+use Rattle.std.specs.Prelude.{ℕ, ◌+◌, ◌<◌, ◌≤◌, ◌≡◌, ◌==◌, ◌++◌, ◌∷◌, [], true, false, Bool, is_some, List, length, get_or, None, Some}
+use Rattle.std.specs.Prelude.{Result, Ok, if◌then◌else◌}
 use Rattle.iox_domain.specs.DomainValues.declared.backpressure.BackpressureDecision.{BackpressureDecision}
 use Rattle.iox_domain.specs.DomainValues.declared.backpressure.BackpressureInfo.{BackpressureInfo}
 use Rattle.iox_domain.specs.DomainValues.declared.degradation.DegradationAction.{DegradationAction}
@@ -43,7 +44,8 @@ pub record TryComesTo {T U : Type 0} (takers : List ℕ) (old new : PublisherPor
   pub took : (index : ℕ) → 0 < how_often index takers → Took index old new
   pub others : (index : ℕ) → how_often index takers ≡ 0 → connection_of index new ≡ connection_of index old
   pub all : (place index : ℕ) → old.progress.place ≤ place → place < new.progress.place → get_or old.ties.items place None ≡ Some index
-      → is_live index old ≡ true → is_some old.sender.uses.sending ≡ true → accepts old.sender.uses.overflows (connection_of index old) ≡ true → 0 < how_often index takers
+      → is_live index old ≡ true → is_some old.sender.uses.sending ≡ true
+      → accepts old.sender.uses.overflows (connection_of index old) ≡ true → 0 < how_often index takers
   pub counted : new.progress.delivered ≡ old.progress.delivered + length takers
 
 -- A send is where it was: how far it is and how many took its message, the message, and which connection each place of the list is tied to.
@@ -101,4 +103,5 @@ pub record SendWaits (T U : Type 0) (overrides : ℕ → ℕ → Type 0) (may : 
     → Type 0) (decide : BackpressureInfo → BackpressureDecision → Type 0) : Type 0 where
   pub waits : (call : PortCall T U) (old new : ServicePorts T U) (publisher : ℕ) (port : PublisherPort T U)
       → Happens overrides may decide call old new → IsSound old → port_of publisher old.publishers ≡ Some port
-      → is_some port.sender.uses.sending ≡ true → goes_on_with publisher call ≡ false → (after : PublisherPort T U) × (port_of publisher new.publishers ≡ Some after) × IsSameSend port after
+      → is_some port.sender.uses.sending ≡ true → goes_on_with publisher call ≡ false → (after : PublisherPort T U)
+      × (port_of publisher new.publishers ≡ Some after) × IsSameSend port after

@@ -5,8 +5,10 @@ ghost use Rattle.std.specs.Option.{option_copied_mut};
 ghost use Rattle.iox_domain.specs.DomainValues.declared.degradation.DegradationCause.TheVariants.{FailedToEstablishConnection};
 ghost use Rattle.iox_domain.specs.contracts.ports.service_ports.ServicePorts as service_ports;
 ghost use Rattle.iox_domain.specs.AtHomes.{AtDomain, LeavesDomain, MakesAt};
-ghost use Rattle.iox_domain.specs.Steps.{LoansBy, UpdatesBy, SendsBy, PutsBy, RetriesBy, PublisherLeaves, FollowsBy, TellsBy, ReceivesBy, SubscriberLeaves, PublisherComes, SubscriberComes, why_no_publisher, why_no_subscriber};
-ghost use Rattle.iox_domain.specs.Homes.{ports_of, with_ports, with_publisher, with_subscriber, without_publisher, without_subscriber, publisher_degrades, publisher_decides, subscriber_degrades};
+ghost use Rattle.iox_domain.specs.Steps.{LoansBy, UpdatesBy, SendsBy, PutsBy, RetriesBy, PublisherLeaves, FollowsBy, TellsBy, ReceivesBy};
+ghost use Rattle.iox_domain.specs.Steps.{SubscriberLeaves, PublisherComes, SubscriberComes, why_no_publisher, why_no_subscriber};
+ghost use Rattle.iox_domain.specs.Homes.{ports_of, with_ports, with_publisher, with_subscriber, without_publisher, without_subscriber};
+ghost use Rattle.iox_domain.specs.Homes.{publisher_degrades, publisher_decides, subscriber_degrades};
 
 use crate::domain_id::DomainId;
 use crate::home::Home;
@@ -256,7 +258,8 @@ pub fn create_publisher<T: Copy, U: Copy, O: Overrides, H: Home<T, U>>(
     handlers: H::ForPublishers,
 ) -> Option<Result<u64, PublisherCreateError>>
     ensures { MakesAt (λ after. with_ports H.changed id after home.old) (λ number. with_publisher H.changed id number handlers)
-        (PublisherComes (O.overrides overriding.now) (H.ForPublishers.degrades handlers FailedToEstablishConnection) config user_header) (why_no_publisher config)
+        (PublisherComes (O.overrides overriding.now) (H.ForPublishers.degrades handlers FailedToEstablishConnection) config user_header)
+        (why_no_publisher config)
         (ports_of H.domain_of id home.old) home.old result home.new }
 {
     let domain = home.domain_mut(id)?;

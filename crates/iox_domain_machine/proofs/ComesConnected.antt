@@ -1,5 +1,7 @@
 -- A publisher comes, of a domain and of the machine, and follows the list of subscribers.
-use Rattle.std.proofs.Common.{◌≡◌, ◌≢◌, ◌<◌, ◌+◌, ◌-◌, ◌^◌, ◌∷◌, [], ◌++◌, ◌&&◌, ◌||◌, ◌==◌, ℕ, zero, suc, Bool, true, false, cond, List, length, map, get_or, max, min, nat_le, nat_lt, not, replicate, Option, None, Some, Result, Ok, Err, refl, sym, ap, subst, inl, inr, ◌∙◌, arith, Ordering}
+use Rattle.std.proofs.Common.{◌≡◌, ◌≢◌, ◌<◌, ◌+◌, ◌-◌, ◌^◌, ◌∷◌, [], ◌++◌, ◌&&◌, ◌||◌, ◌==◌, ℕ, zero, suc, Bool, true, false, cond, List}
+use Rattle.std.proofs.Common.{length, map, get_or, max, min, nat_le, nat_lt, not, replicate, Option, None, Some, Result, Ok, Err, refl}
+use Rattle.std.proofs.Common.{sym, ap, subst, inl, inr, ◌∙◌, arith, Ordering}
 use Rattle.std.proofs.Math.Logic.{⊎_elim}
 use Rattle.std.proofs.lemmas.Bool.{eq-eqb, eqb-true, lt-ltb, not-true}
 use Rattle.std.proofs.lemmas.List.{length-map}
@@ -42,7 +44,8 @@ use Rattle.iox_domain.specs.DomainPorts.declared.subscriber_port.SubscriberPort.
 use Rattle.iox_domain.specs.DomainValues.OverrideAnswers.{places}
 use Rattle.iox_domain.specs.DomainValues.Sizes as domain
 use Rattle.iox_domain.specs.DomainValues.declared.service_sizes.ServiceSizes.{ServiceSizes}
-use Rattle.iox_domain.specs.Making.{AddsPublisher, CreatesPublisher, identity_of, publisher_answer, publisher_place, sender_config, slots_needed}
+use Rattle.iox_domain.specs.Making.{AddsPublisher, CreatesPublisher, identity_of, publisher_answer, publisher_place, sender_config}
+use Rattle.iox_domain.specs.Making.{slots_needed}
 use Rattle.iox_domain.specs.PortLawsLaws.{IsApart, IsTiedWell, IsWellEntry}
 use Rattle.iox_domain.specs.Rolls.{IsListOf, may_change}
 use Rattle.iox_domain.specs.Roomy.{AreRoomy}
@@ -52,7 +55,8 @@ use Rattle.iox_domain.specs.Subscribers.{subscriber_of}
 use Rattle.iox_domain.specs.Tries.{how_often}
 use Rattle.iox_domain.specs.declared.ports.making.PublisherConfig.{PublisherConfig}
 use Rattle.iox_domain.specs.declared.ports.service_ports.ServicePorts.{ServicePorts}
-use Rattle.iox_domain_machine.specs.ComingPublisherLaws.{IsPublisherAskedSo, PublisherComesMatches, publisher_came_or_refused, with_publisher_came}
+use Rattle.iox_domain_machine.specs.ComingPublisherLaws.{IsPublisherAskedSo, PublisherComesMatches, publisher_came_or_refused}
+use Rattle.iox_domain_machine.specs.ComingPublisherLaws.{with_publisher_came}
 use Rattle.iox_domain_machine.specs.Laws.{Matches}
 use Rattle.iox_domain_machine.specs.Mailboxes.{MailboxesStandFor}
 use Rattle.iox_domain_machine.specs.Naming.{Naming, with_name}
@@ -529,7 +533,8 @@ module _ {T U : Type 0} (types : MessageTypeDetails) (IsDefault : T → Type 0) 
             (λ seen. followed seen.1)
             (update_is there_names lent held buffer there_ports there_service there_stands next first after there_first
             (unwrap_or options.degradation_handler Warn) outcome may apart_now allowed_now refl refl
-            (λ publisher at_it up. (asked.acts, ap (λ (it : Publisher T). it.degradation) (same_some publisher one (sym at_it ∙ one_there))))
+            (λ publisher at_it up.
+            (asked.acts, ap (λ (it : Publisher T). it.degradation) (same_some publisher one (sym at_it ∙ one_there))))
             listed is_list updates)
           where
             followed : Followed outcome after → Result_of (Ok so) (with_came after)

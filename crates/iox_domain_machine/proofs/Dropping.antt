@@ -34,7 +34,8 @@ use Rattle.iox_domain_machine.proofs.Found.{other_found}
 use Rattle.iox_domain_machine.proofs.Kept.{out_of, loan_by, samples_kept}
 use Rattle.iox_domain_machine.proofs.Loans.{slots, in_slot, alike}
 use Rattle.iox_domain_machine.proofs.Named.{named_less, lent_used}
-use Rattle.iox_domain_machine.proofs.Removing.{placed, but, but_less, slots_without, found_without, often_removed, lent_removed, others_lent, removed_mapped}
+use Rattle.iox_domain_machine.proofs.Removing.{placed, but, but_less, slots_without, found_without, often_removed, lent_removed}
+use Rattle.iox_domain_machine.proofs.Removing.{others_lent, removed_mapped}
 use Rattle.iox_domain_machine.proofs.Settling.{settled_stands}
 use Rattle.iox_domain_machine.proofs.Writing.{IsThere, is_there, each_either, goes_there}
 use Rattle.iox_machine.specs.Message as machine

@@ -1,5 +1,6 @@
 -- What holds of a publisher in the middle of an update: of the places that were followed, and of those that will be.
-use Rattle.std.proofs.Common.{◌≡◌, ◌≢◌, ◌≤◌, ◌<◌, ◌+◌, ◌⊎◌, [], ℕ, Bool, true, false, List, get_or, length, map, Option, None, Some, refl, sym, ap, subst, inl, inr, ◌∙◌, arith}
+use Rattle.std.proofs.Common.{◌≡◌, ◌≢◌, ◌≤◌, ◌<◌, ◌+◌, ◌⊎◌, [], ℕ, Bool, true, false, List, get_or, length, map, Option, None, Some, refl}
+use Rattle.std.proofs.Common.{sym, ap, subst, inl, inr, ◌∙◌, arith}
 use Rattle.std.proofs.Math.Logic.{⊎_elim}
 use Rattle.std.proofs.lemmas.Bool.{cases_eq}
 use Rattle.std.specs.Prelude.{option_map}

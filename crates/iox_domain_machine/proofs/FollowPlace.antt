@@ -1,5 +1,6 @@
 -- A publisher follows the list of subscribers at one place.
-use Rattle.std.proofs.Common.{◌≡◌, ◌≢◌, ◌≤◌, ◌<◌, ◌+◌, ℕ, Bool, true, false, List, get_or, length, map, min, ◌||◌, nat_le, Option, None, Some, Result, Ok, Err, refl, sym, ap, subst, inl, inr, ◌∙◌, arith}
+use Rattle.std.proofs.Common.{◌≡◌, ◌≢◌, ◌≤◌, ◌<◌, ◌+◌, ℕ, Bool, true, false, List, get_or, length, map, min, ◌||◌, nat_le, Option, None}
+use Rattle.std.proofs.Common.{Some, Result, Ok, Err, refl, sym, ap, subst, inl, inr, ◌∙◌, arith}
 use Rattle.std.proofs.lemmas.Bool.{cases_eq, eq-eqb, leb-true}
 use Rattle.std.specs.Prelude.{is_some, is_none, is_ok, option_map, if◌then◌else◌}
 use Rattle.std.specs.declared.alloc.AllocError.{AllocError}
@@ -17,7 +18,8 @@ use Rattle.iox_domain.specs.DomainSlots.Counting.{times}
 use Rattle.iox_domain.specs.PortLawsLaws.{IsTiedWell}
 use Rattle.iox_domain_machine.specs.Naming.{message_as, with_name}
 use Rattle.iox_domain_machine.proofs.FollowJoined.{led_to, no_mailbox, joined_there, joined_new}
-use Rattle.iox_domain_machine.proofs.FollowMidway.{FollowsList, HasFailed, HasTied, HasBecome, Midway, WasTied, named_by, midway_later, midway_done, midway_on, still_connected}
+use Rattle.iox_domain_machine.proofs.FollowMidway.{FollowsList, HasFailed, HasTied, HasBecome, Midway, WasTied, named_by, midway_later}
+use Rattle.iox_domain_machine.proofs.FollowMidway.{midway_done, midway_on, still_connected}
 use Rattle.iox_domain_machine.proofs.FollowSteps.{IsUnlisted}
 use Rattle.iox_domain_machine.proofs.FollowTied.{greeting, greeted_name, JoinedAt, tied_steps}
 use Rattle.iox_domain_machine.proofs.FollowUntied.{lost_at, untied_isn't, untied_none, untied_steps}

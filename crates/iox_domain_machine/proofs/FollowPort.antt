@@ -1,5 +1,6 @@
 -- A publisher that follows the list of subscribers is one of the machine that does.
-use Rattle.std.proofs.Common.{◌≡◌, ◌≢◌, ◌<◌, ◌-◌, ◌⊎◌, ◌&&◌, [], ℕ, Bool, true, false, not, List, get_or, length, length-append, map, Option, None, Some, Result, refl, sym, ap, subst, inl, inr, ◌∙◌, arith}
+use Rattle.std.proofs.Common.{◌≡◌, ◌≢◌, ◌<◌, ◌-◌, ◌⊎◌, ◌&&◌, [], ℕ, Bool, true, false, not, List, get_or, length, length-append, map}
+use Rattle.std.proofs.Common.{Option, None, Some, Result, refl, sym, ap, subst, inl, inr, ◌∙◌, arith}
 use Rattle.std.proofs.Math.Logic.{⊎_elim}
 use Rattle.std.proofs.lemmas.Bool.{cases_eq, cases_lt, eq-eqb}
 use Rattle.std.proofs.lemmas.List.{get_or-map, get_or_past, length-map, length-replicate}
@@ -25,7 +26,8 @@ use Rattle.iox_domain_machine.specs.Naming.{list_as, message_as, mailbox_as}
 use Rattle.iox_domain_machine.specs.Publishers.{PublisherStandsFor, BlockedStandsFor}
 use Rattle.iox_domain_machine.proofs.FollowAll.{FollowedAll, follows_all}
 use Rattle.iox_domain_machine.proofs.FollowJoined.{led_to, stage_live, first_nil}
-use Rattle.iox_domain_machine.proofs.FollowLists.{mapped_at, same_places, contains_there, contained_at, contained_nowhere, contains_filter, all_pass}
+use Rattle.iox_domain_machine.proofs.FollowLists.{mapped_at, same_places, contains_there, contained_at, contained_nowhere}
+use Rattle.iox_domain_machine.proofs.FollowLists.{contains_filter, all_pass}
 use Rattle.iox_domain_machine.proofs.FollowMachine.{all_greeted, greeted_here, greeted_others, all_welcomed, ended_here, ended_others}
 use Rattle.iox_domain_machine.proofs.FollowMidway.{FollowsList, HasBecome, Midway, named_by}
 use Rattle.iox_domain_machine.proofs.FollowSteps.{emptied, IsUnlisted, OnlyTied}

@@ -1,5 +1,6 @@
 -- A place is tied to the connection of the subscriber that it lists, which gets as much of the history as may wait there.
-use Rattle.std.proofs.Common.{◌≡◌, ◌≢◌, ◌≤◌, ◌<◌, ◌+◌, ◌-◌, ◌∷◌, ◌++◌, [], ℕ, zero, suc, true, List, get_or, set, length, map, drop, Option, None, Some, refl, inl, inr, sym, ap, subst, ◌∙◌, arith, append-nil, length-append}
+use Rattle.std.proofs.Common.{◌≡◌, ◌≢◌, ◌≤◌, ◌<◌, ◌+◌, ◌-◌, ◌∷◌, ◌++◌, [], ℕ, zero, suc, true, List, get_or, set, length, map, drop}
+use Rattle.std.proofs.Common.{Option, None, Some, refl, inl, inr, sym, ap, subst, ◌∙◌, arith, append-nil, length-append}
 use Rattle.std.proofs.lemmas.Bool.{cases_eq, eq-eqb, ne_eqb}
 use Rattle.std.proofs.lemmas.List.{get_or-set_other, get_or-set_same, length-set, length-map, drop-map, length-replicate}
 use Rattle.std.specs.Option.{option_map_or}

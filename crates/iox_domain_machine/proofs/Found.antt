@@ -1,5 +1,6 @@
 -- What goes by a number in a table that changed, of the machine and of a domain.
-use Rattle.std.proofs.Common.{◌≡◌, ◌≢◌, ℕ, zero, suc, Bool, true, false, cond, List, [], ◌∷◌, map, replicate, get_or, Option, None, Some, refl, sym, ap, ◌∙◌}
+use Rattle.std.proofs.Common.{◌≡◌, ◌≢◌, ℕ, zero, suc, Bool, true, false, cond, List, [], ◌∷◌, map, replicate, get_or, Option, None, Some}
+use Rattle.std.proofs.Common.{refl, sym, ap, ◌∙◌}
 use Rattle.std.proofs.lemmas.Bool.{eqb-true, eq-eqb, ne_eqb}
 use Rattle.std.specs.Map.{lookup, set_value}
 use Rattle.std.specs.Prelude.{find, option_map, unwrap_or, ◌==◌}

@@ -1,5 +1,6 @@
 -- A publisher lends, of a domain and of the machine.
-use Rattle.std.proofs.Common.{◌≡◌, ◌≢◌, ◌≤◌, ◌<◌, ◌+◌, ◌*◌, ◌∷◌, [], ◌&&◌, ℕ, Bool, true, false, cond, List, length, map, nat_le, nat_lt, is_some, Option, None, Some, Result, Ok, Err, refl, sym, ap, subst, inl, inr, ◌∙◌, arith, if◌then◌else◌}
+use Rattle.std.proofs.Common.{◌≡◌, ◌≢◌, ◌≤◌, ◌<◌, ◌+◌, ◌*◌, ◌∷◌, [], ◌&&◌, ℕ, Bool, true, false, cond, List, length, map, nat_le, nat_lt}
+use Rattle.std.proofs.Common.{is_some, Option, None, Some, Result, Ok, Err, refl, sym, ap, subst, inl, inr, ◌∙◌, arith, if◌then◌else◌}
 use Rattle.std.proofs.Math.Logic.{⊎_elim}
 use Rattle.std.proofs.lemmas.Bool.{cases_Bool, eq-eqb, eqb-true, ne_eqb}
 use Rattle.std.proofs.lemmas.Bool.Decides.{eqb_tells}
@@ -19,7 +20,8 @@ use Rattle.iox_domain.proofs.DomainPorts.Counted.{counts_elements}
 use Rattle.iox_domain.proofs.DomainPorts.Lent.{new_segment_is_free}
 use Rattle.iox_domain.proofs.Numbered.{at_number, found_of_all, same_set}
 use Rattle.iox_domain.specs.DomainPorts.Lengths.{extent, SegmentRoom}
-use Rattle.iox_domain.specs.DomainPorts.Loaning.{is_too_long, LendsHere, LacksMemory, LendsBeyond, LendsWhere, LendsUnless, LoansIf, with_sender}
+use Rattle.iox_domain.specs.DomainPorts.Loaning.{is_too_long, LendsHere, LacksMemory, LendsBeyond, LendsWhere, LendsUnless, LoansIf}
+use Rattle.iox_domain.specs.DomainPorts.Loaning.{with_sender}
 use Rattle.iox_domain.specs.DomainPorts.Messages.{Message, Loan}
 use Rattle.iox_domain.specs.DomainPorts.MessagesSending.{slots_of, SenderState, opened_for}
 use Rattle.iox_domain.specs.DomainPorts.Publishers.{port_of, with_port, settled}

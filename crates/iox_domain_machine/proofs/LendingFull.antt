@@ -19,7 +19,8 @@ use Rattle.iox_domain_machine.specs.Naming.{message_as}
 use Rattle.iox_domain_machine.specs.Publishers.{NamesSlots}
 use Rattle.iox_domain_machine.proofs.Found.{never_true}
 use Rattle.iox_domain_machine.proofs.LendingTally.{some_or_none, Tallies, Tells, tells}
-use Rattle.iox_domain_machine.proofs.LendingUses.{named_from, named_to, filtered, message_slots, numbers, numbers_named, held_from, held_to, joins, kept_in, kept_at, kept_from, kept_to}
+use Rattle.iox_domain_machine.proofs.LendingUses.{named_from, named_to, filtered, message_slots, numbers, numbers_named, held_from}
+use Rattle.iox_domain_machine.proofs.LendingUses.{held_to, joins, kept_in, kept_at, kept_from, kept_to}
 use Rattle.iox_machine.specs.Lending.{how_many}
 use Rattle.iox_machine.specs.Mailbox.{Mailbox}
 use Rattle.iox_machine.specs.Message as machine

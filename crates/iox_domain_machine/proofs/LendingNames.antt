@@ -1,5 +1,6 @@
 -- A slot of a publisher that nothing uses is lent, and its message gets the next name.
-use Rattle.std.proofs.Common.{◌≡◌, ◌≢◌, ◌≤◌, ◌<◌, ◌+◌, ◌⊎◌, ◌∷◌, [], ◌++◌, ℕ, true, cond, List, map, nat_le, Option, None, Some, refl, sym, ap, subst, inl, inr, ◌∙◌, arith}
+use Rattle.std.proofs.Common.{◌≡◌, ◌≢◌, ◌≤◌, ◌<◌, ◌+◌, ◌⊎◌, ◌∷◌, [], ◌++◌, ℕ, true, cond, List, map, nat_le, Option, None, Some, refl}
+use Rattle.std.proofs.Common.{sym, ap, subst, inl, inr, ◌∙◌, arith}
 use Rattle.std.proofs.lemmas.Bool.{cases_eq, eq-eqb, ne_eqb}
 use Rattle.std.proofs.lemmas.List.{map-append}
 use Rattle.iox_domain.proofs.DomainSlots.Counts.{one, times_append, times_cons, times_end, one_same}

@@ -1,5 +1,6 @@
 -- The ports of a domain where a publisher lent a slot stand for the service where the machine's lent its next message.
-use Rattle.std.proofs.Common.{◌≡◌, ◌≢◌, ◌≤◌, ◌<◌, ◌+◌, ◌⊎◌, ◌∷◌, [], ◌++◌, ℕ, cond, List, map, nat_le, replicate, Option, None, Some, refl, sym, ap, subst, inl, inr, ◌∙◌, arith}
+use Rattle.std.proofs.Common.{◌≡◌, ◌≢◌, ◌≤◌, ◌<◌, ◌+◌, ◌⊎◌, ◌∷◌, [], ◌++◌, ℕ, cond, List, map, nat_le, replicate, Option, None, Some}
+use Rattle.std.proofs.Common.{refl, sym, ap, subst, inl, inr, ◌∙◌, arith}
 use Rattle.std.proofs.lemmas.Bool.{cases_eq, eq-eqb, ne_eqb}
 use Rattle.std.proofs.lemmas.List.{map-append}
 use Rattle.std.specs.Map.{keys_of}
@@ -21,12 +22,14 @@ use Rattle.iox_domain_machine.specs.Mailboxes.{MailboxesStandFor}
 use Rattle.iox_domain_machine.specs.Naming.{Naming, with_name}
 use Rattle.iox_domain_machine.specs.Publishers.{PublisherStandsFor}
 use Rattle.iox_domain_machine.specs.Standing.{StandsFor, PublisherIs}
-use Rattle.iox_domain_machine.specs.Tables.{LentSlot, LoansStandFor, SamplesStandFor, loan_as, sample_as, slots_lent_by, slots_held_of, loans_at_port}
+use Rattle.iox_domain_machine.specs.Tables.{LentSlot, LoansStandFor, SamplesStandFor, loan_as, sample_as, slots_lent_by, slots_held_of}
+use Rattle.iox_domain_machine.specs.Tables.{loans_at_port}
 use Rattle.iox_domain_machine.proofs.Changing.{one_changed, with_one}
 use Rattle.iox_domain_machine.proofs.Entries.{hits}
 use Rattle.iox_domain_machine.proofs.Found.{at_changed, at_changed_other, other_found}
 use Rattle.iox_domain_machine.proofs.Kept.{out_of, loan_by, samples_kept}
-use Rattle.iox_domain_machine.proofs.LendingNames.{named, named_it, named_other, lent_at, not_held, not_lent, loans_end, port_now, boxes_now}
+use Rattle.iox_domain_machine.proofs.LendingNames.{named, named_it, named_other, lent_at, not_held, not_lent, loans_end, port_now}
+use Rattle.iox_domain_machine.proofs.LendingNames.{boxes_now}
 use Rattle.iox_domain_machine.proofs.LendingTally.{is_none}
 use Rattle.iox_domain_machine.proofs.LendingTables.{not_there, often_end, found_end, other_end, lent_kept, lent_end, others_end, held_kept}
 use Rattle.iox_domain_machine.proofs.LendingUses.{message_slots}

@@ -1,5 +1,6 @@
 -- Which messages of a publisher of the machine are in use: those in the slots that are, of a publisher of a domain.
-use Rattle.std.proofs.Common.{◌≡◌, ◌≢◌, ◌<◌, ◌∷◌, [], ◌++◌, ◌⊎◌, ℕ, zero, suc, Bool, true, false, cond, List, get_or, map, Option, refl, sym, ap, inl, inr, ◌∙◌, arith}
+use Rattle.std.proofs.Common.{◌≡◌, ◌≢◌, ◌<◌, ◌∷◌, [], ◌++◌, ◌⊎◌, ℕ, zero, suc, Bool, true, false, cond, List, get_or, map, Option, refl}
+use Rattle.std.proofs.Common.{sym, ap, inl, inr, ◌∙◌, arith}
 use Rattle.std.proofs.Math.Logic.{⊎_elim}
 use Rattle.std.proofs.lemmas.Bool.{cases_Bool, cases_eq}
 use Rattle.std.proofs.lemmas.Bool.Decides.{eqb_tells}

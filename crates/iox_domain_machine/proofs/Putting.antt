@@ -1,5 +1,6 @@
 -- A publisher puts, of a domain and of the machine.
-use Rattle.std.proofs.Common.{◌≡◌, ◌≢◌, ◌+◌, ◌∷◌, [], ◌++◌, ℕ, Bool, false, cond, List, length, map, nat_lt, true, Option, None, Some, Result, Ok, Err, refl, sym, ap, subst, inl, inr, ◌∙◌, arith}
+use Rattle.std.proofs.Common.{◌≡◌, ◌≢◌, ◌+◌, ◌∷◌, [], ◌++◌, ℕ, Bool, false, cond, List, length, map, nat_lt, true, Option, None, Some}
+use Rattle.std.proofs.Common.{Result, Ok, Err, refl, sym, ap, subst, inl, inr, ◌∙◌, arith}
 use Rattle.std.specs.Prelude.{⊤, filter_map, option_and_then, MatchBool}
 use Rattle.iox_command.specs.DomainValues.declared.backpressure.BackpressureDecision.{BackpressureDecision}
 use Rattle.iox_command.specs.DomainValues.declared.backpressure.BackpressureInfo.{BackpressureInfo}
@@ -276,15 +277,16 @@ module _ {T U : Type 0} (types : MessageTypeDetails) (IsDefault : T → Type 0) 
               service by was.1),
         )
 
-  puts : (degradation : DegradationAction) → DegradesAs may_degrade degradation name service
+  -- whether nobody puts, or the loan is refused, or it is made, written and sent
+  pub put_parts_match : (degradation : DegradationAction) → DegradesAs may_degrade degradation name service
       → (answer : Option (Result Sent SendError)) (new : ServicePorts T U) → PutParts may_degrade may number values old answer new
       → Comes answer new
-  puts degradation degrades answer new (inl busy) =
+  put_parts_match degradation degrades answer new (inl busy) =
       subst (λ (told : Option (Result Sent SendError)). Comes told new) (sym busy.0)
       (subst (λ (ports : ServicePorts T U). Comes None ports) (sym busy.1) (none_puts busy.2))
-  puts degradation degrades answer new (inr (inl refused)) =
+  put_parts_match degradation degrades answer new (inr (inl refused)) =
       subst (λ (told : Option (Result Sent SendError)). Comes told new) (sym refused.1) (refused_puts refused.0 new refused.2)
-  puts degradation degrades answer new (inr (inr (slot, made, result, is, lends, goes))) =
+  put_parts_match degradation degrades answer new (inr (inr (slot, made, result, is, lends, goes))) =
       let sent = send_matches T U IsDefault may may_degrade types buffer (names_now slot made lends) (lent_now slot made lends) held
       (written slot made lends) new (now slot made lends) state loan (out slot made lends) degradation (Some result)
       (now_stands slot made lends) (now_roomy slot made lends) (at_end loan (out slot made lends) lent fresh)
@@ -296,5 +298,5 @@ pub put_matches : (T U : Type 0) (IsDefault : T → Type 0) (may : BackpressureI
     (may_degrade : DegradationInfo → DegradationAction → Type 0) → PutMatches T U IsDefault may may_degrade
 put_matches T U IsDefault may may_degrade types buffer names lent held old new service state number values degradation answer stands roomy
     known decides degrades call =
-    puts types IsDefault buffer may_degrade may names lent held old service state number values stands roomy known decides degradation
-    degrades answer new (puts_in_parts may_degrade may number values old answer new call)
+    put_parts_match types IsDefault buffer may_degrade may names lent held old service state number values stands roomy known decides
+    degradation degrades answer new (puts_in_parts may_degrade may number values old answer new call)

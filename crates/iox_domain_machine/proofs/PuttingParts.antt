@@ -1,5 +1,6 @@
 -- What is put of a domain is lent, written and sent.
-use Rattle.std.proofs.Common.{◌≡◌, ◌⊎◌, ◌&&◌, ℕ, Bool, true, false, not, List, length, is_some, Option, None, Some, Result, Ok, Err, refl, sym, ap, subst, inl, inr, ◌∙◌}
+use Rattle.std.proofs.Common.{◌≡◌, ◌⊎◌, ◌&&◌, ℕ, Bool, true, false, not, List, length, is_some, Option, None, Some, Result, Ok, Err, refl}
+use Rattle.std.proofs.Common.{sym, ap, subst, inl, inr, ◌∙◌}
 use Rattle.iox_domain.specs.DomainValues.declared.backpressure.BackpressureDecision.{BackpressureDecision}
 use Rattle.iox_domain.specs.DomainValues.declared.backpressure.BackpressureInfo.{BackpressureInfo}
 use Rattle.iox_domain.specs.DomainValues.declared.degradation.DegradationAction.{DegradationAction}
@@ -29,7 +30,7 @@ both_are true true is = never_true is
 both_are true false is = (refl, refl)
 both_are false other is = never_true is
 
-lends_none : {T U : Type 0} (stands waits : Bool) (values : ℕ) (port : PublisherPort T U) → port.stands ≡ stands
+pub lends_none : {T U : Type 0} (stands waits : Bool) (values : ℕ) (port : PublisherPort T U) → port.stands ≡ stands
     → is_some port.sender.uses.sending ≡ waits → (stands && not waits) ≡ false → LoansOne values values port None port
 lends_none false waits values port left waiting is = rw left (refl, refl)
 lends_none true true values port stands waiting is = rw stands (rw waiting (refl, refl))

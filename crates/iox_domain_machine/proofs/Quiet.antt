@@ -31,5 +31,6 @@ pub back_quiet : {T U : Type 0} (index place : ℕ) (port : PublisherPort T U) �
     → (other : ℕ) → IsQuiet (connection_of other (with_connection_of index (given_back place (connection_of index port)) port))
 back_quiet index place port quiet other =
     set_quiet port.sender.uses.connections index (given_back place (connection_of index port))
-    (settled_quiet (connection_of index port).stage (connection_of index port).limit (connection_of index port).waiting _ (quiet index)) quiet
+    (settled_quiet (connection_of index port).stage (connection_of index port).limit (connection_of index port).waiting _ (quiet index))
+    quiet
     other

@@ -1,5 +1,6 @@
 -- Which connection of a subscriber gives, and which expired ones last, of a domain and of the machine.
-use Rattle.std.proofs.Common.{◌≡◌, ◌<◌, ◌⊎◌, ◌∷◌, [], ◌++◌, ◌&&◌, ◌==◌, ℕ, zero, suc, Bool, true, false, cond, not, List, length, map, Option, None, Some, refl, sym, ap, subst, inl, inr, ◌∙◌, arith}
+use Rattle.std.proofs.Common.{◌≡◌, ◌<◌, ◌⊎◌, ◌∷◌, [], ◌++◌, ◌&&◌, ◌==◌, ℕ, zero, suc, Bool, true, false, cond, not, List, length, map}
+use Rattle.std.proofs.Common.{Option, None, Some, refl, sym, ap, subst, inl, inr, ◌∙◌, arith}
 use Rattle.std.proofs.Math.Logic.{⊎_elim}
 use Rattle.std.proofs.lemmas.Bool.{and_from, and_parts, eq-eqb, eqb-true}
 use Rattle.std.proofs.lemmas.List.{map-append}
@@ -22,7 +23,8 @@ use Rattle.iox_domain_machine.specs.Standing.{StandsFor}
 use Rattle.iox_domain_machine.specs.Subscribers.{SubscriberStandsFor, publisher_by}
 use Rattle.iox_domain_machine.specs.Tables.{LentSlot}
 use Rattle.iox_domain_machine.proofs.Found.{same_some, never_some, never_true}
-use Rattle.iox_domain_machine.proofs.Hearing.{Hears, any_same, connected_keys, has_connection, is_used, any_none, often_behind, often_head, some_passes, with_data}
+use Rattle.iox_domain_machine.proofs.Hearing.{Hears, any_same, connected_keys, has_connection, is_used, any_none, often_behind}
+use Rattle.iox_domain_machine.proofs.Hearing.{often_head, some_passes, with_data}
 use Rattle.iox_domain_machine.proofs.ReceiveHearing.{gives_same}
 use Rattle.iox_domain_machine.proofs.ReceiveSweeping.{not_idle}
 use Rattle.iox_machine.specs.Mailbox.{is_idle}

@@ -1,5 +1,6 @@
 -- The oldest message of a connection is borrowed, at a publisher of a domain and at its mailbox.
-use Rattle.std.proofs.Common.{◌≡◌, ◌≢◌, ◌≤◌, ◌<◌, ◌∷◌, [], ◌++◌, ℕ, true, false, List, length, map, get_or, drop, take, Option, None, Some, refl, sym, ap, ◌∙◌, arith}
+use Rattle.std.proofs.Common.{◌≡◌, ◌≢◌, ◌≤◌, ◌<◌, ◌∷◌, [], ◌++◌, ℕ, true, false, List, length, map, get_or, drop, take, Option, None}
+use Rattle.std.proofs.Common.{Some, refl, sym, ap, ◌∙◌, arith}
 use Rattle.std.proofs.Math.Logic.{⊎_elim}
 use Rattle.std.proofs.lemmas.Bool.{cases_eq}
 use Rattle.std.proofs.lemmas.List.{get_or-set_other, length-append, map-append}
@@ -12,7 +13,8 @@ use Rattle.iox_domain.specs.DomainPorts.Ports.{connection_of, goes_on, is_live}
 use Rattle.iox_domain.specs.DomainPorts.Reading.{taken_at}
 use Rattle.iox_domain.specs.DomainPorts.declared.publisher_port.PublisherPort.{PublisherPort}
 use Rattle.iox_domain.specs.DomainSlots.Counting.{times}
-use Rattle.iox_domain.specs.DomainSlots.Uses.{Connection, Uses, nobody, taken, connection_at, held_by, in_use, is_open, is_there, with_connection}
+use Rattle.iox_domain.specs.DomainSlots.Uses.{Connection, Uses, nobody, taken, connection_at, held_by, in_use, is_open, is_there}
+use Rattle.iox_domain.specs.DomainSlots.Uses.{with_connection}
 use Rattle.iox_domain.specs.DomainSlots.declared.stage.Stage.TheVariants as stage
 use Rattle.iox_domain.specs.PortLawsLaws.{IsTidy}
 use Rattle.iox_domain_machine.specs.Mailboxes.{MailboxesStandFor, JoinsNobody, times_held}

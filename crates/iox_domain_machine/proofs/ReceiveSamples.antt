@@ -1,5 +1,6 @@
 -- One sample more goes by a number, of a domain and of the machine.
-use Rattle.std.proofs.Common.{◌≡◌, ◌≢◌, ◌≤◌, ◌⊎◌, ◌+◌, ◌∷◌, [], ◌++◌, ◌&&◌, ◌==◌, ℕ, Bool, true, false, cond, List, map, take, Option, None, Some, refl, sym, ap, inl, inr, ◌∙◌, arith}
+use Rattle.std.proofs.Common.{◌≡◌, ◌≢◌, ◌≤◌, ◌⊎◌, ◌+◌, ◌∷◌, [], ◌++◌, ◌&&◌, ◌==◌, ℕ, Bool, true, false, cond, List, map, take, Option}
+use Rattle.std.proofs.Common.{None, Some, refl, sym, ap, inl, inr, ◌∙◌, arith}
 use Rattle.std.proofs.lemmas.Bool.{and_from, and_right, cases_eq, eq-eqb, eqb-false, ne_eqb}
 use Rattle.std.proofs.lemmas.List.{append-nil, get_or-set_other, map-append}
 use Rattle.std.proofs.lemmas.List.Elements.{All-append, All-cons, All-nil, filter-append}

@@ -1,5 +1,6 @@
 -- The idle expired connections of a subscriber that are met end, of a domain and of the machine.
-use Rattle.std.proofs.Common.{◌≡◌, ◌∷◌, [], ◌++◌, ◌==◌, ◌+◌, ◌<◌, ℕ, suc, Bool, true, false, cond, not, List, length, map, Some, refl, sym, ap, subst, ◌∙◌, arith}
+use Rattle.std.proofs.Common.{◌≡◌, ◌∷◌, [], ◌++◌, ◌==◌, ◌+◌, ◌<◌, ℕ, suc, Bool, true, false, cond, not, List, length, map, Some, refl}
+use Rattle.std.proofs.Common.{sym, ap, subst, ◌∙◌, arith}
 use Rattle.std.proofs.lemmas.Bool.{eq-eqb}
 use Rattle.std.proofs.lemmas.List.{append_assoc, map-append, length_push}
 use Rattle.std.proofs.lemmas.Map.Steps.{set_value_same}
@@ -263,7 +264,8 @@ module _ {T U : Type 0} (names : Naming) (lent : List (ℕ × LentSlot)) (held :
       let name = publisher_by names.publisher port in
       let was = stands.subscribers number port there in
       let expired : subscriber.expired ≡ named_before ++ named_more =
-      ap (λ (one : Subscriber). one.expired) (same_some subscriber was.0 (sym at_it ∙ was.1)) ∙ was.2.expired hears.standing ∙ ap (map name) split
+      ap (λ (one : Subscriber). one.expired) (same_some subscriber was.0 (sym at_it ∙ was.1)) ∙ was.2.expired hears.standing ∙ ap
+      (map name) split
       ∙ map-append name before more ∙ ap (λ all. all ++ map name more) (sym is_before) ∙ ap (λ all. named_before ++ all) (sym is_more) in
       swept_to ports service subscriber subscriber.expired
       (named_before ++ (not_idle (names.subscriber number) service named ++ named_more)) (port, ports.publishers) (port, ports.publishers)

@@ -1,5 +1,6 @@
 -- A subscriber receive_stands, of a domain and of the machine.
-use Rattle.std.proofs.Common.{◌≡◌, ◌≢◌, ◌<◌, ◌+◌, ◌-◌, ◌^◌, ◌∷◌, [], ◌++◌, ◌&&◌, ◌||◌, ◌==◌, ℕ, min, Bool, true, false, not, List, length, map, get_or, Option, None, Some, Result, Ok, refl, sym, ap, subst, ◌∙◌, arith}
+use Rattle.std.proofs.Common.{◌≡◌, ◌≢◌, ◌<◌, ◌+◌, ◌-◌, ◌^◌, ◌∷◌, [], ◌++◌, ◌&&◌, ◌||◌, ◌==◌, ℕ, min, Bool, true, false, not, List, length}
+use Rattle.std.proofs.Common.{map, get_or, Option, None, Some, Result, Ok, refl, sym, ap, subst, ◌∙◌, arith}
 use Rattle.std.proofs.lemmas.Bool.{and_parts, ltb-true}
 use Rattle.std.proofs.lemmas.List.{map-append, same_from_push}
 use Rattle.std.proofs.lemmas.List.Folds.{list_any-append}
@@ -40,7 +41,8 @@ use Rattle.iox_domain_machine.specs.Tables.{LentSlot, sample_as, samples_held_by
 use Rattle.iox_domain_machine.proofs.GivingUp.{some_of}
 use Rattle.iox_domain_machine.proofs.Found.{same_some, never_true, at_changed}
 use Rattle.iox_domain_machine.proofs.Hearing.{Hears, asked, often_behind, often_head}
-use Rattle.iox_domain_machine.proofs.ReceiveGiver.{SplitsAt, splits, expired_is, fails_there, giver_held, giver_is, giver_passes, lasting_is, same_test}
+use Rattle.iox_domain_machine.proofs.ReceiveGiver.{SplitsAt, splits, expired_is, fails_there, giver_held, giver_is, giver_passes}
+use Rattle.iox_domain_machine.proofs.ReceiveGiver.{lasting_is, same_test}
 use Rattle.iox_domain_machine.proofs.ReceiveHolding.{both_holding, swept_holding, swept_holds}
 use Rattle.iox_domain_machine.proofs.ReceiveSamples.{after_taking, holding_one_more, received_as, taken_as}
 use Rattle.iox_domain_machine.proofs.ReceiveSweeping.{HasSwept, not_idle, set_again, sweep_stands, swept_to}

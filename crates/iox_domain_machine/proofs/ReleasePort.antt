@@ -1,5 +1,6 @@
 -- A message is given back at a connection of a publisher, and at its mailbox.
-use Rattle.std.proofs.Common.{◌≡◌, ◌≢◌, ◌≤◌, ◌<◌, ◌⊎◌, ◌+◌, ◌∷◌, [], ◌++◌, ℕ, zero, suc, true, false, not, List, length, map, get_or, set, Option, None, Some, refl, sym, ap, subst, inl, inr, ◌∙◌, arith}
+use Rattle.std.proofs.Common.{◌≡◌, ◌≢◌, ◌≤◌, ◌<◌, ◌⊎◌, ◌+◌, ◌∷◌, [], ◌++◌, ℕ, zero, suc, true, false, not, List, length, map, get_or, set}
+use Rattle.std.proofs.Common.{Option, None, Some, refl, sym, ap, subst, inl, inr, ◌∙◌, arith}
 use Rattle.std.proofs.Math.Logic.{⊎_elim}
 use Rattle.std.proofs.lemmas.Bool.{cases_eq}
 use Rattle.std.proofs.lemmas.List.{get_or-set_same, get_or-set_other, map-append}
@@ -14,7 +15,8 @@ use Rattle.iox_domain.specs.DomainPorts.MessagesSending.{slots_of, connection_by
 use Rattle.iox_domain.specs.DomainPorts.Ports.{connection_of, with_connection_of, goes_on, is_live}
 use Rattle.iox_domain.specs.DomainPorts.declared.publisher_port.PublisherPort.{PublisherPort}
 use Rattle.iox_domain.specs.DomainSlots.Counting.{times}
-use Rattle.iox_domain.specs.DomainSlots.Uses.{Connection, Uses, nobody, settled, given_back, connection_at, held, held_by, in_use, is_open, is_there, with_connection}
+use Rattle.iox_domain.specs.DomainSlots.Uses.{Connection, Uses, nobody, settled, given_back, connection_at, held, held_by, in_use}
+use Rattle.iox_domain.specs.DomainSlots.Uses.{is_open, is_there, with_connection}
 use Rattle.iox_domain.specs.DomainSlots.declared.stage.Stage.{Stage}
 use Rattle.iox_domain.specs.DomainSlots.declared.stage.Stage.TheVariants as stage
 use Rattle.iox_domain.specs.PortLawsLaws.{IsTidy}

@@ -1,5 +1,6 @@
 -- A sample is released, of a domain and of the machine.
-use Rattle.std.proofs.Common.{◌≡◌, ◌≢◌, ◌≤◌, ◌<◌, ◌⊎◌, ◌+◌, ◌-◌, ◌∷◌, [], ◌&&◌, ℕ, Bool, true, false, cond, List, map, Option, None, Some, refl, sym, ap, subst, inl, inr, ◌∙◌, arith}
+use Rattle.std.proofs.Common.{◌≡◌, ◌≢◌, ◌≤◌, ◌<◌, ◌⊎◌, ◌+◌, ◌-◌, ◌∷◌, [], ◌&&◌, ℕ, Bool, true, false, cond, List, map, Option, None, Some}
+use Rattle.std.proofs.Common.{refl, sym, ap, subst, inl, inr, ◌∙◌, arith}
 use Rattle.std.proofs.Math.Logic.{⊎_elim}
 use Rattle.std.proofs.lemmas.Bool.{cases_eq, eq-eqb, eqb-true, ne_eqb}
 use Rattle.std.proofs.lemmas.Bool.Decides.{eqb_tells}
@@ -35,7 +36,8 @@ use Rattle.iox_domain_machine.specs.Mailboxes.{MailboxesStandFor}
 use Rattle.iox_domain_machine.specs.Naming.{Naming, mailbox_as}
 use Rattle.iox_domain_machine.specs.ReleaseLaws.{ReleaseMatches}
 use Rattle.iox_domain_machine.specs.Standing.{StandsFor, PublisherIs}
-use Rattle.iox_domain_machine.specs.Tables.{LentSlot, LoansStandFor, SamplesStandFor, sample_as, slots_held_of, samples_held_by, held_at_port}
+use Rattle.iox_domain_machine.specs.Tables.{LentSlot, LoansStandFor, SamplesStandFor, sample_as, slots_held_of, samples_held_by}
+use Rattle.iox_domain_machine.specs.Tables.{held_at_port}
 use Rattle.iox_domain_machine.proofs.Alone.{alone_does}
 use Rattle.iox_domain_machine.proofs.Changing.{all_changed, with_one, AreButHeld}
 use Rattle.iox_domain_machine.proofs.Found.{same_some, never_some, same_everywhere, at_mapped, at_head, at_behind, other_found}
@@ -43,7 +45,8 @@ use Rattle.iox_domain_machine.proofs.Kept.{loans_kept, sample_by}
 use Rattle.iox_domain_machine.proofs.Reading.{is_of, held_counts, borrowed_there}
 use Rattle.iox_domain_machine.proofs.ReleaseHeld.{is_same, IsIts, all_its, held_removed, others_held, samples_removed, counted_removed}
 use Rattle.iox_domain_machine.proofs.ReleaseOthers.{slots_in_others, found_in_others}
-use Rattle.iox_domain_machine.proofs.ReleasePort.{differ, after, borrowed_now, borrowed_elsewhere, tidy_after, port_after, alone, boxes_after}
+use Rattle.iox_domain_machine.proofs.ReleasePort.{differ, after, borrowed_now, borrowed_elsewhere, tidy_after, port_after, alone}
+use Rattle.iox_domain_machine.proofs.ReleasePort.{boxes_after}
 use Rattle.iox_domain_machine.proofs.ReleaseSettling.{subscriber_settled}
 use Rattle.iox_domain_machine.proofs.Removing.{placed, but, often_removed}
 use Rattle.iox_domain_machine.proofs.Settling.{both, settled_stands}

@@ -1,5 +1,6 @@
 -- A loan leaves the loans of a publisher, and those that go by numbers.
-use Rattle.std.proofs.Common.{◌≡◌, ◌≢◌, ◌≤◌, ◌+◌, ◌∷◌, [], ℕ, suc, Bool, true, false, cond, not, List, length, map, None, Some, refl, sym, ap, inl, inr, ◌∙◌, arith, position}
+use Rattle.std.proofs.Common.{◌≡◌, ◌≢◌, ◌≤◌, ◌+◌, ◌∷◌, [], ℕ, suc, Bool, true, false, cond, not, List, length, map, None, Some, refl, sym}
+use Rattle.std.proofs.Common.{ap, inl, inr, ◌∙◌, arith, position}
 use Rattle.std.proofs.Math.Logic.{⊎_elim}
 use Rattle.std.proofs.lemmas.Bool.{cases_Bool, eq-eqb}
 use Rattle.std.proofs.lemmas.Bool.Decides.{eqb_tells}

@@ -1,5 +1,6 @@
 -- A send that waits is tried again, of a domain and of the machine.
-use Rattle.std.proofs.Common.{◌≡◌, ◌≢◌, ◌+◌, ◌-◌, ℕ, Bool, true, false, List, length, get_or, Option, None, Some, Result, refl, sym, ap, subst, ◌∙◌, arith}
+use Rattle.std.proofs.Common.{◌≡◌, ◌≢◌, ◌+◌, ◌-◌, ℕ, Bool, true, false, List, length, get_or, Option, None, Some, Result, refl, sym, ap}
+use Rattle.std.proofs.Common.{subst, ◌∙◌, arith}
 use Rattle.std.specs.Prelude.{is_some, min, option_map, ◌^◌, MatchOption}
 use Rattle.iox_command.specs.DomainValues.declared.backpressure.BackpressureDecision.{BackpressureDecision}
 use Rattle.iox_command.specs.DomainValues.declared.backpressure.BackpressureInfo.{BackpressureInfo}
@@ -142,7 +143,8 @@ module _ {T U : Type 0} (types : MessageTypeDetails) (IsDefault : T → Type 0) 
           (further (names.message number) (names.reader number) names.subscriber port (tried_again nanoseconds port.progress)
           (service.mailboxes name) service.subscribers was.3 (omega arith)))
           (within_limit old roomy number port there)
-          (let is = is_ready names lent held buffer old service stands roomy number port there standing may was.0 (decides was.0 was.1 (was.2.stands ∙ standing)) in
+          (let is = is_ready names lent held buffer old service stands roomy number port there standing may was.0
+          (decides was.0 was.1 (was.2.stands ∙ standing)) in
           record {
             overflows = is.overflows;
             keeps = is.keeps;

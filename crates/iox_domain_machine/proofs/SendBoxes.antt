@@ -1,5 +1,6 @@
 -- A message is put into the mailbox of one connection, of a domain and of the machine.
-use Rattle.std.proofs.Common.{◌≡◌, ◌≤◌, ◌<◌, ◌+◌, ◌-◌, ◌∷◌, [], ◌++◌, ◌||◌, ℕ, zero, suc, Bool, true, false, List, length, drop, map, nat_lt, nat_le, None, Some, refl, sym, ap, ◌∙◌, arith, if◌then◌else◌}
+use Rattle.std.proofs.Common.{◌≡◌, ◌≤◌, ◌<◌, ◌+◌, ◌-◌, ◌∷◌, [], ◌++◌, ◌||◌, ℕ, zero, suc, Bool, true, false, List, length, drop, map}
+use Rattle.std.proofs.Common.{nat_lt, nat_le, None, Some, refl, sym, ap, ◌∙◌, arith, if◌then◌else◌}
 use Rattle.std.proofs.lemmas.List.{map-append, drop-map, length-map, length-append, length-drop}
 use Rattle.iox_domain.proofs.DomainSlots.Counts.{one, times_append, times_cons, times_end}
 use Rattle.iox_domain.specs.DomainPorts.Messages as domain

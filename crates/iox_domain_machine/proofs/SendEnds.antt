@@ -1,5 +1,7 @@
 -- What a send comes to in a domain stands for what it comes to in the machine.
-use Rattle.std.proofs.Common.{◌≡◌, ◌≢◌, ◌≤◌, ◌<◌, ◌⊎◌, ◌-◌, ◌∷◌, [], ◌++◌, ℕ, zero, suc, Bool, true, false, cond, List, length, get_or, drop, map, replicate, Option, None, Some, Result, Ok, Err, refl, sym, ap, subst, inl, inr, ◌∙◌, arith, if◌then◌else◌}
+use Rattle.std.proofs.Common.{◌≡◌, ◌≢◌, ◌≤◌, ◌<◌, ◌⊎◌, ◌-◌, ◌∷◌, [], ◌++◌, ℕ, zero, suc, Bool, true, false, cond, List, length, get_or}
+use Rattle.std.proofs.Common.{drop, map, replicate, Option, None, Some, Result, Ok, Err, refl, sym, ap, subst, inl, inr, ◌∙◌, arith}
+use Rattle.std.proofs.Common.{if◌then◌else◌}
 use Rattle.std.proofs.Math.Logic.{⊎_elim}
 use Rattle.std.proofs.lemmas.Bool.{cases_eq}
 use Rattle.std.proofs.lemmas.List.{drop-map, drop-replicate, length-drop}

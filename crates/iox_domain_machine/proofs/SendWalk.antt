@@ -1,5 +1,6 @@
 -- A send goes over the places that are left, of a domain and of the machine.
-use Rattle.std.proofs.Common.{◌≡◌, ◌≢◌, ◌≤◌, ◌<◌, ◌+◌, ◌-◌, ◌∷◌, [], ◌&&◌, ℕ, Bool, true, false, List, length, get_or, set, drop, map, nat_lt, Option, None, Some, refl, sym, ap, subst, ◌∙◌, arith, if◌then◌else◌}
+use Rattle.std.proofs.Common.{◌≡◌, ◌≢◌, ◌≤◌, ◌<◌, ◌+◌, ◌-◌, ◌∷◌, [], ◌&&◌, ℕ, Bool, true, false, List, length, get_or, set, drop, map}
+use Rattle.std.proofs.Common.{nat_lt, Option, None, Some, refl, sym, ap, subst, ◌∙◌, arith, if◌then◌else◌}
 use Rattle.std.proofs.Math.Logic.{⊎_elim}
 use Rattle.std.proofs.lemmas.Bool.{cases_Bool}
 use Rattle.std.proofs.lemmas.List.{drop_more, length-drop, set-get_or}
@@ -15,7 +16,8 @@ use Rattle.iox_domain.specs.DomainPorts.MessagesSending.{with_uses}
 use Rattle.iox_domain.specs.DomainPorts.Places.{is_attached, unheard}
 use Rattle.iox_domain.specs.DomainPorts.Ports.{connection_of, goes_on, is_live}
 use Rattle.iox_domain.specs.DomainPorts.Progress.{ProgressState, passed, counted, failing}
-use Rattle.iox_domain.specs.DomainPorts.Sending.{meeting_by, meeting_at, met_by, met, with_message, goes_on_by, decided_by, Steps, GoesOn, Delivers}
+use Rattle.iox_domain.specs.DomainPorts.Sending.{meeting_by, meeting_at, met_by, met, with_message, goes_on_by, decided_by, Steps, GoesOn}
+use Rattle.iox_domain.specs.DomainPorts.Sending.{Delivers}
 use Rattle.iox_domain.specs.DomainPorts.declared.meeting.Meeting.{Meeting}
 use Rattle.iox_domain.specs.DomainPorts.declared.meeting.Meeting.TheVariants as meeting
 use Rattle.iox_domain.specs.DomainPorts.declared.publisher_port.PublisherPort.{PublisherPort}

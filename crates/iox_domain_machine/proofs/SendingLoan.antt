@@ -1,5 +1,6 @@
 -- A loan that goes by a number is sent, of a domain and of the machine.
-use Rattle.std.proofs.Common.{◌≡◌, ◌&&◌, ◌||◌, ℕ, Bool, true, false, not, List, Option, None, Some, Result, Ok, Err, refl, sym, ap, subst, ◌∙◌, if◌then◌else◌}
+use Rattle.std.proofs.Common.{◌≡◌, ◌&&◌, ◌||◌, ℕ, Bool, true, false, not, List, Option, None, Some, Result, Ok, Err, refl, sym, ap, subst}
+use Rattle.std.proofs.Common.{◌∙◌, if◌then◌else◌}
 use Rattle.std.proofs.Math.Logic.{⊎_elim}
 use Rattle.std.proofs.lemmas.Bool.{eqb-true}
 use Rattle.std.specs.List.{list_all}
@@ -211,7 +212,8 @@ module _ {T U : Type 0} (types : MessageTypeDetails) (IsDefault : T → Type 0) 
         → Finishes may (begun_at place port) answer after → Comes (Some answer) (with_publisher out.publisher after old)
     goes_on seen answer after finishes =
         let to = begins names lent held buffer old service loan out stands goes may free standing
-        (is_ready names lent held buffer old service stands roomy out.publisher port there.there standing may was.0 (decides was.0 was.1 (was.2.stands ∙ standing)))
+        (is_ready names lent held buffer old service stands roomy out.publisher port there.there standing may was.0
+        (decides was.0 was.1 (was.2.stands ∙ standing)))
         (within_limit old roomy out.publisher port there.there) answer after finishes in
         sends_it answer after to.0 (rw (seen_alike seen) to.1) (names.reader out.publisher)
         (stays (removed loan lent) (with_publisher out.publisher after old) to.0
@@ -246,11 +248,13 @@ module _ {T U : Type 0} (types : MessageTypeDetails) (IsDefault : T → Type 0) 
             → Gone answer after
         follows (Ok done) is_done sent =
             let to = updated_goes_on names lent held buffer old service loan out stands roomy goes may may_degrade listed outcome updated
-            tells updates standing free (decides was.0 was.1 (was.2.stands ∙ standing)) degradation degrades followed unseen is_done sent.0 after sent.1 in
+            tells updates standing free (decides was.0 was.1 (was.2.stands ∙ standing)) degradation degrades followed unseen is_done
+            sent.0 after sent.1 in
             (sent.0, sent.2, sends_it free standing is sent.0 after to.0 to.1 followed.new_reader to.2)
         follows (Err failure) failed sent =
             let to = updated_fails names lent held buffer old service loan out stands roomy goes may may_degrade listed outcome updated
-            tells updates standing free (decides was.0 was.1 (was.2.stands ∙ standing)) degradation degrades followed unseen failure failed in (
+            tells updates standing free (decides was.0 was.1 (was.2.stands ∙ standing)) degradation degrades followed unseen failure
+            failed in (
               Err (error.ConnectionError failure),
               sent.0,
               subst (λ (one : PublisherPort T U). Comes (Some (Err (error.ConnectionError failure))) (with_publisher out.publisher one old))

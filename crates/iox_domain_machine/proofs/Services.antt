@@ -1,19 +1,23 @@
 -- Domains that stand for the services of a machine, one of which does something.
-use Rattle.std.proofs.Common.{◌≡◌, ◌≢◌, ◌≤◌, ◌<◌, ℕ, Bool, true, false, cond, ◌||◌, List, [], ◌∷◌, ◌++◌, map, Option, None, Some, refl, sym, ap, subst, ◌∙◌, arith, true≢false}
+use Rattle.std.proofs.Common.{◌≡◌, ◌≢◌, ◌≤◌, ◌<◌, ℕ, Bool, true, false, cond, ◌||◌, List, [], ◌∷◌, ◌++◌, map, Option, None, Some, refl}
+use Rattle.std.proofs.Common.{sym, ap, subst, ◌∙◌, arith, true≢false}
 use Rattle.std.proofs.Math.Logic.{⊎_elim}
 use Rattle.std.proofs.lemmas.Bool.Decides.{eqb_tells}
 use Rattle.std.specs.List.{list_any}
 use Rattle.std.specs.Map.{keys_of}
 use Rattle.std.specs.Prelude.{filter, is_some, option_and_then, ◌==◌, if◌then◌else◌}
+use Rattle.iox_command.specs.NegotiateBase.DescribeBase.declared.message_type.MessageTypeDetails.{MessageTypeDetails}
 use Rattle.iox_command.specs.declared.command.Command.{Command}
 use Rattle.iox_command.specs.declared.command.Command.TheVariants as command
 use Rattle.iox_command.specs.declared.port.PortNumber.TheVariants as port
+use Rattle.iox_command.specs.declared.reply.Reply.{Reply}
 use Rattle.iox_domain.specs.DomainPorts.declared.attached.Taken.{Taken}
 use Rattle.iox_domain.specs.Tries.{how_often}
 use Rattle.iox_domain.specs.declared.ports.service_ports.ServicePorts.{ServicePorts}
+use Rattle.iox_domain_machine.specs.Laws.{Matches}
 use Rattle.iox_domain_machine.specs.Naming.{Naming, with_name}
-use Rattle.iox_domain_machine.specs.ServiceLaws.{IsNamed, GoesBy, NamesOf, AmongOthersMatches}
-use Rattle.iox_domain_machine.specs.Services.{those_of, AreNamedApart, ComesOnce, StandInTurn}
+use Rattle.iox_domain_machine.specs.ServiceLaws.{IsNamed, GoesBy, NamesOf, ChangesAt, AmongOthersMatches}
+use Rattle.iox_domain_machine.specs.Services.{those_of, AreNamedApart, ComesOnce, StandInTurn, DomainsStandFor}
 use Rattle.iox_domain_machine.specs.Standing.{StandsFor}
 use Rattle.iox_domain_machine.specs.Tables.{LentSlot}
 use Rattle.iox_machine.specs.AmongLaws.{StepsAmong}
@@ -21,7 +25,7 @@ use Rattle.iox_machine.specs.Named.{is_on_ports, has_named}
 use Rattle.iox_machine.specs.Ports.{publisher_in, subscriber_in}
 use Rattle.iox_machine.specs.Run.{Step}
 use Rattle.iox_machine.specs.Service.{Service, Publisher, Subscriber}
-use Rattle.iox_machine.specs.State.{Factory, counted}
+use Rattle.iox_machine.specs.State.{State, Factory, counted}
 use Rattle.iox_machine.specs.Table.{at}
 use Rattle.iox_domain_machine.proofs.Found.{same_some, never_some, same_everywhere, at_head, at_behind}
 
@@ -166,17 +170,23 @@ pub others_stand : {T U : Type 0} (names later : ℕ → Naming) (lent lent_then
 others_stand names later lent lent_then held held_then buffer domain named loans samples [] services none stands = stands
 others_stand names later lent lent_then held held_then buffer domain named loans samples (one ∷ domains) [] none stands = absurd stands
 others_stand {T} {U} names later lent lent_then held held_then buffer domain named loans samples (one ∷ domains) (service ∷ services) none
-    (it, rest) =
-    (here, others_stand names later lent lent_then held held_then buffer domain named loans samples domains services (omega (arith, none)) rest)
+    (it, rest) = (
+      here,
+      others_stand names later lent lent_then held held_then buffer domain named loans samples domains services (omega (arith, none))
+          rest,
+    )
   where
     off : one.0 ≢ domain
     off same = omega (arith, none, ap (tick domain) same, counts_itself domain)
 
     here : StandsFor (later one.0) (those_of one.0 lent_then) (those_of one.0 held_then) buffer one.1 service
     here =
-        subst (λ (n : Naming). StandsFor n (those_of one.0 lent_then) (those_of one.0 held_then) buffer one.1 service) (sym (named one.0 off))
-        (subst (λ (l : List (ℕ × LentSlot)). StandsFor (names one.0) l (those_of one.0 held_then) buffer one.1 service) (sym (loans one.0 off))
-        (subst (λ (h : List (ℕ × Taken)). StandsFor (names one.0) (those_of one.0 lent) h buffer one.1 service) (sym (samples one.0 off)) it))
+        subst (λ (n : Naming). StandsFor n (those_of one.0 lent_then) (those_of one.0 held_then) buffer one.1 service)
+        (sym (named one.0 off))
+        (subst (λ (l : List (ℕ × LentSlot)). StandsFor (names one.0) l (those_of one.0 held_then) buffer one.1 service)
+        (sym (loans one.0 off))
+        (subst (λ (h : List (ℕ × Taken)). StandsFor (names one.0) (those_of one.0 lent) h buffer one.1 service)
+        (sym (samples one.0 off)) it))
 
 -- ---- nobody else has what is named
 
@@ -314,38 +324,80 @@ names_stay of domain names later same =
     (λ is. ap (λ (b : Bool). of (cond b later (names one))) is.0 ∙ (same ∙ ap (λ (n : ℕ). of (names n)) (sym is.1)))
     (λ not. ap (λ (b : Bool). of (cond b later (names one))) not.0) (eqb_tells one domain))
 
+module _ (T U : Type 0) (IsDefault : T → Type 0) (steps_among : StepsAmong IsDefault) (types : MessageTypeDetails) (buffer : ℕ)
+    (names : ℕ → Naming) (lent lent_then : List (ℕ × (ℕ × LentSlot))) (held held_then : List (ℕ × (ℕ × Taken)))
+    (before behind : List (ℕ × ServicePorts T U)) (domain : ℕ) (old new : ServicePorts T U) (state : State T) (asked : Command T)
+    (answer : Reply T) (all : DomainsStandFor names lent held buffer (before ++ (domain, old) ∷ behind) state.services)
+    (named : NamesOf domain (names domain) lent held asked) (loans : ChangesAt domain lent lent_then)
+    (samples : ChangesAt domain held held_then) where
+  -- a domain's own ports match, by some names then
+  abbrev Its : Naming → Service T → Type 0
+  Its later service = Matches T U IsDefault types buffer asked answer state service later (those_of domain lent_then)
+      (those_of domain held_then) new
+
+  abbrev Does : Naming → Type 0
+  Does later = (services : List (Service T))
+      × Step types IsDefault buffer asked state answer (record state { made = counted answer state.made; services = services })
+      × DomainsStandFor (with_name domain later names) lent_then held_then buffer (before ++ (domain, new) ∷ behind) services
+
+  among_there : (first : List (Service T)) (service : Service T) (last : List (Service T)) → state.services ≡ first ++ service ∷ last
+      → StandInTurn names lent held buffer before first → StandInTurn names lent held buffer behind last → (later : Naming)
+      → later.publisher ≡ (names domain).publisher → later.subscriber ≡ (names domain).subscriber → Its later service → Does later
+  among_there first service last are stand_before stand_behind later same_publishers same_subscribers (after, does, stands) =
+      let apart = comes_not domain old before behind (all.once domain) in
+      let fails : (other : ℕ × ServicePorts T U) (one : Service T) → other.0 ≢ domain
+      → StandsFor (names other.0) (those_of other.0 lent) (those_of other.0 held) buffer other.1 one
+      → has_named state.factories asked one ≡ false =
+      (λ other one off its. has_none names lent held buffer domain all.publishers all.subscribers all.loans all.samples other one off its
+      state.factories asked named) in
+      let stay = others_stand {T = T} {U = U} names (with_name domain later names) lent lent_then held held_then buffer domain
+      (λ other off. named_then domain other names later off) loans.0 samples.0 in (
+        first ++ after ∷ last,
+        subst (λ (services : List (Service T)). Step types IsDefault buffer asked (record state { services = services }) answer
+            (record state { made = counted answer state.made; services = first ++ after ∷ last })) (sym are)
+            (steps_among types buffer asked state answer first last service after
+            (on_ports domain (names domain) lent held asked named)
+            (none_passes names lent held buffer (has_named state.factories asked) domain fails before first apart.0 stand_before)
+            (none_passes names lent held buffer (has_named state.factories asked) domain fails behind last apart.1 stand_behind) does),
+        record {
+          each = joined (with_name domain later names) lent_then held_then buffer before behind (domain, new) first after last
+              (stay before first apart.0 stand_before)
+              (subst (λ (n : Naming). StandsFor n (those_of domain lent_then) (those_of domain held_then) buffer new after)
+              (sym (named_there domain names later)) stands)
+              (stay behind last apart.1 stand_behind);
+          once = λ number. subst (λ (keys : List ℕ). how_often number keys ≤ 1) (sym (same_keys domain old new before behind))
+              (all.once number);
+          loans = loans.1;
+          samples = samples.1;
+          publishers = subst AreNamedApart (sym (names_stay (λ (n : Naming). n.publisher) domain names later same_publishers))
+              all.publishers;
+          subscribers = subst AreNamedApart (sym (names_stay (λ (n : Naming). n.subscriber) domain names later same_subscribers))
+              all.subscribers;
+        },
+      )
+
+  -- What a domain's own ports match may have other names, given at its service: its ports have those that they had.
+  pub among_others_named : ((first : List (Service T)) (service : Service T) (last : List (Service T))
+      → state.services ≡ first ++ service ∷ last
+      → StandsFor (names domain) (those_of domain lent) (those_of domain held) buffer old service
+      → (later : Naming) × (later.publisher ≡ (names domain).publisher) × (later.subscriber ≡ (names domain).subscriber)
+      × Its later service)
+      → (later : Naming) × (later.publisher ≡ (names domain).publisher) × (later.subscriber ≡ (names domain).subscriber) × Does later
+  among_others_named matches =
+      let (first, service, last, are, stand_before, it, stand_behind) =
+      parted names lent held buffer before behind (domain, old) state.services all.each in
+      let (later, same_publishers, same_subscribers, its) = matches first service last are it in (
+        later,
+        same_publishers,
+        same_subscribers,
+        among_there first service last are stand_before stand_behind later same_publishers same_subscribers its,
+      )
+
 pub among_others : (T U : Type 0) (IsDefault : T → Type 0) → StepsAmong IsDefault → AmongOthersMatches T U IsDefault
 among_others T U IsDefault steps_among types buffer names lent lent_then held held_then before behind domain old new state asked answer
     later all named same_publishers same_subscribers loans samples matches =
     let (first, service, last, are, stand_before, it, stand_behind) =
     parted names lent held buffer before behind (domain, old) state.services all.each in
-    let (after, does, stands) = matches first service last are it in
-    let apart = comes_not domain old before behind (all.once domain) in
-    let fails : (other : ℕ × ServicePorts T U) (one : Service T) → other.0 ≢ domain
-    → StandsFor (names other.0) (those_of other.0 lent) (those_of other.0 held) buffer other.1 one
-    → has_named state.factories asked one ≡ false =
-    (λ other one off its. has_none names lent held buffer domain all.publishers all.subscribers all.loans all.samples other one off its
-    state.factories asked named) in
-    let stay = others_stand {T = T} {U = U} names (with_name domain later names) lent lent_then held held_then buffer domain
-    (λ other off. named_then domain other names later off) loans.0 samples.0 in (
-      first ++ after ∷ last,
-      subst (λ (services : List (Service T)). Step types IsDefault buffer asked (record state { services = services }) answer
-          (record state { made = counted answer state.made; services = first ++ after ∷ last })) (sym are)
-          (steps_among types buffer asked state answer first last service after (on_ports domain (names domain) lent held asked named)
-          (none_passes names lent held buffer (has_named state.factories asked) domain fails before first apart.0 stand_before)
-          (none_passes names lent held buffer (has_named state.factories asked) domain fails behind last apart.1 stand_behind) does),
-      record {
-        each = joined (with_name domain later names) lent_then held_then buffer before behind (domain, new) first after last
-            (stay before first apart.0 stand_before)
-            (subst (λ (n : Naming). StandsFor n (those_of domain lent_then) (those_of domain held_then) buffer new after)
-            (sym (named_there domain names later)) stands)
-            (stay behind last apart.1 stand_behind);
-        once = λ number. subst (λ (keys : List ℕ). how_often number keys ≤ 1) (sym (same_keys domain old new before behind))
-            (all.once number);
-        loans = loans.1;
-        samples = samples.1;
-        publishers = subst AreNamedApart (sym (names_stay (λ (n : Naming). n.publisher) domain names later same_publishers)) all.publishers;
-        subscribers = subst AreNamedApart (sym (names_stay (λ (n : Naming). n.subscriber) domain names later same_subscribers))
-            all.subscribers;
-      },
-    )
+    among_there T U IsDefault steps_among types buffer names lent lent_then held held_then before behind domain old new state asked answer
+    all named loans samples first service last are stand_before stand_behind later same_publishers same_subscribers
+    (matches first service last are it)

@@ -1,5 +1,6 @@
 -- One place of the list of publishers is gone over, of a domain and of the machine.
-use Rattle.std.proofs.Common.{◌≡◌, ◌≢◌, ◌≤◌, ◌<◌, ◌⊎◌, ◌∷◌, ◌++◌, [], ◌&&◌, ◌||◌, ℕ, Bool, true, false, List, map, get_or, not, Option, None, Some, Result, Ok, Err, refl, sym, ap, subst, inl, inr, ◌∙◌, arith}
+use Rattle.std.proofs.Common.{◌≡◌, ◌≢◌, ◌≤◌, ◌<◌, ◌⊎◌, ◌∷◌, ◌++◌, [], ◌&&◌, ◌||◌, ℕ, Bool, true, false, List, map, get_or, not, Option}
+use Rattle.std.proofs.Common.{None, Some, Result, Ok, Err, refl, sym, ap, subst, inl, inr, ◌∙◌, arith}
 use Rattle.std.proofs.lemmas.Bool.{eq-eqb, eqb-true, ne_eqb}
 use Rattle.std.proofs.lemmas.List.{get_or-set_other}
 use Rattle.std.specs.List.{All, list_all}
@@ -7,10 +8,12 @@ use Rattle.std.specs.Map.{keys_of}
 use Rattle.std.specs.Option.{option_map_or}
 use Rattle.std.specs.Prelude.{fold, is_some, option_map, if◌then◌else◌}
 use Rattle.iox_command.specs.DomainValues.declared.connection_failure.ZeroCopyCreationError.{ZeroCopyCreationError}
-use Rattle.iox_command.specs.DomainValues.declared.connection_failure.ZeroCopyCreationError.TheVariants.{ExpiredConnectionBufferFull, OutOfMemory}
+use Rattle.iox_command.specs.DomainValues.declared.connection_failure.ZeroCopyCreationError.TheVariants.{ExpiredConnectionBufferFull}
+use Rattle.iox_command.specs.DomainValues.declared.connection_failure.ZeroCopyCreationError.TheVariants.{OutOfMemory}
 use Rattle.iox_domain.proofs.Fitting.{goes_same}
 use Rattle.iox_domain.specs.Container.declared.container.Member.{Member}
-use Rattle.iox_domain.specs.DomainPorts.Following.{Connects, FollowsAt, FollowsFreed, FollowsKey, FollowsListed, FollowsNone, FollowsNoneAt, Parts, freed_if, is_of, unplaced}
+use Rattle.iox_domain.specs.DomainPorts.Following.{Connects, FollowsAt, FollowsFreed, FollowsKey, FollowsListed, FollowsNone}
+use Rattle.iox_domain.specs.DomainPorts.Following.{FollowsNoneAt, Parts, freed_if, is_of, unplaced}
 use Rattle.iox_domain.specs.DomainPorts.Subscribing.{attached_at}
 use Rattle.iox_domain.specs.DomainPorts.declared.attached.Attached.{Attached}
 use Rattle.iox_domain.specs.DomainPorts.declared.attached.Taken.{Taken}
@@ -27,7 +30,8 @@ use Rattle.iox_domain_machine.specs.Tables.{LentSlot}
 use Rattle.iox_domain_machine.proofs.Changing.{not_zero}
 use Rattle.iox_domain_machine.proofs.Found.{same_some, never_some, never_true}
 use Rattle.iox_domain_machine.proofs.LeavePort.{none_set}
-use Rattle.iox_domain_machine.proofs.UpdateAlong.{Along, AreApart, IsAgain, again_now, again_on, along_on, at_free, at_stays, end_has, has_end, has_head, has_same, is_stuck, no_refused, no_stayer, HasMore}
+use Rattle.iox_domain_machine.proofs.UpdateAlong.{Along, AreApart, IsAgain, again_now, again_on, along_on, at_free, at_stays, end_has}
+use Rattle.iox_domain_machine.proofs.UpdateAlong.{has_end, has_head, has_same, is_stuck, no_refused, no_stayer, HasMore}
 use Rattle.iox_domain_machine.proofs.UpdateConnecting.{comes, lacks}
 use Rattle.iox_domain_machine.proofs.UpdateLists.{mapped_at, those_has}
 use Rattle.iox_domain_machine.proofs.UpdateMachine.{empty_box, part_known}

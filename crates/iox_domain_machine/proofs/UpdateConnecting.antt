@@ -1,5 +1,7 @@
 -- A subscriber connects to a publisher that is listed, of a domain and of the machine.
-use Rattle.std.proofs.Common.{◌≡◌, ◌≢◌, ◌≤◌, ◌<◌, ◌⊎◌, ◌+◌, ◌-◌, ◌∷◌, [], ◌||◌, ◌&&◌, ◌==◌, ℕ, Bool, true, false, List, length, map, get_or, min, slice_get, nat_le, Option, None, Some, Result, Ok, Err, refl, sym, ap, subst, inl, inr, ◌∙◌, arith}
+use Rattle.std.proofs.Common.{◌≡◌, ◌≢◌, ◌≤◌, ◌<◌, ◌⊎◌, ◌+◌, ◌-◌, ◌∷◌, [], ◌||◌, ◌&&◌, ◌==◌, ℕ, Bool, true, false, List, length, map}
+use Rattle.std.proofs.Common.{get_or, min, slice_get, nat_le, Option, None, Some, Result, Ok, Err, refl, sym, ap, subst, inl, inr, ◌∙◌}
+use Rattle.std.proofs.Common.{arith}
 use Rattle.std.proofs.lemmas.Bool.{cases_eq, eq-eqb, eqb-true, leb-true, ne_eqb, or_cases}
 use Rattle.std.proofs.lemmas.List.{get_or-set_other, get_or-set_same, nil_from_length}
 use Rattle.std.specs.Map.{keys_of, set_value}
@@ -39,7 +41,8 @@ use Rattle.iox_domain_machine.specs.Tables.{LentSlot}
 use Rattle.iox_domain_machine.proofs.Found.{never_some, never_true, other_found}
 use Rattle.iox_domain_machine.proofs.UpdateJoining.{attached_stands, joined_stands, leads_some, leads_within, no_box}
 use Rattle.iox_domain_machine.proofs.UpdateMachine.{empty_box}
-use Rattle.iox_domain_machine.proofs.UpdateMidway.{IsSamePort, Midway, Stands, connected_at, one_now, port_moved, same_publisher, service_at, subscriber_as, there_now}
+use Rattle.iox_domain_machine.proofs.UpdateMidway.{IsSamePort, Midway, Stands, connected_at, one_now, port_moved, same_publisher}
+use Rattle.iox_domain_machine.proofs.UpdateMidway.{service_at, subscriber_as, there_now}
 use Rattle.iox_domain_machine.proofs.UpdateParting.{same_publishers, got}
 use Rattle.iox_domain_machine.proofs.UpdateReading.{HasNone, key_attached, placed_key, expired_key, reads_kept}
 use Rattle.iox_machine.specs.Mailbox.{Mailbox}

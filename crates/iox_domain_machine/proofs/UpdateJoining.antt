@@ -1,5 +1,6 @@
 -- A connection of a publisher and a subscriber is made, and the subscriber reads there.
-use Rattle.std.proofs.Common.{◌≡◌, ◌≢◌, ◌≤◌, ◌<◌, ◌⊎◌, ◌+◌, ◌∷◌, [], ◌++◌, ◌&&◌, ◌==◌, ℕ, zero, suc, Bool, true, false, cond, List, length, map, get_or, set, nat_lt, Option, None, Some, Ok, refl, sym, ap, subst, inl, inr, ◌∙◌, arith}
+use Rattle.std.proofs.Common.{◌≡◌, ◌≢◌, ◌≤◌, ◌<◌, ◌⊎◌, ◌+◌, ◌∷◌, [], ◌++◌, ◌&&◌, ◌==◌, ℕ, zero, suc, Bool, true, false, cond, List}
+use Rattle.std.proofs.Common.{length, map, get_or, set, nat_lt, Option, None, Some, Ok, refl, sym, ap, subst, inl, inr, ◌∙◌, arith}
 use Rattle.std.proofs.lemmas.Bool.{cases_eq, eq-eqb, eqb-true, ne_eqb}
 use Rattle.std.proofs.lemmas.List.{get_or-set_same, get_or-set_other, get_or_past, get_or_push}
 use Rattle.std.proofs.lemmas.List.Sums.{fails_before_first}

@@ -1,5 +1,6 @@
 -- Lists by their places, and by the names of what is in them.
-use Rattle.std.proofs.Common.{◌≡◌, ◌≢◌, ◌<◌, ◌⊎◌, ◌∷◌, [], ◌++◌, ◌||◌, ◌==◌, ℕ, zero, suc, Bool, true, false, not, List, length, map, get_or, remove, slice_get, Option, None, Some, refl, ap, ◌∙◌, inl, inr, arith}
+use Rattle.std.proofs.Common.{◌≡◌, ◌≢◌, ◌<◌, ◌⊎◌, ◌∷◌, [], ◌++◌, ◌||◌, ◌==◌, ℕ, zero, suc, Bool, true, false, not, List, length, map}
+use Rattle.std.proofs.Common.{get_or, remove, slice_get, Option, None, Some, refl, ap, ◌∙◌, inl, inr, arith}
 use Rattle.std.proofs.lemmas.Bool.{eq-eqb, eqb-true, ne_eqb, or_cases, or_from, or_right}
 use Rattle.std.specs.List.{list_any}
 use Rattle.std.specs.Prelude.{filter, filter_map, option_map, if◌then◌else◌}

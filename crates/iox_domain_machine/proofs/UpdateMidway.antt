@@ -1,5 +1,6 @@
 -- In the middle of a subscriber's update: ports of a domain, and the service of the machine for which they stand there.
-use Rattle.std.proofs.Common.{◌≡◌, ◌≢◌, ◌≤◌, ◌⊎◌, ◌∷◌, ◌==◌, ◌&&◌, [], ℕ, true, List, length, map, get_or, not, nat_lt, Option, None, Some, refl, sym, ap, subst, inl, inr, ◌∙◌, arith}
+use Rattle.std.proofs.Common.{◌≡◌, ◌≢◌, ◌≤◌, ◌⊎◌, ◌∷◌, ◌==◌, ◌&&◌, [], ℕ, true, List, length, map, get_or, not, nat_lt, Option, None}
+use Rattle.std.proofs.Common.{Some, refl, sym, ap, subst, inl, inr, ◌∙◌, arith}
 use Rattle.std.proofs.lemmas.Bool.{cases_eq, lt-ltb, ne_eqb}
 use Rattle.std.proofs.lemmas.List.{length-map}
 use Rattle.std.proofs.lemmas.Map.{keys-set_value}

@@ -1,5 +1,7 @@
 -- A connection parts whose publisher left, of a domain and of the machine.
-use Rattle.std.proofs.Common.{◌≡◌, ◌≢◌, ◌≤◌, ◌<◌, ◌∷◌, ◌++◌, ◌==◌, [], ℕ, zero, suc, Bool, true, false, List, length, map, get_or, set, remove, slice_get, not, nat_lt, nat_le, max, Option, None, Some, refl, sym, ap, subst, inl, inr, ◌∙◌, arith, if◌then◌else◌}
+use Rattle.std.proofs.Common.{◌≡◌, ◌≢◌, ◌≤◌, ◌<◌, ◌∷◌, ◌++◌, ◌==◌, [], ℕ, zero, suc, Bool, true, false, List, length, map, get_or, set}
+use Rattle.std.proofs.Common.{remove, slice_get, not, nat_lt, nat_le, max, Option, None, Some, refl, sym, ap, subst, inl, inr, ◌∙◌, arith}
+use Rattle.std.proofs.Common.{if◌then◌else◌}
 use Rattle.std.proofs.lemmas.Bool.{cases_eq, le-ltb, leb-false, leb-true, lt-ltb}
 use Rattle.std.proofs.lemmas.List.{get_or-map, get_or-set_other, length-map, map-append}
 use Rattle.std.proofs.lemmas.Map.{keys-set_value}
@@ -15,7 +17,8 @@ use Rattle.iox_domain.proofs.WellKept.{well_walks}
 use Rattle.iox_domain.specs.Attaching.{KeysFit, keys_at}
 use Rattle.iox_domain.specs.Container.SlotTable.{SlotTable, released, value_at}
 use Rattle.iox_domain.specs.Container.declared.container.Member.{Member}
-use Rattle.iox_domain.specs.DomainPorts.Following.{expired_port, replaced_port, unplaced, is_unborrowed, Parts, PartsIf, PartsOver, PartsBorrowed, PartsFor}
+use Rattle.iox_domain.specs.DomainPorts.Following.{expired_port, replaced_port, unplaced, is_unborrowed, Parts, PartsIf, PartsOver}
+use Rattle.iox_domain.specs.DomainPorts.Following.{PartsBorrowed, PartsFor}
 use Rattle.iox_domain.specs.DomainPorts.Keys.{KeysState, with_last}
 use Rattle.iox_domain.specs.DomainPorts.Ports.{detached_at, is_live, ended_at}
 use Rattle.iox_domain.specs.DomainPorts.Ties.{tie_put}
@@ -46,8 +49,10 @@ use Rattle.iox_domain_machine.proofs.LeavePort.{none_set}
 use Rattle.iox_domain_machine.proofs.Settling.{gone_found}
 use Rattle.iox_domain_machine.proofs.UpdateLists.{first_named, first_of_first, first_of_second, without_named}
 use Rattle.iox_domain_machine.proofs.UpdateMachine.{part_idle, part_room, part_out, part_ends, part_stays}
-use Rattle.iox_domain_machine.proofs.UpdateMidway.{IsSamePort, Midway, Stands, service_at, same_publisher, port_moved, idle_so, unborrowed_so}
-use Rattle.iox_domain_machine.proofs.UpdateReading.{HasNone, IsReading, key_attached, expired_key, key_once, held_still, reads_alike, reads_ended, reads_unplaced}
+use Rattle.iox_domain_machine.proofs.UpdateMidway.{IsSamePort, Midway, Stands, service_at, same_publisher, port_moved, idle_so}
+use Rattle.iox_domain_machine.proofs.UpdateMidway.{unborrowed_so}
+use Rattle.iox_domain_machine.proofs.UpdateReading.{HasNone, IsReading, key_attached, expired_key, key_once, held_still, reads_alike}
+use Rattle.iox_domain_machine.proofs.UpdateReading.{reads_ended, reads_unplaced}
 use Rattle.iox_machine.specs.Mailbox as machine
 use Rattle.iox_machine.specs.Mailbox.{Mailbox}
 use Rattle.iox_machine.specs.Service.{Service, Subscriber, mailbox}

@@ -1,5 +1,6 @@
 -- The list of publishers is gone over, place by place, of a domain and of the machine.
-use Rattle.std.proofs.Common.{◌≡◌, ◌≢◌, ◌≤◌, ◌<◌, ◌⊎◌, ◌+◌, ◌-◌, ◌∷◌, [], ◌&&◌, ◌||◌, ℕ, zero, suc, Bool, true, false, List, length, get_or, drop, nat_lt, Option, None, Some, Result, Ok, Err, refl, sym, ap, subst, inl, inr, ◌∙◌, arith}
+use Rattle.std.proofs.Common.{◌≡◌, ◌≢◌, ◌≤◌, ◌<◌, ◌⊎◌, ◌+◌, ◌-◌, ◌∷◌, [], ◌&&◌, ◌||◌, ℕ, zero, suc, Bool, true, false, List, length}
+use Rattle.std.proofs.Common.{get_or, drop, nat_lt, Option, None, Some, Result, Ok, Err, refl, sym, ap, subst, inl, inr, ◌∙◌, arith}
 use Rattle.std.proofs.lemmas.Bool.{cases_eq, cases_lt, le-ltb, lt-ltb, ltb-true, ltb-false}
 use Rattle.std.proofs.lemmas.List.{drop_more, get_or-drop}
 use Rattle.std.specs.Map.{keys_of}
@@ -28,7 +29,8 @@ use Rattle.iox_domain_machine.proofs.Found.{never_some}
 use Rattle.iox_domain_machine.proofs.UpdateAlong.{along_same, again_same}
 use Rattle.iox_domain_machine.proofs.UpdateBody.{Walked, before, listed, outcome_of, parts_from, step_listed, step_unlisted}
 use Rattle.iox_domain_machine.proofs.UpdateMidway.{Midway, connected_at}
-use Rattle.iox_domain_machine.proofs.UpdatePlaces.{IsFirstBelow, Place, leaving_first, leaving_then, none_first, none_then, now_first, still_first}
+use Rattle.iox_domain_machine.proofs.UpdatePlaces.{IsFirstBelow, Place, leaving_first, leaving_then, none_first, none_then, now_first}
+use Rattle.iox_domain_machine.proofs.UpdatePlaces.{still_first}
 use Rattle.iox_machine.specs.PublisherUpdate.{failure_at}
 use Rattle.iox_machine.specs.Service.{Service, Subscriber}
 use Rattle.iox_machine.specs.SubscriberUpdate.{Parted}

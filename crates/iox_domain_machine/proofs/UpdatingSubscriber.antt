@@ -1,5 +1,6 @@
 -- A subscriber brings its connections up to date, of a domain and of the machine.
-use Rattle.std.proofs.Common.{◌≡◌, ◌≤◌, ◌<◌, ◌⊎◌, ◌+◌, ◌-◌, [], ◌&&◌, ◌||◌, ℕ, Bool, true, false, List, length, map, get_or, nat_lt, replicate, Option, None, Some, Result, Ok, Err, refl, sym, ap, subst, inl, inr, ◌∙◌, arith}
+use Rattle.std.proofs.Common.{◌≡◌, ◌≤◌, ◌<◌, ◌⊎◌, ◌+◌, ◌-◌, [], ◌&&◌, ◌||◌, ℕ, Bool, true, false, List, length, map, get_or, nat_lt}
+use Rattle.std.proofs.Common.{replicate, Option, None, Some, Result, Ok, Err, refl, sym, ap, subst, inl, inr, ◌∙◌, arith}
 use Rattle.std.proofs.lemmas.Bool.{cases_eq, cases_lt, le-ltb, lt-ltb}
 use Rattle.std.proofs.lemmas.List.{ext_get_or, get_or-map, get_or_past, length-append, length-map, length-replicate}
 use Rattle.std.proofs.lemmas.List.Elements.{All-from_get_or}
@@ -46,7 +47,8 @@ use Rattle.iox_domain_machine.proofs.UpdateAlong.{is_stuck}
 use Rattle.iox_domain_machine.proofs.UpdateBody.{Walked}
 use Rattle.iox_domain_machine.proofs.UpdateLists.{any_not, first_none, first_some, mapped_at, those_at, those_has}
 use Rattle.iox_domain_machine.proofs.UpdateMachine.{all_came, all_else, all_kept, all_off, connects, empty_box, only_boxes}
-use Rattle.iox_domain_machine.proofs.UpdateMidway.{IsSamePort, Midway, as_stands, box_now, connected_at, connected_is, one_now, service_at, subscriber_as}
+use Rattle.iox_domain_machine.proofs.UpdateMidway.{IsSamePort, Midway, as_stands, box_now, connected_at, connected_is, one_now}
+use Rattle.iox_domain_machine.proofs.UpdateMidway.{service_at, subscriber_as}
 use Rattle.iox_domain_machine.proofs.UpdateParting.{got}
 use Rattle.iox_domain_machine.proofs.UpdatePlaces.{Place, leaving_then, none_below_zero, parting_in_two}
 use Rattle.iox_domain_machine.proofs.UpdateReading.{IsReading, expired_key, key_attached, placed_key, reads_alike}

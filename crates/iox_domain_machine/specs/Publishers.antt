@@ -1,5 +1,6 @@
 -- Which publisher of the machine one of a domain is.
-use Rattle.std.specs.Prelude.{ℕ, ◌+◌, ◌-◌, ◌^◌, ◌<◌, ◌≤◌, ◌≡◌, min, true, false, List, length, drop, get_or, is_some, map, nat_le, Option, None, Some, option_map}
+use Rattle.std.specs.Prelude.{ℕ, ◌+◌, ◌-◌, ◌^◌, ◌<◌, ◌≤◌, ◌≡◌, min, true, false, List, length, drop, get_or, is_some, map, nat_le, Option}
+use Rattle.std.specs.Prelude.{None, Some, option_map}
 use Rattle.iox_domain.specs.DomainPorts.Messages as domain
 use Rattle.iox_domain.specs.DomainPorts.MessagesSending.{slots_of}
 use Rattle.iox_domain.specs.DomainPorts.Places.{reached}

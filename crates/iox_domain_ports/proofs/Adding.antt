@@ -1,5 +1,6 @@
 -- Counts that are added up to a limit.
-use Rattle.std.proofs.Common.{arith, ◌≡◌, ◌+◌, ◌==◌, ◌≤◌, ◌∙◌, ℕ, min, List, [], ◌∷◌, Option, None, Some, Bool, true, false, fold, map, refl, ap}
+use Rattle.std.proofs.Common.{arith, ◌≡◌, ◌+◌, ◌==◌, ◌≤◌, ◌∙◌, ℕ, min, List, [], ◌∷◌, Option, None, Some, Bool, true, false, fold, map}
+use Rattle.std.proofs.Common.{refl, ap}
 use Rattle.std.specs.Prelude.{sum_by, if◌then◌else◌}
 use Rattle.std.proofs.lemmas.List.Sums.{sum_by-cons}
 use Rattle.iox_domain_ports.specs.Living.{counted}
@@ -18,7 +19,8 @@ chosen true count limit = refl
 chosen false count limit = omega arith
 
 -- what counts of an owner is cut where the whole is
-pub counted_cut : (owner : Option ℕ) (number count limit : ℕ) → counted owner number (min count limit) ≡ min (counted owner number count) limit
+pub counted_cut : (owner : Option ℕ) (number count limit : ℕ)
+    → counted owner number (min count limit) ≡ min (counted owner number count) limit
 counted_cut None number count limit = refl
 counted_cut (Some owner) number count limit = chosen (owner == number) count limit
 

@@ -14,7 +14,8 @@ map_agree f g (x ∷ xs) same =
     ap (λ y. y ∷ map f xs) (same x (omega (arith, times_cons x x xs, one_same x)))
     ∙ ap (λ ys. g x ∷ ys) (map_agree f g xs (λ k inside. same k (omega (arith, inside, times_cons k x xs))))
 
-option_agree : {Y : Type 0} (f g : ℕ → Y) (one : Option ℕ) → ((k : ℕ) → 0 < times k (option_to_list one) → f k ≡ g k) → option_map f one ≡ option_map g one
+option_agree : {Y : Type 0} (f g : ℕ → Y) (one : Option ℕ) → ((k : ℕ) → 0 < times k (option_to_list one) → f k ≡ g k)
+    → option_map f one ≡ option_map g one
 option_agree f g None same = refl
 option_agree f g (Some x) same = ap Some (same x (omega (arith, times_cons x x [], one_same x)))
 
@@ -22,12 +23,16 @@ connections_agree : {Y : Type 0} (f g : ℕ → Y) (connections : List (Connecti
     → map (connection_by f) connections ≡ map (connection_by g) connections
 connections_agree f g [] same = refl
 connections_agree f g (c ∷ rest) same =
-    let here : (k : ℕ) → 0 < times k (held_by c) → f k ≡ g k = λ k inside. same k (omega (arith, inside, times_append k (held_by c) (held rest))) in
-    ap (λ waiting. (record { stage = c.stage; limit = c.limit; waiting = waiting; borrowed = map f c.borrowed }) ∷ map (connection_by f) rest)
+    let here : (k : ℕ) → 0 < times k (held_by c)
+    → f k ≡ g k = λ k inside. same k (omega (arith, inside, times_append k (held_by c) (held rest))) in
+    ap (λ waiting. (record { stage = c.stage; limit = c.limit; waiting = waiting; borrowed = map f c.borrowed })
+    ∷ map (connection_by f) rest)
     (map_agree f g c.waiting (λ k inside. here k (omega (arith, inside, times_append k c.waiting c.borrowed))))
-    ∙ ap (λ borrowed. (record { stage = c.stage; limit = c.limit; waiting = map g c.waiting; borrowed = borrowed }) ∷ map (connection_by f) rest)
+    ∙ ap (λ borrowed. (record { stage = c.stage; limit = c.limit; waiting = map g c.waiting; borrowed = borrowed })
+    ∷ map (connection_by f) rest)
     (map_agree f g c.borrowed (λ k inside. here k (omega (arith, inside, times_append k c.waiting c.borrowed))))
-    ∙ ap (λ cs. connection_by g c ∷ cs) (connections_agree f g rest (λ k inside. same k (omega (arith, inside, times_append k (held_by c) (held rest)))))
+    ∙ ap (λ cs. connection_by g c ∷ cs)
+    (connections_agree f g rest (λ k inside. same k (omega (arith, inside, times_append k (held_by c) (held rest)))))
 
 -- all but the loans
 abbrev pub other_uses : {L X M Y : Type 0} → List M → (X → Y) → Uses L X → Uses M Y
@@ -49,15 +54,19 @@ pub messages_agree : {M Y : Type 0} (loans : List M) (f g : ℕ → Y) (uses : U
     → ((k : ℕ) → 0 < times k (option_to_list uses.sending) + (times k uses.history + times k (held uses.connections)) → f k ≡ g k)
     → other_uses loans f uses ≡ other_uses loans g uses
 messages_agree loans f g uses same =
-    ap (λ sending. record (other_uses loans f uses) { sending = sending }) (option_agree f g uses.sending (λ k inside. same k (omega (arith, inside))))
-    ∙ ap (λ history. record (other_uses loans f uses) { sending = option_map g uses.sending; history = history }) (map_agree f g uses.history (λ k inside. same k (omega (arith, inside))))
-    ∙ ap (λ connections. record (other_uses loans f uses) { sending = option_map g uses.sending; history = map g uses.history; connections = connections })
+    ap (λ sending. record (other_uses loans f uses) { sending = sending })
+    (option_agree f g uses.sending (λ k inside. same k (omega (arith, inside))))
+    ∙ ap (λ history. record (other_uses loans f uses) { sending = option_map g uses.sending; history = history })
+    (map_agree f g uses.history (λ k inside. same k (omega (arith, inside))))
+    ∙ ap (λ connections. record (other_uses loans f uses)
+    { sending = option_map g uses.sending; history = map g uses.history; connections = connections })
     (connections_agree f g uses.connections (λ k inside. same k (omega (arith, inside))))
 
 pub uses_agree : {M Y : Type 0} (loan other : ℕ → M) (f g : ℕ → Y) (uses : Uses ℕ ℕ)
     → ((k : ℕ) → 0 < times k (in_use uses) → (loan k ≡ other k) × (f k ≡ g k)) → uses_by loan f uses ≡ uses_by other g uses
 uses_agree loan other f g uses same =
-    ap (λ loans. other_uses loans f uses) (map_agree loan other uses.loans (λ k inside. (same k (omega (arith, inside, in_use_times uses k))).0))
+    ap (λ loans. other_uses loans f uses)
+    (map_agree loan other uses.loans (λ k inside. (same k (omega (arith, inside, in_use_times uses k))).0))
     ∙ messages_agree (map other uses.loans) f g uses (λ k inside. (same k (omega (arith, inside, in_use_times uses k))).1)
 
 -- what is seen in slots stands in these slots
@@ -69,22 +78,28 @@ same_connections : {Y : Type 0} (slot : Y → ℕ) (name : ℕ → Y) → ((k : 
     → map (connection_by slot) (map (connection_by name) cs) ≡ cs
 same_connections slot name back [] = refl
 same_connections slot name back (c ∷ cs) =
-    ap (λ waiting. (record { stage = c.stage; limit = c.limit; waiting = waiting; borrowed = map slot (map name c.borrowed) }) ∷ map (connection_by slot) (map (connection_by name) cs))
+    ap (λ waiting. (record { stage = c.stage; limit = c.limit; waiting = waiting; borrowed = map slot (map name c.borrowed) })
+    ∷ map (connection_by slot) (map (connection_by name) cs))
     (same_slots slot name back c.waiting)
-    ∙ ap (λ borrowed. (record { stage = c.stage; limit = c.limit; waiting = c.waiting; borrowed = borrowed }) ∷ map (connection_by slot) (map (connection_by name) cs))
+    ∙ ap (λ borrowed. (record { stage = c.stage; limit = c.limit; waiting = c.waiting; borrowed = borrowed })
+    ∷ map (connection_by slot) (map (connection_by name) cs))
     (same_slots slot name back c.borrowed)
     ∙ ap (λ rest. c ∷ rest) (same_connections slot name back cs)
 
-same_sending : {Y : Type 0} (slot : Y → ℕ) (name : ℕ → Y) → ((k : ℕ) → slot (name k) ≡ k) → (one : Option ℕ) → option_map slot (option_map name one) ≡ one
+same_sending : {Y : Type 0} (slot : Y → ℕ) (name : ℕ → Y) → ((k : ℕ) → slot (name k) ≡ k) → (one : Option ℕ)
+    → option_map slot (option_map name one) ≡ one
 same_sending slot name back None = refl
 same_sending slot name back (Some x) = ap Some (back x)
 
 pub slots_seen : {T U : Type 0} (store : Store T U) (uses : Uses ℕ ℕ) → slots_of (seen_sender store uses) ≡ uses
 slots_seen {T = T} {U = U} store uses =
     ap (λ loans. record (slots_of (seen_sender store uses)) { loans = loans }) (same_slots loan_slot (loan_in store) (λ k. refl) uses.loans)
-    ∙ ap (λ sending. record (slots_of (seen_sender store uses)) { loans = uses.loans; sending = sending }) (same_sending message_slot (message_in store) (λ k. refl) uses.sending)
-    ∙ ap (λ history. record (slots_of (seen_sender store uses)) { loans = uses.loans; sending = uses.sending; history = history }) (same_slots message_slot (message_in store) (λ k. refl) uses.history)
-    ∙ ap (λ connections. record (slots_of (seen_sender store uses)) { loans = uses.loans; sending = uses.sending; history = uses.history; connections = connections })
+    ∙ ap (λ sending. record (slots_of (seen_sender store uses)) { loans = uses.loans; sending = sending })
+    (same_sending message_slot (message_in store) (λ k. refl) uses.sending)
+    ∙ ap (λ history. record (slots_of (seen_sender store uses)) { loans = uses.loans; sending = uses.sending; history = history })
+    (same_slots message_slot (message_in store) (λ k. refl) uses.history)
+    ∙ ap (λ connections. record (slots_of (seen_sender store uses))
+    { loans = uses.loans; sending = uses.sending; history = uses.history; connections = connections })
     (same_connections message_slot (message_in store) (λ k. refl) uses.connections)
   where
     loan_slot : Loan T U → ℕ

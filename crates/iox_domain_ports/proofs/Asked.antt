@@ -16,35 +16,47 @@ use Rattle.iox_domain_ports.specs.PublisherUpdating.{Updates}
 use Rattle.iox_domain_ports.specs.Sending.{Sends, SendsIf, Finishes, begun_at, dropped_at}
 
 -- a send by a publisher of which is known whether it stands
-if_stands : {T U : Type 0} (stands : Bool) (may_degrade : DegradationInfo → DegradationAction → Type 0) (may : BackpressureInfo → BackpressureDecision → Type 0) (listed : List (Option (Member SubscriberEntry))) (changes at : ℕ)
+if_stands : {T U : Type 0} (stands : Bool) (may_degrade : DegradationInfo → DegradationAction → Type 0)
+    (may : BackpressureInfo → BackpressureDecision → Type 0) (listed : List (Option (Member SubscriberEntry))) (changes at : ℕ)
     (old : PublisherPort T U) (answer : Option (Result Sent SendError)) (new : PublisherPort T U) → stands ≡ true
     → SendsIf true may_degrade may listed changes at old answer new → SendsIf stands may_degrade may listed changes at old answer new
 if_stands stands may_degrade may listed changes at old answer new is sends = rw is sends
 
 -- its update failed
-pub sends_refused : {T U : Type 0} (may_degrade : DegradationInfo → DegradationAction → Type 0) (may : BackpressureInfo → BackpressureDecision → Type 0) (listed : List (Option (Member SubscriberEntry))) (changes : ℕ)
-    (ready : Option ℕ) (at : ℕ) (old updated new : PublisherPort T U) (outcome : Result (Unit {0}) ConnectionFailure) (failure : ConnectionFailure)
-    → ready ≡ Some at → old.stands ≡ true → Updates may_degrade listed changes old outcome updated → outcome ≡ Err failure → new ≡ dropped_at at updated
+pub sends_refused : {T U : Type 0} (may_degrade : DegradationInfo → DegradationAction → Type 0)
+    (may : BackpressureInfo → BackpressureDecision → Type 0) (listed : List (Option (Member SubscriberEntry))) (changes : ℕ)
+    (ready : Option ℕ) (at : ℕ) (old updated new : PublisherPort T U) (outcome : Result (Unit {0}) ConnectionFailure)
+    (failure : ConnectionFailure)
+    → ready ≡ Some at → old.stands ≡ true → Updates may_degrade listed changes old outcome updated → outcome ≡ Err failure
+    → new ≡ dropped_at at updated
     → Sends may_degrade may listed changes ready old (Some (Err (sending.ConnectionError failure))) new
 sends_refused may_degrade may listed changes ready at old updated new outcome failure is_ready stands updates is_err is_new =
-    rw is_ready (if_stands old.stands may_degrade may listed changes at old _ new stands (outcome, updated, updates, rw is_err (refl, is_new)))
+    rw is_ready (if_stands old.stands may_degrade may listed changes at old _ new stands
+    (outcome, updated, updates, rw is_err (refl, is_new)))
 
 -- it was sent
-pub sends_sent : {T U : Type 0} (may_degrade : DegradationInfo → DegradationAction → Type 0) (may : BackpressureInfo → BackpressureDecision → Type 0) (listed : List (Option (Member SubscriberEntry))) (changes : ℕ)
-    (ready : Option ℕ) (at : ℕ) (old updated begun new : PublisherPort T U) (outcome : Result (Unit {0}) ConnectionFailure) (done : Unit {0}) (answer : Result Sent SendError)
-    → ready ≡ Some at → old.stands ≡ true → Updates may_degrade listed changes old outcome updated → outcome ≡ Ok done → begun ≡ begun_at at updated → Finishes may begun answer new
+pub sends_sent : {T U : Type 0} (may_degrade : DegradationInfo → DegradationAction → Type 0)
+    (may : BackpressureInfo → BackpressureDecision → Type 0) (listed : List (Option (Member SubscriberEntry))) (changes : ℕ)
+    (ready : Option ℕ) (at : ℕ) (old updated begun new : PublisherPort T U) (outcome : Result (Unit {0}) ConnectionFailure)
+    (done : Unit {0}) (answer : Result Sent SendError)
+    → ready ≡ Some at → old.stands ≡ true → Updates may_degrade listed changes old outcome updated → outcome ≡ Ok done
+    → begun ≡ begun_at at updated → Finishes may begun answer new
     → Sends may_degrade may listed changes ready old (Some answer) new
-sends_sent may_degrade may listed changes ready at old updated begun new outcome done answer is_ready stands updates is_ok is_begun finishes =
-    rw is_ready (if_stands old.stands may_degrade may listed changes at old _ new stands (outcome, updated, updates, rw is_ok (answer, rw is_begun at finishes, refl)))
+sends_sent may_degrade may listed changes ready at old updated begun new outcome done answer is_ready stands updates is_ok is_begun
+    finishes =
+    rw is_ready (if_stands old.stands may_degrade may listed changes at old _ new stands
+    (outcome, updated, updates, rw is_ok (answer, rw is_begun at finishes, refl)))
 
 -- a send that goes over its places isn't refused for want of a connection
 answers_else : (arrived fails : Bool) (delivered : ℕ) (failure : ConnectionFailure)
-    → (if arrived then (if fails then Err sending.UnableToDeliver else Ok (sent.Delivered delivered)) else Ok sent.Blocked) ≢ Err (sending.ConnectionError failure)
+    → (if arrived then (if fails then Err sending.UnableToDeliver else Ok (sent.Delivered delivered)) else Ok sent.Blocked) ≢ Err
+    (sending.ConnectionError failure)
 answers_else true true delivered failure is = cc
 answers_else true false delivered failure is = cc
 answers_else false fails delivered failure is = cc
 
-pub finishes_else : {T U : Type 0} (may : BackpressureInfo → BackpressureDecision → Type 0) (old new : PublisherPort T U) (answer : Result Sent SendError) → Finishes may old answer new
+pub finishes_else : {T U : Type 0} (may : BackpressureInfo → BackpressureDecision → Type 0) (old new : PublisherPort T U)
+    (answer : Result Sent SendError) → Finishes may old answer new
     → (failure : ConnectionFailure) → Some answer ≢ Some (Err (sending.ConnectionError failure))
 finishes_else {T} {U} may old new answer finishes failure is =
     let gone : PublisherPort T U = finishes.1 in

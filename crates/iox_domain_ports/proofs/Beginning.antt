@@ -22,7 +22,8 @@ under_way old new slot written begins =
 abbrev with_sending : {T U : Type 0} → SenderState T U → PublisherPort T U → PublisherPort T U
 with_sending sender port = record port { progress = start; sender = sender }
 
-pub begins_at : {T U : Type 0} (port : PublisherPort T U) (new : SenderState T U) (slot : ℕ) → is_written_loan (loan_at slot port.sender.uses) ≡ true
+pub begins_at : {T U : Type 0} (port : PublisherPort T U) (new : SenderState T U) (slot : ℕ)
+    → is_written_loan (loan_at slot port.sender.uses) ≡ true
     → ((loan : Loan T U) → loan_at slot port.sender.uses ≡ Some loan
     → new ≡ with_uses (begun (place_in slot port.sender.uses) (sent_as loan) port.sender.uses) port.sender)
     → record port { progress = start; sender = new } ≡ begun_at (place_in slot port.sender.uses) port

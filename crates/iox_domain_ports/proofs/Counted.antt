@@ -35,10 +35,16 @@ values_le : (unit elements : ℕ) → elements * unit ≤ span unit elements
 values_le unit elements = mul-le-mul_left {m = unit} {n = max unit 1} elements (omega arith)
 
 -- what a loan takes of a segment that is opened for it
-pub room_fits : (allocation : AllocationStrategy) (unit values elements room : ℕ) → SegmentRoom allocation unit values elements (Some room) → extent unit values elements ≤ room
+pub room_fits : (allocation : AllocationStrategy) (unit values elements room : ℕ)
+    → SegmentRoom allocation unit values elements (Some room) → extent unit values elements ≤ room
 room_fits allocation unit values elements room (None, is, found) = absurd (none-some room (sym found))
 room_fits allocation unit values elements room (Some length, is, found) =
-    omega (arith, (within_is (extent unit values length) room found).0, span_le unit elements length (fits_one_segment.fits allocation elements length is))
+    omega (
+      arith,
+      (within_is (extent unit values length) room found).0,
+      span_le unit elements length
+          (fits_one_segment.fits allocation elements length is),
+    )
 
 fits : (unit elements length : ℕ) → (extent unit (elements * unit) elements ≤ span unit length) ↔ (elements ≤ length)
 fits unit elements length = (
@@ -50,12 +56,23 @@ opens : (allocation : AllocationStrategy) (unit elements room : ℕ) → Segment
     → (length : ℕ) × SegmentLength allocation elements (Some length) × (room ≡ span unit length) × (room < 2 ^ 32)
 opens allocation unit elements room (None, is, found) = absurd (none-some room (sym found))
 opens allocation unit elements room (Some length, is, found) =
-    let same = within_is (extent unit (elements * unit) length) room found in
-    (length, is, omega (arith, same.0, values_le unit elements, span_le unit elements length (fits_one_segment.fits allocation elements length is)), same.1)
+    let same = within_is (extent unit (elements * unit) length) room found in (
+      length,
+      is,
+      omega (
+        arith,
+        same.0,
+        values_le unit elements,
+        span_le unit elements length
+            (fits_one_segment.fits allocation elements length is),
+      ),
+      same.1,
+    )
 
 refuses : (allocation : AllocationStrategy) (unit elements : ℕ) → SegmentRoom allocation unit (elements * unit) elements None
     → (length : ℕ) → SegmentLength allocation elements (Some length) → 2 ^ 32 ≤ span unit length
-refuses allocation unit elements (None, is, found) length some = absurd (none-some length (fits_one_segment.one allocation elements None (Some length) is some))
+refuses allocation unit elements (None, is, found) length some
+    = absurd (none-some length (fits_one_segment.one allocation elements None (Some length) is some))
 refuses allocation unit elements (Some other, is, found) length some =
     let same : other ≡ length = ap (λ o. unwrap_or o 0) (fits_one_segment.one allocation elements (Some other) (Some length) is some) in
     let large : 2 ^ 32 ≤ extent unit (elements * unit) length = rw same at (past (extent unit (elements * unit) other) found) in

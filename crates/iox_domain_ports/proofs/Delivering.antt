@@ -6,11 +6,14 @@ use Rattle.iox_domain_ports.specs.declared.publisher_port.PublisherPort.{Publish
 use Rattle.iox_domain_ports.specs.Sending.{Steps, Delivers, meeting_at, met}
 
 -- Where a send stands before a place: whatever comes of the places that are left comes of all of them.
-pub record Going {T U : Type 0} (may : BackpressureInfo → BackpressureDecision → Type 0) (first now : PublisherPort T U) (place : ℕ) : Type 0 where
-  pub rest : (arrived : Bool) (new : PublisherPort T U) → Delivers may (length first.ties.items - place) now arrived new → Delivers may (length first.ties.items - first.progress.place) first arrived new
+pub record Going {T U : Type 0} (may : BackpressureInfo → BackpressureDecision → Type 0) (first now : PublisherPort T U) (place : ℕ) :
+    Type 0 where
+  pub rest : (arrived : Bool) (new : PublisherPort T U) → Delivers may (length first.ties.items - place) now arrived new
+      → Delivers may (length first.ties.items - first.progress.place) first arrived new
 
 -- one place more is gone over
-pub going_on : {T U : Type 0} (may : BackpressureInfo → BackpressureDecision → Type 0) (first now next : PublisherPort T U) (place : ℕ) (went : Bool)
+pub going_on : {T U : Type 0} (may : BackpressureInfo → BackpressureDecision → Type 0) (first now next : PublisherPort T U) (place : ℕ)
+    (went : Bool)
     → Going may first now place → place < length first.ties.items → went ≡ true
     → Steps may (meeting_at now.progress.place now) (met now.progress.place now) went next → Going may first next (place + 1)
 going_on {T} {U} may first now next place went so_far within is step =
@@ -19,7 +22,8 @@ going_on {T} {U} may first now next place went so_far within is step =
     record { rest = λ arrived new further. so_far.rest arrived new (rw left (true, next, stepped, further)) }
 
 -- the send waits at a place
-pub waits : {T U : Type 0} (may : BackpressureInfo → BackpressureDecision → Type 0) (first now next : PublisherPort T U) (place : ℕ) (went : Bool)
+pub waits : {T U : Type 0} (may : BackpressureInfo → BackpressureDecision → Type 0) (first now next : PublisherPort T U) (place : ℕ)
+    (went : Bool)
     → Going may first now place → place < length first.ties.items → went ≡ false
     → Steps may (meeting_at now.progress.place now) (met now.progress.place now) went next
     → Delivers may (length first.ties.items - first.progress.place) first false next
@@ -30,7 +34,8 @@ waits {T} {U} may first now next place went so_far within is step =
 
 -- no place is left
 pub arrives : {T U : Type 0} (may : BackpressureInfo → BackpressureDecision → Type 0) (first now : PublisherPort T U) (place : ℕ)
-    → Going may first now place → length first.ties.items ≤ place → Delivers may (length first.ties.items - first.progress.place) first true now
+    → Going may first now place → length first.ties.items ≤ place
+    → Delivers may (length first.ties.items - first.progress.place) first true now
 arrives may first now place so_far over =
     let none : length first.ties.items - place ≡ zero = omega (arith, over) in
     so_far.rest true now (rw none (refl, refl))

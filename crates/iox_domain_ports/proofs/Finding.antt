@@ -1,5 +1,6 @@
 -- The loan in a slot is found.
-use Rattle.std.proofs.Common.{arith, ◌≡◌, ◌≢◌, ◌==◌, ◌&&◌, ◌≤◌, ◌∙◌, ℕ, zero, suc, Bool, true, false, if◌then◌else◌, List, [], ◌∷◌, length, get_or, is_some, nat_lt, slice_get, Option, None, Some, refl, sym, ap, position, unwrap_or}
+use Rattle.std.proofs.Common.{arith, ◌≡◌, ◌≢◌, ◌==◌, ◌&&◌, ◌≤◌, ◌∙◌, ℕ, zero, suc, Bool, true, false, if◌then◌else◌, List, [], ◌∷◌}
+use Rattle.std.proofs.Common.{length, get_or, is_some, nat_lt, slice_get, Option, None, Some, refl, sym, ap, position, unwrap_or}
 use Rattle.std.specs.List.{list_any, find, position_or_len}
 use Rattle.std.proofs.Math.Logic.{⊎_elim}
 use Rattle.std.proofs.Math.Dec.{eqb}
@@ -25,19 +26,23 @@ alike : (one other : ℕ) → one ≡ other → eqb other one ≡ true
 alike one other same = ⊎_elim (λ is. is.0) (λ differs. absurd (differs.1 (sym same))) (eqb_tells other one)
 
 -- a loan that has this place stands in the slot: the first loan there is at some place of the list
-pub found : {T U : Type 0} (slot place : ℕ) (loans : List (Loan T U)) → list_any (λ loan. eqb slot loan.slot && nat_lt place (length loan.values)) loans ≡ true
-    → (at : ℕ) × (loan : Loan T U) × (slice_get loans at ≡ Some loan) × (loan.slot ≡ slot) × (find (λ loan. loan.slot == slot) loans ≡ Some loan)
+pub found : {T U : Type 0} (slot place : ℕ) (loans : List (Loan T U))
+    → list_any (λ loan. eqb slot loan.slot && nat_lt place (length loan.values)) loans ≡ true
+    → (at : ℕ) × (loan : Loan T U) × (slice_get loans at ≡ Some loan) × (loan.slot ≡ slot)
+    × (find (λ loan. loan.slot == slot) loans ≡ Some loan)
 found slot place [] any = absurd (not_true any)
 found slot place (loan ∷ loans) any = ⊎_elim
     (λ same. (zero, loan, refl, same.1, rw same.0 refl))
     (λ other.
-    let rest : list_any (λ one. eqb slot one.slot && nat_lt place (length one.values)) loans ≡ true = rw (apart loan.slot slot other.1) at any in
+    let rest : list_any (λ one. eqb slot one.slot && nat_lt place (length one.values)) loans ≡ true
+    = rw (apart loan.slot slot other.1) at any in
     let more = found slot place loans rest in
     (suc more.0, more.1, more.2, more.3, rw other.0 more.4))
     (eqb_tells loan.slot slot)
 
 -- no loan that has this place stands in the slot: nothing is written there
-pub missing : {T U : Type 0} (slot place : ℕ) (loans : List (Loan T U)) → list_any (λ loan. eqb slot loan.slot && nat_lt place (length loan.values)) loans ≡ false
+pub missing : {T U : Type 0} (slot place : ℕ) (loans : List (Loan T U))
+    → list_any (λ loan. eqb slot loan.slot && nat_lt place (length loan.values)) loans ≡ false
     → value_at place (find (λ loan. loan.slot == slot) loans) ≡ None
 missing slot place [] none = refl
 missing slot place (loan ∷ loans) none = ⊎_elim
@@ -48,12 +53,14 @@ missing slot place (loan ∷ loans) none = ⊎_elim
     (λ past. rw same.0 (get_or_past loan.values place None (grind (arith, past))))
     (cases_Bool (nat_lt place (length loan.values))))
     (λ other.
-    let rest : list_any (λ one. eqb slot one.slot && nat_lt place (length one.values)) loans ≡ false = rw (apart loan.slot slot other.1) at none in
+    let rest : list_any (λ one. eqb slot one.slot && nat_lt place (length one.values)) loans ≡ false
+    = rw (apart loan.slot slot other.1) at none in
     rw other.0 (missing slot place loans rest))
     (eqb_tells loan.slot slot)
 
 -- a loan of one value has the first place
-pub one_place : {T U : Type 0} (slot : ℕ) (loans : List (Loan T U)) → list_any (λ loan. eqb slot loan.slot && eqb 1 (length loan.values)) loans ≡ true
+pub one_place : {T U : Type 0} (slot : ℕ) (loans : List (Loan T U))
+    → list_any (λ loan. eqb slot loan.slot && eqb 1 (length loan.values)) loans ≡ true
     → list_any (λ loan. eqb slot loan.slot && nat_lt 0 (length loan.values)) loans ≡ true
 one_place slot [] any = any
 one_place slot (loan ∷ loans) any = ⊎_elim
@@ -83,12 +90,14 @@ pub at_none : {X : Type 0} (test : X → Bool) (xs : List X) → None ≡ positi
 at_none test xs is = ⊎_elim
     (λ within. let some : None ≡ Some (position_or_len test xs) = rw within at is in absurd (none-some (position_or_len test xs) some))
     (λ past. let over : length xs ≤ position_or_len test xs = grind (arith, past) in
-    find_at test xs ∙ ⊎_elim (λ inside. absurd (omega (arith, over, inside.1))) (λ outside. outside.1) (slice_get_cases xs (position_or_len test xs)).1)
+    find_at test xs ∙ ⊎_elim (λ inside. absurd (omega (arith, over, inside.1))) (λ outside. outside.1)
+    (slice_get_cases xs (position_or_len test xs)).1)
     (cases_Bool (nat_lt (position_or_len test xs) (length xs)))
 
 -- a loan stands in the slot: the first one there is at some place of the list
 pub found_loan : {T U : Type 0} (slot : ℕ) (loans : List (Loan T U)) → list_any (λ loan. eqb slot loan.slot) loans ≡ true
-    → (at : ℕ) × (loan : Loan T U) × (slice_get loans at ≡ Some loan) × (loan.slot ≡ slot) × (find (λ loan. loan.slot == slot) loans ≡ Some loan)
+    → (at : ℕ) × (loan : Loan T U) × (slice_get loans at ≡ Some loan) × (loan.slot ≡ slot)
+    × (find (λ loan. loan.slot == slot) loans ≡ Some loan)
 found_loan slot [] any = absurd (not_true any)
 found_loan slot (loan ∷ loans) any = ⊎_elim
     (λ same. (zero, loan, refl, same.1, rw same.0 refl))
@@ -99,7 +108,8 @@ found_loan slot (loan ∷ loans) any = ⊎_elim
     (eqb_tells loan.slot slot)
 
 -- no loan stands in the slot
-pub no_loan : {T U : Type 0} (slot : ℕ) (loans : List (Loan T U)) → list_any (λ loan. eqb slot loan.slot) loans ≡ false → find (λ loan. loan.slot == slot) loans ≡ None
+pub no_loan : {T U : Type 0} (slot : ℕ) (loans : List (Loan T U)) → list_any (λ loan. eqb slot loan.slot) loans ≡ false
+    → find (λ loan. loan.slot == slot) loans ≡ None
 no_loan slot [] none = refl
 no_loan slot (loan ∷ loans) none = ⊎_elim
     (λ same. absurd (not_true (let wrong : true ≡ false = rw (alike loan.slot slot same.1) at none in sym wrong)))
@@ -109,7 +119,8 @@ no_loan slot (loan ∷ loans) none = ⊎_elim
     (eqb_tells loan.slot slot)
 
 -- a loan in the slot that passes a test is one in the slot
-pub some_loan : {T U : Type 0} (slot : ℕ) (test : Loan T U → Bool) (loans : List (Loan T U)) → list_any (λ loan. eqb slot loan.slot && test loan) loans ≡ true
+pub some_loan : {T U : Type 0} (slot : ℕ) (test : Loan T U → Bool) (loans : List (Loan T U))
+    → list_any (λ loan. eqb slot loan.slot && test loan) loans ≡ true
     → list_any (λ loan. eqb slot loan.slot) loans ≡ true
 some_loan slot test [] any = any
 some_loan slot test (loan ∷ loans) any = ⊎_elim
@@ -124,7 +135,8 @@ none_of None isnt = refl
 none_of (Some x) isnt = absurd (not_true (sym isnt))
 
 -- the value at a place of the loan in the slot isn't written: none stands there
-pub unwritten : {T U : Type 0} (slot place : ℕ) (loans : List (Loan T U)) → list_any (λ loan. eqb slot loan.slot && is_some (get_or loan.values place None)) loans ≡ false
+pub unwritten : {T U : Type 0} (slot place : ℕ) (loans : List (Loan T U))
+    → list_any (λ loan. eqb slot loan.slot && is_some (get_or loan.values place None)) loans ≡ false
     → value_at place (find (λ loan. loan.slot == slot) loans) ≡ None
 unwritten slot place [] none = refl
 unwritten slot place (loan ∷ loans) none = ⊎_elim
@@ -135,7 +147,8 @@ unwritten slot place (loan ∷ loans) none = ⊎_elim
     (λ isnt. rw same.0 (none_of (get_or loan.values place None) isnt))
     (cases_Bool (is_some (get_or loan.values place None))))
     (λ other.
-    let rest : list_any (λ one. eqb slot one.slot && is_some (get_or one.values place None)) loans ≡ false = rw (apart loan.slot slot other.1) at none in
+    let rest : list_any (λ one. eqb slot one.slot && is_some (get_or one.values place None)) loans ≡ false
+    = rw (apart loan.slot slot other.1) at none in
     rw other.0 (unwritten slot place loans rest))
     (eqb_tells loan.slot slot)
 

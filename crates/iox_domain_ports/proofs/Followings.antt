@@ -1,5 +1,6 @@
 -- An update goes from place to place.
-use Rattle.std.proofs.Common.{◌≡◌, ◌+◌, ◌<◌, ◌≤◌, arith, zero, suc, ◌-◌, ℕ, Bool, List, ◌∷◌, length, drop, get_or, Result, Option, None, refl, sym, ap, ◌∙◌}
+use Rattle.std.proofs.Common.{◌≡◌, ◌+◌, ◌<◌, ◌≤◌, arith, zero, suc, ◌-◌, ℕ, Bool, List, ◌∷◌, length, drop, get_or, Result, Option, None}
+use Rattle.std.proofs.Common.{refl, sym, ap, ◌∙◌}
 use Rattle.std.proofs.lemmas.List.{drop_more, drop_all, get_or_default}
 use Rattle.std.specs.Prelude.{is_ok}
 use Rattle.std.specs.declared.alloc.AllocError.{AllocError}
@@ -13,29 +14,39 @@ use Rattle.iox_domain_ports.specs.declared.publisher_port.PublisherPort.{Publish
 use Rattle.iox_domain_ports.specs.declared.subscriber_entry.SubscriberEntry.{SubscriberEntry}
 
 -- only connections changed in one step, and in the next
-pub only_still : {T U : Type 0} (first now next : PublisherPort T U) → OnlyConnections first now → OnlyConnections now next → OnlyConnections first next
+pub only_still : {T U : Type 0} (first now next : PublisherPort T U) → OnlyConnections first now → OnlyConnections now next
+    → OnlyConnections first next
 only_still {T} {U} first now next one two = two ∙ ap (changed next) one where
   changed : PublisherPort T U → PublisherPort T U → PublisherPort T U
-  changed after before = record (with_connections after.sender.uses.connections before) { seen = after.seen; ties = after.ties; readers = after.readers }
+  changed after before = record (with_connections after.sender.uses.connections before)
+      { seen = after.seen; ties = after.ties; readers = after.readers }
 
 -- Where an update stands before a place: whatever comes of the places that are left comes of all of them.
-pub record Following {T U : Type 0} (may : DegradationInfo → DegradationAction → Type 0) (listed : List (Option (Member SubscriberEntry))) (first : PublisherPort T U)
+pub record Following {T U : Type 0} (may : DegradationInfo → DegradationAction → Type 0)
+    (listed : List (Option (Member SubscriberEntry))) (first : PublisherPort T U)
     (found : Option ConnectionFailure) (now : PublisherPort T U) (place : ℕ) : Type 0 where
-  pub rest : (answer : Result (Unit {0}) ConnectionFailure) (new : PublisherPort T U) → FollowsAll may place (drop place listed) found now answer new → FollowsAll may 0 listed None first answer new
+  pub rest : (answer : Result (Unit {0}) ConnectionFailure) (new : PublisherPort T U)
+      → FollowsAll may place (drop place listed) found now answer new → FollowsAll may 0 listed None first answer new
   pub only : OnlyConnections first now
 
 -- nothing was followed yet
-pub following_none : {T U : Type 0} (may : DegradationInfo → DegradationAction → Type 0) (listed : List (Option (Member SubscriberEntry))) (first : PublisherPort T U) → Following may listed first None first 0
+pub following_none : {T U : Type 0} (may : DegradationInfo → DegradationAction → Type 0)
+    (listed : List (Option (Member SubscriberEntry))) (first : PublisherPort T U) → Following may listed first None first 0
 following_none may listed first = record { rest = λ answer new further. further; only = refl }
 
 -- one place more is followed
-pub following_on : {T U : Type 0} (may : DegradationInfo → DegradationAction → Type 0) (listed : List (Option (Member SubscriberEntry))) (first now next : PublisherPort T U) (place : ℕ)
-    (member asked : Option (Member SubscriberEntry)) (found after : Option ConnectionFailure) (outcome : Result (Unit {0}) AllocError) (is_made : Bool)
-    → Following may listed first found now place → place < length listed → member ≡ get_or listed place member → asked ≡ get_or listed place asked → is_made ≡ is_ok outcome
+pub following_on : {T U : Type 0} (may : DegradationInfo → DegradationAction → Type 0) (listed : List (Option (Member SubscriberEntry)))
+    (first now next : PublisherPort T U) (place : ℕ)
+    (member asked : Option (Member SubscriberEntry)) (found after : Option ConnectionFailure) (outcome : Result (Unit {0}) AllocError)
+    (is_made : Bool)
+    → Following may listed first found now place → place < length listed → member ≡ get_or listed place member
+    → asked ≡ get_or listed place asked → is_made ≡ is_ok outcome
     → Follows place member now outcome next → OnlyConnections now next → Asks may asked next found is_made after
     → Following may listed first after next (place + 1)
-following_on may listed first now next place member asked found after outcome is_made so_far within is_member is_asked is_outcome follows only asks =
-    let left : drop place listed ≡ member ∷ drop (place + 1) listed = drop_more listed place member within ∙ ap (λ one. one ∷ drop (place + 1) listed) (sym is_member) in
+following_on may listed first now next place member asked found after outcome is_made so_far within is_member is_asked is_outcome
+    follows only asks =
+    let left : drop place listed ≡ member ∷ drop (place + 1) listed
+    = drop_more listed place member within ∙ ap (λ one. one ∷ drop (place + 1) listed) (sym is_member) in
     let one : asked ≡ member = is_asked ∙ get_or_default listed place asked member within ∙ sym is_member in
     let asks_of : Asks may member next found (is_ok outcome) after = rw (← one) (rw (← is_outcome) asks) in
     record {
@@ -44,7 +55,8 @@ following_on may listed first now next place member asked found after outcome is
     }
 
 -- no place of the list is left
-pub followed : {T U : Type 0} (may : DegradationInfo → DegradationAction → Type 0) (listed : List (Option (Member SubscriberEntry))) (first now new : PublisherPort T U) (place : ℕ) (found : Option ConnectionFailure)
+pub followed : {T U : Type 0} (may : DegradationInfo → DegradationAction → Type 0) (listed : List (Option (Member SubscriberEntry)))
+    (first now new : PublisherPort T U) (place : ℕ) (found : Option ConnectionFailure)
     (answer : Result (Unit {0}) ConnectionFailure)
     → Following may listed first found now place → place ≤ length listed → length listed ≤ place → answer ≡ update_answer found
     → new ≡ untied_from (length now.ties.items - length listed) (length listed) now → FollowsAll may 0 listed None first answer new
@@ -58,21 +70,25 @@ pub record Untying {T U : Type 0} (whole first now : PublisherPort T U) (count p
   pub only : OnlyConnections first now
 
 -- none is untied yet
-pub untying_none : {T U : Type 0} (first : PublisherPort T U) (count place : ℕ) → Untying (untied_from (count - place) place first) first first count place
+pub untying_none : {T U : Type 0} (first : PublisherPort T U) (count place : ℕ)
+    → Untying (untied_from (count - place) place first) first first count place
 untying_none first count place = record { rest = refl; only = refl }
 
 -- one place more is untied
-pub untying_on : {T U : Type 0} (whole first now next : PublisherPort T U) (count place : ℕ) → Untying whole first now count place → place < count → next ≡ untied place now → OnlyConnections now next
+pub untying_on : {T U : Type 0} (whole first now next : PublisherPort T U) (count place : ℕ) → Untying whole first now count place
+    → place < count → next ≡ untied place now → OnlyConnections now next
     → Untying whole first next count (place + 1)
 untying_on whole first now next count place so_far within is_next only =
     let left : count - place ≡ suc (count - (place + 1)) = omega (arith, within) in
     record {
-      rest = ap (λ port. untied_from (count - (place + 1)) (place + 1) port) is_next ∙ sym (ap (λ n. untied_from n place now) left) ∙ so_far.rest;
+      rest = ap (λ port. untied_from (count - (place + 1)) (place + 1) port) is_next ∙ sym (ap (λ n. untied_from n place now) left) ∙
+          so_far.rest;
       only = only_still first now next so_far.only only;
     }
 
 -- no place is left
-pub untying_over : {T U : Type 0} (whole first now : PublisherPort T U) (count place : ℕ) → Untying whole first now count place → count ≤ place → now ≡ whole
+pub untying_over : {T U : Type 0} (whole first now : PublisherPort T U) (count place : ℕ) → Untying whole first now count place
+    → count ≤ place → now ≡ whole
 untying_over whole first now count place so_far over =
     let left : count - place ≡ zero = omega (arith, over) in
     sym (ap (λ n. untied_from n place now) left) ∙ so_far.rest

@@ -1,5 +1,6 @@
 -- A segment is full if as many different slots of it are in use as there are.
-use Rattle.std.proofs.Common.{rules, arith, ◌≡◌, ◌≢◌, ◌+◌, ◌<◌, ◌≤◌, ◌&&◌, ◌∷◌, [], ℕ, zero, suc, Bool, true, false, cond, if◌then◌else◌, List, nat_lt, nat_le, ◌||◌, refl, sym, subst, ap, ◌∙◌}
+use Rattle.std.proofs.Common.{rules, arith, ◌≡◌, ◌≢◌, ◌+◌, ◌<◌, ◌≤◌, ◌&&◌, ◌∷◌, [], ℕ, zero, suc, Bool, true, false, cond, if◌then◌else◌}
+use Rattle.std.proofs.Common.{List, nat_lt, nat_le, ◌||◌, refl, sym, subst, ap, ◌∙◌}
 use Rattle.std.specs.List.{list_any}
 use Rattle.std.proofs.Math.Logic.{⊎_elim}
 use Rattle.std.proofs.Math.Dec.{eqb}
@@ -46,10 +47,16 @@ stands_other slot other slots apart =
     let same : times slot (other ∷ slots) ≡ times slot slots = omega (arith, times_cons slot other slots, one_other slot other apart) in
     ap (λ n. if nat_lt 0 n then 1 else 0) same
 
-used_outside : (first n x : ℕ) (slots : List ℕ) → ((slot : ℕ) → first ≤ slot → slot < first + n → eqb slot x ≡ false) → used first n (x ∷ slots) ≡ used first n slots
+used_outside : (first n x : ℕ) (slots : List ℕ) → ((slot : ℕ) → first ≤ slot → slot < first + n → eqb slot x ≡ false)
+    → used first n (x ∷ slots) ≡ used first n slots
 used_outside first zero x slots apart = refl
 used_outside first (suc n) x slots apart =
-    omega (arith, stands_other (first + n) x slots (apart (first + n) (omega arith) (omega arith)), used_outside first n x slots (λ slot low high. apart slot low (omega (arith, high))))
+    omega (
+      arith,
+      stands_other (first + n) x slots (apart (first + n) (omega arith) (omega arith)),
+      used_outside first n x slots
+          (λ slot low high. apart slot low (omega (arith, high))),
+    )
 
 apart_of : (slot x : ℕ) → slot ≢ x → eqb slot x ≡ false
 apart_of slot x apart = ⊎_elim (λ same. absurd (apart same.1)) (λ other. other.0) (eqb_tells slot x)
@@ -58,7 +65,8 @@ used_inside : (first n x : ℕ) (slots : List ℕ) → first ≤ x → x < first
 used_inside first zero x slots low high = absurd (omega (arith, low, high))
 used_inside first (suc n) x slots low high = ⊎_elim
     (λ same.
-    let rest : used first n (x ∷ slots) ≡ used first n slots = used_outside first n x slots (λ slot above below. apart_of slot x (λ is. absurd (omega (arith, is, same.1, below)))) in
+    let rest : used first n (x ∷ slots) ≡ used first n slots
+    = used_outside first n x slots (λ slot above below. apart_of slot x (λ is. absurd (omega (arith, is, same.1, below)))) in
     let here : stands (first + n) (x ∷ slots) ≡ stands (first + n) slots + further x slots =
     subst (λ k. stands k (x ∷ slots) ≡ stands k slots + further x slots) (sym same.1) (stands_first x slots ∙ sym (stands_more x slots)) in
     omega (arith, rest, here))
@@ -80,7 +88,8 @@ used_none first zero = refl
 used_none first (suc n) = omega (arith, used_none first n)
 
 -- a slot of the segment stands in what of a list is in the segment exactly if it stands in the list
-any_stands : (first size x : ℕ) (slots : List ℕ) → first ≤ x → x < first + size → list_any (λ other. eqb x other) (of_segment first size slots) ≡ nat_lt 0 (times x slots)
+any_stands : (first size x : ℕ) (slots : List ℕ) → first ≤ x → x < first + size
+    → list_any (λ other. eqb x other) (of_segment first size slots) ≡ nat_lt 0 (times x slots)
 any_stands first size x [] low high = refl
 any_stands first size x (y ∷ slots) low high = at (nat_le first y && nat_lt y (first + size)) refl (any_stands first size x slots low high)
   where
@@ -98,10 +107,12 @@ any_stands first size x (y ∷ slots) low high = at (nat_le first y && nat_lt y 
     outside is same =
         let low_is : nat_le first y ≡ true = grind (arith, low, same) in
         let high_is : nat_lt y (first + size) ≡ true = grind (arith, high, same) in
-        let wrong : (true && true) ≡ false = subst (λ b. (b && true) ≡ false) low_is (subst (λ b. (nat_le first y && b) ≡ false) high_is is) in
+        let wrong : (true && true) ≡ false = subst (λ b. (b && true) ≡ false) low_is
+        (subst (λ b. (nat_le first y && b) ≡ false) high_is is) in
         search (rules, wrong)
 
-    at : (b : Bool) → (nat_le first y && nat_lt y (first + size)) ≡ b → list_any (λ other. eqb x other) (of_segment first size slots) ≡ nat_lt 0 (times x slots)
+    at : (b : Bool) → (nat_le first y && nat_lt y (first + size)) ≡ b
+        → list_any (λ other. eqb x other) (of_segment first size slots) ≡ nat_lt 0 (times x slots)
         → list_any (λ other. eqb x other) (of_segment first size (y ∷ slots)) ≡ nat_lt 0 (times x (y ∷ slots))
     at true is rest = rw is (found (eqb x y) refl rest)
     at false is rest =
@@ -113,8 +124,10 @@ different_used : (first size : ℕ) (slots : List ℕ) → different (of_segment
 different_used first size [] = sym (used_none first size)
 different_used first size (x ∷ slots) = at (nat_le first x) (nat_lt x (first + size)) refl refl (different_used first size slots)
   where
-    inside : (b : Bool) → nat_lt 0 (times x slots) ≡ b → different (of_segment first size slots) ≡ used first size slots → used first size (x ∷ slots) ≡ used first size slots + further x slots
-        → (if nat_lt 0 (times x slots) then different (of_segment first size slots) else 1 + different (of_segment first size slots)) ≡ used first size (x ∷ slots)
+    inside : (b : Bool) → nat_lt 0 (times x slots) ≡ b → different (of_segment first size slots) ≡ used first size slots
+        → used first size (x ∷ slots) ≡ used first size slots + further x slots
+        → (if nat_lt 0 (times x slots) then different (of_segment first size slots) else 1 + different (of_segment first size slots))
+        ≡ used first size (x ∷ slots)
     inside true is rest more =
         let none : further x slots ≡ 0 = rw is refl in
         rw is (omega (arith, rest, more, none))
@@ -122,18 +135,22 @@ different_used first size (x ∷ slots) = at (nat_le first x) (nat_lt x (first +
         let one_more : further x slots ≡ 1 = rw is refl in
         rw is (omega (arith, rest, more, one_more))
 
-    at : (low high : Bool) → nat_le first x ≡ low → nat_lt x (first + size) ≡ high → different (of_segment first size slots) ≡ used first size slots
+    at : (low high : Bool) → nat_le first x ≡ low → nat_lt x (first + size) ≡ high
+        → different (of_segment first size slots) ≡ used first size slots
         → different (of_segment first size (x ∷ slots)) ≡ used first size (x ∷ slots)
     at true true low high rest =
         let from : first ≤ x = grind (arith, low) in
         let below : x < first + size = grind (arith, high) in
-        rw low (rw high (rw (any_stands first size x slots from below) (inside (nat_lt 0 (times x slots)) refl rest (used_inside first size x slots from below))))
+        rw low (rw high (rw (any_stands first size x slots from below)
+        (inside (nat_lt 0 (times x slots)) refl rest (used_inside first size x slots from below))))
     at true false low high rest =
         let past : first + size ≤ x = grind (arith, high) in
-        rw low (rw high (rest ∙ sym (used_outside first size x slots (λ slot above under. apart_of slot x (λ same. absurd (omega (arith, same, under, past)))))))
+        rw low (rw high (rest ∙ sym (used_outside first size x slots
+        (λ slot above under. apart_of slot x (λ same. absurd (omega (arith, same, under, past)))))))
     at false high low is rest =
         let before : x < first = grind (arith, low) in
-        rw low (rest ∙ sym (used_outside first size x slots (λ slot above under. apart_of slot x (λ same. absurd (omega (arith, same, above, before))))))
+        rw low (rest ∙ sym (used_outside first size x slots
+        (λ slot above under. apart_of slot x (λ same. absurd (omega (arith, same, above, before))))))
 
 used_few : (first n : ℕ) (slots : List ℕ) → used first n slots ≤ n
 used_few first zero slots = omega arith
@@ -160,7 +177,8 @@ all_used first (suc n) slots all = omega (
 used_all : (first n : ℕ) (slots : List ℕ) → used first n slots ≡ n → (slot : ℕ) → first ≤ slot → slot < first + n → 0 < times slot slots
 used_all first zero slots many slot low high = absurd (omega (arith, low, high))
 used_all first (suc n) slots many slot low high = ⊎_elim
-    (λ same. subst (λ k. 0 < times k slots) (sym same.1) (is_standing (first + n) slots (omega (arith, many, stands_few (first + n) slots, used_few first n slots))))
+    (λ same. subst (λ k. 0 < times k slots) (sym same.1)
+    (is_standing (first + n) slots (omega (arith, many, stands_few (first + n) slots, used_few first n slots))))
     (λ other. used_all first n slots (omega (arith, many, stands_few (first + n) slots, used_few first n slots)) slot low (lower other.1))
     (eqb_tells slot (first + n))
   where

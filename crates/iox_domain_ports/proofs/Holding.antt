@@ -1,9 +1,11 @@
 -- What a subscriber holds stays.
-use Rattle.std.proofs.Common.{rules, ◌≡◌, ◌≢◌, ◌∷◌, [], ◌++◌, ℕ, zero, suc, Bool, true, false, ◌==◌, List, length, map, get_or, set, take, slice_get, is_some, Some, refl, sym, ap, ◌∙◌}
+use Rattle.std.proofs.Common.{rules, ◌≡◌, ◌≢◌, ◌∷◌, [], ◌++◌, ℕ, zero, suc, Bool, true, false, ◌==◌, List, length, map, get_or, set, take}
+use Rattle.std.proofs.Common.{slice_get, is_some, Some, refl, sym, ap, ◌∙◌}
 use Rattle.std.proofs.lemmas.List.{get_or-set_other}
 use Rattle.std.specs.List.{list_all}
 use Rattle.iox_domain_slots.specs.declared.stage.Stage.TheVariants as stage
-use Rattle.iox_domain_slots.specs.Uses.{Connection, nobody, placed, connected, connection_at, offered, taken, given_back, ended, settled, welcomed}
+use Rattle.iox_domain_slots.specs.Uses.{Connection, nobody, placed, connected, connection_at, offered, taken, given_back, ended, settled}
+use Rattle.iox_domain_slots.specs.Uses.{welcomed}
 use Rattle.iox_domain_ports.specs.Messages.{written_of}
 use Rattle.iox_domain_ports.specs.MessagesLaws.{HeldStays, WholeIsSent}
 
@@ -22,7 +24,8 @@ behind [] ys at x there = search (rules, there)
 behind (y ∷ xs) ys zero x there = there
 behind (y ∷ xs) ys (suc at) x there = behind xs ys at x there
 
-at_end : {X : Type 0} (limit : ℕ) (borrowed : List X) (at : ℕ) (x : X) → slice_get borrowed at ≡ Some x → slice_get (settled stage.Ended limit [] borrowed).borrowed at ≡ Some x
+at_end : {X : Type 0} (limit : ℕ) (borrowed : List X) (at : ℕ) (x : X) → slice_get borrowed at ≡ Some x
+    → slice_get (settled stage.Ended limit [] borrowed).borrowed at ≡ Some x
 at_end limit [] at x there = search (rules, there)
 at_end limit (b ∷ borrowed) at x there = there
 
@@ -31,10 +34,12 @@ elsewhere : {X : Type 0} (connections : List (Connection X)) (index at other : �
     → slice_get (get_or connections index nobody).borrowed at ≡ Some message
     → slice_get (get_or (set connections other new) index nobody).borrowed at ≡ Some message
 elsewhere connections index at other new message apart held =
-    ap (λ connection. slice_get connection.borrowed at) (get_or-set_other connections other index new nobody (λ same. apart (sym same))) ∙ held
+    ap (λ connection. slice_get connection.borrowed at) (get_or-set_other connections other index new nobody (λ same. apart (sym same)))
+    ∙ held
 
 -- where nobody was nothing was held
-vacant : {X : Type 0} (connections : List (Connection X)) (index at other : ℕ) (new : Connection X) (message : X) → get_or connections other nobody ≡ nobody
+vacant : {X : Type 0} (connections : List (Connection X)) (index at other : ℕ) (new : Connection X) (message : X)
+    → get_or connections other nobody ≡ nobody
     → slice_get (get_or connections index nobody).borrowed at ≡ Some message
     → slice_get (get_or (set connections other new) index nobody).borrowed at ≡ Some message
 vacant connections index at other new message nobody_is held = still_there connections index at other new message held
@@ -53,7 +58,8 @@ come : {X : Type 0} (connections : List (Connection X)) (index at other limit : 
     → slice_get (get_or (placed other (connected limit) connections) index nobody).borrowed at ≡ Some message
 come connections index at other limit message nobody_is held = by (other == length connections) refl
   where
-    by : (last : Bool) → (other == length connections) ≡ last → slice_get (get_or (placed other (connected limit) connections) index nobody).borrowed at ≡ Some message
+    by : (last : Bool) → (other == length connections) ≡ last
+        → slice_get (get_or (placed other (connected limit) connections) index nobody).borrowed at ≡ Some message
     by true is = rw is (joined connections index at (connected limit) message held)
     by false is = rw is (vacant connections index at other (connected limit) message nobody_is held)
 
@@ -66,13 +72,16 @@ held_stays = record {
   finish = λ index at message uses held. held;
   segment = λ index at message uses held. held;
   connect = λ index at message other limit uses nobody_is held. come uses.connections index at other limit message nobody_is held;
-  give_back = λ index at message other place uses apart held. elsewhere uses.connections index at other (given_back place (connection_at other uses)) message apart held;
-  offer = λ index at message other overflows sent uses held. still_there uses.connections index at other (offered overflows sent (connection_at other uses)) message held (λ there. there);
+  give_back = λ index at message other place uses apart held. elsewhere uses.connections index at other
+      (given_back place (connection_at other uses)) message apart held;
+  offer = λ index at message other overflows sent uses held. still_there uses.connections index at other
+      (offered overflows sent (connection_at other uses)) message held (λ there. there);
   take = λ index at message other uses held. still_there uses.connections index at other (taken (connection_at other uses)) message held
       (λ there. behind (connection_at other uses).borrowed (take 1 (connection_at other uses).waiting) at message there);
   end = λ index at message other uses held. still_there uses.connections index at other (ended (connection_at other uses)) message held
       (λ there. at_end (connection_at other uses).limit (connection_at other uses).borrowed at message there);
-  welcome = λ index at message other history uses held. still_there uses.connections index at other (welcomed history (connection_at other uses)) message held (λ there. there);
+  welcome = λ index at message other history uses held. still_there uses.connections index at other
+      (welcomed history (connection_at other uses)) message held (λ there. there);
 }
 
 all_whole : {T : Type 0} (values : List T) → list_all is_some (map Some values) ≡ true

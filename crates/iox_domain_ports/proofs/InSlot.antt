@@ -1,5 +1,6 @@
 -- The loan that stands in a slot.
-use Rattle.std.proofs.Common.{◌≡◌, ◌≢◌, ◌<◌, ◌==◌, ◌&&◌, ◌||◌, ◌∙◌, ℕ, Bool, true, false, if◌then◌else◌, not, List, [], ◌∷◌, length, get_or, map, is_some, nat_lt, position, None, Some, refl, sym, ap, arith}
+use Rattle.std.proofs.Common.{◌≡◌, ◌≢◌, ◌<◌, ◌==◌, ◌&&◌, ◌||◌, ◌∙◌, ℕ, Bool, true, false, if◌then◌else◌, not, List, [], ◌∷◌, length}
+use Rattle.std.proofs.Common.{get_or, map, is_some, nat_lt, position, None, Some, refl, sym, ap, arith}
 use Rattle.std.specs.List.{list_any, find}
 use Rattle.std.proofs.Math.Logic.{⊎_elim}
 use Rattle.std.proofs.Math.Dec.{eqb}
@@ -10,7 +11,8 @@ use Rattle.std.proofs.lemmas.List.Quantifiers.{position-Some}
 use Rattle.iox_domain_slots.specs.Uses.{Uses}
 use Rattle.iox_domain_slots.specs.Loans.{place_in as place_among}
 use Rattle.iox_domain_ports.specs.Messages.{Loan, Message}
-use Rattle.iox_domain_ports.specs.MessagesSending.{SenderState, Store, seen_sender, loan_in, has_loan, loan_at, place_in, is_written_loan, is_written_at}
+use Rattle.iox_domain_ports.specs.MessagesSending.{SenderState, Store, seen_sender, loan_in, has_loan, loan_at, place_in, is_written_loan}
+use Rattle.iox_domain_ports.specs.MessagesSending.{is_written_at}
 use Rattle.iox_domain_ports.specs.Sending.{ready_loan}
 use Rattle.iox_domain_ports.specs.declared.publisher_port.PublisherPort.{PublisherPort}
 use Rattle.iox_domain_ports.proofs.Finding.{no_loan}
@@ -40,7 +42,8 @@ loan_found store old state slot is there =
     ap (λ s. loan_at slot s.uses) (sym is) ∙ found_among store slot old.loans (lent_there store old state slot is ∙ there)
 
 -- a loan that is written is there
-pub written_there : {T U : Type 0} (slot : ℕ) (uses : Uses (Loan T U) (Message T U)) → is_written_loan (loan_at slot uses) ≡ true → has_loan slot uses ≡ true
+pub written_there : {T U : Type 0} (slot : ℕ) (uses : Uses (Loan T U) (Message T U)) → is_written_loan (loan_at slot uses) ≡ true
+    → has_loan slot uses ≡ true
 written_there slot uses written = ⊎_elim
     (λ yes. yes)
     (λ no.
@@ -52,10 +55,12 @@ written_there slot uses written = ⊎_elim
 -- it is at the same place of both lists
 pub places_are : {T U : Type 0} (store : Store T U) (old : Uses ℕ ℕ) (state : SenderState T U) (slot : ℕ) → seen_sender store old ≡ state
     → place_among slot old.loans ≡ place_in slot state.uses
-places_are store old state slot is = sym (first_by (loan_in store) (λ loan. loan.slot == slot) old.loans) ∙ ap (λ s. place_in slot s.uses) is
+places_are store old state slot is = sym (first_by (loan_in store) (λ loan. loan.slot == slot) old.loans) ∙ ap
+    (λ s. place_in slot s.uses) is
 
 -- where it is first
-pub place_there : (slot : ℕ) (xs : List ℕ) → list_any (λ other. eqb slot other) xs ≡ true → (place_among slot xs < length xs) × (get_or xs (place_among slot xs) 0 ≡ slot)
+pub place_there : (slot : ℕ) (xs : List ℕ) → list_any (λ other. eqb slot other) xs ≡ true → (place_among slot xs < length xs)
+    × (get_or xs (place_among slot xs) 0 ≡ slot)
 place_there slot xs there =
     let within : nat_lt (place_among slot xs) (length xs) ≡ true = any_first (λ k. k) slot xs ∙ there in
     let is : position (λ other. other == slot) xs ≡ Some (place_among slot xs) = rw within refl in
@@ -91,7 +96,8 @@ ready_is slot port waits written is_waiting is = ⊎_elim
     rw missing (rw (← unwritten) (neither waits)))
     (cases_Bool (has_loan slot port.sender.uses))
   where
-    either : (waits written : Bool) → (if waits || not written then None else Some (place_in slot port.sender.uses)) ≡ (if not waits && written then Some (place_in slot port.sender.uses) else None)
+    either : (waits written : Bool) → (if waits || not written then None else Some (place_in slot port.sender.uses))
+        ≡ (if not waits && written then Some (place_in slot port.sender.uses) else None)
     either true true = refl
     either true false = refl
     either false true = refl

@@ -1,5 +1,6 @@
 -- What is borrowed, waits or is remembered stands in a slot that there is.
-use Rattle.std.proofs.Common.{arith, ℕ, zero, suc, ◌≡◌, ◌+◌, ◌<◌, ◌≤◌, ◌==◌, ◌∷◌, [], ◌++◌, List, length, get_or, option_to_list, Option, None, Some, position, slice_get, IfSome, rules, sym, subst}
+use Rattle.std.proofs.Common.{arith, ℕ, zero, suc, ◌≡◌, ◌+◌, ◌<◌, ◌≤◌, ◌==◌, ◌∷◌, [], ◌++◌, List, length, get_or, option_to_list, Option}
+use Rattle.std.proofs.Common.{None, Some, position, slice_get, IfSome, rules, sym, subst}
 use Rattle.std.proofs.lemmas.Bool.{eqb-true}
 use Rattle.std.proofs.lemmas.List.Quantifiers.{position-Some}
 use Rattle.iox_domain_slots.specs.Counting.{times}
@@ -15,7 +16,8 @@ stands_there (x ∷ xs) zero inside = omega (arith, times_cons x x xs, one_same 
 stands_there (x ∷ xs) (suc at) inside = omega (arith, times_cons (get_or xs at 0) x xs, stands_there xs at (omega (arith, inside)))
 
 -- what one connection has borrowed is held
-borrowed_held : (slot index : ℕ) (connections : List (Connection ℕ)) → times slot (get_or connections index nobody).borrowed ≤ times slot (held connections)
+borrowed_held : (slot index : ℕ) (connections : List (Connection ℕ))
+    → times slot (get_or connections index nobody).borrowed ≤ times slot (held connections)
 borrowed_held slot index [] = omega arith
 borrowed_held slot zero (connection ∷ connections) =
     omega (arith, times_append slot (held_by connection) (held connections), times_append slot connection.waiting connection.borrowed)
@@ -41,7 +43,8 @@ borrowed_inside store uses slot index (Some at) sender is =
     let first = position-Some (λ other. other == slot) (connection_at index uses).borrowed at 0 (sym is) in
     let same : get_or (connection_at index uses).borrowed at 0 ≡ slot = eqb-true _ _ first.1 in
     let there : 0 < times slot (connection_at index uses).borrowed =
-    subst (λ other. 0 < times other (connection_at index uses).borrowed) same (stands_there (connection_at index uses).borrowed at first.0) in
+    subst (λ other. 0 < times other (connection_at index uses).borrowed) same
+    (stands_there (connection_at index uses).borrowed at first.0) in
     sender.within slot (omega (arith, there, borrowed_used slot index uses))
 
 -- what is found at a place of a list stands there once at least
@@ -51,7 +54,8 @@ found_there (x ∷ xs) zero slot found = omega (arith, head_times (x ∷ xs) slo
 found_there (x ∷ xs) (suc at) slot found = omega (arith, times_cons slot x xs, found_there xs at slot found)
 
 -- what waits at one connection is held
-waiting_held : (slot index : ℕ) (connections : List (Connection ℕ)) → times slot (get_or connections index nobody).waiting ≤ times slot (held connections)
+waiting_held : (slot index : ℕ) (connections : List (Connection ℕ))
+    → times slot (get_or connections index nobody).waiting ≤ times slot (held connections)
 waiting_held slot index [] = omega arith
 waiting_held slot zero (connection ∷ connections) =
     omega (arith, times_append slot (held_by connection) (held connections), times_append slot connection.waiting connection.borrowed)

@@ -12,30 +12,41 @@ use Rattle.iox_domain_ports.specs.Ports.{connection_of}
 use Rattle.iox_domain_ports.specs.declared.publisher_port.PublisherPort.{PublisherPort}
 use Rattle.iox_domain_ports.specs.Reading.{place_of, borrowed_in}
 
-position_within : {T U : Type 0} (slot at : ℕ) (borrowed : List (Message T U)) → position (λ message. message.slot == slot) borrowed ≡ Some at → at < length borrowed
+position_within : {T U : Type 0} (slot at : ℕ) (borrowed : List (Message T U))
+    → position (λ message. message.slot == slot) borrowed ≡ Some at → at < length borrowed
 position_within slot at [] is = cc
 position_within slot at (message ∷ borrowed) is = (position-Some (λ message. message.slot == slot) (message ∷ borrowed) at message is).0
 
 -- the message at the place where the first in this slot is borrowed
 located : {T U : Type 0} (slot at : ℕ) (borrowed : List (Message T U)) → position (λ message. message.slot == slot) borrowed ≡ Some at
-    → (message : Message T U) × (slice_get borrowed at ≡ Some message) × (message.slot ≡ slot) × (find (λ message. message.slot == slot) borrowed ≡ Some message)
+    → (message : Message T U) × (slice_get borrowed at ≡ Some message) × (message.slot ≡ slot)
+    × (find (λ message. message.slot == slot) borrowed ≡ Some message)
 located slot at borrowed is =
     ⊎_elim
     (λ inside.
-    let first = position-Some (λ message. message.slot == slot) borrowed at inside.0 is in
-    (inside.0, inside.2, eqb-true _ _ (ap (λ message. message.slot == slot) (sym inside.3) ∙ first.1), sym (at_place (λ message. message.slot == slot) borrowed at (sym is)) ∙ inside.2))
+    let first = position-Some (λ message. message.slot == slot) borrowed at inside.0 is in (
+      inside.0,
+      inside.2,
+      eqb-true _ _ (ap (λ message. message.slot == slot) (sym inside.3) ∙ first.1),
+      sym
+          (at_place (λ message. message.slot == slot) borrowed at (sym is)) ∙ inside.2,
+    ))
     (λ past. absurd (omega (arith, past.0, position_within slot at borrowed is)))
     (slice_get_cases borrowed at).1
 
 -- what is read in a slot is what is told of the message that is borrowed there
-pub read_there : {T U X : Type 0} (part : Message T U → X) (index slot at : ℕ) (port : PublisherPort T U) (read : X) → Some at ≡ place_of slot (connection_of index port)
-    → ((index at : ℕ) (message : Message T U) → slice_get (connection_at index port.sender.uses).borrowed at ≡ Some message → message.slot ≡ slot → read ≡ part message)
+pub read_there : {T U X : Type 0} (part : Message T U → X) (index slot at : ℕ) (port : PublisherPort T U) (read : X)
+    → Some at ≡ place_of slot (connection_of index port)
+    → ((index at : ℕ) (message : Message T U) → slice_get (connection_at index port.sender.uses).borrowed at ≡ Some message
+    → message.slot ≡ slot → read ≡ part message)
     → Some read ≡ option_map part (borrowed_in slot (connection_of index port))
 read_there part index slot at port read is reads =
     let there = located slot at (connection_of index port).borrowed (sym is) in
     ap Some (reads index at there.0 there.1 there.2) ∙ sym (ap (λ found. option_map part found) there.3)
 
 -- where nothing is borrowed in a slot nothing is read
-pub read_none : {T U X : Type 0} (part : Message T U → X) (index slot : ℕ) (port : PublisherPort T U) → None ≡ place_of slot (connection_of index port)
+pub read_none : {T U X : Type 0} (part : Message T U → X) (index slot : ℕ) (port : PublisherPort T U)
+    → None ≡ place_of slot (connection_of index port)
     → None ≡ option_map part (borrowed_in slot (connection_of index port))
-read_none part index slot port is = sym (ap (λ found. option_map part found) (at_none (λ message. message.slot == slot) (connection_of index port).borrowed is))
+read_none part index slot port is = sym
+    (ap (λ found. option_map part found) (at_none (λ message. message.slot == slot) (connection_of index port).borrowed is))

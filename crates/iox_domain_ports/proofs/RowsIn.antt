@@ -1,6 +1,8 @@
 -- Rows that stand in one list.
-use Rattle.std.proofs.Common.{arith, ◌≡◌, ◌+◌, ◌*◌, ◌<◌, ◌≤◌, ◌∷◌, [], ◌++◌, ℕ, zero, suc, Bool, true, false, nat_lt, List, Vec, length, get_or, set, take, drop, replicate, refl, sym, ap, ◌∙◌}
-use Rattle.std.proofs.lemmas.List.{get_or-drop, get_or-take, get_or-set_same, get_or_past, length-append, length-set, length-take-le, length-drop, drop-set-lt, drop-set-add, take_at, take-set-le, with_items_is}
+use Rattle.std.proofs.Common.{arith, ◌≡◌, ◌+◌, ◌*◌, ◌<◌, ◌≤◌, ◌∷◌, [], ◌++◌, ℕ, zero, suc, Bool, true, false, nat_lt, List, Vec, length}
+use Rattle.std.proofs.Common.{get_or, set, take, drop, replicate, refl, sym, ap, ◌∙◌}
+use Rattle.std.proofs.lemmas.List.{get_or-drop, get_or-take, get_or-set_same, get_or_past, length-append, length-set, length-take-le}
+use Rattle.std.proofs.lemmas.List.{length-drop, drop-set-lt, drop-set-add, take_at, take-set-le, with_items_is}
 use Rattle.std.proofs.Math.Nat.{suc-mul}
 use Rattle.std.proofs.Math.Seq.{take-set-lt}
 use Rattle.std.proofs.lemmas.Slice.{drop-append-drop}
@@ -46,7 +48,8 @@ row_is room (count ∷ lengths) values (suc row) below =
 pub lengthened : {T : Type 0} (room : ℕ) (lengths : List ℕ) (values : List T) (row count : ℕ) → row < length lengths
     → rows_in room (set lengths row count) values ≡ set (rows_in room lengths values) row (take count (drop (row * room) values))
 lengthened room [] values row count below = absurd (omega (arith, below))
-lengthened room (old ∷ lengths) values zero count below = ap (λ k. take count (drop k values) ∷ rows_in room lengths (drop room values)) (none room)
+lengthened room (old ∷ lengths) values zero count below
+    = ap (λ k. take count (drop k values) ∷ rows_in room lengths (drop room values)) (none room)
 lengthened room (old ∷ lengths) values (suc row) count below =
     ap (λ rest. take old values ∷ rest) (
     lengthened room lengths (drop room values) row count (omega (arith, below))
@@ -56,7 +59,8 @@ lengthened room (old ∷ lengths) values (suc row) count below =
     )
 
 -- a value is put at a place of a row
-pub written : {T : Type 0} (room : ℕ) (lengths : List ℕ) (values : List T) (row place : ℕ) (value : T) → row < length lengths → AllWithin room lengths
+pub written : {T : Type 0} (room : ℕ) (lengths : List ℕ) (values : List T) (row place : ℕ) (value : T) → row < length lengths
+    → AllWithin room lengths
     → place < get_or lengths row 0
     → rows_in room lengths (set values (row * room + place) value)
     ≡ set (rows_in room lengths values) row (set (get_or (rows_in room lengths values) row []) place value)
@@ -72,7 +76,8 @@ written room (count ∷ lengths) values (suc row) place value below fits inside 
     rw at (
     rw (take-set-le count values (room + (row * room + place)) value first) (
     rw (drop-set-add room values (row * room + place) value) (
-    ap (λ rest. take count values ∷ rest) (written room lengths (drop room values) row place value (omega (arith, below)) (λ k. fits (suc k)) inside)
+    ap (λ rest. take count values ∷ rest)
+    (written room lengths (drop room values) row place value (omega (arith, below)) (λ k. fits (suc k)) inside)
     )
     )
     )
@@ -83,7 +88,8 @@ rows_empty room zero values = refl
 rows_empty room (suc count) values = ap (λ rest. [] ∷ rest) (rows_empty room count (drop room values))
 
 -- a row with another length is as long as that
-pub row_length : {T : Type 0} (values : List T) (start count : ℕ) → start + count ≤ length values → length (take count (drop start values)) ≡ count
+pub row_length : {T : Type 0} (values : List T) (start count : ℕ) → start + count ≤ length values
+    → length (take count (drop start values)) ≡ count
 row_length values start count fits = length-take-le count (drop start values) (omega (arith, fits, length-drop start values))
 
 -- a row that is seen is one that there is
@@ -105,11 +111,20 @@ place_within state room lengths values row place is full fits inside = at (nat_l
   where
     at : (there : Bool) → nat_lt row (length lengths) ≡ there → (row < length lengths) × (place < get_or lengths row 0)
     at true there =
-        let below : row < length lengths = grind (arith, there) in
-        (below, omega (arith, inside, ap length (row_seen state room lengths values row is below), row_length values (row * room) (get_or lengths row 0) (omega (arith, full, row_within row (length lengths) room (get_or lengths row 0) below (fits row)))))
+        let below : row < length lengths = grind (arith, there) in (
+          below,
+          omega (
+            arith,
+            inside,
+            ap length (row_seen state room lengths values row is below),
+            row_length values (row * room)
+                (get_or lengths row 0) (omega (arith, full, row_within row (length lengths) room (get_or lengths row 0) below (fits row))),
+          ),
+        )
     at false there =
         let past : length lengths ≤ row = grind (arith, there) in
-        let none : row_at row state ≡ [] = ap (row_at row) (sym is) ∙ get_or_past (rows_in room lengths values) row [] (omega (arith, past, rows_length room lengths values)) in
+        let none : row_at row state ≡ [] = ap (row_at row) (sym is) ∙ get_or_past (rows_in room lengths values) row []
+        (omega (arith, past, rows_length room lengths values)) in
         absurd (omega (arith, inside, ap length none))
 
 -- that place in the one list
@@ -122,7 +137,8 @@ place_in_values state room lengths values row place is full fits inside =
 
 -- after a row got another length
 pub set_length_count : {T : Type 0} (room : ℕ) (lengths : List ℕ) (values : List T) (row count : ℕ) → row < length lengths → count ≤ room
-    → length values ≡ length lengths * room → length (row_at row (record { room = room; rows = rows_in room (set lengths row count) values })) ≡ count
+    → length values ≡ length lengths * room
+    → length (row_at row (record { room = room; rows = rows_in room (set lengths row count) values })) ≡ count
 set_length_count room lengths values row count below few full =
     let there : row < length (set lengths row count) = omega (arith, below, length-set lengths row count) in
     ap length (row_is room (set lengths row count) values row there)
@@ -135,8 +151,10 @@ pub set_length_rest : {T : Type 0} (state : RowsState T) (room : ℕ) (lengths :
     ≡ with_row row (row_at row (record { room = room; rows = rows_in room (set lengths row count) values })) state
 set_length_rest state room lengths values row count is below =
     let there : row < length (set lengths row count) = omega (arith, below, length-set lengths row count) in
-    let new : row_at row (record { room = room; rows = rows_in room (set lengths row count) values }) ≡ take count (drop (row * room) values) =
-    row_is room (set lengths row count) values row there ∙ ap (λ n. take n (drop (row * room) values)) (get_or-set_same lengths row count 0 below) in
+    let new : row_at row (record { room = room; rows = rows_in room (set lengths row count) values })
+    ≡ take count (drop (row * room) values) =
+    row_is room (set lengths row count) values row there ∙ ap (λ n. take n (drop (row * room) values))
+    (get_or-set_same lengths row count 0 below) in
     ap (λ rows. record { room = room; rows = rows }) (lengthened room lengths values row count below)
     ∙ ap (λ part. with_row row part (record { room = room; rows = rows_in room lengths values })) (sym new)
     ∙ ap (with_row row (row_at row (record { room = room; rows = rows_in room (set lengths row count) values }))) is
@@ -145,7 +163,8 @@ set_length_rest state room lengths values row count is below =
 pub write_rest : {T : Type 0} (state : RowsState T) (room : ℕ) (lengths : List ℕ) (values : List T) (row place : ℕ) (value : T)
     → (record { room = room; rows = rows_in room lengths values }) ≡ state → length values ≡ length lengths * room → AllWithin room lengths
     → place < length (row_at row state)
-    → (record { room = room; rows = rows_in room lengths (set values (row * room + place) value) }) ≡ with_row row (set (row_at row state) place value) state
+    → (record { room = room; rows = rows_in room lengths (set values (row * room + place) value) })
+    ≡ with_row row (set (row_at row state) place value) state
 write_rest state room lengths values row place value is full fits inside =
     let at = place_within state room lengths values row place is full fits inside in
     ap (λ rows. record { room = room; rows = rows }) (written room lengths values row place value at.0 fits at.1)
@@ -155,19 +174,23 @@ write_rest state room lengths values row place value is full fits inside =
 abbrev pub put_at : {T : Type 0} → ℕ → List T → List T → List T
 put_at start xs values = take start values ++ (xs ++ drop (length xs) (drop start values))
 
-pub put_is : {T : Type 0} (start count : ℕ) (xs values new : List T) → length xs ≡ count → new ≡ take start values ++ (xs ++ drop (start + count) values) → new ≡ put_at start xs values
+pub put_is : {T : Type 0} (start count : ℕ) (xs values new : List T) → length xs ≡ count
+    → new ≡ take start values ++ (xs ++ drop (start + count) values) → new ≡ put_at start xs values
 put_is start count xs values new long is =
     is
     ∙ ap (λ n. take start values ++ (xs ++ drop (start + n) values)) (sym long)
     ∙ ap (λ rest. take start values ++ (xs ++ rest)) (sym (drop_more start (length xs) values))
 
-take_put : {T : Type 0} (count start : ℕ) (xs values : List T) → count ≤ start → start ≤ length values → take count (put_at start xs values) ≡ take count values
+take_put : {T : Type 0} (count start : ℕ) (xs values : List T) → count ≤ start → start ≤ length values
+    → take count (put_at start xs values) ≡ take count values
 take_put zero start xs values few long = refl
 take_put (suc count) zero xs values few long = absurd (omega (arith, few))
 take_put (suc count) (suc start) xs [] few long = absurd (omega (arith, long))
-take_put (suc count) (suc start) xs (v ∷ values) few long = ap (λ rest. v ∷ rest) (take_put count start xs values (omega (arith, few)) (omega (arith, long)))
+take_put (suc count) (suc start) xs (v ∷ values) few long
+    = ap (λ rest. v ∷ rest) (take_put count start xs values (omega (arith, few)) (omega (arith, long)))
 
-drop_put : {T : Type 0} (room start : ℕ) (xs values : List T) → room ≤ length values → drop room (put_at (room + start) xs values) ≡ put_at start xs (drop room values)
+drop_put : {T : Type 0} (room start : ℕ) (xs values : List T) → room ≤ length values
+    → drop room (put_at (room + start) xs values) ≡ put_at start xs (drop room values)
 drop_put zero start xs values long =
     let same : 0 + start ≡ start = omega arith in
     ap (λ k. put_at k xs values) same
@@ -177,20 +200,23 @@ drop_put (suc room) start xs (v ∷ values) long =
     ap (λ k. drop (suc room) (put_at k xs (v ∷ values))) more ∙ drop_put room start xs values (omega (arith, long))
 
 -- values are put into a row
-pub copied : {T : Type 0} (room : ℕ) (lengths : List ℕ) (values : List T) (row : ℕ) (xs : List T) → row < length lengths → AllWithin room lengths
+pub copied : {T : Type 0} (room : ℕ) (lengths : List ℕ) (values : List T) (row : ℕ) (xs : List T) → row < length lengths
+    → AllWithin room lengths
     → length values ≡ length lengths * room → length xs ≡ get_or lengths row 0
     → rows_in room lengths (put_at (row * room) xs values) ≡ set (rows_in room lengths values) row xs
 copied room [] values row xs below fits full long = absurd (omega (arith, below))
 copied room (count ∷ lengths) values zero xs below fits full long =
     ap (λ k. rows_in room (count ∷ lengths) (put_at k xs values)) (sym (none room))
-    ∙ ap (λ first. first ∷ rows_in room lengths (drop room (xs ++ drop (length xs) values))) (take_at xs (drop (length xs) values) count long)
+    ∙ ap (λ first. first ∷ rows_in room lengths (drop room (xs ++ drop (length xs) values)))
+    (take_at xs (drop (length xs) values) count long)
     ∙ ap (λ rest. xs ∷ rows_in room lengths rest) (drop-append-drop (length xs) values xs room (omega (arith, long, fits zero)) refl)
 copied room (count ∷ lengths) values (suc row) xs below fits full long =
     ap (λ k. rows_in room (count ∷ lengths) (put_at k xs values)) (one_more row room)
     ∙ ap (λ first. first ∷ rows_in room lengths (drop room (put_at (room + row * room) xs values)))
     (take_put count (room + row * room) xs values (omega (arith, fits zero)) start)
     ∙ ap (λ rest. take count values ∷ rows_in room lengths rest) (drop_put room (row * room) xs values (omega (arith, start)))
-    ∙ ap (λ rest. take count values ∷ rest) (copied room lengths (drop room values) row xs (omega (arith, below)) (λ k. fits (suc k)) shorter long)
+    ∙ ap (λ rest. take count values ∷ rest)
+    (copied room lengths (drop room values) row xs (omega (arith, below)) (λ k. fits (suc k)) shorter long)
   where
     start : room + row * room ≤ length values
     start = omega (arith, full, row_within (suc row) (suc (length lengths)) room 0 below (omega arith), one_more row room)
@@ -200,13 +226,16 @@ copied room (count ∷ lengths) values (suc row) xs below fits full long =
 
 -- how many values stand in a row that is seen
 pub seen_length : {T : Type 0} (state : RowsState T) (room : ℕ) (lengths : List ℕ) (values : List T) (row : ℕ)
-    → (record { room = room; rows = rows_in room lengths values }) ≡ state → length values ≡ length lengths * room → AllWithin room lengths → row < length lengths
+    → (record { room = room; rows = rows_in room lengths values }) ≡ state → length values ≡ length lengths * room
+    → AllWithin room lengths → row < length lengths
     → length (row_at row state) ≡ get_or lengths row 0
 seen_length state room lengths values row is full fits below =
     ap length (row_seen state room lengths values row is below)
-    ∙ row_length values (row * room) (get_or lengths row 0) (omega (arith, full, row_within row (length lengths) room (get_or lengths row 0) below (fits row)))
+    ∙ row_length values (row * room) (get_or lengths row 0)
+    (omega (arith, full, row_within row (length lengths) room (get_or lengths row 0) below (fits row)))
 
-put_length : {T : Type 0} (start : ℕ) (xs values : List T) → start + length xs ≤ length values → length (put_at start xs values) ≡ length values
+put_length : {T : Type 0} (start : ℕ) (xs values : List T) → start + length xs ≤ length values
+    → length (put_at start xs values) ≡ length values
 put_length start xs values fits = omega (
   arith,
   fits,
@@ -219,7 +248,8 @@ put_length start xs values fits = omega (
 
 -- after values were put into a row
 pub copy_rest : {T Z : Type 0} (state : RowsState T) (room : ℕ) (lengths : List ℕ) (values : Vec T Z) (row : ℕ) (xs new : List T)
-    → (record { room = room; rows = rows_in room lengths values.items }) ≡ state → length values.items ≡ length lengths * room → AllWithin room lengths → row < length lengths
+    → (record { room = room; rows = rows_in room lengths values.items }) ≡ state → length values.items ≡ length lengths * room
+    → AllWithin room lengths → row < length lengths
     → length xs ≡ get_or lengths row 0 → new ≡ put_at (row * room) xs values.items
     → (record { room = room; rows = rows_in room lengths (with_items values new).items }) ≡ with_row row xs state
 copy_rest state room lengths values row xs new is full fits below long made =

@@ -18,6 +18,10 @@ new_subscriber identity buffer_size most_connections most_expired = record {
   seen = 0;
   again = true;
   places = no_ties most_connections;
-  connections = record { values = replicate (most_connections + most_expired) None; free = range_with_len 0 (most_connections + most_expired) };
+  connections = record {
+    values = replicate (most_connections + most_expired) None;
+    free
+        = range_with_len 0 (most_connections + most_expired);
+  };
   expired = record { items = []; room = most_expired };
 }

@@ -1,5 +1,6 @@
 -- What a subscriber does at one place of the list of publishers.
-use Rattle.std.specs.Prelude.{ℕ, ◌+◌, ◌<◌, ◌==◌, ◌≡◌, ◌≢◌, ◌||◌, is_none, Bool, true, false, List, [], length, get_or, slice_get, nat_le, Option, None, Some, Result, Ok, Err}
+use Rattle.std.specs.Prelude.{ℕ, ◌+◌, ◌<◌, ◌==◌, ◌≡◌, ◌≢◌, ◌||◌, is_none, Bool, true, false, List, [], length, get_or, slice_get, nat_le}
+use Rattle.std.specs.Prelude.{Option, None, Some, Result, Ok, Err}
 use Rattle.std.specs.declared.alloc.AllocError.{AllocError}
 use Rattle.iox_container.specs.SlotTable.{stored}
 use Rattle.iox_domain_values.specs.declared.connection_failure.ZeroCopyCreationError.{ZeroCopyCreationError}
@@ -48,7 +49,8 @@ abbrev pub PartsBorrowed : {T U : Type 0} → Bool → ℕ → SubscriberPort �
 PartsBorrowed true key port ports is_free new new_ports = (is_free ≡ true) × (new ≡ ended_key key port)
     × (new_ports ≡ ended_ports (attached_at key port) ports)
 PartsBorrowed false key port ports is_free new new_ports =
-    (place : ℕ) × IsMet (is_unborrowed port ports) port.expired.items place × PartsFor (slice_get port.expired.items place) place key port ports is_free new new_ports
+    (place : ℕ) × IsMet (is_unborrowed port ports) port.expired.items place
+    × PartsFor (slice_get port.expired.items place) place key port ports is_free new new_ports
 
 -- the first expired one that is idle makes room; without such a one it depends on the borrows
 abbrev pub PartsOver : {T U : Type 0} → Option ℕ → ℕ → ℕ → SubscriberPort → List (ℕ × PublisherPort T U) → Bool → SubscriberPort
@@ -62,7 +64,8 @@ PartsOver (Some out) place key port ports is_free new new_ports =
 abbrev pub PartsFull : {T U : Type 0} → ℕ → SubscriberPort → List (ℕ × PublisherPort T U) → Bool → SubscriberPort
     → List (ℕ × PublisherPort T U) → Type 0
 PartsFull key port ports is_free new new_ports =
-    (place : ℕ) × IsMet (is_idle port ports) port.expired.items place × PartsOver (slice_get port.expired.items place) place key port ports is_free new new_ports
+    (place : ℕ) × IsMet (is_idle port ports) port.expired.items place
+    × PartsOver (slice_get port.expired.items place) place key port ports is_free new new_ports
 
 -- an idle connection ends; else it expires
 abbrev pub PartsIf : {T U : Type 0} → Bool → Bool → ℕ → SubscriberPort → List (ℕ × PublisherPort T U) → Bool → SubscriberPort
@@ -86,7 +89,8 @@ kept_at place key attached port = record port
 -- a connection comes to a place that is reached, under the key that comes next
 abbrev pub KeepsReached : ℕ → Attached → SubscriberPort → SubscriberPort → Type 0
 KeepsReached place attached port new =
-    (key : ℕ) × (slice_get port.connections.free 0 ≡ Some key) × (new ≡ record port { connections = stored port.connections key attached; places = tie_put place (Some key) port.places })
+    (key : ℕ) × (slice_get port.connections.free 0 ≡ Some key)
+    × (new ≡ record port { connections = stored port.connections key attached; places = tie_put place (Some key) port.places })
 
 -- a connection comes to a place, under the key that comes next
 abbrev pub KeepsAt : ℕ → Attached → SubscriberPort → SubscriberPort → Type 0
@@ -115,7 +119,8 @@ abbrev pub Connects : {T U : Type 0} → ℕ → ℕ → SubscriberPort → List
 Connects place number port ports (Err failure) new new_ports =
     (failure ≡ creation.OutOfMemory) × (may_fail place number port ports ≡ true) × (new ≡ port) × (new_ports ≡ ports)
 Connects place number port ports (Ok done) new new_ports =
-    (answer : Option (Result ℕ AllocError)) × AttachesTo number port.number port.buffer_size ports answer new_ports × ConnectsBy place number answer port new
+    (answer : Option (Result ℕ AllocError)) × AttachesTo number port.number port.buffer_size ports answer new_ports
+    × ConnectsBy place number answer port new
 
 -- no connection is at a place any longer
 abbrev pub unplaced : ℕ → SubscriberPort → SubscriberPort
@@ -171,5 +176,6 @@ FollowsNone place port ports new new_ports = FollowsNoneAt (get_or port.places.i
 abbrev pub AttachesAtOnce : Type 0 → Type 0 → Type 0
 AttachesAtOnce T U = (place number : ℕ) (port new : SubscriberPort) (ports new_ports : List (ℕ
     × PublisherPort T U)) (answer : Result (Unit {0}) ZeroCopyCreationError)
-    → get_or port.places.items place None ≡ None → place < port.places.room → port.connections.free ≢ [] → lacks_connection port.number (port_of number ports) ≡ false
+    → get_or port.places.items place None ≡ None → place < port.places.room → port.connections.free ≢ []
+    → lacks_connection port.number (port_of number ports) ≡ false
     → FollowsListed place number port ports answer new new_ports → answer ≡ Ok tt

@@ -31,7 +31,8 @@ abbrev pub LacksSlot : {T U : Type 0} → AllocationStrategy → ℕ → ℕ →
 LacksSlot allocation values elements old new =
     ((extent old.unit values elements ≤ old.sender.room) × IsFull old.sender × (new ≡ old))
     ⊎ ((old.sender.room < extent old.unit values elements)
-    × ((new ≡ old) ⊎ ((room : ℕ) × SegmentRoom allocation old.unit values elements (Some room) × (new ≡ with_sender (opened_for room old.sender) old) × IsFull new.sender)))
+    × ((new ≡ old) ⊎ ((room : ℕ) × SegmentRoom allocation old.unit values elements (Some room)
+    × (new ≡ with_sender (opened_for room old.sender) old) × IsFull new.sender)))
 
 -- A loan was made: none of its values is written, its slot was free, and it fits there; only it came, and if it didn't fit
 -- before, a segment.
@@ -45,7 +46,8 @@ pub record IsLent {T U : Type 0} (allocation : AllocationStrategy) (values eleme
   pub stays : extent old.unit values elements ≤ old.sender.room → (new.sender.room ≡ old.sender.room)
       × (new.sender.segments ≡ old.sender.segments)
   pub grows : old.sender.room < extent old.unit values elements
-      → SegmentRoom allocation old.unit values elements (Some new.sender.room) × (new.sender.segments ≡ old.sender.segments + 1) × (old.sender.segments < old.sender.most_segments)
+      → SegmentRoom allocation old.unit values elements (Some new.sender.room) × (new.sender.segments ≡ old.sender.segments + 1)
+      × (old.sender.segments < old.sender.most_segments)
   pub connections : new.sender.uses.connections ≡ old.sender.uses.connections
   pub history : new.sender.uses.history ≡ old.sender.uses.history
 
@@ -56,9 +58,11 @@ Tells allocation values elements old None new = IsSome old.sender.uses.sending �
 Tells allocation values elements old (Some (Err refusal.ExceedsMaxLoanSize)) new =
     (old.sender.uses.sending ≡ None) × (allocation ≡ strategy.Static) × (old.sender.room < extent old.unit values elements) × (new ≡ old)
 Tells allocation values elements old (Some (Err refusal.ExceedsMaxLoans)) new =
-    (old.sender.uses.sending ≡ None) × MayBeLent allocation values elements old × (old.sender.uses.most_loans ≤ length old.sender.uses.loans) × (new ≡ old)
+    (old.sender.uses.sending ≡ None) × MayBeLent allocation values elements old
+    × (old.sender.uses.most_loans ≤ length old.sender.uses.loans) × (new ≡ old)
 Tells allocation values elements old (Some (Err refusal.OutOfMemory)) new =
-    (old.sender.uses.sending ≡ None) × MayBeLent allocation values elements old × (length old.sender.uses.loans < old.sender.uses.most_loans)
+    (old.sender.uses.sending ≡ None) × MayBeLent allocation values elements old
+    × (length old.sender.uses.loans < old.sender.uses.most_loans)
     × LacksSlot allocation values elements old new
 Tells allocation values elements old (Some (Err refusal.InternalFailure)) new = ⊥
 Tells allocation values elements old (Some (Ok slot)) new =

@@ -1,5 +1,6 @@
 -- A publisher lends a slot, and what lies in a loan is written and read.
-use Rattle.std.specs.Prelude.{ℕ, ◌≡◌, ◌⊎◌, Bool, true, false, length, is_some, nat_lt, nat_le, Option, None, Some, Result, Ok, Err, if◌then◌else◌}
+use Rattle.std.specs.Prelude.{ℕ, ◌≡◌, ◌⊎◌, Bool, true, false, length, is_some, nat_lt, nat_le, Option, None, Some, Result, Ok, Err}
+use Rattle.std.specs.Prelude.{if◌then◌else◌}
 use Rattle.iox_domain_values.specs.declared.data_segment.AllocationStrategy.{AllocationStrategy}
 use Rattle.iox_domain_values.specs.declared.data_segment.AllocationStrategy.TheVariants as strategy
 use Rattle.iox_domain_values.specs.declared.port_error.LoanError.{LoanError}

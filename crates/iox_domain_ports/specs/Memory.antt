@@ -23,7 +23,8 @@ pub record HasRoom {T U : Type 0} (listed : List (Option (Member SubscriberEntry
 -- are listed an update answers Ok, whatever its handler may say.
 pub record NeedsNoMemory (T U : Type 0) (may : DegradationInfo → DegradationAction → Type 0) : Type 0 where
   pub place : (place : ℕ) (member : Member SubscriberEntry) (old new : PublisherPort T U) (answer : Result (Unit {0}) AllocError)
-      → place < old.ties.room → is_some (connection_to member.value.subscriber old) ≡ true → Follows place (Some member) old answer new → answer ≡ Ok tt
+      → place < old.ties.room → is_some (connection_to member.value.subscriber old) ≡ true → Follows place (Some member) old answer new
+      → answer ≡ Ok tt
   pub update : (listed : List (Option (Member SubscriberEntry))) (changes : ℕ) (old new : PublisherPort T U)
       (answer : Result (Unit {0}) ConnectionFailure)
       → HasRoom listed old → Updates may listed changes old answer new → answer ≡ Ok tt

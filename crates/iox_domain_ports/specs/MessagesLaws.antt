@@ -1,7 +1,9 @@
 -- What the steps of a publisher come to, in other words.
-use Rattle.std.specs.Prelude.{ℕ, ◌+◌, ◌<◌, ◌≤◌, ◌≡◌, ◌≢◌, ◌↔◌, ◌&&◌, Bool, true, if◌then◌else◌, List, [], ◌∷◌, eqb, nat_lt, nat_le, slice_get, Some}
+use Rattle.std.specs.Prelude.{ℕ, ◌+◌, ◌<◌, ◌≤◌, ◌≡◌, ◌≢◌, ◌↔◌, ◌&&◌, Bool, true, if◌then◌else◌, List, [], ◌∷◌, eqb, nat_lt, nat_le}
+use Rattle.std.specs.Prelude.{slice_get, Some}
 use Rattle.std.specs.List.{list_any}
-use Rattle.iox_domain_slots.specs.Uses.{Uses, nobody, placed, connected, connection_at, with_connection, loaned, dropped, begun, finished, segment_opened, offered, taken, given_back, ended, welcomed}
+use Rattle.iox_domain_slots.specs.Uses.{Uses, nobody, placed, connected, connection_at, with_connection, loaned, dropped, begun, finished}
+use Rattle.iox_domain_slots.specs.Uses.{segment_opened, offered, taken, given_back, ended, welcomed}
 use Rattle.iox_domain_ports.specs.Messages.{Message, Loan, is_written, write_all, sent_as}
 use Rattle.iox_domain_ports.specs.MessagesSending.{change_loan}
 use Rattle.iox_domain_slots.specs.Counting.{times}

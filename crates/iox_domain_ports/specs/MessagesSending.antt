@@ -1,5 +1,6 @@
 -- One publisher with its messages.
-use Rattle.std.specs.Prelude.{false, ℕ, ◌+◌, ◌<◌, ◌≤◌, ◌≡◌, ◌==◌, Bool, List, [], ◌∷◌, length, get_or, map, Option, None, Some, option_map, if◌then◌else◌, eqb, nat_lt, ◌&&◌, is_some, slice_get}
+use Rattle.std.specs.Prelude.{false, ℕ, ◌+◌, ◌<◌, ◌≤◌, ◌≡◌, ◌==◌, Bool, List, [], ◌∷◌, length, get_or, map, Option, None, Some}
+use Rattle.std.specs.Prelude.{option_map, if◌then◌else◌, eqb, nat_lt, ◌&&◌, is_some, slice_get}
 use Rattle.std.specs.List.{All, list_any, find, position_or_len}
 use Rattle.iox_domain_slots.specs.Uses.{Uses, Connection, in_use, loaned, segment_opened}
 use Rattle.iox_domain_slots.specs.Counting.{times}

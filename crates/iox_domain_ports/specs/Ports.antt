@@ -1,5 +1,6 @@
 -- The connections of a publisher are made and ended.
-use Rattle.std.specs.Prelude.{ℕ, ◌+◌, ◌≡◌, ◌≤◌, Bool, true, false, List, [], length, get_or, set, Option, None, Some, Result, Ok, Err, if◌then◌else◌}
+use Rattle.std.specs.Prelude.{ℕ, ◌+◌, ◌≡◌, ◌≤◌, Bool, true, false, List, [], length, get_or, set, Option, None, Some, Result, Ok, Err}
+use Rattle.std.specs.Prelude.{if◌then◌else◌}
 use Rattle.std.specs.List.{position}
 use Rattle.std.specs.declared.alloc.AllocError.{AllocError}
 use Rattle.iox_domain_slots.specs.Uses.{Connection, connection_at, with_connection, connected, placed, nobody, ended, welcomed}
@@ -62,7 +63,8 @@ attached_at subscriber index port = record port
 abbrev pub Attaches : {T U : Type 0} → ℕ → ℕ → PublisherPort T U → Result ℕ AllocError → PublisherPort T U → Type 0
 Attaches subscriber limit old (Err error) new = (connection_to subscriber old ≡ None) × (new ≡ old)
 Attaches {T} {U} subscriber limit old (Ok index) new =
-    (joined : PublisherPort T U) × Joins subscriber limit (connection_to subscriber old) old (Ok index) joined × (new ≡ attached_at subscriber index joined)
+    (joined : PublisherPort T U) × Joins subscriber limit (connection_to subscriber old) old (Ok index) joined
+    × (new ≡ attached_at subscriber index joined)
 
 -- the reader of the connection of this index left
 abbrev pub detached_at : {T U : Type 0} → ℕ → PublisherPort T U → PublisherPort T U
@@ -71,7 +73,8 @@ detached_at index port = record port { readers = set port.readers index (left (g
 -- the connection of this index ends: what waits is lost, what is borrowed stays in use
 abbrev pub ended_at : {T U : Type 0} → ℕ → PublisherPort T U → PublisherPort T U
 ended_at index port =
-    if is_live index port then record (with_connection_of index (ended (connection_of index port)) port) { readers = set port.readers index None }
+    if is_live index port then record (with_connection_of index (ended (connection_of index port)) port)
+    { readers = set port.readers index None }
     else port
 
 -- the history comes to a connection to which nothing was delivered

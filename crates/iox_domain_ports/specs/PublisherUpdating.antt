@@ -1,5 +1,6 @@
 -- A publisher follows the list of subscribers.
-use Rattle.std.specs.Prelude.{zero, suc, ℕ, ◌+◌, ◌-◌, ◌==◌, ◌≡◌, ◌||◌, min, nat_le, is_ok, is_none, Bool, true, false, List, [], ◌∷◌, length, get_or, Option, None, Some, Result, Ok, Err}
+use Rattle.std.specs.Prelude.{zero, suc, ℕ, ◌+◌, ◌-◌, ◌==◌, ◌≡◌, ◌||◌, min, nat_le, is_ok, is_none, Bool, true, false, List, [], ◌∷◌}
+use Rattle.std.specs.Prelude.{length, get_or, Option, None, Some, Result, Ok, Err}
 use Rattle.std.specs.declared.alloc.AllocError.{AllocError}
 use Rattle.iox_domain_values.specs.declared.connection_failure.ConnectionFailure.{ConnectionFailure}
 use Rattle.iox_domain_values.specs.declared.connection_failure.ConnectionFailure.TheVariants.{FailedToEstablishConnection}
@@ -52,7 +53,8 @@ abbrev pub Ties : {T U : Type 0} → ℕ → SubscriberEntry → PublisherPort T
 Ties place entry old (Err error) new = (may_fail place entry.subscriber old ≡ true) × (new ≡ old)
 Ties {T} {U} place entry old (Ok done) new =
     (index : ℕ) × (joined : PublisherPort T U)
-    × (Joins entry.subscriber (min entry.buffer_size old.sender.uses.most_waiting) (connection_to entry.subscriber old) (within_reach place old) (Ok index) joined)
+    × (Joins entry.subscriber (min entry.buffer_size old.sender.uses.most_waiting) (connection_to entry.subscriber old)
+    (within_reach place old) (Ok index) joined)
     × (new ≡ tied place index joined)
 
 -- a tie to a subscriber stays; else the old tie is let go of, and a new one made

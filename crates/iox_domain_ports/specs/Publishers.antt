@@ -94,7 +94,8 @@ AttachesAtPort number subscriber limit None old answer new = (answer ≡ None) �
 AttachesAtPort number subscriber limit (Some port) old None new = ⊥
 AttachesAtPort number subscriber limit (Some port) old (Some (Err error)) new = (connection_to subscriber port ≡ None) × (new ≡ old)
 AttachesAtPort {T} {U} number subscriber limit (Some port) old (Some (Ok index)) new =
-    (after : PublisherPort T U) × Attaches subscriber (min limit port.sender.uses.most_waiting) port (Ok index) after × (new ≡ with_port number old after)
+    (after : PublisherPort T U) × Attaches subscriber (min limit port.sender.uses.most_waiting) port (Ok index) after
+    × (new ≡ with_port number old after)
 
 -- a subscriber attaches to its connection at the publisher of a number
 abbrev pub AttachesTo : {T U : Type 0} → ℕ → ℕ → ℕ → List (ℕ × PublisherPort T U) → Option (Result ℕ AllocError)

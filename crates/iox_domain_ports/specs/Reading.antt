@@ -26,4 +26,5 @@ given_back_at index (Some at) port = with_connection_of index (given_back at (co
 -- whether a publisher left, and has neither loans nor connections, nor a send that waits
 abbrev pub is_over : {T U : Type 0} → PublisherPort T U → Bool
 is_over port =
-    not port.stands && ((length port.sender.uses.loans == 0) && (not (is_some port.sender.uses.sending) && not (list_any is_there port.sender.uses.connections)))
+    not port.stands && ((length port.sender.uses.loans == 0)
+    && (not (is_some port.sender.uses.sending) && not (list_any is_there port.sender.uses.connections)))

@@ -1,12 +1,14 @@
 -- How a subscriber receives.
-use Rattle.std.specs.Prelude.{ℕ, zero, suc, ◌+◌, ◌≡◌, ◌<◌, ◌⊎◌, Bool, true, false, List, [], ◌∷◌, length, get_or, slice_get, remove, Option, None, Some, Result, Ok, Err, if◌then◌else◌}
+use Rattle.std.specs.Prelude.{ℕ, zero, suc, ◌+◌, ◌≡◌, ◌<◌, ◌⊎◌, Bool, true, false, List, [], ◌∷◌, length, get_or, slice_get, remove}
+use Rattle.std.specs.Prelude.{Option, None, Some, Result, Ok, Err, if◌then◌else◌}
 use Rattle.iox_domain_values.specs.declared.port_error.ReceiveError.{ReceiveError}
 use Rattle.iox_domain_values.specs.declared.port_error.ReceiveError.TheVariants as receiving
 use Rattle.iox_domain_slots.specs.Uses.{is_there}
 use Rattle.iox_domain_ports.specs.Ports.{detached_at}
 use Rattle.iox_domain_ports.specs.declared.publisher_port.PublisherPort.{PublisherPort}
 use Rattle.iox_domain_ports.specs.Publishers.{changed, stands_in}
-use Rattle.iox_domain_ports.specs.Subscribing.{attached_at, connection_by, has_data, gives, is_idle, ended_key, ended_ports, taken_of, taken_ports}
+use Rattle.iox_domain_ports.specs.Subscribing.{attached_at, connection_by, has_data, gives, is_idle, ended_key, ended_ports, taken_of}
+use Rattle.iox_domain_ports.specs.Subscribing.{taken_ports}
 use Rattle.iox_domain_ports.specs.declared.attached.Attached.{Attached}
 use Rattle.iox_domain_ports.specs.declared.attached.Taken.{Taken}
 use Rattle.iox_domain_ports.specs.declared.subscriber_port.SubscriberPort.{SubscriberPort}
@@ -42,7 +44,8 @@ dropped_ports (Some key) port ports = ended_ports (attached_at key port) ports
 abbrev pub SweepsAt : {T U : Type 0} → Bool → ℕ → SubscriberPort → List (ℕ × PublisherPort T U) → ℕ → SubscriberPort
     → List (ℕ × PublisherPort T U) → Type 0
 SweepsAt true place port ports next port_after ports_after =
-    (next ≡ place) × (port_after ≡ dropped_port place (slice_get port.expired.items place) port) × (ports_after ≡ dropped_ports (slice_get port.expired.items place) port ports)
+    (next ≡ place) × (port_after ≡ dropped_port place (slice_get port.expired.items place) port)
+    × (ports_after ≡ dropped_ports (slice_get port.expired.items place) port ports)
 SweepsAt false place port ports next port_after ports_after = (next ≡ place + 1) × (port_after ≡ port) × (ports_after ≡ ports)
 
 -- those that are idle among so many expired connections, from a place on, end
@@ -50,7 +53,11 @@ abbrev pub swept : {T U : Type 0} → ℕ → ℕ → SubscriberPort × List (�
 swept place zero state = state
 swept place (suc count) state =
     if is_idle_at (slice_get state.0.expired.items place) state.0 state.1
-    then swept place count (dropped_port place (slice_get state.0.expired.items place) state.0, dropped_ports (slice_get state.0.expired.items place) state.0 state.1)
+    then swept place count (
+      dropped_port place (slice_get state.0.expired.items place) state.0,
+      dropped_ports (slice_get state.0.expired.items place) state.0
+          state.1,
+    )
     else swept (place + 1) count state
 
 -- whose connection gives: the expired one that is met, else the first of all that does
@@ -81,7 +88,8 @@ Serves port ports answer port_after ports_after =
     (met : ℕ) × IsMet (gives port ports) port.expired.items met
     × (giver : Option ℕ) × IsGiver (slice_get port.expired.items met) (gives port ports) giver
     × (answer ≡ given giver port ports)
-    × (port_after ≡ (swept 0 met (port, given_ports giver port ports)).0) × (ports_after ≡ (swept 0 met (port, given_ports giver port ports)).1)
+    × (port_after ≡ (swept 0 met (port, given_ports giver port ports)).0)
+    × (ports_after ≡ (swept 0 met (port, given_ports giver port ports)).1)
     × IsGiverThere giver port ports
 
 -- what is answered where no message came: a refusal if there is a key whose connection has data
@@ -105,7 +113,8 @@ Receives port ports answer port_after ports_after =
 abbrev pub left_at : {T U : Type 0} → Option Attached → List (ℕ × PublisherPort T U) → List (ℕ × PublisherPort T U)
 left_at None ports = ports
 left_at (Some attached) ports =
-    if stands_in attached.publisher ports then changed attached.publisher (detached_at attached.index) ports else ended_ports (Some attached) ports
+    if stands_in attached.publisher ports then changed attached.publisher (detached_at attached.index) ports else ended_ports
+    (Some attached) ports
 
 -- nobody reads at any of these connections any longer
 abbrev pub left_all : {T U : Type 0} → List (Option Attached) → List (ℕ × PublisherPort T U) → List (ℕ × PublisherPort T U)

@@ -1,5 +1,6 @@
 -- How a message is sent to the connections of a publisher.
-use Rattle.std.specs.Prelude.{zero, suc, ℕ, ◌-◌, ◌≡◌, ◌==◌, ◌&&◌, ◌||◌, not, is_some, nat_lt, slice_get, List, Bool, true, false, length, get_or, Option, None, Some, Result, Ok, Err, if◌then◌else◌}
+use Rattle.std.specs.Prelude.{zero, suc, ℕ, ◌-◌, ◌≡◌, ◌==◌, ◌&&◌, ◌||◌, not, is_some, nat_lt, slice_get, List, Bool, true, false, length}
+use Rattle.std.specs.Prelude.{get_or, Option, None, Some, Result, Ok, Err, if◌then◌else◌}
 use Rattle.std.specs.List.{position}
 use Rattle.iox_domain_slots.specs.Uses.{accepts, offered, begun, dropped, finished}
 use Rattle.iox_domain_ports.specs.Messages.{Message, Loan, sent_as}
@@ -97,7 +98,8 @@ Steps may meeting.Over port went new = (went ≡ false) × (new ≡ port)
 Steps may meeting.Passed port went new = (went ≡ true) × (new ≡ with_progress (passed port.progress) port)
 Steps may meeting.Delivered port went new = (went ≡ true) × (new ≡ with_progress (counted port.progress) port)
 Steps may (meeting.Full subscriber) port went new =
-    (decision : BackpressureDecision) × may (info_of subscriber port) decision × (went ≡ goes_on_by decision) × (new ≡ decided_by decision port)
+    (decision : BackpressureDecision) × may (info_of subscriber port) decision × (went ≡ goes_on_by decision)
+    × (new ≡ decided_by decision port)
 
 -- where the send waits, it didn't arrive and stays as it is; else it goes on
 abbrev pub GoesOn : {T U : Type 0} → Bool → Bool → PublisherPort T U → PublisherPort T U → Type 0 → Type 0
@@ -110,7 +112,8 @@ abbrev pub Delivers : {T U : Type 0} → (BackpressureInfo → BackpressureDecis
 Delivers may zero old arrived new = (arrived ≡ true) × (new ≡ old)
 Delivers {T} {U} may (suc places) old arrived new =
     (went : Bool) × (next : PublisherPort T U)
-    × (Steps may (meeting_at old.progress.place old) (met old.progress.place old) went next) × (GoesOn went arrived next new (Delivers may places next arrived new))
+    × (Steps may (meeting_at old.progress.place old) (met old.progress.place old) went next)
+    × (GoesOn went arrived next new (Delivers may places next arrived new))
 
 -- what a send answers that came to the end, or waits
 abbrev pub sent_answer : Bool → ProgressState → Result Sent SendError
@@ -164,7 +167,8 @@ abbrev pub SendsIf : {T U : Type 0} → Bool → (DegradationInfo → Degradatio
 SendsIf false may_degrade may listed changes at old answer new =
     (answer ≡ Some (Err sending.ConnectionBrokenSinceSenderNoLongerExists)) × (new ≡ dropped_at at old)
 SendsIf {T} {U} true may_degrade may listed changes at old answer new =
-    (outcome : Result (Unit {0}) ConnectionFailure) × (updated : PublisherPort T U) × (Updates may_degrade listed changes old outcome updated)
+    (outcome : Result (Unit {0}) ConnectionFailure) × (updated : PublisherPort T U)
+    × (Updates may_degrade listed changes old outcome updated)
     × (SendsAfter may at outcome updated answer new)
 
 -- A send of the loan at this place of the list; without one nothing happens.

@@ -1,5 +1,6 @@
 -- A subscriber follows the list of publishers.
-use Rattle.std.specs.Prelude.{ℕ, zero, suc, ◌+◌, ◌==◌, ◌≡◌, ◌&&◌, is_some, not, Bool, true, false, List, [], ◌∷◌, length, get_or, Option, None, Some, Result, Ok, Err}
+use Rattle.std.specs.Prelude.{ℕ, zero, suc, ◌+◌, ◌==◌, ◌≡◌, ◌&&◌, is_some, not, Bool, true, false, List, [], ◌∷◌, length, get_or, Option}
+use Rattle.std.specs.Prelude.{None, Some, Result, Ok, Err}
 use Rattle.iox_domain_values.specs.declared.connection_failure.ConnectionFailure.{ConnectionFailure}
 use Rattle.iox_domain_values.specs.declared.connection_failure.ConnectionFailure.TheVariants.{FailedToEstablishConnection}
 use Rattle.iox_domain_values.specs.declared.connection_failure.ZeroCopyCreationError.{ZeroCopyCreationError}
@@ -34,7 +35,8 @@ abbrev pub AsksOf : (DegradationInfo → DegradationAction → Type 0) → Optio
 AsksOf may None port found outcome after = after ≡ found
 AsksOf may (Some member) port found (Ok done) after = after ≡ found
 AsksOf may (Some member) port found (Err failure) after =
-    (action : DegradationAction) × may (told_of member.value port) action × (after ≡ first_failure found (FailedToEstablishConnection failure) action)
+    (action : DegradationAction) × may (told_of member.value port) action
+    × (after ≡ first_failure found (FailedToEstablishConnection failure) action)
 
 -- The places from one on that list a publisher are followed, one after the other; what is found is the first failure that is to fail
 -- the call.
@@ -43,7 +45,8 @@ abbrev pub FollowsFrom : {T U : Type 0} → (DegradationInfo → DegradationActi
     → List (ℕ × PublisherPort T U) → Type 0
 FollowsFrom may place [] found port ports after new new_ports = (after ≡ found) × (new ≡ port) × (new_ports ≡ ports)
 FollowsFrom {T} {U} may place (listed ∷ rest) found port ports after new new_ports =
-    (outcome : Result (Unit {0}) ZeroCopyCreationError) × (next : SubscriberPort) × (next_ports : List (ℕ × PublisherPort T U)) × (then_found : Option ConnectionFailure)
+    (outcome : Result (Unit {0}) ZeroCopyCreationError) × (next : SubscriberPort) × (next_ports : List (ℕ × PublisherPort T U))
+    × (then_found : Option ConnectionFailure)
     × FollowsOne place listed port ports outcome next next_ports × AsksOf may listed next found outcome then_found
     × FollowsFrom may (place + 1) rest then_found next next_ports after new new_ports
 
@@ -63,7 +66,8 @@ abbrev pub FollowsNones : {T U : Type 0} → List (Option (Member PublisherEntry
 FollowsNones listed place zero port ports new new_ports = (new ≡ port) × (new_ports ≡ ports)
 FollowsNones {T} {U} listed place (suc count) port ports new new_ports =
     (next : SubscriberPort) × (next_ports : List (ℕ × PublisherPort T U))
-    × FollowsNoneIf (is_listed listed place) place port ports next next_ports × FollowsNones listed (place + 1) count next next_ports new new_ports
+    × FollowsNoneIf (is_listed listed place) place port ports next next_ports
+    × FollowsNones listed (place + 1) count next next_ports new new_ports
 
 -- first the places that list a publisher are followed, then those that list none
 abbrev pub FollowsList : {T U : Type 0} → (DegradationInfo → DegradationAction → Type 0) → List (Option (Member PublisherEntry))
@@ -99,7 +103,8 @@ HasSamplesAfter (Ok done) port ports answer = (unread : Option ℕ) × IsFirst (
 abbrev pub HasSamples : {T U : Type 0} → (DegradationInfo → DegradationAction → Type 0) → List (Option (Member PublisherEntry)) → ℕ
     → SubscriberPort → List (ℕ × PublisherPort T U) → Result Bool ConnectionFailure → SubscriberPort → List (ℕ × PublisherPort T U) → Type 0
 HasSamples may listed changes port ports answer new new_ports =
-    (updated : Result (Unit {0}) ConnectionFailure) × Updates may listed changes port ports updated new new_ports × HasSamplesAfter updated new new_ports answer
+    (updated : Result (Unit {0}) ConnectionFailure) × Updates may listed changes port ports updated new new_ports
+    × HasSamplesAfter updated new new_ports answer
 
 -- after an update that failed nothing is received
 abbrev pub ReceivesAfter : {T U : Type 0} → Result (Unit {0}) ConnectionFailure → SubscriberPort → List (ℕ × PublisherPort T U)

@@ -48,7 +48,8 @@ gives port ports key = is_below port ports key && has_data port ports key
 -- whether nothing waits and nothing is borrowed at the connection of a key
 abbrev pub is_idle : {T U : Type 0} → SubscriberPort → List (ℕ × PublisherPort T U) → ℕ → Bool
 is_idle port ports key =
-    (length (connection_by (attached_at key port) ports).waiting == 0) && (length (connection_by (attached_at key port) ports).borrowed == 0)
+    (length (connection_by (attached_at key port) ports).waiting == 0)
+    && (length (connection_by (attached_at key port) ports).borrowed == 0)
 
 -- the key holds no connection any longer
 abbrev pub without_key : ℕ → Option Attached → SubscriberPort → SubscriberPort

@@ -20,4 +20,5 @@ pub record FollowsWhoIsListed (T U : Type 0) (may : DegradationInfo → Degradat
       → TellTheSame one other → Updates may one changes old answer new → Updates may other changes old answer new
   pub none : (listed : List (Option (Member SubscriberEntry))) (changes place : ℕ) (old new : PublisherPort T U)
       (answer : Result (Unit {0}) ConnectionFailure)
-      → old.seen ≢ changes → Updates may listed changes old answer new → get_or listed place None ≡ None → get_or new.ties.items place None ≡ None
+      → old.seen ≢ changes → Updates may listed changes old answer new → get_or listed place None ≡ None
+      → get_or new.ties.items place None ≡ None

@@ -1,7 +1,8 @@
 //! The connections of a publisher are made and ended.
 ghost use Rattle.std.specs.Prelude.{◌≡◌, ◌+◌, ◌<◌, ◌≤◌, ◌^◌, ◌&&◌, ◌==◌, length, get_or, None, Some, true};
 ghost use Rattle.iox_domain_slots.specs.declared.stage.Stage.TheVariants as stage;
-ghost use Rattle.iox_domain_ports.specs.Ports.{connection_of, is_live, connection_to, Connects, Joins, Attaches, attached_at, detached_at, ended_at, welcomed_at};
+ghost use Rattle.iox_domain_ports.specs.Ports.{connection_of, is_live, connection_to, Connects, Joins, Attaches, attached_at};
+ghost use Rattle.iox_domain_ports.specs.Ports.{detached_at, ended_at, welcomed_at};
 ghost use Rattle.iox_domain_ports.specs.Places.{reached};
 
 use crate::messages::Stage;

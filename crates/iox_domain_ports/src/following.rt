@@ -2,7 +2,8 @@
 ghost use Rattle.std.specs.Prelude.{◌≡◌, ◌≢◌, ◌+◌, ◌<◌, ◌≤◌, ◌==◌, ◌^◌, IfOk, OnErr, length, get_or, [], None, Some, true};
 ghost use Rattle.iox_domain_ports.specs.Subscribing.{attached_at, connection_by, is_idle};
 ghost use Rattle.iox_domain_ports.specs.Receiving.{IsMet};
-ghost use Rattle.iox_domain_ports.specs.Following.{is_unborrowed, is_of, replaced_port, replaced_ports, unplaced, Parts, PartsFull, KeepsReached, Connects, FollowsListed, FollowsFreed, FollowsNone, AttachesAtOnce};
+ghost use Rattle.iox_domain_ports.specs.Following.{is_unborrowed, is_of, replaced_port, replaced_ports, unplaced, Parts, PartsFull};
+ghost use Rattle.iox_domain_ports.specs.Following.{KeepsReached, Connects, FollowsListed, FollowsFreed, FollowsNone, AttachesAtOnce};
 
 use crate::attached::Attached;
 use crate::expired::Sought;

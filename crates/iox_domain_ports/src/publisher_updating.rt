@@ -4,7 +4,8 @@ ghost use Rattle.iox_domain_values.specs.declared.degradation.DegradationCause.T
 ghost use Rattle.iox_domain_ports.specs.Places.{leads_to};
 ghost use Rattle.iox_domain_ports.specs.Ports.{with_connections};
 ghost use Rattle.iox_domain_ports.specs.Memory.{HasRoom};
-ghost use Rattle.iox_domain_ports.specs.PublisherUpdating.{is_tie_to, untied, untied_from, within_reach, Ties, Follows, first_failure, update_answer, told_of, Updates, FollowsAll, Asks, OnlyConnections};
+ghost use Rattle.iox_domain_ports.specs.PublisherUpdating.{is_tie_to, untied, untied_from, within_reach, Ties, Follows, first_failure};
+ghost use Rattle.iox_domain_ports.specs.PublisherUpdating.{update_answer, told_of, Updates, FollowsAll, Asks, OnlyConnections};
 
 use crate::messages::Member;
 use crate::publisher_port::PublisherPort;

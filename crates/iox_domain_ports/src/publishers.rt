@@ -1,11 +1,13 @@
 //! The publishers of a service, by number.
-ghost use Rattle.std.specs.Prelude.{◌≡◌, ◌-◌, ◌^◌, ◌<◌, length, map, min, slice_get, option_copied, is_some, true, OnOk, OnErr, [], None, Some};
+ghost use Rattle.std.specs.Prelude.{◌≡◌, ◌-◌, ◌^◌, ◌<◌, length, map, min, slice_get, option_copied, is_some, true, OnOk, OnErr, [], None};
+ghost use Rattle.std.specs.Prelude.{Some};
 ghost use Rattle.std.specs.Borrow.{sem};
 ghost use Rattle.std.specs.Map.Iter.{ShowsInOrder, deref_pair};
 ghost use Rattle.std.specs.Option.{option_copied_mut};
 ghost use Rattle.iox_domain_slots.specs.Uses.{is_there};
 ghost use Rattle.iox_domain_ports.specs.Ports.{detached_at};
-ghost use Rattle.iox_domain_ports.specs.Publishers.{port_of, with_port, added, connection_in, most_borrowed_in, stands_in, changed, ended_if_left, is_over_in, settled, released, AttachesTo};
+ghost use Rattle.iox_domain_ports.specs.Publishers.{port_of, with_port, added, connection_in, most_borrowed_in, stands_in, changed};
+ghost use Rattle.iox_domain_ports.specs.Publishers.{ended_if_left, is_over_in, settled, released, AttachesTo};
 ghost use Rattle.iox_domain_ports.specs.Living.{living_publishers};
 ghost use Rattle.iox_domain_ports.specs.Reading.{place_of, taken_at, given_back_at};
 

@@ -2,8 +2,10 @@
 ghost use Rattle.std.specs.Prelude.{◌≡◌, ◌+◌, ◌<◌, ◌^◌, length, slice_get, IfSome, None, Some, true, false};
 ghost use Rattle.std.specs.Bool.{OnTrue, OnFalse};
 ghost use Rattle.iox_domain_slots.specs.Uses.{is_there};
-ghost use Rattle.iox_domain_ports.specs.Subscribing.{attached_at, connection_by, seen_of, has_data, gives, is_idle, ended_key, ended_ports, taken_of, taken_ports};
-ghost use Rattle.iox_domain_ports.specs.Receiving.{IsFirst, IsMet, IsGiver, IsGiverThere, is_idle_at, dropped_port, dropped_ports, swept, given, given_ports, nothing_taken, left_at, left_all, SweepsAt, Serves, Receives};
+ghost use Rattle.iox_domain_ports.specs.Subscribing.{attached_at, connection_by, seen_of, has_data, gives, is_idle, ended_key};
+ghost use Rattle.iox_domain_ports.specs.Subscribing.{ended_ports, taken_of, taken_ports};
+ghost use Rattle.iox_domain_ports.specs.Receiving.{IsFirst, IsMet, IsGiver, IsGiverThere, is_idle_at, dropped_port, dropped_ports, swept};
+ghost use Rattle.iox_domain_ports.specs.Receiving.{given, given_ports, nothing_taken, left_at, left_all, SweepsAt, Serves, Receives};
 
 use crate::attached::{Attached, Seen, Taken};
 use crate::expired::Sought;

@@ -1,5 +1,6 @@
 //! A publisher sends.
-ghost use Rattle.std.specs.Prelude.{◌≡◌, ◌≢◌, ℕ, ◌+◌, ◌-◌, ◌<◌, ◌≤◌, ◌^◌, Ok, Err, length, get_or, is_some, true, None, Some, if◌then◌else◌};
+ghost use Rattle.std.specs.Prelude.{◌≡◌, ◌≢◌, ℕ, ◌+◌, ◌-◌, ◌<◌, ◌≤◌, ◌^◌, Ok, Err, length, get_or, is_some, true, None, Some};
+ghost use Rattle.std.specs.Prelude.{if◌then◌else◌};
 ghost use Rattle.iox_domain_values.specs.declared.degradation.DegradationCause.TheVariants as cause;
 ghost use Rattle.iox_domain_ports.specs.MessagesSending.{has_loan, is_written_loan, loan_at, place_in};
 ghost use Rattle.iox_domain_ports.specs.declared.meeting.Meeting.TheVariants as meeting;
@@ -9,7 +10,9 @@ ghost use Rattle.iox_domain_ports.specs.Memory.{HasRoom};
 ghost use Rattle.iox_domain_values.specs.declared.connection_failure.ConnectionFailure.{ConnectionFailure};
 ghost use Rattle.iox_domain_values.specs.declared.port_error.SendError.TheVariants as sending;
 ghost use Rattle.iox_domain_ports.specs.Progress.{start, passed, counted, failing, tried_again};
-ghost use Rattle.iox_domain_ports.specs.Sending.{meeting_of, meeting_at, put_at, met, with_progress, info_of, goes_on_by, decided_by, sent_answer, concluded, ready_loan, begun_at, dropped_at, Sends, Steps, Delivers, Finishes};
+ghost use Rattle.iox_domain_ports.specs.Sending.{meeting_of, meeting_at, put_at, met, with_progress, info_of, goes_on_by, decided_by};
+ghost use Rattle.iox_domain_ports.specs.Sending.{sent_answer, concluded, ready_loan, begun_at, dropped_at, Sends, Steps, Delivers};
+ghost use Rattle.iox_domain_ports.specs.Sending.{Finishes};
 
 use crate::meeting::{Meeting, Sent};
 use crate::messages::Member;

@@ -2,7 +2,9 @@
 ghost use Rattle.std.specs.Prelude.{◌≡◌, ◌+◌, ◌<◌, ◌^◌, length, None};
 ghost use Rattle.iox_domain_values.specs.declared.degradation.DegradationCause.TheVariants as cause;
 ghost use Rattle.iox_domain_ports.specs.PublisherUpdating.{first_failure, update_answer};
-ghost use Rattle.iox_domain_ports.specs.SubscriberUpdating.{told_of, is_listed, FollowsOne, AsksOf, FollowsFrom, FollowsNoneIf, FollowsNones, FollowsList, Updates, HasSamplesAfter, HasSamples, ReceivesAfter, ReceivesNext};
+ghost use Rattle.iox_domain_ports.specs.SubscriberUpdating.{told_of, is_listed, FollowsOne, AsksOf, FollowsFrom, FollowsNoneIf};
+ghost use Rattle.iox_domain_ports.specs.SubscriberUpdating.{FollowsNones, FollowsList, Updates, HasSamplesAfter, HasSamples};
+ghost use Rattle.iox_domain_ports.specs.SubscriberUpdating.{ReceivesAfter, ReceivesNext};
 
 use crate::Member;
 use crate::attached::Taken;

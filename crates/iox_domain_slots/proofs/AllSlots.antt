@@ -1,10 +1,12 @@
 -- The slots of all connections of a publisher, counted.
-use Rattle.std.proofs.Common.{rules, arith, ◌≡◌, ◌+◌, ◌*◌, ◌^◌, ◌==◌, ◌<◌, ◌≤◌, ◌∷◌, [], ◌++◌, ℕ, zero, suc, Bool, true, false, is_some, if◌then◌else◌, remove, List, length, get_or, set, map, Option, Some, None, refl, sym, subst, ap, ◌∙◌}
+use Rattle.std.proofs.Common.{rules, arith, ◌≡◌, ◌+◌, ◌*◌, ◌^◌, ◌==◌, ◌<◌, ◌≤◌, ◌∷◌, [], ◌++◌, ℕ, zero, suc, Bool, true, false, is_some}
+use Rattle.std.proofs.Common.{if◌then◌else◌, remove, List, length, get_or, set, map, Option, Some, None, refl, sym, subst, ap, ◌∙◌}
 use Rattle.iox_domain_slots.specs.Counting.{SlotsState, Moves, Covers, times, uses_of}
 use Rattle.std.proofs.lemmas.List.{map-set, set-get_or, get_or-set_same, get_or-set_other, length-map, length-set}
 use Rattle.iox_domain_slots.specs.Uses.{Connection, placed, given_back, settled, nobody, held, held_by}
 use Rattle.iox_domain_slots.specs.declared.stage.Stage.TheVariants as stage
-use Rattle.iox_domain_slots.specs.Links.{LinkState, all_of, all_slots, slots_at, seen, connection_of, IsOf, IsGone, IsTakenBack, LinksState, taken_back}
+use Rattle.iox_domain_slots.specs.Links.{LinkState, all_of, all_slots, slots_at, seen, connection_of, IsOf, IsGone, IsTakenBack}
+use Rattle.iox_domain_slots.specs.Links.{LinksState, taken_back}
 use Rattle.std.proofs.Math.Logic.{⊎_elim}
 use Rattle.std.proofs.Math.Dec.{eqb}
 use Rattle.std.proofs.lemmas.List.Sums.{count_by-le-length}
@@ -14,14 +16,23 @@ use Rattle.iox_domain_slots.proofs.Linking.{times_all, moves_on}
 
 -- the connection of an index is changed
 pub set_times : (links : List (Option LinkState)) (index : ℕ) (link : Option LinkState) → index < length links → (k : ℕ)
-    → times k (all_slots (set links index link)) + times k (slots_at (get_or links index None)) ≡ times k (all_slots links) + times k (slots_at link)
+    → times k (all_slots (set links index link)) + times k (slots_at (get_or links index None))
+    ≡ times k (all_slots links) + times k (slots_at link)
 set_times [] index link within k = absurd (omega (arith, within))
-set_times (old ∷ rest) zero link within k = omega (arith, times_append k (slots_at link) (all_slots rest), times_append k (slots_at old) (all_slots rest))
+set_times (old ∷ rest) zero link within k
+    = omega (arith, times_append k (slots_at link) (all_slots rest), times_append k (slots_at old) (all_slots rest))
 set_times (old ∷ rest) (suc index) link within k =
-    omega (arith, set_times rest index link (omega (arith, within)) k, times_append k (slots_at old) (all_slots rest), times_append k (slots_at old) (all_slots (set rest index link)))
+    omega (
+      arith,
+      set_times rest index link (omega (arith, within)) k,
+      times_append k (slots_at old) (all_slots rest),
+      times_append k
+          (slots_at old) (all_slots (set rest index link)),
+    )
 
 -- the slots of one are among those of all
-pub one_of_all : (links : List (Option LinkState)) (index : ℕ) → (k : ℕ) → times k (slots_at (get_or links index None)) ≤ times k (all_slots links)
+pub one_of_all : (links : List (Option LinkState)) (index : ℕ) → (k : ℕ)
+    → times k (slots_at (get_or links index None)) ≤ times k (all_slots links)
 one_of_all [] index k = omega arith
 one_of_all (old ∷ rest) zero k = omega (arith, times_append k (slots_at old) (all_slots rest))
 one_of_all (old ∷ rest) (suc index) k = omega (arith, one_of_all rest index k, times_append k (slots_at old) (all_slots rest))
@@ -39,13 +50,16 @@ moves_all old new links index before after within at moves = record {
   same = moves.same;
   length = moves.length;
   moved = λ k.
-      let changed : times k (all_slots (set links index (Some after))) + times k (all_of before) ≡ times k (all_slots links) + times k (all_of after) =
-      subst (λ it. times k (all_slots (set links index (Some after))) + times k (slots_at it) ≡ times k (all_slots links) + times k (all_of after)) at (set_times links index (Some after) within k) in
+      let changed : times k (all_slots (set links index (Some after))) + times k (all_of before)
+      ≡ times k (all_slots links) + times k (all_of after) =
+      subst (λ it. times k (all_slots (set links index (Some after))) + times k (slots_at it)
+      ≡ times k (all_slots links) + times k (all_of after)) at (set_times links index (Some after) within k) in
       omega (arith, changed, moves.moved k);
 }
 
 -- the connection that stands at an index
-pub link_is : (links : List (Option LinkState)) (index : ℕ) (link : LinkState) (found : Option LinkState) → is_some (get_or links index None) ≡ true
+pub link_is : (links : List (Option LinkState)) (index : ℕ) (link : LinkState) (found : Option LinkState)
+    → is_some (get_or links index None) ≡ true
     → found ≡ get_or links index found → found ≡ Some link → get_or links index None ≡ Some link
 link_is [] index link found there read is = search (rules, there)
 link_is (old ∷ rest) zero link found there read is = sym read ∙ is
@@ -68,17 +82,22 @@ pub kind_of : (links : List (Option LinkState)) (index : ℕ) (overflows : Bool)
 kind_of links index overflows most_waiting most_borrowed link kinds at = subst (IsOf overflows most_waiting most_borrowed) at (kinds index)
 
 -- a slot that is used besides all of them is used besides one of them
-pub besides_one : (slots : SlotsState) (links : List (Option LinkState)) (index slot : ℕ) (link : LinkState) → get_or links index None ≡ Some link
+pub besides_one : (slots : SlotsState) (links : List (Option LinkState)) (index slot : ℕ) (link : LinkState)
+    → get_or links index None ≡ Some link
     → times slot (all_slots links) < uses_of slot slots → times slot (all_of link) < uses_of slot slots
 besides_one slots links index slot link at besides =
     omega (arith, besides, subst (λ it. times slot (slots_at it) ≤ times slot (all_slots links)) at (one_of_all links index slot))
 
 -- the uses of all stay where those of one do
-pub uses_all : (links : List (Option LinkState)) (index : ℕ) (before after : LinkState) → index < length links → get_or links index None ≡ Some before
-    → ((k : ℕ) → times k (all_of after) ≡ times k (all_of before)) → (k : ℕ) → times k (all_slots (set links index (Some after))) ≡ times k (all_slots links)
+pub uses_all : (links : List (Option LinkState)) (index : ℕ) (before after : LinkState) → index < length links
+    → get_or links index None ≡ Some before
+    → ((k : ℕ) → times k (all_of after) ≡ times k (all_of before)) → (k : ℕ)
+    → times k (all_slots (set links index (Some after))) ≡ times k (all_slots links)
 uses_all links index before after within at same k =
-    let changed : times k (all_slots (set links index (Some after))) + times k (all_of before) ≡ times k (all_slots links) + times k (all_of after) =
-    subst (λ it. times k (all_slots (set links index (Some after))) + times k (slots_at it) ≡ times k (all_slots links) + times k (all_of after)) at (set_times links index (Some after) within k) in
+    let changed : times k (all_slots (set links index (Some after))) + times k (all_of before)
+    ≡ times k (all_slots links) + times k (all_of after) =
+    subst (λ it. times k (all_slots (set links index (Some after))) + times k (slots_at it)
+    ≡ times k (all_slots links) + times k (all_of after)) at (set_times links index (Some after) within k) in
     omega (arith, changed, same k)
 
 -- a connection at the stage Live hasn't ended
@@ -88,11 +107,19 @@ live_is true same = search (rules, same)
 
 -- giving back at a connection that goes on
 pub given_back_live : (link : LinkState) (new : LinkState) (at : ℕ) → (connection_of link).stage ≡ stage.Live
-    → new ≡ record link { borrowed = remove link.borrowed at; returned = new.returned } → connection_of new ≡ given_back at (connection_of link)
+    → new ≡ record link { borrowed = remove link.borrowed at; returned = new.returned }
+    → connection_of new ≡ given_back at (connection_of link)
 given_back_live link new at live is =
     let goes_on : link.ended ≡ false = live_is link.ended live in
-    let same : connection_of new ≡ connection_of (record link { borrowed = remove link.borrowed at; returned = new.returned }) = ap connection_of is in
-    let stage_is : (record { stage = (if link.ended then stage.Ended else stage.Live); limit = link.limit; waiting = link.waiting; borrowed = remove link.borrowed at }) ≡ given_back at (connection_of link) = rw goes_on refl in
+    let same : connection_of new ≡ connection_of (record link { borrowed = remove link.borrowed at; returned = new.returned })
+    = ap connection_of is in
+    let stage_is : (record {
+      stage = (if link.ended then stage.Ended else stage.Live);
+      limit = link.limit;
+      waiting = link.waiting;
+      borrowed
+          = remove link.borrowed at;
+    }) ≡ given_back at (connection_of link) = rw goes_on refl in
     same ∙ stage_is
 
 -- what is seen of an index is what stands there of what is seen
@@ -109,7 +136,9 @@ set_twice (x ∷ xs) (suc index) a b = ap (λ ys. x ∷ ys) (set_twice xs index 
 -- a connection that was changed and then, if it is over, taken away
 pub then_settled : (old mid new : List (Option LinkState)) (index : ℕ) (connection : Connection ℕ) → index < length old
     → map seen mid ≡ set (map seen old) index connection
-    → map seen new ≡ set (map seen mid) index (settled (seen (get_or mid index None)).stage (seen (get_or mid index None)).limit (seen (get_or mid index None)).waiting (seen (get_or mid index None)).borrowed)
+    → map seen new ≡ set (map seen mid) index
+    (settled (seen (get_or mid index None)).stage (seen (get_or mid index None)).limit (seen (get_or mid index None)).waiting
+    (seen (get_or mid index None)).borrowed)
     → map seen new ≡ set (map seen old) index (settled connection.stage connection.limit connection.waiting connection.borrowed)
 then_settled old mid new index connection within first second =
     let within_map : index < length (map seen old) = omega (arith, within, length-map old seen) in
@@ -143,12 +172,15 @@ gone_seen links index gone = map-set seen links index None ∙ ap (set (map seen
   where
     at : (it : Option LinkState) → IsGone it → settled (seen it).stage (seen it).limit (seen it).waiting (seen it).borrowed ≡ nobody
     at None gone = absurd gone
-    at (Some link) gone = let borrowed = (ends_empty link.borrowed link.returned (ends_empty link.waiting (link.borrowed ++ link.returned) gone.1).1).0 in rw gone.0 (rw borrowed refl)
+    at (Some link) gone = let borrowed =
+        (ends_empty link.borrowed link.returned (ends_empty link.waiting (link.borrowed ++ link.returned) gone.1).1).0 in rw gone.0
+        (rw borrowed refl)
 
 -- nothing changes where what is put at an index is what stood there
 pub set_same : (links : List (Option LinkState)) (index : ℕ) (connection : Connection ℕ) → connection ≡ seen (get_or links index None)
     → map seen links ≡ set (map seen links) index connection
-set_same links index connection is = sym (ap (set (map seen links) index) (is ∙ seen_at links index) ∙ set-get_or (map seen links) index nobody)
+set_same links index connection is = sym
+    (ap (set (map seen links) index) (is ∙ seen_at links index) ∙ set-get_or (map seen links) index nobody)
 
 -- the connections before an index are taken back from
 pub record TakingAllBack (first : LinksState) (slots : SlotsState) (now : LinksState) (later : SlotsState) (count : ℕ) : Type 0 where
@@ -166,8 +198,10 @@ link_of_found (old ∷ rest) zero link found within read is = sym read ∙ is
 link_of_found (old ∷ rest) (suc index) link found within read is = link_of_found rest index link found (omega (arith, within)) read is
 
 -- what is seen stays where what is put at an index looks as what stood there
-pub looks_same : (links : List (Option LinkState)) (index : ℕ) → map seen (set links index (taken_back (get_or links index None))) ≡ map seen links
-looks_same links index = map-set seen links index (taken_back (get_or links index None)) ∙ ap (set (map seen links) index) (same (get_or links index None)) ∙ sym (set_same links index (seen (get_or links index None)) refl)
+pub looks_same : (links : List (Option LinkState)) (index : ℕ)
+    → map seen (set links index (taken_back (get_or links index None))) ≡ map seen links
+looks_same links index = map-set seen links index (taken_back (get_or links index None)) ∙ ap (set (map seen links) index)
+    (same (get_or links index None)) ∙ sym (set_same links index (seen (get_or links index None)) refl)
   where
     same : (it : Option LinkState) → seen (taken_back it) ≡ seen it
     same None = refl
@@ -180,7 +214,8 @@ pub one_more_done : (links : List (Option LinkState)) (count : ℕ) → count < 
 one_more_done links count within done index below = ⊎_elim
     (λ same. subst (λ i. IsTakenBack (get_or (set links count (taken_back (get_or links count None))) i None)) (sym same.1)
     (rw (get_or-set_same links count (taken_back (get_or links count None)) None within) (back (get_or links count None))))
-    (λ other. rw (get_or-set_other links count index (taken_back (get_or links count None)) None other.1) (done index (omega (arith, below, other.1))))
+    (λ other. rw (get_or-set_other links count index (taken_back (get_or links count None)) None other.1)
+    (done index (omega (arith, below, other.1))))
     (eqb_tells index count)
   where
     back : (it : Option LinkState) → IsTakenBack (taken_back it)
@@ -202,25 +237,36 @@ none_left_of (x ∷ rest) done k =
   where
     one_left : (it : Option LinkState) → IsTakenBack it → times k (slots_at it) ≡ times k (held_by (seen it))
     one_left None back = refl
-    one_left (Some link) back = omega (arith, times_all k link.waiting link.borrowed link.returned, times_append k link.waiting link.borrowed, ap (times k) back)
+    one_left (Some link) back
+        = omega (arith, times_all k link.waiting link.borrowed link.returned, times_append k link.waiting link.borrowed, ap (times k) back)
 
 -- no publisher has so many uses of its slots that they couldn't be counted
-pub all_length : (overflows : Bool) (most_waiting most_borrowed : ℕ) (links : List (Option LinkState)) → most_waiting < 2 ^ 32 → most_borrowed < 2 ^ 32
-    → ((index : ℕ) → IsOf overflows most_waiting most_borrowed (get_or links index None)) → (k : ℕ) → times k (all_slots links) ≤ length links * 2 ^ 33
+pub all_length : (overflows : Bool) (most_waiting most_borrowed : ℕ) (links : List (Option LinkState)) → most_waiting < 2 ^ 32
+    → most_borrowed < 2 ^ 32
+    → ((index : ℕ) → IsOf overflows most_waiting most_borrowed (get_or links index None)) → (k : ℕ)
+    → times k (all_slots links) ≤ length links * 2 ^ 33
 all_length overflows most_waiting most_borrowed [] waits borrows kinds k = omega arith
 all_length overflows most_waiting most_borrowed (x ∷ rest) waits borrows kinds k =
-    omega (arith, times_append k (slots_at x) (all_slots rest), one_length x (kinds zero), all_length overflows most_waiting most_borrowed rest waits borrows (λ index. kinds (suc index)) k)
+    omega (
+      arith,
+      times_append k (slots_at x) (all_slots rest),
+      one_length x (kinds zero),
+      all_length overflows most_waiting most_borrowed
+          rest waits borrows (λ index. kinds (suc index)) k,
+    )
   where
     one_length : (it : Option LinkState) → IsOf overflows most_waiting most_borrowed it → times k (slots_at it) ≤ 2 ^ 33
     one_length None kind = omega arith
-    one_length (Some link) kind = omega (arith, kind.1, kind.2, kind.4.2, waits, borrows, count_by-le-length (λ other. eqb k other) (all_of link))
+    one_length (Some link) kind = omega
+        (arith, kind.1, kind.2, kind.4.2, waits, borrows, count_by-le-length (λ other. eqb k other) (all_of link))
 
 -- other connections
 abbrev with_links : LinksState → List (Option LinkState) → LinksState
 with_links state links = record state { links = links }
 
 -- one index more is taken back from
-pub taking_step : (first : LinksState) (slots : SlotsState) (now : LinksState) (later : SlotsState) (count : ℕ) (next : LinksState) (final : SlotsState)
+pub taking_step : (first : LinksState) (slots : SlotsState) (now : LinksState) (later : SlotsState) (count : ℕ) (next : LinksState)
+    (final : SlotsState)
     → TakingAllBack first slots now later count → count < length first.links
     → next ≡ record now { links = set now.links count (taken_back (get_or now.links count None)) }
     → Moves later (all_slots now.links) final (all_slots next.links) → TakingAllBack first slots next final (count + 1)
@@ -238,18 +284,26 @@ taking_step first slots now later count next final so_far within is moves =
     }
 
 -- a connection that holds nothing comes to an index without one
-pub placed_within : (links : List (Option LinkState)) (index : ℕ) (link : LinkState) (connection : Connection ℕ) → index < length links → connection_of link ≡ connection
+pub placed_within : (links : List (Option LinkState)) (index : ℕ) (link : LinkState) (connection : Connection ℕ) → index < length links
+    → connection_of link ≡ connection
     → map seen (set links index (Some link)) ≡ placed index connection (map seen links)
 placed_within links index link connection within is =
     let apart : (index == length (map seen links)) ≡ false = grind (arith, within, length-map links seen) in
     rw apart (seen_set links index link connection is)
 
-pub placed_uses : (links : List (Option LinkState)) (index : ℕ) (link : LinkState) → index < length links → get_or links index None ≡ None → all_of link ≡ []
+pub placed_uses : (links : List (Option LinkState)) (index : ℕ) (link : LinkState) → index < length links
+    → get_or links index None ≡ None → all_of link ≡ []
     → (k : ℕ) → times k (all_slots (set links index (Some link))) ≡ times k (all_slots links)
 placed_uses links index link within vacant empty k =
     omega (arith, set_times links index (Some link) within k, ap (λ it. times k (slots_at it)) vacant, ap (times k) empty)
 
-pub appended_uses : (links : List (Option LinkState)) (link : LinkState) → all_of link ≡ [] → (k : ℕ) → times k (all_slots (links ++ Some link ∷ [])) ≡ times k (all_slots links)
+pub appended_uses : (links : List (Option LinkState)) (link : LinkState) → all_of link ≡ [] → (k : ℕ)
+    → times k (all_slots (links ++ Some link ∷ [])) ≡ times k (all_slots links)
 appended_uses [] link empty k = omega (arith, times_append k (all_of link) [], ap (times k) empty)
 appended_uses (x ∷ rest) link empty k =
-    omega (arith, times_append k (slots_at x) (all_slots (rest ++ Some link ∷ [])), times_append k (slots_at x) (all_slots rest), appended_uses rest link empty k)
+    omega (
+      arith,
+      times_append k (slots_at x) (all_slots (rest ++ Some link ∷ [])),
+      times_append k (slots_at x) (all_slots rest),
+      appended_uses rest link empty k,
+    )

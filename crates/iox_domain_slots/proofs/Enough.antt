@@ -1,5 +1,6 @@
 -- With as many slots as the worst case needs, one is free.
-use Rattle.std.proofs.Common.{rules, arith, ◌≡◌, ◌+◌, ◌*◌, ◌<◌, ◌≤◌, ◌∷◌, [], ◌++◌, ℕ, zero, suc, Bool, true, false, cond, if◌then◌else◌, List, length, length-append, get_or, map, Option, Some, None, refl, ap, ◌∙◌}
+use Rattle.std.proofs.Common.{rules, arith, ◌≡◌, ◌+◌, ◌*◌, ◌<◌, ◌≤◌, ◌∷◌, [], ◌++◌, ℕ, zero, suc, Bool, true, false, cond, if◌then◌else◌}
+use Rattle.std.proofs.Common.{List, length, length-append, get_or, map, Option, Some, None, refl, ap, ◌∙◌}
 use Rattle.std.specs.Option.{option_to_list, IsSome}
 use Rattle.std.proofs.Math.Logic.{⊎_elim}
 use Rattle.std.proofs.lemmas.Bool.Decides.{eqb_tells}
@@ -62,15 +63,18 @@ times_more n m = grind arith
 
 -- one connection more
 held_more : (overflows : Bool) (most_waiting most_borrowed : ℕ) (it : Option LinkState) (rest : List (Option LinkState))
-    → IsOf overflows most_waiting most_borrowed it → length (held (map seen rest)) ≤ how_many (map seen rest) * (most_waiting + most_borrowed)
+    → IsOf overflows most_waiting most_borrowed it
+    → length (held (map seen rest)) ≤ how_many (map seen rest) * (most_waiting + most_borrowed)
     → length (held_by (seen it) ++ held (map seen rest)) ≤ how_many (seen it ∷ map seen rest) * (most_waiting + most_borrowed)
 held_more overflows most_waiting most_borrowed None rest kind later =
-    let same : how_many (seen None ∷ map seen rest) ≡ how_many (map seen rest) = omega (arith, sum_by-cons (λ c. cond (is_there c) 1 0) (seen None) (map seen rest)) in
+    let same : how_many (seen None ∷ map seen rest) ≡ how_many (map seen rest)
+    = omega (arith, sum_by-cons (λ c. cond (is_there c) 1 0) (seen None) (map seen rest)) in
     rw same later
 held_more overflows most_waiting most_borrowed (Some link) rest kind later =
     let there : is_there (seen (Some link)) ≡ true = open_is link.ended in
     let more : how_many (seen (Some link) ∷ map seen rest) ≡ 1 + how_many (map seen rest) =
-    sum_by-cons (λ c. cond (is_there c) 1 0) (seen (Some link)) (map seen rest) ∙ ap {B = ℕ} (λ b. cond b 1 0 + how_many (map seen rest)) there in
+    sum_by-cons (λ c. cond (is_there c) 1 0) (seen (Some link)) (map seen rest) ∙ ap {B = ℕ}
+    (λ b. cond b 1 0 + how_many (map seen rest)) there in
     rw more (omega (
       arith,
       later,
@@ -93,7 +97,8 @@ pub held_few : (overflows : Bool) (most_waiting most_borrowed : ℕ) (links : Li
     → length (held (map seen links)) ≤ how_many (map seen links) * (most_waiting + most_borrowed)
 held_few overflows most_waiting most_borrowed [] kinds = omega arith
 held_few overflows most_waiting most_borrowed (x ∷ rest) kinds =
-    held_more overflows most_waiting most_borrowed x rest (kinds zero) (held_few overflows most_waiting most_borrowed rest (λ index. kinds (suc index)))
+    held_more overflows most_waiting most_borrowed x rest (kinds zero)
+    (held_few overflows most_waiting most_borrowed rest (λ index. kinds (suc index)))
 
 -- with as many slots as the worst case needs not all of them are in use
 pub enough : (uses : Uses ℕ ℕ) → uses.sending ≡ None → length uses.loans < uses.most_loans → length uses.history ≤ uses.kept
@@ -116,7 +121,9 @@ enough uses idle room short few suffices all =
     )
 
 -- so a loan is not refused
-pub never_none : (old new : Uses ℕ ℕ) (result : Option ℕ) → LoanUse old result new → old.sending ≡ None → length old.loans < old.most_loans → length old.history ≤ old.kept
-    → length (held old.connections) ≤ how_many old.connections * (old.most_waiting + old.most_borrowed) → worst_case old ≤ old.size → IsSome result
+pub never_none : (old new : Uses ℕ ℕ) (result : Option ℕ) → LoanUse old result new → old.sending ≡ None
+    → length old.loans < old.most_loans → length old.history ≤ old.kept
+    → length (held old.connections) ≤ how_many old.connections * (old.most_waiting + old.most_borrowed) → worst_case old ≤ old.size
+    → IsSome result
 never_none old new None loan idle room short few suffices = absurd (enough old idle room short few suffices loan.0)
 never_none old new (Some slot) loan idle room short few suffices = search rules

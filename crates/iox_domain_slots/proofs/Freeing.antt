@@ -9,11 +9,13 @@ use Rattle.iox_container.specs.declared.release.ReleaseMode.TheVariants.{Default
 pub record Freeing (start : UniqueSetState) (references : List ℕ) (first : ℕ) (now : UniqueSetState) (count : ℕ) : Type 0 where
   pub capacity : now.capacity ≡ start.capacity
   pub unlocked : now.locked ≡ false
-  pub done : (index : ℕ) → index < start.capacity → start.capacity ≤ index + count → is_held index now ≡ nat_lt 0 (get_or references (first + index) 0)
+  pub done : (index : ℕ) → index < start.capacity → start.capacity ≤ index + count
+      → is_held index now ≡ nat_lt 0 (get_or references (first + index) 0)
   pub left : (index : ℕ) → index + count < start.capacity → is_held index now ≡ true
 
 -- a place without a use is freed
-pub one_freed : (start now : UniqueSetState) (references : List ℕ) (first count index : ℕ) → Freeing start references first now count → count < start.capacity
+pub one_freed : (start now : UniqueSetState) (references : List ℕ) (first count index : ℕ) → Freeing start references first now count
+    → count < start.capacity
     → index ≡ start.capacity - 1 - count → get_or references (first + index) 0 ≡ 0 → Takes index (freed index now) now
     → Freeing start references first (settled Default (freed index now)) (count + 1)
 one_freed start now references first count index so_far within is unused takes = record {
@@ -24,14 +26,16 @@ one_freed start now references first count index so_far within is unused takes =
       (takes.was_free ∙ sym (none (get_or references (first + index) 0) unused)))
       (λ apart. sym (takes.others other apart.1) ∙ so_far.done other below (omega (arith, behind, is, within, apart.1)))
       (eqb_tells other index);
-  left = λ other below. sym (takes.others other (λ same. absurd (omega (arith, below, same, is, within)))) ∙ so_far.left other (omega (arith, below));
+  left = λ other below. sym (takes.others other (λ same. absurd (omega (arith, below, same, is, within)))) ∙ so_far.left other
+      (omega (arith, below));
 }
   where
     none : (uses : ℕ) → uses ≡ 0 → nat_lt 0 uses ≡ false
     none uses is = grind (arith, is)
 
 -- a place whose slot has a use stays held
-pub one_stays : (start now : UniqueSetState) (references : List ℕ) (first count index : ℕ) → Freeing start references first now count → count < start.capacity
+pub one_stays : (start now : UniqueSetState) (references : List ℕ) (first count index : ℕ) → Freeing start references first now count
+    → count < start.capacity
     → index ≡ start.capacity - 1 - count → 0 < get_or references (first + index) 0 → Freeing start references first now (count + 1)
 one_stays start now references first count index so_far within is used = record {
   capacity = so_far.capacity;

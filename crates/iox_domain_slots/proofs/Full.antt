@@ -1,5 +1,6 @@
 -- When the places of a segment are all held, and when none of them is.
-use Rattle.std.proofs.Common.{rules, arith, ◌≡◌, ◌+◌, ◌-◌, ◌<◌, ◌≤◌, ◌∷◌, [], ◌++◌, ℕ, length, zero, suc, Bool, true, false, not, ◌&&◌, List, take, nat_lt, get_or, replicate, Err, refl, sym, subst, ◌∙◌}
+use Rattle.std.proofs.Common.{rules, arith, ◌≡◌, ◌+◌, ◌-◌, ◌<◌, ◌≤◌, ◌∷◌, [], ◌++◌, ℕ, length, zero, suc, Bool, true, false, not, ◌&&◌}
+use Rattle.std.proofs.Common.{List, take, nat_lt, get_or, replicate, Err, refl, sym, subst, ◌∙◌}
 use Rattle.std.specs.List.{range_with_len}
 use Rattle.std.proofs.Math.ListN.{get_or-replicate}
 use Rattle.std.proofs.lemmas.List.{get_or_past, length-replicate, take_all}
@@ -22,7 +23,8 @@ pub all_used : (references : List ℕ) (first size : ℕ) (held : ℕ → Bool)
 all_used references first size held marks all slot low high =
     let at : first + (slot - first) ≡ slot = omega (arith, low) in
     let below : slot - first < size = omega (arith, low, high) in
-    let used : nat_lt 0 (get_or references (first + (slot - first)) 0) ≡ true = sym (marks (slot - first) below) ∙ all (slot - first) below in
+    let used : nat_lt 0 (get_or references (first + (slot - first)) 0) ≡ true
+    = sym (marks (slot - first) below) ∙ all (slot - first) below in
     let there : 0 < get_or references (first + (slot - first)) 0 = grind (arith, used) in
     subst (λ k. 0 < get_or references k 0) at there
 
@@ -56,8 +58,11 @@ count_stays (x ∷ references) size zero = refl
 count_stays (x ∷ references) size (suc slot) = count_stays references size slot
 
 -- of the slots of a new segment none has a use
-pub segment_unused : (references : List ℕ) (size index : ℕ) → nat_lt 0 (get_or (references ++ replicate size 0) (length references + index) 0) ≡ false
-segment_unused references size index = rw (count_stays references size (length references + index)) (rw (get_or_past references (length references + index) 0 (omega arith)) refl)
+pub segment_unused : (references : List ℕ) (size index : ℕ)
+    → nat_lt 0 (get_or (references ++ replicate size 0) (length references + index) 0) ≡ false
+segment_unused references size index
+    = rw (count_stays references size (length references + index))
+    (rw (get_or_past references (length references + index) 0 (omega arith)) refl)
 
 -- a list that is filled up to as many more
 pub filled_up : (xs : List ℕ) (size : ℕ) → take (length xs + size) xs ++ replicate (length xs + size - length xs) 0 ≡ xs ++ replicate size 0

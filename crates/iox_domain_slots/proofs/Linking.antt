@@ -4,7 +4,8 @@ use Rattle.iox_domain_slots.specs.Counting.{SlotsState, Moves, Covers, times, us
 use Rattle.iox_domain_slots.specs.Links.{LinkState, all_of}
 use Rattle.iox_domain_slots.proofs.Counts.{one, times_append, times_cons}
 
-pub times_all : (k : ℕ) (waiting borrowed returned : List ℕ) → times k (waiting ++ (borrowed ++ returned)) ≡ times k waiting + (times k borrowed + times k returned)
+pub times_all : (k : ℕ) (waiting borrowed returned : List ℕ)
+    → times k (waiting ++ (borrowed ++ returned)) ≡ times k waiting + (times k borrowed + times k returned)
 times_all k waiting borrowed returned = omega (arith, times_append k waiting (borrowed ++ returned), times_append k borrowed returned)
 
 -- the first of a list and the rest
@@ -36,7 +37,8 @@ covers_after old new before after covers moves = λ k.
     omega (arith, covers k, moves.moved k, ap (times k) loans, ap (times k) history)
 
 -- one move after another
-pub moves_on : (old mid new : SlotsState) (before between after : List ℕ) → Moves old before mid between → Moves mid between new after → Moves old before new after
+pub moves_on : (old mid new : SlotsState) (before between after : List ℕ) → Moves old before mid between → Moves mid between new after
+    → Moves old before new after
 moves_on old mid new before between after first second = record {
   same =
       let on : (record mid { references = new.references }) ≡ record old { references = new.references } = rw first.same refl in

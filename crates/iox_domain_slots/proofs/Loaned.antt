@@ -1,15 +1,18 @@
 -- A list of slots without one of them, read from either end, and the marks of who is in it.
-use Rattle.std.proofs.Common.{arith, ◌≡◌, ◌≢◌, inl, inr, ◌+◌, ◌-◌, ◌^◌, ◌<◌, ◌≤◌, ◌==◌, ◌||◌, ◌∷◌, [], ◌++◌, ℕ, suc, Bool, true, false, List, length, get_or, nat_lt, remove, replicate, reverse, refl, sym, ap, ◌∙◌, subst}
+use Rattle.std.proofs.Common.{arith, ◌≡◌, ◌≢◌, inl, inr, ◌+◌, ◌-◌, ◌^◌, ◌<◌, ◌≤◌, ◌==◌, ◌||◌, ◌∷◌, [], ◌++◌, ℕ, suc, Bool, true, false}
+use Rattle.std.proofs.Common.{List, length, get_or, nat_lt, remove, replicate, reverse, refl, sym, ap, ◌∙◌, subst}
 use Rattle.std.proofs.Math.Logic.{⊎_elim}
 use Rattle.std.proofs.Math.Dec.{eqb}
 use Rattle.std.proofs.Math.ListN.{set}
 use Rattle.std.proofs.lemmas.Bool.{cases_eq, cases_Bool}
 use Rattle.std.proofs.lemmas.Bool.Decides.{eqb_tells, nat_tests}
-use Rattle.std.proofs.lemmas.List.{append-nil, reverse-append, get_or_append_left, get_or_past, get_or_push, get_or-set_same, get_or-set_other, get_or-replicate, length-replicate, length-set, length_push}
+use Rattle.std.proofs.lemmas.List.{append-nil, reverse-append, get_or_append_left, get_or_past, get_or_push, get_or-set_same}
+use Rattle.std.proofs.lemmas.List.{get_or-set_other, get_or-replicate, length-replicate, length-set, length_push}
 use Rattle.iox_container.specs.SlotTable.{Among, Distinct, without}
 use Rattle.iox_container.specs.Links.{LinksKeys, walk}
 use Rattle.iox_container.specs.Unique.{is_among}
-use Rattle.iox_container.proofs.Chains.{LinksKeys-added, LinksKeys-first_removed, LinksKeys-grown, LinksKeys-removed, LinksKeys-walked, walk-is}
+use Rattle.iox_container.proofs.Chains.{LinksKeys-added, LinksKeys-first_removed, LinksKeys-grown, LinksKeys-removed, LinksKeys-walked}
+use Rattle.iox_container.proofs.Chains.{walk-is}
 use Rattle.iox_container.proofs.Keys.{Among-without, Distinct-push, without_here, without_there, without_absent}
 use Rattle.iox_domain_slots.specs.Counting.{times}
 use Rattle.iox_domain_slots.specs.Loans.{place_in}
@@ -69,7 +72,8 @@ without_both : (k : ℕ) (xs ys : List ℕ) → without k (xs ++ ys) ≡ without
 without_both k [] ys = refl
 without_both k (x ∷ xs) ys = elim (cases_eq k x) as (λ _. without k (x ∷ xs ++ ys) ≡ without k (x ∷ xs) ++ without k ys) [
   | inl e ↦ without_here k x (xs ++ ys) e ∙ without_both k xs ys ∙ ap (λ rest. rest ++ without k ys) (sym (without_here k x xs e))
-  | inr n ↦ without_there k x (xs ++ ys) n ∙ ap (λ rest. x ∷ rest) (without_both k xs ys) ∙ ap (λ rest. rest ++ without k ys) (sym (without_there k x xs n))
+  | inr n ↦ without_there k x (xs ++ ys) n ∙ ap (λ rest. x ∷ rest) (without_both k xs ys) ∙ ap (λ rest. rest ++ without k ys)
+      (sym (without_there k x xs n))
 ]
 
 without_reverse : (k : ℕ) (xs : List ℕ) → without k (reverse xs) ≡ reverse (without k xs)
@@ -77,7 +81,8 @@ without_reverse k [] = refl
 without_reverse k (x ∷ xs) =
     ap (without k) (reverse_step x xs) ∙ without_both k (reverse xs) (x ∷ [])
     ∙ elim (cases_eq k x) as (λ _. without k (reverse xs) ++ without k (x ∷ []) ≡ reverse (without k (x ∷ xs))) [
-      | inl e ↦ ap (λ rest. without k (reverse xs) ++ rest) (without_here k x [] e) ∙ append-nil (without k (reverse xs)) ∙ without_reverse k xs ∙ ap reverse (sym (without_here k x xs e))
+      | inl e ↦ ap (λ rest. without k (reverse xs) ++ rest) (without_here k x [] e) ∙ append-nil (without k (reverse xs)) ∙
+          without_reverse k xs ∙ ap reverse (sym (without_here k x xs e))
       | inr n ↦ ap (λ rest. without k (reverse xs) ++ rest) (without_there k x [] n) ∙ ap (λ rest. rest ++ x ∷ []) (without_reverse k xs)
           ∙ sym (reverse_step x (without k xs)) ∙ ap reverse (sym (without_there k x xs n))
     ]
@@ -160,13 +165,15 @@ stays j k (x ∷ xs) apart = elim (cases_eq k x) as (λ _. is_among j (without k
   | inr n ↦ ap (is_among j) (without_there k x xs n) ∙ ap (λ b. eqb j x || b) (stays j k xs apart)
 ]
 
-pub marks_removed : (marks : List Bool) (k : ℕ) (xs : List ℕ) → AreMarks marks xs → k < length marks → AreMarks (set marks k false) (without k xs)
+pub marks_removed : (marks : List Bool) (k : ℕ) (xs : List ℕ) → AreMarks marks xs → k < length marks
+    → AreMarks (set marks k false) (without k xs)
 marks_removed marks k xs are within j = ⊎_elim
     (λ same. rw same.1 (get_or-set_same marks k false false within ∙ sym (gone k xs)))
     (λ other. get_or-set_other marks k j false false other.1 ∙ are j ∙ sym (stays j k xs other.1))
     (eqb_tells j k)
 
-pub marks_grown : (marks : List Bool) (c : ℕ) (xs : List ℕ) → AreMarks marks xs → length marks ≡ c → AreMarks (marks ++ true ∷ []) (xs ++ c ∷ [])
+pub marks_grown : (marks : List Bool) (c : ℕ) (xs : List ℕ) → AreMarks marks xs → length marks ≡ c
+    → AreMarks (marks ++ true ∷ []) (xs ++ c ∷ [])
 marks_grown marks c xs are long j = ⊎_elim
     (λ same. rw same.1 (get_or_push marks true false c long ∙ sym (is_there c (xs ++ c ∷ []) (last xs))))
     (λ other. before other.1 ∙ are j ∙ sym (among_both j xs (c ∷ []) ∙ rw other.0 (nothing (is_among j xs))))
@@ -183,7 +190,8 @@ marks_grown marks c xs are long j = ⊎_elim
     before : j ≢ c → get_or (marks ++ true ∷ []) j false ≡ get_or marks j false
     before apart = ⊎_elim
         (λ low. get_or_append_left marks (true ∷ []) false j (grind (arith, low, nat_tests)))
-        (λ high. get_or_past (marks ++ true ∷ []) j false (omega (arith, length_push marks true, long, apart, above high)) ∙ sym (get_or_past marks j false (omega (arith, above high))))
+        (λ high. get_or_past (marks ++ true ∷ []) j false (omega (arith, length_push marks true, long, apart, above high)) ∙ sym
+        (get_or_past marks j false (omega (arith, above high))))
         (cases_Bool (nat_lt j (length marks)))
       where
         above : nat_lt j (length marks) ≡ false → length marks ≤ j
@@ -193,14 +201,16 @@ marks_grown marks c xs are long j = ⊎_elim
 abbrev pub IsList : List ℕ → List ℕ → ℕ → ℕ → List Bool → Type 0
 IsList n p f m lent = LinksKeys n p f (length n) m (walk n m f) × AreMarks lent (walk n m f) × (length lent ≡ length n) × (m + 1 < 2 ^ 64)
 
-listed : (n p : List ℕ) (f c m : ℕ) (lent : List Bool) (ks : List ℕ) → LinksKeys n p f c m ks → AreMarks lent ks → length lent ≡ length n → m + 1 < 2 ^ 64
+listed : (n p : List ℕ) (f c m : ℕ) (lent : List Bool) (ks : List ℕ) → LinksKeys n p f c m ks → AreMarks lent ks
+    → length lent ≡ length n → m + 1 < 2 ^ 64
     → IsList n p f m lent × (walk n m f ≡ ks)
 listed n p f c m lent ks links marks long few =
     let is = walk-is n p f c m ks links in
     ((LinksKeys-walked n p f c m ks links, (λ k. marks k ∙ ap (is_among k) (sym is)), long, few), is)
 
 -- there is none at first
-pub none_yet : (n p : List ℕ) (lent : List Bool) (slots : ℕ) → length n ≡ slots → length p ≡ slots + 1 → lent ≡ replicate slots false → IsList n p slots 0 lent
+pub none_yet : (n p : List ℕ) (lent : List Bool) (slots : ℕ) → length n ≡ slots → length p ≡ slots + 1 → lent ≡ replicate slots false
+    → IsList n p slots 0 lent
 none_yet n p lent slots forth back marks = (
   record {
     forth = refl;
@@ -212,40 +222,49 @@ none_yet n p lent slots forth back marks = (
   },
   (λ k. ap (λ marks. get_or marks k false) marks ∙ ⊎_elim
       (λ low. get_or-replicate slots k false false (grind (arith, low, nat_tests)))
-      (λ high. let past : slots ≤ k = grind (arith, high, nat_tests) in get_or_past (replicate slots false) k false (omega (arith, past, length-replicate slots false)))
+      (λ high. let past : slots ≤ k = grind (arith, high, nat_tests) in get_or_past (replicate slots false) k false
+      (omega (arith, past, length-replicate slots false)))
       (cases_Bool (nat_lt k slots))),
   ap length marks ∙ length-replicate slots false ∙ sym forth,
   omega arith,
 )
 
 -- a loan comes, as the newest
-pub added : (n p : List ℕ) (f m k : ℕ) (lent : List Bool) → IsList n p f m lent → k < length n → is_among k (reverse (walk n m f)) ≡ false → m + 2 < 2 ^ 64
+pub added : (n p : List ℕ) (f m k : ℕ) (lent : List Bool) → IsList n p f m lent → k < length n
+    → is_among k (reverse (walk n m f)) ≡ false → m + 2 < 2 ^ 64
     → IsList (set n k f) (set p f k) k (m + 1) (set lent k true) × (walk (set n k f) (m + 1) k ≡ k ∷ walk n m f)
 added n p f m k lent is low free few =
     let ks = walk n m f in
     listed _ _ _ _ _ _ _ (LinksKeys-added n p f (length n) m k ks is.0 low (is_apart k ks (sym (among_reverse k ks) ∙ free)))
-    (marks_added lent k ks is.1 (omega (arith, is.2, low))) (omega (arith, length-set lent k true, length-set n k f, is.2)) (omega (arith, few))
+    (marks_added lent k ks is.1 (omega (arith, is.2, low))) (omega (arith, length-set lent k true, length-set n k f, is.2))
+    (omega (arith, few))
 
 -- the newest ends
-pub first_removed : (n p : List ℕ) (f m k to : ℕ) (lent : List Bool) → IsList n p f m lent → Among k (walk n m f) → k ≡ f → to ≡ get_or n k 0
+pub first_removed : (n p : List ℕ) (f m k to : ℕ) (lent : List Bool) → IsList n p f m lent → Among k (walk n m f) → k ≡ f
+    → to ≡ get_or n k 0
     → IsList n p to (m - 1) (set lent k false) × (walk n (m - 1) to ≡ without k (walk n m f))
 first_removed n p f m k to lent is there first behind =
     let ks = walk n m f in
     listed _ _ _ _ _ _ _ (LinksKeys-first_removed n p f (length n) m k ks to is.0 there first behind)
-    (marks_removed lent k ks is.1 (omega (arith, is.2, is.0.below k there))) (omega (arith, length-set lent k false, is.2)) (omega (arith, is.3))
+    (marks_removed lent k ks is.1 (omega (arith, is.2, is.0.below k there))) (omega (arith, length-set lent k false, is.2))
+    (omega (arith, is.3))
 
 -- another ends
-pub removed : (n p : List ℕ) (f m k from to : ℕ) (lent : List Bool) → IsList n p f m lent → Among k (walk n m f) → (k ≡ f → ⊥) → from ≡ get_or p k 0 → to ≡ get_or n k 0
+pub removed : (n p : List ℕ) (f m k from to : ℕ) (lent : List Bool) → IsList n p f m lent → Among k (walk n m f) → (k ≡ f → ⊥)
+    → from ≡ get_or p k 0 → to ≡ get_or n k 0
     → IsList (set n from to) (set p to from) f (m - 1) (set lent k false) × (walk (set n from to) (m - 1) f ≡ without k (walk n m f))
 removed n p f m k from to lent is there other before behind =
     let ks = walk n m f in
     listed _ _ _ _ _ _ _ (LinksKeys-removed n p f (length n) m k ks from to is.0 there other before behind)
-    (marks_removed lent k ks is.1 (omega (arith, is.2, is.0.below k there))) (omega (arith, length-set lent k false, length-set n from to, is.2)) (omega (arith, is.3))
+    (marks_removed lent k ks is.1 (omega (arith, is.2, is.0.below k there)))
+    (omega (arith, length-set lent k false, length-set n from to, is.2)) (omega (arith, is.3))
 
 -- the next slot is made, as the oldest loan
 pub grown : (n p : List ℕ) (f m : ℕ) (lent : List Bool) → IsList n p f m lent → m + 2 < 2 ^ 64
-    → IsList (n ++ (length n + 1) ∷ []) (p ++ length n ∷ []) f (m + 1) (lent ++ true ∷ []) × (walk (n ++ (length n + 1) ∷ []) (m + 1) f ≡ walk n m f ++ length n ∷ [])
+    → IsList (n ++ (length n + 1) ∷ []) (p ++ length n ∷ []) f (m + 1) (lent ++ true ∷ [])
+    × (walk (n ++ (length n + 1) ∷ []) (m + 1) f ≡ walk n m f ++ length n ∷ [])
 grown n p f m lent is few =
     let ks = walk n m f in
     listed _ _ _ _ _ _ _ (LinksKeys-grown n p f (length n) m ks is.0)
-    (marks_grown lent (length n) ks is.1 is.2) (omega (arith, length_push lent true, length_push n (length n + 1), is.2)) (omega (arith, few))
+    (marks_grown lent (length n) ks is.1 is.2) (omega (arith, length_push lent true, length_push n (length n + 1), is.2))
+    (omega (arith, few))

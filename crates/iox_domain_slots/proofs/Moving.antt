@@ -1,5 +1,6 @@
 -- Counts that move from one list to another.
-use Rattle.std.proofs.Common.{arith, rules, ◌≡◌, ◌+◌, ◌-◌, ◌<◌, ◌≤◌, ◌∷◌, [], ◌++◌, ℕ, Bool, true, false, IsTrue, ◌↔◌, if◌then◌else◌, List, length, get_or, refl, sym, subst, ap, ◌∙◌}
+use Rattle.std.proofs.Common.{arith, rules, ◌≡◌, ◌+◌, ◌-◌, ◌<◌, ◌≤◌, ◌∷◌, [], ◌++◌, ℕ, Bool, true, false, IsTrue, ◌↔◌, if◌then◌else◌}
+use Rattle.std.proofs.Common.{List, length, get_or, refl, sym, subst, ap, ◌∙◌}
 use Rattle.std.proofs.Math.Logic.{⊎_elim}
 use Rattle.std.proofs.lemmas.Bool.Decides.{eqb_tells}
 use Rattle.std.proofs.lemmas.List.{length-set}
@@ -7,7 +8,8 @@ use Rattle.iox_domain_slots.specs.Counting.{SlotsState, Moves, times, uses_of, r
 use Rattle.iox_domain_slots.proofs.Counts.{one, times_end, one_more, one_less, one_at_most, one_other}
 
 -- a queue with room has a slot more once it was pushed
-pub pushed : (items after : List ℕ) (slot capacity : ℕ) (answer : Bool) → IsTrue answer ↔ (length items < capacity) → length items < capacity
+pub pushed : (items after : List ℕ) (slot capacity : ℕ) (answer : Bool) → IsTrue answer ↔ (length items < capacity)
+    → length items < capacity
     → after ≡ (if answer then items ++ slot ∷ [] else items) → after ≡ items ++ slot ∷ []
 pushed items after slot capacity true told room is = is
 pushed items after slot capacity false told room is = let answer : false ≡ true = told.1 room in search (rules, answer)
@@ -54,6 +56,12 @@ pub with_further : (references loans history : List ℕ) (slot : ℕ) → times 
     → ((k : ℕ) → times k loans + times k history ≤ get_or references k 0)
     → (k : ℕ) → times k loans + times k (history ++ slot ∷ []) ≤ get_or references k 0
 with_further references loans history slot further covers k = ⊎_elim
-    (λ same. omega (arith, times_end k history slot, one_at_most k slot, subst (λ s. times s loans + times s history < get_or references s 0) (sym same.1) further))
+    (λ same. omega (
+      arith,
+      times_end k history slot,
+      one_at_most k slot,
+      subst
+          (λ s. times s loans + times s history < get_or references s 0) (sym same.1) further,
+    ))
     (λ other. omega (arith, times_end k history slot, covers k, one_other k slot other.0))
     (eqb_tells k slot)

@@ -1,5 +1,6 @@
 -- The bookkeeping of a publisher through its steps.
-use Rattle.std.proofs.Common.{arith, ◌≡◌, ◌+◌, ◌^◌, ◌<◌, ◌≤◌, ◌∷◌, [], ◌++◌, ℕ, List, length, length-append, get_or, set, map, Option, Some, None, sym, subst, ap, ◌∙◌, replicate, Result, Ok, Err, IfOk, OnErr}
+use Rattle.std.proofs.Common.{arith, ◌≡◌, ◌+◌, ◌^◌, ◌<◌, ◌≤◌, ◌∷◌, [], ◌++◌, ℕ, List, length, length-append, get_or, set, map, Option}
+use Rattle.std.proofs.Common.{Some, None, sym, subst, ap, ◌∙◌, replicate, Result, Ok, Err, IfOk, OnErr}
 use Rattle.std.specs.Option.{option_to_list}
 use Rattle.std.specs.declared.alloc.AllocError.{AllocError}
 use Rattle.std.proofs.Math.Logic.{⊎_elim}
@@ -24,7 +25,8 @@ in_use_times uses k = omega (
 )
 
 -- a first use of a slot
-pub first_use : (counts : List ℕ) (i k : ℕ) → i < length counts → get_or (set counts i (get_or counts i 0 + 1)) k 0 ≡ get_or counts k 0 + one k i
+pub first_use : (counts : List ℕ) (i k : ℕ) → i < length counts
+    → get_or (set counts i (get_or counts i 0 + 1)) k 0 ≡ get_or counts k 0 + one k i
 first_use counts i k within = ⊎_elim
     (λ same. rw same.0 (rw same.1 (get_or-set_same counts i (get_or counts i 0 + 1) 0 within)))
     (λ other. rw other.0 (omega (arith, get_or-set_other counts i k (get_or counts i 0 + 1) 0 other.1)))
@@ -37,19 +39,22 @@ tally_moved old new sending before after tally moves slot =
     omega (arith, tally slot, moves.moved slot, ap (λ s. times slot s.loans) moves.same, ap (λ s. times slot s.history) moves.same)
 
 -- and once a loan is out
-pub tally_loaned : (old new : SlotsState) (sending : Option ℕ) (links : LinksState) (result : Option ℕ) → IsTally old sending links → LoanSlot old result new → IsTally new sending links
+pub tally_loaned : (old new : SlotsState) (sending : Option ℕ) (links : LinksState) (result : Option ℕ) → IsTally old sending links
+    → LoanSlot old result new → IsTally new sending links
 tally_loaned old new sending links None tally loan slot = subst (λ s. IsTally s sending links) (sym loan.1) tally slot
 tally_loaned old new sending links (Some lent) tally loan slot =
     subst (λ s. IsTally s sending links) (sym loan.3)
     (λ k. omega (arith, tally k, first_use old.references lent k loan.1, times_end k old.loans lent)) slot
 
-pub small_loaned : (old new : SlotsState) (result : Option ℕ) → IsSmall old → length old.loans < old.most_loans → LoanSlot old result new → IsSmall new
+pub small_loaned : (old new : SlotsState) (result : Option ℕ) → IsSmall old → length old.loans < old.most_loans
+    → LoanSlot old result new → IsSmall new
 small_loaned old new None small room loan = subst IsSmall (sym loan.1) small
 small_loaned old new (Some lent) small room loan =
     subst IsSmall (sym loan.3) (omega (arith, length-append old.loans (lent ∷ []), room), small.1, small.2, small.3)
 
 -- all uses stay counted when a slot is sent that nothing was sent before
-pub tally_claimed : (old new : SlotsState) (sending : Option ℕ) (links : LinksState) (slot : ℕ) → sending ≡ None → slot < length old.references → new ≡ referred slot old
+pub tally_claimed : (old new : SlotsState) (sending : Option ℕ) (links : LinksState) (slot : ℕ) → sending ≡ None
+    → slot < length old.references → new ≡ referred slot old
     → IsTally old sending links → IsTally new (Some slot) links
 tally_claimed old new sending links slot alone there claimed tally = subst (λ s. IsTally s (Some slot) links) (sym claimed) (λ k.
     omega (arith, tally k, first_use old.references slot k there, ap (λ s. times k (option_to_list s)) alone, times_one k slot))
@@ -60,16 +65,19 @@ with_connections uses connections = record uses { connections = connections }
 
 -- what came back is taken back: nothing of it is seen
 pub looks_same : (before slots : SlotsState) (sending : Option ℕ) (links0 links1 : LinksState)
-    → slots ≡ record before { references = slots.references } → links1 ≡ record links0 { links = links1.links } → map seen links1.links ≡ map seen links0.links
+    → slots ≡ record before { references = slots.references } → links1 ≡ record links0 { links = links1.links }
+    → map seen links1.links ≡ map seen links0.links
     → seen_uses slots sending links1 ≡ seen_uses before sending links0
 looks_same before slots sending links0 links1 same_slots same_links looks =
     let first : seen_uses slots sending links1 ≡ seen_uses before sending links1 = ap (λ s. seen_uses s sending links1) same_slots in
-    let second : seen_uses before sending links1 ≡ with_connections (seen_uses before sending links0) (map seen links1.links) = ap (λ l. seen_uses before sending l) same_links in
+    let second : seen_uses before sending links1 ≡ with_connections (seen_uses before sending links0) (map seen links1.links)
+    = ap (λ l. seen_uses before sending l) same_links in
     first ∙ second ∙ ap (with_connections (seen_uses before sending links0)) looks
 
 -- a loan by the bookkeeping is a loan as it is seen
 pub loan_use : (before slots new : SlotsState) (sending : Option ℕ) (links0 links1 : LinksState) (result : Option ℕ)
-    → slots ≡ record before { references = slots.references } → links1 ≡ record links0 { links = links1.links } → map seen links1.links ≡ map seen links0.links
+    → slots ≡ record before { references = slots.references } → links1 ≡ record links0 { links = links1.links }
+    → map seen links1.links ≡ map seen links0.links
     → IsTally slots sending links1 → ((k : ℕ) → times k (all_slots links1.links) ≡ times k (held (map seen links1.links)))
     → LoanSlot slots result new → LoanUse (seen_uses before sending links0) result (seen_uses new sending links1)
 loan_use before slots new sending links0 links1 result same_slots same_links looks tally none_left loan = at result loan
@@ -90,7 +98,15 @@ loan_use before slots new sending links0 links1 result same_slots same_links loo
 
     at : (result : Option ℕ) → LoanSlot slots result new → LoanUse (seen_uses before sending links0) result (seen_uses new sending links1)
     at None loan = (
-      (λ slot low high. omega (arith, counted slot, loan.0 slot (omega (arith, low, ap (λ s. s.first) same_slots), omega (arith, high, ap (λ s. s.first) same_slots, ap (λ s. s.size) same_slots)))),
+      (λ slot low high. omega (
+        arith,
+        counted slot,
+        loan.0 slot (
+          omega (arith, low, ap (λ s. s.first) same_slots),
+          omega
+              (arith, high, ap (λ s. s.first) same_slots, ap (λ s. s.size) same_slots),
+        ),
+      )),
       ap (λ s. seen_uses s sending links1) loan.1 ∙ viewed,
     )
     at (Some lent) loan = (
@@ -104,7 +120,20 @@ loan_use before slots new sending links0 links1 result same_slots same_links loo
 pub countable : (slots : SlotsState) (sending : Option ℕ) (links : LinksState) → IsTally slots sending links → IsSmall slots
     → ((k : ℕ) → times k (all_slots links.links) ≤ 2 ^ 62) → (slot : ℕ) → uses_of slot slots + 1 < 2 ^ 64
 countable slots sending links tally small few slot =
-    omega (arith, tally slot, few slot, small.0, small.1, small.2, small.3, at_most slot slots.loans, at_most slot slots.history, at_most slot (option_to_list sending), single sending)
+    omega (
+      arith,
+      tally slot,
+      few slot,
+      small.0,
+      small.1,
+      small.2,
+      small.3,
+      at_most slot slots.loans,
+      at_most slot slots.history,
+      at_most
+          slot (option_to_list sending),
+      single sending,
+    )
   where
     at_most : (k : ℕ) (xs : List ℕ) → times k xs ≤ length xs
     at_most k xs = count_by-le-length (λ other. eqb k other) xs
@@ -114,7 +143,8 @@ countable slots sending links tally small few slot =
     single (Some x) = omega arith
 
 -- all uses stay counted when a segment is opened
-pub tally_opened : (old new : SlotsState) (sending : Option ℕ) (links : LinksState) (result : Result (Unit {0}) AllocError) → IsTally old sending links → IsSmall old
+pub tally_opened : (old new : SlotsState) (sending : Option ℕ) (links : LinksState) (result : Result (Unit {0}) AllocError)
+    → IsTally old sending links → IsSmall old
     → IfOk result (λ _. new ≡ record old { first = old.first + old.size; references = old.references ++ replicate old.size 0 })
     → OnErr result (new ≡ old) → IsTally new sending links × IsSmall new
 tally_opened old new sending links (Ok done) tally small opened refused =
@@ -129,4 +159,5 @@ tally_opened old new sending links (Ok done) tally small opened refused =
       )),
       subst IsSmall (sym opened) small,
     )
-tally_opened old new sending links (Err error) tally small opened refused = subst (λ s. IsTally s sending links × IsSmall s) (sym refused) (tally, small)
+tally_opened old new sending links (Err error) tally small opened refused
+    = subst (λ s. IsTally s sending links × IsSmall s) (sym refused) (tally, small)

@@ -1,5 +1,6 @@
 -- One connection by the slots that it holds: its mailbox, what is borrowed, and what came back and isn't taken back yet.
-use Rattle.std.specs.Prelude.{ℕ, ◌+◌, ◌<◌, ◌≤◌, ◌≡◌, ◌^◌, Bool, true, false, List, [], ◌∷◌, ◌++◌, length, get_or, nat_lt, Option, None, Some, map, option_to_list, if◌then◌else◌}
+use Rattle.std.specs.Prelude.{ℕ, ◌+◌, ◌<◌, ◌≤◌, ◌≡◌, ◌^◌, Bool, true, false, List, [], ◌∷◌, ◌++◌, length, get_or, nat_lt, Option, None}
+use Rattle.std.specs.Prelude.{Some, map, option_to_list, if◌then◌else◌}
 use Rattle.iox_domain_slots.specs.Waiting.{put, put_over}
 use Rattle.iox_domain_slots.specs.Uses.{Uses, Connection, nobody}
 use Rattle.iox_domain_slots.specs.Counting.{SlotsState, times, uses_of}

@@ -1,6 +1,7 @@
 -- Who uses the messages of one publisher. A loan goes by whatever L is, a message by whatever X is: both by a slot's number
 -- here, by what they hold above.
-use Rattle.std.specs.Prelude.{ℕ, ◌+◌, ◌-◌, ◌*◌, Bool, true, false, ◌||◌, ◌==◌, List, [], ◌∷◌, ◌++◌, length, drop, take, get_or, set, remove, nat_lt, count_by, Option, None, Some, option_to_list, if◌then◌else◌}
+use Rattle.std.specs.Prelude.{ℕ, ◌+◌, ◌-◌, ◌*◌, Bool, true, false, ◌||◌, ◌==◌, List, [], ◌∷◌, ◌++◌, length, drop, take, get_or, set}
+use Rattle.std.specs.Prelude.{remove, nat_lt, count_by, Option, None, Some, option_to_list, if◌then◌else◌}
 use Rattle.iox_domain_slots.specs.Waiting.{put, put_over}
 use Rattle.iox_domain_slots.specs.declared.stage.Stage.{Stage}
 use Rattle.iox_domain_slots.specs.declared.stage.Stage.TheVariants as stage

@@ -1,5 +1,6 @@
 //! A connection by the slots that it holds.
-ghost use Rattle.std.specs.Prelude.{◌≡◌, ℕ, ◌+◌, ◌^◌, ◌<◌, ◌≤◌, ◌==◌, ◌&&◌, ◌++◌, ◌∷◌, [], length, drop, take, get_or, remove, nat_lt, not, slice_get, position, IfOk, Some, true, false};
+ghost use Rattle.std.specs.Prelude.{◌≡◌, ℕ, ◌+◌, ◌^◌, ◌<◌, ◌≤◌, ◌==◌, ◌&&◌, ◌++◌, ◌∷◌, [], length, drop, take, get_or, remove, nat_lt};
+ghost use Rattle.std.specs.Prelude.{not, slice_get, position, IfOk, Some, true, false};
 ghost use Rattle.iox_domain_slots.specs.Uses.{accepts, offered, taken};
 ghost use Rattle.iox_domain_slots.specs.Counting.{SlotsState, times, uses_of, let_go, Moves, Covers};
 ghost use Rattle.iox_domain_slots.specs.Links.{LinkState, all_of, connection_of, room_of, IsSameLink, IsFit, put_into, put_answer};
@@ -46,7 +47,8 @@ impl Model for Link {
     ghost invariant = { λ l. (length (waiting_in l.mailbox) ≤ limit_of l.mailbox)
         × (length l.borrowed.items ≤ l.most_borrowed) × (l.most_borrowed ≤ vec_capacity l.borrowed)
         × (limit_of l.mailbox + l.most_borrowed < l.returned.capacity)
-        × (length (waiting_in l.mailbox) + (length l.borrowed.items + length l.returned.items) ≤ limit_of l.mailbox + l.most_borrowed + cond l.delivered 1 0) };
+        × (length (waiting_in l.mailbox) + (length l.borrowed.items + length l.returned.items) ≤ limit_of l.mailbox + l.most_borrowed +
+        cond l.delivered 1 0) };
 }
 
 impl Link {

@@ -1,6 +1,8 @@
 //! The connections of one publisher.
-ghost use Rattle.std.specs.Prelude.{◌≡◌, ℕ, ◌+◌, ◌*◌, ◌^◌, ◌<◌, ◌≤◌, ◌==◌, ◌++◌, ◌∷◌, [], length, map, set, drop, take, get_or, remove, is_some, position, slice_get, IfOk, IsOk, OnErr, Some, None, true, false};
-ghost use Rattle.iox_domain_slots.specs.Uses.{nobody, placed, accepts, offered, taken, given_back, settled, ended, emptied, held, connected, how_many};
+ghost use Rattle.std.specs.Prelude.{◌≡◌, ℕ, ◌+◌, ◌*◌, ◌^◌, ◌<◌, ◌≤◌, ◌==◌, ◌++◌, ◌∷◌, [], length, map, set, drop, take, get_or, remove};
+ghost use Rattle.std.specs.Prelude.{is_some, position, slice_get, IfOk, IsOk, OnErr, Some, None, true, false};
+ghost use Rattle.iox_domain_slots.specs.Uses.{nobody, placed, accepts, offered, taken, given_back, settled, ended, emptied, held};
+ghost use Rattle.iox_domain_slots.specs.Uses.{connected, how_many};
 ghost use Rattle.iox_domain_slots.specs.declared.stage.Stage.TheVariants as stage;
 ghost use Rattle.iox_domain_slots.specs.Counting.{SlotsState, times, uses_of, Moves, Covers};
 ghost use Rattle.iox_domain_slots.specs.Links.{LinksState, LinkState, seen, all_slots, all_of, connection_of, taken_back, IsGone, IsOf};
@@ -127,7 +129,8 @@ impl Links {
         requires there { is_some (get_or self.old.links index None) ≡ true }
         ensures after { map seen self.new.links
             ≡ set (map seen self.old.links) index (settled (seen (get_or self.old.links index None)).stage
-            (seen (get_or self.old.links index None)).limit (seen (get_or self.old.links index None)).waiting (seen (get_or self.old.links index None)).borrowed) }
+            (seen (get_or self.old.links index None)).limit (seen (get_or self.old.links index None)).waiting
+            (seen (get_or self.old.links index None)).borrowed) }
         ensures same { self.new ≡ record self.old { links = self.new.links } }
         ensures uses { (k : ℕ) → times k (all_slots self.new.links) ≡ times k (all_slots self.old.links) }
     {
@@ -150,7 +153,8 @@ impl Links {
         ensures yes { result ≡ true → IsGone (get_or self.now.links index None) }
         ensures no { result ≡ false → settled (seen (get_or self.now.links index None)).stage
             (seen (get_or self.now.links index None)).limit
-            (seen (get_or self.now.links index None)).waiting (seen (get_or self.now.links index None)).borrowed ≡ seen (get_or self.now.links index None) }
+            (seen (get_or self.now.links index None)).waiting (seen (get_or self.now.links index None)).borrowed
+            ≡ seen (get_or self.now.links index None) }
     {
         let Some(link) = &self.items[index] else {
             return false;

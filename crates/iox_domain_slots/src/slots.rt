@@ -1,5 +1,6 @@
 //! The slots of one publisher: which are free, and how many uses the others have.
-ghost use Rattle.std.specs.Prelude.{◌≡◌, ◌+◌, ◌-◌, ◌^◌, ◌<◌, ◌≤◌, ◌++◌, ◌∷◌, [], length, drop, get_or, remove, nat_lt, replicate, true, IfOk, OnErr, None};
+ghost use Rattle.std.specs.Prelude.{◌≡◌, ◌+◌, ◌-◌, ◌^◌, ◌<◌, ◌≤◌, ◌++◌, ◌∷◌, [], length, drop, get_or, remove, nat_lt, replicate, true};
+ghost use Rattle.std.specs.Prelude.{IfOk, OnErr, None};
 ghost use Rattle.iox_container.specs.Unique.{is_among};
 ghost use Rattle.iox_domain_slots.specs.Uses.{newest};
 ghost use Rattle.iox_domain_slots.specs.Counting.{SlotsState, times, uses_of, referred, let_go, IsCurrent, LoanSlot, Moves, Covers};
@@ -47,7 +48,8 @@ impl Model for Slots {
 
     ghost invariant = { λ s. (s.first + s.places.capacity ≡ length s.references.items)
         × (s.places.locked ≡ false)
-        × ((index : ℕ) → index < s.places.capacity → is_held index s.places ≡ (s.all_held || nat_lt 0 (get_or s.references.items (s.first + index) 0)))
+        × ((index : ℕ) → index < s.places.capacity → is_held index s.places
+        ≡ (s.all_held || nat_lt 0 (get_or s.references.items (s.first + index) 0)))
         × ((slot : ℕ) → times slot s.loans.items + times slot s.history.items ≤ get_or s.references.items slot 0)
         × (length s.loans.items ≤ s.most_loans) × (s.most_loans + 2 < 2 ^ 64)
         × (length s.history.items ≤ s.history.capacity) × (length s.references.items ≤ s.loans.made) };
@@ -189,7 +191,9 @@ impl Slots {
     ) -> Result<Slots, AllocError>
         requires loans { most_loans + 2 < 2 ^ 64 }
         requires history { kept + 1 < 2 ^ 64 }
-        ensures { IfOk result (λ slots. slots ≡ record { first = 0; size = size; most_loans = most_loans; kept = kept; references = replicate size 0; loans = []; history = [] }) }
+        ensures { IfOk result
+            (λ slots. slots ≡ record
+            { first = 0; size = size; most_loans = most_loans; kept = kept; references = replicate size 0; loans = []; history = [] }) }
     {
         Ok(Slots {
             places: UniqueIndexSet::new(alloc, size)?,

@@ -1,7 +1,11 @@
 //! All that one publisher's slots are used for.
-ghost use Rattle.std.specs.Prelude.{◌≡◌, ℕ, ◌+◌, ◌^◌, ◌<◌, ◌≤◌, ◌==◌, ◌++◌, ◌∷◌, [], length, map, set, drop, take, get_or, remove, nat_lt, is_some, position, option_to_list, slice_get, IfOk, IsOk, IsSome, OnErr, Some, None, true, false};
+ghost use Rattle.std.specs.Prelude.{◌≡◌, ℕ, ◌+◌, ◌^◌, ◌<◌, ◌≤◌, ◌==◌, ◌++◌, ◌∷◌, [], length, map, set, drop, take, get_or, remove};
+ghost use Rattle.std.specs.Prelude.{nat_lt, is_some, position, option_to_list, slice_get, IfOk, IsOk, IsSome, OnErr, Some, None, true};
+ghost use Rattle.std.specs.Prelude.{false};
 ghost use Rattle.iox_domain_slots.specs.declared.stage.Stage.TheVariants as stage;
-ghost use Rattle.iox_domain_slots.specs.Uses.{Uses, nobody, placed, accepts, offered, taken, given_back, settled, ended, emptied, held, in_use, newest, loaned, dropped, begun, finished, connection_at, with_connection, connected, worst_case, welcomed, is_there, segment_opened};
+ghost use Rattle.iox_domain_slots.specs.Uses.{Uses, nobody, placed, accepts, offered, taken, given_back, settled, ended, emptied, held};
+ghost use Rattle.iox_domain_slots.specs.Uses.{in_use, newest, loaned, dropped, begun, finished, connection_at, with_connection};
+ghost use Rattle.iox_domain_slots.specs.Uses.{connected, worst_case, welcomed, is_there, segment_opened};
 ghost use Rattle.iox_domain_slots.specs.Counting.{times, LoanUse};
 ghost use Rattle.iox_domain_slots.specs.Loans.{place_in};
 ghost use Rattle.iox_container.specs.Unique.{is_among};

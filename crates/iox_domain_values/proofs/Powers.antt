@@ -1,5 +1,6 @@
 -- Powers of two, and the lengths of segments.
-use Rattle.std.proofs.Common.{arith, ◌≡◌, ◌+◌, ◌<◌, ◌≤◌, ◌^◌, ◌∙◌, ℕ, suc, Option, None, Some, ◌⊎◌, inl, inr, unwrap_or, refl, sym, ap, nat_lt}
+use Rattle.std.proofs.Common.{arith, ◌≡◌, ◌+◌, ◌<◌, ◌≤◌, ◌^◌, ◌∙◌, ℕ, suc, Option, None, Some, ◌⊎◌, inl, inr, unwrap_or, refl, sym, ap}
+use Rattle.std.proofs.Common.{nat_lt}
 use Rattle.std.proofs.Math.Logic.{⊎_elim}
 use Rattle.std.proofs.Math.Nat.{pow-le-pow_right, one-le-pow}
 use Rattle.std.proofs.lemmas.Bool.{cases_lt, cases_Bool}
@@ -40,7 +41,8 @@ only : (values one other : ℕ) → IsNextPowerOfTwo values one → IsNextPowerO
 only values one other first second = omega (arith, not_above values one other first second, not_above values other one second first)
 
 -- a strategy takes one length
-one_length : (allocation : AllocationStrategy) (values : ℕ) (one other : Option ℕ) → SegmentLength allocation values one → SegmentLength allocation values other → one ≡ other
+one_length : (allocation : AllocationStrategy) (values : ℕ) (one other : Option ℕ) → SegmentLength allocation values one
+    → SegmentLength allocation values other → one ≡ other
 one_length strategy.BestFit values one other first second = first ∙ sym second
 one_length strategy.Static values one other first second = first ∙ sym second
 one_length strategy.PowerOfTwo values None None first second = refl

@@ -26,7 +26,8 @@ abbrev pub MayDecide : {X Y : Type 0} {F : X → Type 0} {G : Y → Type 0}
     → (DynBox X Global F → BackpressureInfo → BackpressureAction → Type 0) → Handlers X Y F G → BackpressureInfo → BackpressureDecision
     → Type 0
 MayDecide objects handlers info decision =
-    (answer : Option BackpressureAction) × (MayAnswer objects handlers.backpressure info answer) × (decision ≡ decision_of handlers.strategy answer)
+    (answer : Option BackpressureAction) × (MayAnswer objects handlers.backpressure info answer)
+    × (decision ≡ decision_of handlers.strategy answer)
 
 -- what may be answered where a connection of the publisher failed
 abbrev pub may_degrade : {X Y : Type 0} {F : X → Type 0} {G : Y → Type 0}

@@ -6,3 +6,4 @@ pub mod StepLemmas
 pub mod RunWords
 pub mod TakenRuns
 pub mod PlainRuns
+pub mod PlainStops

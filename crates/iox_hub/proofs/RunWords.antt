@@ -25,55 +25,101 @@ use Rattle.iox_hub.specs.declared.given.GivenHandler.{GivenHandler}
 use Rattle.iox_hub.specs.declared.handled_command.HandledCommand.{HandledCommand}
 use Rattle.iox_hub.proofs.StepLemmas.{handled_goes}
 
-module _ {T U B D P : Type 0} (payload user_header : Detail) (types : MessageTypeDetails) (is_default : T → Type 0) (is_default_header : U → Type 0)
-    (fixed : BackpressureStrategy → Option BackpressureAction → DegradationAction → B) (handled : BackpressureStrategy → Option BackpressureAction → DegradationAction → Option P → Option D → B)
-    (degrades : B → DegradationCause → DegradationInfo → DegradationAction → Type 0) (decides : B → BackpressureInfo → BackpressureDecision → Type 0)
+module _ {T U B D P : Type 0} (payload user_header : Detail) (types : MessageTypeDetails) (is_default : T → Type 0)
+    (is_default_header : U → Type 0)
+    (fixed : BackpressureStrategy → Option BackpressureAction → DegradationAction → B)
+    (handled : BackpressureStrategy → Option BackpressureAction → DegradationAction → Option P → Option D → B)
+    (degrades : B → DegradationCause → DegradationInfo → DegradationAction → Type 0)
+    (decides : B → BackpressureInfo → BackpressureDecision → Type 0)
     (fixed_reader : DegradationAction → D) (reader_degrades : D → DegradationCause → DegradationInfo → DegradationAction → Type 0) where
   -- of all that goes by numbers there is one more, or one less, or all stays
-  pub changes_by_step : (command : HandledCommand T) (old new : NumberedHub T U B D × List (Option (GivenHandler P D))) (answer : Result (Reply T) AllocError) → HandledStep payload user_header types is_default is_default_header fixed handled degrades decides fixed_reader reader_degrades command old answer new → ChangesOneThing old.0 new.0
+  pub changes_by_step : (command : HandledCommand T) (old new : NumberedHub T U B D × List (Option (GivenHandler P D)))
+      (answer : Result (Reply T) AllocError)
+      → HandledStep payload user_header types is_default is_default_header fixed handled degrades decides fixed_reader reader_degrades
+      command old answer new → ChangesOneThing old.0 new.0
   changes_by_step command old new answer does =
-      handled_goes payload user_header types is_default is_default_header fixed handled degrades decides fixed_reader reader_degrades (λ (old new : NumberedHub T U B D). ChangesOneThing old new) (λ hub. inl (inl (refl, refl), ((refl, refl), (refl, refl), (refl, refl), (refl, refl))))
-      (λ by by_reader command old new answer step. step_changes payload user_header types is_default is_default_header by degrades decides by_reader reader_degrades command old new answer step)
+      handled_goes payload user_header types is_default is_default_header fixed handled degrades decides fixed_reader reader_degrades
+      (λ (old new : NumberedHub T U B D). ChangesOneThing old new)
+      (λ hub. inl (inl (refl, refl), ((refl, refl), (refl, refl), (refl, refl), (refl, refl))))
+      (λ by by_reader command old new answer step. step_changes payload user_header types is_default is_default_header by degrades
+      decides by_reader reader_degrades command old new answer step)
       command old new answer does
 
   -- domains grow by calls of ports
-  pub grows_by_step : (command : HandledCommand T) (old new : NumberedHub T U B D × List (Option (GivenHandler P D))) (answer : Result (Reply T) AllocError) → HandledStep payload user_header types is_default is_default_header fixed handled degrades decides fixed_reader reader_degrades command old answer new → GrowsOn old.0.hub new.0.hub
+  pub grows_by_step : (command : HandledCommand T) (old new : NumberedHub T U B D × List (Option (GivenHandler P D)))
+      (answer : Result (Reply T) AllocError)
+      → HandledStep payload user_header types is_default is_default_header fixed handled degrades decides fixed_reader reader_degrades
+      command old answer new → GrowsOn old.0.hub new.0.hub
   grows_by_step command old new answer does =
-      handled_goes payload user_header types is_default is_default_header fixed handled degrades decides fixed_reader reader_degrades (λ (old new : NumberedHub T U B D). GrowsOn old.hub new.hub) (λ hub grown. grown)
-      (λ by by_reader command old new answer step. let ((id, moves), agrees) = step_goes payload user_header types is_default is_default_header by degrades decides by_reader reader_degrades command old new answer step in moves.1)
+      handled_goes payload user_header types is_default is_default_header fixed handled degrades decides fixed_reader reader_degrades
+      (λ (old new : NumberedHub T U B D). GrowsOn old.hub new.hub) (λ hub grown. grown)
+      (λ by by_reader command old new answer step. let ((id, moves), agrees)
+      = step_goes payload user_header types is_default is_default_header by degrades decides by_reader reader_degrades command old
+      new answer step in moves.1)
       command old new answer does
 
   -- one domain moves at most
-  pub apart_by_step : (command : HandledCommand T) (old new : NumberedHub T U B D × List (Option (GivenHandler P D))) (answer : Result (Reply T) AllocError) → HandledStep payload user_header types is_default is_default_header fixed handled degrades decides fixed_reader reader_degrades command old answer new → OneDomainMoves old.0.hub new.0.hub
+  pub apart_by_step : (command : HandledCommand T) (old new : NumberedHub T U B D × List (Option (GivenHandler P D)))
+      (answer : Result (Reply T) AllocError)
+      → HandledStep payload user_header types is_default is_default_header fixed handled degrades decides fixed_reader reader_degrades
+      command old answer new → OneDomainMoves old.0.hub new.0.hub
   apart_by_step command old new answer does =
-      handled_goes payload user_header types is_default is_default_header fixed handled degrades decides fixed_reader reader_degrades (λ (old new : NumberedHub T U B D). OneDomainMoves old.hub new.hub) (λ hub. let (id, moves) = none_serves hub.hub hub.hub refl in (id, moves.0))
-      (λ by by_reader command old new answer step. let ((id, moves), agrees) = step_goes payload user_header types is_default is_default_header by degrades decides by_reader reader_degrades command old new answer step in (id, moves.0))
+      handled_goes payload user_header types is_default is_default_header fixed handled degrades decides fixed_reader reader_degrades
+      (λ (old new : NumberedHub T U B D). OneDomainMoves old.hub new.hub)
+      (λ hub. let (id, moves) = none_serves hub.hub hub.hub refl in (id, moves.0))
+      (λ by by_reader command old new answer step. let ((id, moves), agrees)
+      = step_goes payload user_header types is_default is_default_header by degrades decides by_reader reader_degrades command old
+      new answer step in (id, moves.0))
       command old new answer does
 
   -- each service has one agreement
-  pub agrees_by_step : (command : HandledCommand T) (old new : NumberedHub T U B D × List (Option (GivenHandler P D))) (answer : Result (Reply T) AllocError) → HandledStep payload user_header types is_default is_default_header fixed handled degrades decides fixed_reader reader_degrades command old answer new → AreOfOneAgreement old.0.factories.made old.0.hub → AreOfOneAgreement new.0.factories.made new.0.hub
+  pub agrees_by_step : (command : HandledCommand T) (old new : NumberedHub T U B D × List (Option (GivenHandler P D)))
+      (answer : Result (Reply T) AllocError)
+      → HandledStep payload user_header types is_default is_default_header fixed handled degrades decides fixed_reader reader_degrades
+      command old answer new → AreOfOneAgreement old.0.factories.made old.0.hub → AreOfOneAgreement new.0.factories.made new.0.hub
   agrees_by_step command old new answer does =
-      handled_goes payload user_header types is_default is_default_header fixed handled degrades decides fixed_reader reader_degrades (λ (old new : NumberedHub T U B D). AreOfOneAgreement old.factories.made old.hub → AreOfOneAgreement new.factories.made new.hub) (λ hub are. are)
-      (λ by by_reader command old new answer step. let (serves, agrees) = step_goes payload user_header types is_default is_default_header by degrades decides by_reader reader_degrades command old new answer step in agrees)
+      handled_goes payload user_header types is_default is_default_header fixed handled degrades decides fixed_reader reader_degrades
+      (λ (old new : NumberedHub T U B D). AreOfOneAgreement old.factories.made old.hub
+      → AreOfOneAgreement new.factories.made new.hub) (λ hub are. are)
+      (λ by by_reader command old new answer step. let (serves, agrees)
+      = step_goes payload user_header types is_default is_default_header by degrades decides by_reader reader_degrades command old
+      new answer step in agrees)
       command old new answer does
 
   -- no number comes again, through a run
-  pub goes_on_by_run : (commands : List (HandledCommand T)) (old new : NumberedHub T U B D × List (Option (GivenHandler P D))) (replies : List (Reply T)) (stopped : Bool) → IsRun (HandledStep payload user_header types is_default is_default_header fixed handled degrades decides fixed_reader reader_degrades) commands old replies stopped new → NumbersGoOn old.0 new.0
+  pub goes_on_by_run : (commands : List (HandledCommand T)) (old new : NumberedHub T U B D × List (Option (GivenHandler P D)))
+      (replies : List (Reply T)) (stopped : Bool)
+      → IsRun (HandledStep payload user_header types is_default is_default_header fixed handled degrades decides fixed_reader
+      reader_degrades) commands old replies stopped new → NumbersGoOn old.0 new.0
   goes_on_by_run commands old new replies stopped ran =
-      run_goes (HandledStep payload user_header types is_default is_default_header fixed handled degrades decides fixed_reader reader_degrades) (λ (old new : NumberedHub T U B D × List (Option (GivenHandler P D))). NumbersGoOn old.0 new.0) (λ one. numbers_still one.0) (λ old mid new first second. numbers_on_and_on old.0 mid.0 new.0 first second)
+      run_goes (HandledStep payload user_header types is_default is_default_header fixed handled degrades decides fixed_reader
+      reader_degrades) (λ (old new : NumberedHub T U B D × List (Option (GivenHandler P D))). NumbersGoOn old.0 new.0)
+      (λ one. numbers_still one.0) (λ old mid new first second. numbers_on_and_on old.0 mid.0 new.0 first second)
       (λ command old new answer does. numbers_go_on old.0 new.0 (changes_by_step command old new answer does))
       commands old new replies stopped ran
 
   -- domains grow by calls of ports, through a run
-  pub grows_by_run : (commands : List (HandledCommand T)) (old new : NumberedHub T U B D × List (Option (GivenHandler P D))) (replies : List (Reply T)) (stopped : Bool) → IsRun (HandledStep payload user_header types is_default is_default_header fixed handled degrades decides fixed_reader reader_degrades) commands old replies stopped new → GrowsOn old.0.hub new.0.hub
+  pub grows_by_run : (commands : List (HandledCommand T)) (old new : NumberedHub T U B D × List (Option (GivenHandler P D)))
+      (replies : List (Reply T)) (stopped : Bool)
+      → IsRun (HandledStep payload user_header types is_default is_default_header fixed handled degrades decides fixed_reader
+      reader_degrades) commands old replies stopped new → GrowsOn old.0.hub new.0.hub
   grows_by_run commands old new replies stopped ran =
-      run_goes (HandledStep payload user_header types is_default is_default_header fixed handled degrades decides fixed_reader reader_degrades) (λ (old new : NumberedHub T U B D × List (Option (GivenHandler P D))). GrowsOn old.0.hub new.0.hub) (λ one grown. grown) (λ old mid new first second grown. second (first grown))
+      run_goes (HandledStep payload user_header types is_default is_default_header fixed handled degrades decides fixed_reader
+      reader_degrades) (λ (old new : NumberedHub T U B D × List (Option (GivenHandler P D))). GrowsOn old.0.hub new.0.hub)
+      (λ one grown. grown) (λ old mid new first second grown. second (first grown))
       (λ command old new answer does. grows_by_step command old new answer does)
       commands old new replies stopped ran
 
   -- each service has one agreement, through a run
-  pub agrees_by_run : (commands : List (HandledCommand T)) (old new : NumberedHub T U B D × List (Option (GivenHandler P D))) (replies : List (Reply T)) (stopped : Bool) → IsRun (HandledStep payload user_header types is_default is_default_header fixed handled degrades decides fixed_reader reader_degrades) commands old replies stopped new → AreOfOneAgreement old.0.factories.made old.0.hub → AreOfOneAgreement new.0.factories.made new.0.hub
+  pub agrees_by_run : (commands : List (HandledCommand T)) (old new : NumberedHub T U B D × List (Option (GivenHandler P D)))
+      (replies : List (Reply T)) (stopped : Bool)
+      → IsRun (HandledStep payload user_header types is_default is_default_header fixed handled degrades decides fixed_reader
+      reader_degrades) commands old replies stopped new → AreOfOneAgreement old.0.factories.made old.0.hub
+      → AreOfOneAgreement new.0.factories.made new.0.hub
   agrees_by_run commands old new replies stopped ran =
-      run_goes (HandledStep payload user_header types is_default is_default_header fixed handled degrades decides fixed_reader reader_degrades) (λ (old new : NumberedHub T U B D × List (Option (GivenHandler P D))). AreOfOneAgreement old.0.factories.made old.0.hub → AreOfOneAgreement new.0.factories.made new.0.hub) (λ one are. are) (λ old mid new first second are. second (first are))
+      run_goes (HandledStep payload user_header types is_default is_default_header fixed handled degrades decides fixed_reader
+      reader_degrades) (λ (old new : NumberedHub T U B D × List (Option (GivenHandler P D))). AreOfOneAgreement old.0.factories.made
+      old.0.hub → AreOfOneAgreement new.0.factories.made new.0.hub) (λ one are. are)
+      (λ old mid new first second are. second (first are))
       (λ command old new answer does. agrees_by_step command old new answer does)
       commands old new replies stopped ran

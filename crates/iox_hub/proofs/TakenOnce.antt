@@ -1,5 +1,6 @@
 -- Places that are emptied, and then others.
-use Rattle.std.proofs.Common.{◌≡◌, ◌∙◌, ◌-◌, ◌⊎◌, ◌++◌, ℕ, Bool, true, false, List, [], ◌∷◌, length, Option, None, Some, refl, sym, ap, subst, inl, inr}
+use Rattle.std.proofs.Common.{◌≡◌, ◌∙◌, ◌-◌, ◌⊎◌, ◌++◌, ℕ, Bool, true, false, List, [], ◌∷◌, length, Option, None, Some, refl, sym, ap}
+use Rattle.std.proofs.Common.{subst, inl, inr}
 use Rattle.std.proofs.lemmas.Bool.{eqb-true, eq-eqb}
 use Rattle.std.proofs.lemmas.List.{length-set}
 use Rattle.std.specs.Prelude.{IsSome, nat_eq}
@@ -20,7 +21,8 @@ among_second : (place : ℕ) (first second : List ℕ) → IsAmong place second 
 among_second place [] second among = among
 among_second place (one ∷ first) second among = inr (among_second place first second among)
 
-deeper : (place one : ℕ) (first second : List ℕ) → IsAmong place first ⊎ IsAmong place second → IsAmong place (one ∷ first) ⊎ IsAmong place second
+deeper : (place one : ℕ) (first second : List ℕ) → IsAmong place first ⊎ IsAmong place second → IsAmong place (one ∷ first)
+    ⊎ IsAmong place second
 deeper place one first second (inl among) = inl (inr among)
 deeper place one first second (inr among) = inr among
 
@@ -30,7 +32,8 @@ among_either place (one ∷ first) second (inl is) = inl (inl is)
 among_either place (one ∷ first) second (inr later) = deeper place one first second (among_either place first second later)
 
 -- a place is one of a list, or not
-told_on : (place one : ℕ) (rest : List ℕ) (same : Bool) → nat_eq one place ≡ same → IsAmong place rest ⊎ (IsAmong place rest → ⊥) → IsAmong place (one ∷ rest) ⊎ (IsAmong place (one ∷ rest) → ⊥)
+told_on : (place one : ℕ) (rest : List ℕ) (same : Bool) → nat_eq one place ≡ same → IsAmong place rest ⊎ (IsAmong place rest → ⊥)
+    → IsAmong place (one ∷ rest) ⊎ (IsAmong place (one ∷ rest) → ⊥)
 told_on place one rest true is told = inl (inl (eqb-true one place is))
 told_on place one rest false is (inl later) = inl (inr later)
 told_on place one rest false is (inr not_later) = inr neither
@@ -43,10 +46,14 @@ told : (place : ℕ) (places : List ℕ) → IsAmong place places ⊎ (IsAmong p
 told place [] = inr (λ none. none)
 told place (one ∷ rest) = told_on place one rest (nat_eq one place) refl (told place rest)
 
-none_twice_both : (first second : List ℕ) → NoneTwice first → NoneTwice second → ((place : ℕ) → IsAmong place first → IsAmong place second → ⊥) → NoneTwice (first ++ second)
+none_twice_both : (first second : List ℕ) → NoneTwice first → NoneTwice second
+    → ((place : ℕ) → IsAmong place first → IsAmong place second → ⊥) → NoneTwice (first ++ second)
 none_twice_both [] second first_twice second_twice apart = second_twice
-none_twice_both (one ∷ first) second (once, first_twice) second_twice apart =
-    (λ among. again (among_either one first second among), none_twice_both first second first_twice second_twice (λ place among later. apart place (inr among) later))
+none_twice_both (one ∷ first) second (once, first_twice) second_twice apart = (
+  λ among. again (among_either one first second among),
+  none_twice_both first second first_twice second_twice
+      (λ place among later. apart place (inr among) later),
+)
   where
     again : IsAmong one first ⊎ IsAmong one second → ⊥
     again (inl among) = once among
@@ -73,20 +80,27 @@ module _ {X : Type 0} where
     as_many = length-set given (place - 1) None;
   }
 
-  lay_before : (first second : List ℕ) (old mid new : List (Option X)) → TakesOnce first old mid → TakesOnce second mid new → (place : ℕ) → IsAmong place first ⊎ (IsAmong place first → ⊥) → IsAmong place second → IsSome (lies_at place old)
+  lay_before : (first second : List ℕ) (old mid new : List (Option X)) → TakesOnce first old mid → TakesOnce second mid new
+      → (place : ℕ) → IsAmong place first ⊎ (IsAmong place first → ⊥) → IsAmong place second → IsSome (lies_at place old)
   lay_before first second old mid new taken later place (inl among) among_later = taken.lay place among
-  lay_before first second old mid new taken later place (inr apart) among_later = subst (λ o. IsSome o) (taken.stays place apart) (later.lay place among_later)
+  lay_before first second old mid new taken later place (inr apart) among_later
+      = subst (λ o. IsSome o) (taken.stays place apart) (later.lay place among_later)
 
-  gone_after : (first second : List ℕ) (old mid new : List (Option X)) → TakesOnce first old mid → TakesOnce second mid new → (place : ℕ) → IsAmong place first → IsAmong place second ⊎ (IsAmong place second → ⊥) → lies_at place new ≡ None
+  gone_after : (first second : List ℕ) (old mid new : List (Option X)) → TakesOnce first old mid → TakesOnce second mid new
+      → (place : ℕ) → IsAmong place first → IsAmong place second ⊎ (IsAmong place second → ⊥) → lies_at place new ≡ None
   gone_after first second old mid new taken later place among (inl among_later) = later.gone place among_later
   gone_after first second old mid new taken later place among (inr apart) = later.stays place apart ∙ taken.gone place among
 
-  lay_in : (first second : List ℕ) (old mid new : List (Option X)) → TakesOnce first old mid → TakesOnce second mid new → (place : ℕ) → IsAmong place first ⊎ IsAmong place second → IsSome (lies_at place old)
+  lay_in : (first second : List ℕ) (old mid new : List (Option X)) → TakesOnce first old mid → TakesOnce second mid new → (place : ℕ)
+      → IsAmong place first ⊎ IsAmong place second → IsSome (lies_at place old)
   lay_in first second old mid new taken later place (inl among) = taken.lay place among
-  lay_in first second old mid new taken later place (inr among) = lay_before first second old mid new taken later place (told place first) among
+  lay_in first second old mid new taken later place (inr among)
+      = lay_before first second old mid new taken later place (told place first) among
 
-  gone_in : (first second : List ℕ) (old mid new : List (Option X)) → TakesOnce first old mid → TakesOnce second mid new → (place : ℕ) → IsAmong place first ⊎ IsAmong place second → lies_at place new ≡ None
-  gone_in first second old mid new taken later place (inl among) = gone_after first second old mid new taken later place among (told place second)
+  gone_in : (first second : List ℕ) (old mid new : List (Option X)) → TakesOnce first old mid → TakesOnce second mid new → (place : ℕ)
+      → IsAmong place first ⊎ IsAmong place second → lies_at place new ≡ None
+  gone_in first second old mid new taken later place (inl among)
+      = gone_after first second old mid new taken later place among (told place second)
   gone_in first second old mid new taken later place (inr among) = later.gone place among
 
   nothing_lies : (o : Option X) → o ≡ None → IsSome o → ⊥
@@ -94,11 +108,14 @@ module _ {X : Type 0} where
   nothing_lies (Some x) is lies = cc
 
   -- first some places are emptied, then others
-  pub taken_then : (first second : List ℕ) (old mid new : List (Option X)) → TakesOnce first old mid → TakesOnce second mid new → TakesOnce (first ++ second) old new
+  pub taken_then : (first second : List ℕ) (old mid new : List (Option X)) → TakesOnce first old mid → TakesOnce second mid new
+      → TakesOnce (first ++ second) old new
   taken_then first second old mid new taken later = record {
-    none_twice = none_twice_both first second taken.none_twice later.none_twice (λ place among among_later. nothing_lies (lies_at place mid) (taken.gone place among) (later.lay place among_later));
+    none_twice = none_twice_both first second taken.none_twice later.none_twice
+        (λ place among among_later. nothing_lies (lies_at place mid) (taken.gone place among) (later.lay place among_later));
     lay = λ place among. lay_in first second old mid new taken later place (among_either place first second among);
     gone = λ place among. gone_in first second old mid new taken later place (among_either place first second among);
-    stays = λ place apart. later.stays place (λ among. apart (among_second place first second among)) ∙ taken.stays place (λ among. apart (among_first place first second among));
+    stays = λ place apart. later.stays place (λ among. apart (among_second place first second among)) ∙ taken.stays place
+        (λ among. apart (among_first place first second among));
     as_many = later.as_many ∙ taken.as_many;
   }

@@ -48,7 +48,8 @@ module _ {T U B D P : Type 0} where
   PublisherTakes is_default handled degrades (Some at_full) (Some at_failure) None factory options fewer old answer new
       = (answer ≡ reply.Skipped) × (new ≡ old)
   PublisherTakes is_default handled degrades (Some at_full) (Some at_failure) (Some ports) factory options fewer old answer new =
-      MakesPublisher is_default (λ strategy action degrading. handled strategy action degrading at_full at_failure) degrades factory options old.0 answer new.0 × (new.1 ≡ fewer)
+      MakesPublisher is_default (λ strategy action degrading. handled strategy action degrading at_full at_failure) degrades factory
+      options old.0 answer new.0 × (new.1 ≡ fewer)
 
   -- A subscriber of the service of a factory comes, with the handler that is named, and it is taken, be the subscriber refused or
   -- not. Where no such handler is there, or the ports of the service aren't, it is skipped, and nothing changes.
@@ -63,16 +64,24 @@ module _ {T U B D P : Type 0} where
   -- What each command does to a hub and to the handlers that are left, by their places, and what it is replied. A command that names no
   -- handler does what `Step` says, and leaves them.
   abbrev pub HandledStep : Detail → Detail → MessageTypeDetails → (T → Type 0) → (U → Type 0)
-      → (BackpressureStrategy → Option BackpressureAction → DegradationAction → B) → (BackpressureStrategy → Option BackpressureAction → DegradationAction → Option P → Option D → B)
+      → (BackpressureStrategy → Option BackpressureAction → DegradationAction → B)
+      → (BackpressureStrategy → Option BackpressureAction → DegradationAction → Option P → Option D → B)
       → (B → DegradationCause → DegradationInfo → DegradationAction → Type 0) → (B → BackpressureInfo → BackpressureDecision → Type 0)
       → (DegradationAction → D) → (D → DegradationCause → DegradationInfo → DegradationAction → Type 0)
-      → HandledCommand T → NumberedHub T U B D × List (Option (GivenHandler P D)) → Result (Reply T) AllocError → NumberedHub T U B D × List (Option (GivenHandler P D)) → Type 0
+      → HandledCommand T → NumberedHub T U B D × List (Option (GivenHandler P D)) → Result (Reply T) AllocError → NumberedHub T U B D
+      × List (Option (GivenHandler P D)) → Type 0
   HandledStep payload user_header types is_default is_default_header fixed handled degrades decides fixed_reader reader_degrades
       (asked.Plain command) old answer new =
-      Step payload user_header types is_default is_default_header fixed degrades decides fixed_reader reader_degrades command old.0 answer new.0 × (new.1 ≡ old.1)
+      Step payload user_header types is_default is_default_header fixed degrades decides fixed_reader reader_degrades command old.0
+      answer new.0 × (new.1 ≡ old.1)
   HandledStep payload user_header types is_default is_default_header fixed handled degrades decides fixed_reader reader_degrades
       (asked.Publisher factory options at_full at_failure) old answer new =
-      IsReplied (λ reply. PublisherTakes is_default_header handled degrades (named backpressure_of at_full old.1) (named degradation_of at_failure old.1) (ports_of_factory (publish_subscribe_in (value_at old.0.factories.made factory)) old.0.hub) factory options (emptied_if at_failure (emptied_if at_full old.1)) old reply new) answer
+      IsReplied (λ reply. PublisherTakes is_default_header handled degrades (named backpressure_of at_full old.1)
+      (named degradation_of at_failure old.1)
+      (ports_of_factory (publish_subscribe_in (value_at old.0.factories.made factory)) old.0.hub) factory options
+      (emptied_if at_failure (emptied_if at_full old.1)) old reply new) answer
   HandledStep payload user_header types is_default is_default_header fixed handled degrades decides fixed_reader reader_degrades
       (asked.Subscriber factory options at_failure) old answer new =
-      IsReplied (λ reply. SubscriberTakes reader_degrades (degradation_of (lies_at at_failure old.1)) (ports_of_factory (publish_subscribe_in (value_at old.0.factories.made factory)) old.0.hub) factory options (emptied at_failure old.1) old reply new) answer
+      IsReplied (λ reply. SubscriberTakes reader_degrades (degradation_of (lies_at at_failure old.1))
+      (ports_of_factory (publish_subscribe_in (value_at old.0.factories.made factory)) old.0.hub) factory options
+      (emptied at_failure old.1) old reply new) answer

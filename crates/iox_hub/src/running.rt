@@ -9,16 +9,20 @@ ghost use Rattle.iox_hub_commands.specs.Lives.{NumbersGoOn};
 ghost use Rattle.iox_hub_commands.specs.Numbers.{numbers_used};
 ghost use Rattle.iox_hub_commands.specs.PortRoom.{HasRoom, KeepsRoom};
 ghost use Rattle.iox_hub_commands.specs.Runs.{IsRun};
+ghost use Rattle.iox_hub_machine.specs.RunLaws.{AnswersAsMachine};
 ghost use Rattle.iox_hub.specs.Room.{StopsInTime};
+ghost use Rattle.iox_hub.specs.RunLaws.{OfPlain};
 ghost use Rattle.iox_hub.specs.Steps.{HandledStep};
 ghost use Rattle.iox_hub.specs.Taking.{TakesOnce, taken};
 
 use crate::given::GivenHandlers;
 use crate::handled_command::HandledCommand;
 use crate::handlers::TakesHandlers;
+use crate::laws::plain_commands_take_nothing;
 use crate::stepping::step;
 use iox_describe_base::ZeroCopySend;
 use iox_hub_commands::{NumberedHub, RunReport, SubscriberHandler};
+use iox_hub_machine::runs::runs_answer;
 use iox_queues_base::Words;
 use std::alloc::Global;
 
@@ -58,7 +62,14 @@ pub fn run<
     ensures one_agreement { AreOfOneAgreement hub.old.factories.made hub.old.hub → AreOfOneAgreement hub.new.factories.made hub.new.hub }
     // Just the places that commands name which are replied to, and not skipped, are emptied; each held a handler, and no two are the same.
     ensures once { TakesOnce (taken commands.entry.items result.replies.items) given.old.places.items given.new.places.items }
+    // What a new hub replies to commands that name no handler is what a machine may answer to them.
+    ensures answers { OfPlain (λ config plain. AnswersAsMachine (detail FixedSize T.name T.size T.alignment)
+        (detail FixedSize U.name U.size U.alignment) (types_of T.name T.size T.alignment U.name U.size U.alignment) T.is_default
+        U.is_default B.fixed (λ handlers. B.degrades handlers) (λ handlers. B.decides handlers) D.fixed (λ handler. D.degrades handler)
+        config plain hub.old result.replies.items result.stopped) commands.entry.items }
 {
+    runs_answer::<T, U, B, D>();
+    plain_commands_take_nothing::<T, U, B, D, P>();
     carry_out_all(hub, alloc, commands, given)
 }
 

@@ -7,7 +7,9 @@ use Rattle.iox_hub_base.specs.Open.{OpenServices}
 use Rattle.iox_hub_base.specs.ServicesOpening.{Opens}
 
 -- a service that opens without an error opens well
-pub opens_well : {T U B D : Type 0} (payload user_header : Detail) (buffer number : ℕ) (settings : Settings) (old : OpenServices T U B D) (result : Result (Unit {0}) DomainError) (new : OpenServices T U B D)
-    → is_err result ≡ false → Opens payload user_header buffer number settings old result new → Opens payload user_header buffer number settings old (Ok tt) new
+pub opens_well : {T U B D : Type 0} (payload user_header : Detail) (buffer number : ℕ) (settings : Settings)
+    (old : OpenServices T U B D) (result : Result (Unit {0}) DomainError) (new : OpenServices T U B D)
+    → is_err result ≡ false → Opens payload user_header buffer number settings old result new
+    → Opens payload user_header buffer number settings old (Ok tt) new
 opens_well payload user_header buffer number settings old (Ok done) new is opens = opens
 opens_well payload user_header buffer number settings old (Err error) new is opens = cc

@@ -22,68 +22,98 @@ module _ (number : ℕ) where
 
 module _ {X Z : Type 0} where
   -- the number at a place behind the first is above the first
-  pub first_below : (first : ℕ × Box X Z) (rest : List (ℕ × Box X Z)) (place : ℕ) (default : ℕ × Box X Z) → IsStrictlySortedBy nat_cmp (keys_of (first ∷ rest)) → place < length rest → first.0 < (get_or rest place default).0
+  pub first_below : (first : ℕ × Box X Z) (rest : List (ℕ × Box X Z)) (place : ℕ) (default : ℕ × Box X Z)
+      → IsStrictlySortedBy nat_cmp (keys_of (first ∷ rest)) → place < length rest → first.0 < (get_or rest place default).0
   first_below first rest place default rising within =
-      omega (arith, below_from_sorted (keys_of (first ∷ rest)) 0 (suc place) 0 rising (omega arith) (omega (arith, length-map rest (λ entry. entry.0))), get_or-map (λ entry. entry.0) rest place default 0 within)
+      omega (
+        arith,
+        below_from_sorted (keys_of (first ∷ rest)) 0 (suc place) 0 rising (omega arith)
+            (omega (arith, length-map rest (λ entry. entry.0))),
+        get_or-map (λ entry. entry.0) rest place default 0 within,
+      )
 
-  tail : (first : ℕ × Box X Z) (rest : List (ℕ × Box X Z)) → IsStrictlySortedBy nat_cmp (keys_of (first ∷ rest)) → IsStrictlySortedBy nat_cmp (keys_of rest)
+  tail : (first : ℕ × Box X Z) (rest : List (ℕ × Box X Z)) → IsStrictlySortedBy nat_cmp (keys_of (first ∷ rest))
+      → IsStrictlySortedBy nat_cmp (keys_of rest)
   tail first rest rising = sorted_tail nat_cmp first.0 (keys_of rest) rising
 
   module _ (number : ℕ) where
     -- what stands at the place of its number is found
-    pub lookup-place : (place : ℕ) (entry : ℕ × Box X Z) (entries : List (ℕ × Box X Z)) → IsStrictlySortedBy nat_cmp (keys_of entries) → place < length entries → HoldsAt (λ entry. entry.0 ≡ number) entries place → entry ≡ get_or entries place entry
+    pub lookup-place : (place : ℕ) (entry : ℕ × Box X Z) (entries : List (ℕ × Box X Z)) → IsStrictlySortedBy nat_cmp (keys_of entries)
+        → place < length entries → HoldsAt (λ entry. entry.0 ≡ number) entries place → entry ≡ get_or entries place entry
         → lookup (is_at (nat_cmp number)) (unboxed entries) ≡ Some entry.1.value
     lookup-place place entry [] rising within found stands = absurd (omega arith)
     lookup-place zero entry (first ∷ rest) rising within found stands =
-        ap (λ order. cond (is_eq order) (Some first.1.value) (lookup (is_at (nat_cmp number)) (unboxed rest))) (here number first.0 (found entry)) ∙ ap (λ entry. Some entry.1.value) (sym stands)
+        ap (λ order. cond (is_eq order) (Some first.1.value) (lookup (is_at (nat_cmp number)) (unboxed rest)))
+        (here number first.0 (found entry)) ∙ ap (λ entry. Some entry.1.value) (sym stands)
     lookup-place (suc place) entry (first ∷ rest) rising within found stands =
-        ap (λ order. cond (is_eq order) (Some first.1.value) (lookup (is_at (nat_cmp number)) (unboxed rest))) (behind number first.0 (omega (arith, first_below first rest place entry rising (omega arith), found entry)))
+        ap (λ order. cond (is_eq order) (Some first.1.value) (lookup (is_at (nat_cmp number)) (unboxed rest)))
+        (behind number first.0 (omega (arith, first_below first rest place entry rising (omega arith), found entry)))
         ∙ lookup-place place entry rest (tail first rest rising) (omega arith) found stands
 
     -- it goes from there when its number goes
-    pub remove-place : (place : ℕ) (default : ℕ × Box X Z) (entries : List (ℕ × Box X Z)) → IsStrictlySortedBy nat_cmp (keys_of entries) → place < length entries → HoldsAt (λ entry. entry.0 ≡ number) entries place
+    pub remove-place : (place : ℕ) (default : ℕ × Box X Z) (entries : List (ℕ × Box X Z)) → IsStrictlySortedBy nat_cmp (keys_of entries)
+        → place < length entries → HoldsAt (λ entry. entry.0 ≡ number) entries place
         → unboxed (remove entries place) ≡ remove_entry (is_at (nat_cmp number)) (unboxed entries)
     remove-place place default [] rising within found = absurd (omega arith)
     remove-place zero default (first ∷ rest) rising within found =
-        sym (ap (λ order. cond (is_eq order) (unboxed rest) ((first.0, first.1.value) ∷ remove_entry (is_at (nat_cmp number)) (unboxed rest))) (here number first.0 (found default)))
+        sym (ap (λ order. cond (is_eq order) (unboxed rest)
+        ((first.0, first.1.value) ∷ remove_entry (is_at (nat_cmp number)) (unboxed rest))) (here number first.0 (found default)))
     remove-place (suc place) default (first ∷ rest) rising within found =
         ap (λ rest. (first.0, first.1.value) ∷ rest) (remove-place place default rest (tail first rest rising) (omega arith) found)
-        ∙ sym (ap (λ order. cond (is_eq order) (unboxed rest) ((first.0, first.1.value) ∷ remove_entry (is_at (nat_cmp number)) (unboxed rest))) (behind number first.0 (omega (arith, first_below first rest place default rising (omega arith), found default))))
+        ∙ sym (ap (λ order. cond (is_eq order) (unboxed rest)
+        ((first.0, first.1.value) ∷ remove_entry (is_at (nat_cmp number)) (unboxed rest)))
+        (behind number first.0 (omega (arith, first_below first rest place default rising (omega arith), found default))))
 
     -- another value there is another value of its number
-    pub set-place : (place : ℕ) (after : ℕ × Box X Z) (entries : List (ℕ × Box X Z)) → after.0 ≡ number → IsStrictlySortedBy nat_cmp (keys_of entries) → place < length entries → HoldsAt (λ entry. entry.0 ≡ number) entries place
+    pub set-place : (place : ℕ) (after : ℕ × Box X Z) (entries : List (ℕ × Box X Z)) → after.0 ≡ number
+        → IsStrictlySortedBy nat_cmp (keys_of entries) → place < length entries → HoldsAt (λ entry. entry.0 ≡ number) entries place
         → unboxed (set entries place after) ≡ set_value (is_at (nat_cmp number)) (unboxed entries) after.1.value
     set-place place after [] same rising within found = absurd (omega arith)
     set-place zero after (first ∷ rest) same rising within found =
         ap (λ key. (key, after.1.value) ∷ unboxed rest) (same ∙ sym (found after))
-        ∙ sym (ap (λ order. cond (is_eq order) ((first.0, after.1.value) ∷ unboxed rest) ((first.0, first.1.value) ∷ set_value (is_at (nat_cmp number)) (unboxed rest) after.1.value)) (here number first.0 (found after)))
+        ∙ sym (ap (λ order. cond (is_eq order) ((first.0, after.1.value) ∷ unboxed rest)
+        ((first.0, first.1.value) ∷ set_value (is_at (nat_cmp number)) (unboxed rest) after.1.value))
+        (here number first.0 (found after)))
     set-place (suc place) after (first ∷ rest) same rising within found =
         ap (λ rest. (first.0, first.1.value) ∷ rest) (set-place place after rest same (tail first rest rising) (omega arith) found)
-        ∙ sym (ap (λ order. cond (is_eq order) ((first.0, after.1.value) ∷ unboxed rest) ((first.0, first.1.value) ∷ set_value (is_at (nat_cmp number)) (unboxed rest) after.1.value)) (behind number first.0 (omega (arith, first_below first rest place after rising (omega arith), found after))))
+        ∙ sym (ap (λ order. cond (is_eq order) ((first.0, after.1.value) ∷ unboxed rest)
+        ((first.0, first.1.value) ∷ set_value (is_at (nat_cmp number)) (unboxed rest) after.1.value))
+        (behind number first.0 (omega (arith, first_below first rest place after rising (omega arith), found after))))
 
     -- and is what is inserted under it
-    pub replace-place : (place : ℕ) (after : ℕ × Box X Z) (entries : List (ℕ × Box X Z)) → after.0 ≡ number → IsStrictlySortedBy nat_cmp (keys_of entries) → place < length entries → HoldsAt (λ entry. entry.0 ≡ number) entries place
+    pub replace-place : (place : ℕ) (after : ℕ × Box X Z) (entries : List (ℕ × Box X Z)) → after.0 ≡ number
+        → IsStrictlySortedBy nat_cmp (keys_of entries) → place < length entries → HoldsAt (λ entry. entry.0 ≡ number) entries place
         → unboxed (set entries place after) ≡ insert_entry nat_cmp (unboxed entries) number after.1.value
     replace-place place after [] same rising within found = absurd (omega arith)
     replace-place zero after (first ∷ rest) same rising within found =
         ap (λ key. (key, after.1.value) ∷ unboxed rest) (same ∙ sym (found after))
-        ∙ sym (ap (λ order. match_ordering order ((number, after.1.value) ∷ unboxed (first ∷ rest)) ((first.0, after.1.value) ∷ unboxed rest) ((first.0, first.1.value) ∷ insert_entry nat_cmp (unboxed rest) number after.1.value)) (here number first.0 (found after)))
+        ∙ sym (ap (λ order. match_ordering order ((number, after.1.value) ∷ unboxed (first ∷ rest))
+        ((first.0, after.1.value) ∷ unboxed rest)
+        ((first.0, first.1.value) ∷ insert_entry nat_cmp (unboxed rest) number after.1.value)) (here number first.0 (found after)))
     replace-place (suc place) after (first ∷ rest) same rising within found =
         ap (λ rest. (first.0, first.1.value) ∷ rest) (replace-place place after rest same (tail first rest rising) (omega arith) found)
-        ∙ sym (ap (λ order. match_ordering order ((number, after.1.value) ∷ unboxed (first ∷ rest)) ((first.0, after.1.value) ∷ unboxed rest) ((first.0, first.1.value) ∷ insert_entry nat_cmp (unboxed rest) number after.1.value)) (behind number first.0 (omega (arith, first_below first rest place after rising (omega arith), found after))))
+        ∙ sym (ap (λ order. match_ordering order ((number, after.1.value) ∷ unboxed (first ∷ rest))
+        ((first.0, after.1.value) ∷ unboxed rest)
+        ((first.0, first.1.value) ∷ insert_entry nat_cmp (unboxed rest) number after.1.value))
+        (behind number first.0 (omega (arith, first_below first rest place after rising (omega arith), found after))))
 
     -- what comes between lower and higher numbers is inserted under its own
     pub insert-place : (place : ℕ) (boxed : Box X Z) (entries : List (ℕ × Box X Z)) → place ≤ length entries
-        → ((at : ℕ) (default : ℕ × Box X Z) → at < place → (get_or entries at default).0 < number) → ((at : ℕ) (default : ℕ × Box X Z) → place ≤ at → at < length entries → number < (get_or entries at default).0)
+        → ((at : ℕ) (default : ℕ × Box X Z) → at < place → (get_or entries at default).0 < number)
+        → ((at : ℕ) (default : ℕ × Box X Z) → place ≤ at → at < length entries → number < (get_or entries at default).0)
         → unboxed (insert entries place (number, boxed)) ≡ insert_entry nat_cmp (unboxed entries) number boxed.value
     insert-place zero boxed [] within lower higher = refl
     insert-place (suc place) boxed [] within lower higher = absurd (omega arith)
     insert-place zero boxed (first ∷ rest) within lower higher =
-        sym (ap (λ order. match_ordering order ((number, boxed.value) ∷ unboxed (first ∷ rest)) ((first.0, boxed.value) ∷ unboxed rest) ((first.0, first.1.value) ∷ insert_entry nat_cmp (unboxed rest) number boxed.value))
+        sym (ap (λ order. match_ordering order ((number, boxed.value) ∷ unboxed (first ∷ rest)) ((first.0, boxed.value) ∷ unboxed rest)
+        ((first.0, first.1.value) ∷ insert_entry nat_cmp (unboxed rest) number boxed.value))
         (sym (nat_cmp_is number first.0 Less (higher 0 first (omega arith) (omega arith)))))
     insert-place (suc place) boxed (first ∷ rest) within lower higher =
-        ap (λ rest. (first.0, first.1.value) ∷ rest) (insert-place place boxed rest (omega arith) (λ at default before. lower (suc at) default (omega arith)) (λ at default from within. higher (suc at) default (omega arith) (omega arith)))
-        ∙ sym (ap (λ order. match_ordering order ((number, boxed.value) ∷ unboxed (first ∷ rest)) ((first.0, boxed.value) ∷ unboxed rest) ((first.0, first.1.value) ∷ insert_entry nat_cmp (unboxed rest) number boxed.value))
+        ap (λ rest. (first.0, first.1.value) ∷ rest)
+        (insert-place place boxed rest (omega arith) (λ at default before. lower (suc at) default (omega arith))
+        (λ at default from within. higher (suc at) default (omega arith) (omega arith)))
+        ∙ sym (ap (λ order. match_ordering order ((number, boxed.value) ∷ unboxed (first ∷ rest))
+        ((first.0, boxed.value) ∷ unboxed rest) ((first.0, first.1.value) ∷ insert_entry nat_cmp (unboxed rest) number boxed.value))
         (behind number first.0 (lower 0 first (omega arith))))
 
 -- the numbers of values are those of their boxes
@@ -91,9 +121,11 @@ keys-unboxed : {X Z : Type 0} (entries : List (ℕ × Box X Z)) → keys_of (unb
 keys-unboxed entries = keys_of-map_values (λ boxed. boxed.value) entries
 
 -- they rise where those of the values do
-pub rising-from : {X Z : Type 0} (entries : List (ℕ × Box X Z)) (values : List (ℕ × X)) → unboxed entries ≡ values → IsStrictlySortedBy nat_cmp (keys_of values) → IsStrictlySortedBy nat_cmp (keys_of entries)
+pub rising-from : {X Z : Type 0} (entries : List (ℕ × Box X Z)) (values : List (ℕ × X)) → unboxed entries ≡ values
+    → IsStrictlySortedBy nat_cmp (keys_of values) → IsStrictlySortedBy nat_cmp (keys_of entries)
 rising-from entries values same rising = subst (IsStrictlySortedBy nat_cmp) (ap keys_of (sym same) ∙ keys-unboxed entries) rising
 
 -- and those of the values where they do
-pub rising-unboxed : {X Z : Type 0} (entries : List (ℕ × Box X Z)) → IsStrictlySortedBy nat_cmp (keys_of entries) → IsStrictlySortedBy nat_cmp (keys_of (unboxed entries))
+pub rising-unboxed : {X Z : Type 0} (entries : List (ℕ × Box X Z)) → IsStrictlySortedBy nat_cmp (keys_of entries)
+    → IsStrictlySortedBy nat_cmp (keys_of (unboxed entries))
 rising-unboxed entries rising = subst (IsStrictlySortedBy nat_cmp) (sym (keys-unboxed entries)) rising

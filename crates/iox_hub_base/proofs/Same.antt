@@ -54,7 +54,8 @@ same-itself a =
     (both_met _ _ (eq-eqb a.subscriber_max_borrowed_samples a.subscriber_max_borrowed_samples refl)
     (both_met _ _ (eq-eqb a.subscriber_max_buffer_size a.subscriber_max_buffer_size refl)
     (both_met _ _ (same_detail-refl a.types.header a.types.header refl)
-    (both_met _ _ (same_detail-refl a.types.user_header a.types.user_header refl) (same_detail-refl a.types.payload a.types.payload refl)))))))))
+    (both_met _ _ (same_detail-refl a.types.user_header a.types.user_header refl)
+    (same_detail-refl a.types.payload a.types.payload refl)))))))))
 
 pub same-refl : (a b : StaticConfig) → a ≡ b → same_agreement a b ≡ true
 same-refl a b e = subst (λ (c : StaticConfig). same_agreement a c ≡ true) e (same-itself a)

@@ -1,5 +1,6 @@
 -- What a search by number tells of values by rising number.
-use Rattle.std.proofs.Common.{ℕ, zero, suc, ◌≡◌, ◌≢◌, ◌<◌, ◌≤◌, List, [], ◌∷◌, length, get_or, Result, Ok, Err, None, inl, inr, refl, sym, arith}
+use Rattle.std.proofs.Common.{ℕ, zero, suc, ◌≡◌, ◌≢◌, ◌<◌, ◌≤◌, List, [], ◌∷◌, length, get_or, Result, Ok, Err, None, inl, inr, refl, sym}
+use Rattle.std.proofs.Common.{arith}
 use Rattle.std.proofs.lemmas.Bool.{cases_lt}
 use Rattle.std.proofs.lemmas.Bool.Decides.{nat_tests}
 use Rattle.std.proofs.lemmas.Map.Keys.{sorted_tail}
@@ -17,18 +18,23 @@ use Rattle.iox_hub_base.proofs.Placed.{first_below}
 
 module _ {X Z : Type 0} where
   -- a number at a later place is not lower
-  numbers_rise : (entries : List (ℕ × Box X Z)) (i j : ℕ) (default : ℕ × Box X Z) → IsStrictlySortedBy nat_cmp (keys_of entries) → i ≤ j → j < length entries → (get_or entries i default).0 ≤ (get_or entries j default).0
+  numbers_rise : (entries : List (ℕ × Box X Z)) (i j : ℕ) (default : ℕ × Box X Z) → IsStrictlySortedBy nat_cmp (keys_of entries) → i ≤ j
+      → j < length entries → (get_or entries i default).0 ≤ (get_or entries j default).0
   numbers_rise [] i j default rising le within = absurd (omega arith)
   numbers_rise (first ∷ rest) zero zero default rising le within = omega arith
   numbers_rise (first ∷ rest) zero (suc j) default rising le within = omega (arith, first_below first rest j default rising (omega arith))
   numbers_rise (first ∷ rest) (suc i) zero default rising le within = absurd (omega arith)
-  numbers_rise (first ∷ rest) (suc i) (suc j) default rising le within = numbers_rise rest i j default (sorted_tail nat_cmp first.0 (keys_of rest) rising) (omega arith) (omega arith)
+  numbers_rise (first ∷ rest) (suc i) (suc j) default rising le within
+      = numbers_rise rest i j default (sorted_tail nat_cmp first.0 (keys_of rest) rising) (omega arith) (omega arith)
 
   -- a number that stands at no place has no value
-  lookup-nowhere : (number : ℕ) (entries : List (ℕ × Box X Z)) → ((place : ℕ) (default : ℕ × Box X Z) → place < length entries → (get_or entries place default).0 ≢ number) → lookup (is_at (nat_cmp number)) (unboxed entries) ≡ None
+  lookup-nowhere : (number : ℕ) (entries : List (ℕ × Box X Z))
+      → ((place : ℕ) (default : ℕ × Box X Z) → place < length entries → (get_or entries place default).0 ≢ number)
+      → lookup (is_at (nat_cmp number)) (unboxed entries) ≡ None
   lookup-nowhere number [] nowhere = refl
   lookup-nowhere number (first ∷ rest) nowhere =
-      rw (not_number number first.0 (λ same. nowhere 0 first (omega arith) (sym same))) (lookup-nowhere number rest (λ place default within. nowhere (suc place) default (omega arith)))
+      rw (not_number number first.0 (λ same. nowhere 0 first (omega arith) (sym same)))
+      (lookup-nowhere number rest (λ place default within. nowhere (suc place) default (omega arith)))
 
   module _ (number : ℕ) (entries : List (ℕ × Box X Z)) (rising : IsStrictlySortedBy nat_cmp (keys_of entries)) where
     comparisons_rise : IsNonDecreasingBy (λ entry. ordering_index (nat_cmp entry.0 number)) entries
@@ -37,23 +43,30 @@ module _ {X Z : Type 0} where
         grind (arith, nat_tests)
 
     -- at the place that was found stands the number
-    pub stands-at : (place : ℕ) → IsBinarySearchResult (λ entry. nat_cmp entry.0 number) entries (Ok place) → HoldsAt (λ entry. entry.0 ≡ number) entries place
+    pub stands-at : (place : ℕ) → IsBinarySearchResult (λ entry. nat_cmp entry.0 number) entries (Ok place)
+        → HoldsAt (λ entry. entry.0 ≡ number) entries place
     stands-at place equal default = let here = equal default in grind (arith, nat_tests)
 
     -- before the place that it would have the numbers are lower
-    pub lower-before : (place : ℕ) → IsBinarySearchResult (λ entry. nat_cmp entry.0 number) entries (Err place) → (at : ℕ) (default : ℕ × Box X Z) → at < place → (get_or entries at default).0 < number
-    lower-before place parted at default before = let less = (parted comparisons_rise).0 at default (omega arith) before in grind (arith, nat_tests)
+    pub lower-before : (place : ℕ) → IsBinarySearchResult (λ entry. nat_cmp entry.0 number) entries (Err place)
+        → (at : ℕ) (default : ℕ × Box X Z) → at < place → (get_or entries at default).0 < number
+    lower-before place parted at default before = let less
+        = (parted comparisons_rise).0 at default (omega arith) before in grind (arith, nat_tests)
 
     -- and from there on they are higher
-    pub higher-from : (place : ℕ) → IsBinarySearchResult (λ entry. nat_cmp entry.0 number) entries (Err place) → (at : ℕ) (default : ℕ × Box X Z) → place ≤ at → at < length entries → number < (get_or entries at default).0
-    higher-from place parted at default from within = let greater = (parted comparisons_rise).1 at default from within in grind (arith, nat_tests)
+    pub higher-from : (place : ℕ) → IsBinarySearchResult (λ entry. nat_cmp entry.0 number) entries (Err place)
+        → (at : ℕ) (default : ℕ × Box X Z) → place ≤ at → at < length entries → number < (get_or entries at default).0
+    higher-from place parted at default from within = let greater
+        = (parted comparisons_rise).1 at default from within in grind (arith, nat_tests)
 
-    pub found-at : (answer : Result ℕ ℕ) → IsBinarySearchResult (λ entry. nat_cmp entry.0 number) entries answer → IfSome (result_ok answer) (λ place. HoldsAt (λ entry. entry.0 ≡ number) entries place)
+    pub found-at : (answer : Result ℕ ℕ) → IsBinarySearchResult (λ entry. nat_cmp entry.0 number) entries answer
+        → IfSome (result_ok answer) (λ place. HoldsAt (λ entry. entry.0 ≡ number) entries place)
     found-at (Ok place) equal = stands-at place equal
     found-at (Err place) parted = tt
 
     -- where none was found there is none
-    pub found-nowhere : (answer : Result ℕ ℕ) → IsBinarySearchResult (λ entry. nat_cmp entry.0 number) entries answer → IfNone (result_ok answer) (lookup (is_at (nat_cmp number)) (unboxed entries) ≡ None)
+    pub found-nowhere : (answer : Result ℕ ℕ) → IsBinarySearchResult (λ entry. nat_cmp entry.0 number) entries answer
+        → IfNone (result_ok answer) (lookup (is_at (nat_cmp number)) (unboxed entries) ≡ None)
     found-nowhere (Ok place) equal = tt
     found-nowhere (Err place) parted = lookup-nowhere number entries (λ at default within same. elim (cases_lt at place) [
       | inl before ↦ omega (arith, lower-before place parted at default before)

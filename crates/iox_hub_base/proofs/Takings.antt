@@ -13,11 +13,17 @@ use Rattle.iox_hub_base.specs.declared.presence.Presence.TheVariants.{Here, Out}
 use Rattle.iox_hub_base.specs.declared.taking.TakeError.TheVariants.{DomainIsOut}
 
 -- the domain comes out if it was here
-pub takes_presence : {T U B D : Type 0} (found : Presence T U B D) (number : ℕ) (services : OpenServices T U B D) → presence_of number services.domains ≡ Some found
-    → Takes number services (ok_or (here found) DomainIsOut) (record services { domains = with_presence number services.domains (taken_out found) })
+pub takes_presence : {T U B D : Type 0} (found : Presence T U B D) (number : ℕ) (services : OpenServices T U B D)
+    → presence_of number services.domains ≡ Some found
+    → Takes number services (ok_or (here found) DomainIsOut)
+    (record services { domains = with_presence number services.domains (taken_out found) })
 takes_presence (Here domain) number services there = (there, refl)
-takes_presence (Out agreed) number services there =
-    (refl, ap here_if there, ap (λ domains. record services { domains = domains }) (set_value_same (is_at (nat_cmp number)) services.domains (Out agreed) there))
+takes_presence (Out agreed) number services there = (
+  refl,
+  ap here_if there,
+  ap (λ domains. record services { domains = domains })
+      (set_value_same (is_at (nat_cmp number)) services.domains (Out agreed) there),
+)
 
 -- what stays is the hub's own
 pub own_left : {T U B D : Type 0} (hub number : ℕ) (found : Presence T U B D) → IsOwn hub number (taken_out found)
@@ -25,7 +31,8 @@ own_left hub number (Here domain) = tt
 own_left hub number (Out agreed) = tt
 
 -- and so is the domain that comes out
-pub own_given : {T U B D : Type 0} (hub number : ℕ) (found : Presence T U B D) → IsOwn hub number found → IfOk (ok_or (here found) DomainIsOut) (λ domain. domain.id ≡ record { hub = hub; service = number })
+pub own_given : {T U B D : Type 0} (hub number : ℕ) (found : Presence T U B D) → IsOwn hub number found
+    → IfOk (ok_or (here found) DomainIsOut) (λ domain. domain.id ≡ record { hub = hub; service = number })
 own_given hub number (Here domain) own = own
 own_given hub number (Out agreed) own = tt
 

@@ -37,7 +37,8 @@ in_use number owner hub = lives_in (who_counts (is_last number hub.factory_count
 -- one factory of a service less; with the last its domain ends
 abbrev pub less_one : {T U B D : Type 0} → ℕ → Hub T U B D → Hub T U B D
 less_one number hub =
-    if is_last number hub.factory_counts then record hub { factory_counts = forgotten number hub.factory_counts; services = without_service number hub.services }
+    if is_last number hub.factory_counts then record hub
+    { factory_counts = forgotten number hub.factory_counts; services = without_service number hub.services }
     else record hub { factory_counts = kept number (factories_of number hub.factory_counts - 1) hub.factory_counts }
 
 -- what is answered of a factory that is spent
@@ -50,7 +51,8 @@ abbrev pub ClosesIf : {T U B D F : Type 0} → Bool → Membership → F → Hub
     → Hub T U B D → Type 0
 ClosesIf true member factory old result new = (result ≡ Err (StillInUse, Some factory)) × (new ≡ old)
 ClosesIf false member factory old result new = (closed : Result (Unit {0}) CloseError)
-    × Does Sight old.table (λ accesses. ClosesIn member.service.description.service_hash member.service.number member.node accesses closed) new.table
+    × Does Sight old.table (λ accesses. ClosesIn member.service.description.service_hash member.service.number member.node accesses
+    closed) new.table
     × (result ≡ spent closed) × (new ≡ less_one member.service.number (record old { table = new.table }))
 
 -- a factory of a hub is closed

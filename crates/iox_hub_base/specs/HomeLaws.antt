@@ -66,11 +66,15 @@ stepped_here id step services = stepped_found id step services (domain_at id ser
 
 again_if : {T U B D : Type 0} (id : DomainId) (first second : Domain T U B D
     → Domain T U B D) (services : OpenServices T U B D) (found : Option (Domain T U B D)) → domain_at id services ≡ found
-    → stepped id second (stepped_if found id.service first services) ≡ stepped_if found id.service (λ domain. second (first domain)) services
+    → stepped id second (stepped_if found id.service first services)
+    ≡ stepped_if found id.service (λ domain. second (first domain)) services
 again_if id first second services None is = ap (λ found. stepped_if found id.service second services) is
 again_if id first second services (Some domain) is =
-    ap (λ found. stepped_if found id.service second (record services { domains = with_domain id.service services.domains (first domain) })) (stepped_found id first services (Some domain) is)
-    ∙ ap (λ domains. record services { domains = domains }) (changed_twice id.service services.domains (Here (first domain)) (Here (second (first domain))))
+    ap (λ found. stepped_if found id.service second
+    (record services { domains = with_domain id.service services.domains (first domain) }))
+    (stepped_found id first services (Some domain) is)
+    ∙ ap (λ domains. record services { domains = domains })
+    (changed_twice id.service services.domains (Here (first domain)) (Here (second (first domain))))
 
 -- two steps of the domain of an id are one
 pub stepped_again : {T U B D : Type 0} (id : DomainId) (first second : Domain T U B D
@@ -80,11 +84,13 @@ stepped_again id first second services = again_if id first second services (doma
 
 stepped_beside : {T U B D : Type 0} (b : Bool) (id other : DomainId) (services : OpenServices T U B D) (domain after : Domain T U B D)
     → (other.hub == services.hub) ≡ b → StandsAt id services domain → (id ≡ other → ⊥)
-    → cond b (domain_of other.service (with_domain id.service services.domains after)) None ≡ cond b (domain_of other.service services.domains) None
+    → cond b (domain_of other.service (with_domain id.service services.domains after)) None
+    ≡ cond b (domain_of other.service services.domains) None
 stepped_beside true id other services domain after is stands apart =
     let hubs : id.hub ≡ other.hub = stands.hub ∙ sym (eqb-true other.hub services.hub is) in
     other_number id.service other.service services.domains after
-    (λ same. apart (ap (λ hub. record { hub = hub; service = id.service }) hubs ∙ ap (λ service. record { hub = other.hub; service = service }) same))
+    (λ same. apart (ap (λ hub. record { hub = hub; service = id.service }) hubs ∙ ap
+    (λ service. record { hub = other.hub; service = service }) same))
 stepped_beside false id other services domain after is stands apart = refl
 
 stepped_other : {T U B D : Type 0} (id other : DomainId) (step : Domain T U B D

@@ -20,24 +20,33 @@ OthersStay number old new = (new.hub ≡ old.hub)
 -- Where the settings fit, a service that was opened is open; its domain is here if none was open before; and the others stay.
 abbrev pub OpenedIsFound : (T U B D : Type 0) → Type 0
 OpenedIsFound T U B D =
-    (payload user_header : Detail) (buffer number : ℕ) (settings : Settings) (old new : OpenServices T U B D) → Opens payload user_header buffer number settings old (Ok tt) new → Fits payload user_header settings
-    → (is_open number new ≡ true) × (is_open number old ≡ true → presence_of number new.domains ≡ presence_of number old.domains) × OthersStay number old new
+    (payload user_header : Detail) (buffer number : ℕ) (settings : Settings) (old new : OpenServices T U B D)
+    → Opens payload user_header buffer number settings old (Ok tt) new → Fits payload user_header settings
+    → (is_open number new ≡ true) × (is_open number old ≡ true → presence_of number new.domains ≡ presence_of number old.domains)
+    × OthersStay number old new
 
 -- A domain has no port, no message and no history, and is of this hub and number.
 abbrev pub IsBlank : {T U B D : Type 0} → ℕ → ℕ → Domain T U B D → Type 0
 IsBlank hub number domain =
-    (domain.id ≡ record { hub = hub; service = number }) × (domain.state.ports.service ≡ number) × (domain.state.ports.publishers ≡ []) × (domain.state.ports.subscribers ≡ []) × (domain.state.publisher_handlers ≡ []) × (domain.state.subscriber_handlers ≡ [])
+    (domain.id ≡ record { hub = hub; service = number }) × (domain.state.ports.service ≡ number) × (domain.state.ports.publishers ≡ [])
+    × (domain.state.ports.subscribers ≡ []) × (domain.state.publisher_handlers ≡ []) × (domain.state.subscriber_handlers ≡ [])
 
 -- A service that opens where nothing was open under its number has a blank domain, whatever was there earlier.
 abbrev pub BeginsAnew : (T U B D : Type 0) → Type 0
 BeginsAnew T U B D =
-    (payload user_header : Detail) (buffer number : ℕ) (settings : Settings) (old new : OpenServices T U B D) → presence_of number old.domains ≡ None → Opens payload user_header buffer number settings old (Ok tt) new → Fits payload user_header settings
+    (payload user_header : Detail) (buffer number : ℕ) (settings : Settings) (old new : OpenServices T U B D)
+    → presence_of number old.domains ≡ None → Opens payload user_header buffer number settings old (Ok tt) new
+    → Fits payload user_header settings
     → (domain : Domain T U B D) × (domain_of number new.domains ≡ Some domain) × IsBlank old.hub number domain
 
 -- A domain that is taken and put back is accepted, and all is as it was. While it is out its service is open, its ports aren't
 -- lent, and it isn't taken again; the others stay.
 abbrev pub GivesBack : (T U B D : Type 0) → Type 0
 GivesBack T U B D =
-    (number : ℕ) (old between new : OpenServices T U B D) (domain : Domain T U B D) (answer : Result (Unit {0}) (DomainIsForeign (Domain T U B D))) → AreOwn old.hub old.domains → Takes number old (Ok domain) between → Puts domain between answer new
-    → (answer ≡ Ok tt) × (new ≡ old) × (is_open number between ≡ true) × (ports_at (record { hub = old.hub; service = number }) between ≡ None) × OthersStay number old between
-    × ((again : Result (Domain T U B D) TakeError) (after : OpenServices T U B D) → Takes number between again after → (again ≡ Err DomainIsOut) × (after ≡ between))
+    (number : ℕ) (old between new : OpenServices T U B D) (domain : Domain T U B D)
+    (answer : Result (Unit {0}) (DomainIsForeign (Domain T U B D))) → AreOwn old.hub old.domains
+    → Takes number old (Ok domain) between → Puts domain between answer new
+    → (answer ≡ Ok tt) × (new ≡ old) × (is_open number between ≡ true)
+    × (ports_at (record { hub = old.hub; service = number }) between ≡ None) × OthersStay number old between
+    × ((again : Result (Domain T U B D) TakeError) (after : OpenServices T U B D) → Takes number between again after
+    → (again ≡ Err DomainIsOut) × (after ≡ between))

@@ -51,7 +51,8 @@ pub others_unchanged : {X : Type 0} (number other : ℕ) (values : List (ℕ × 
     → lookup (is_at (nat_cmp other)) (set_value (is_at (nat_cmp number)) values w) ≡ lookup (is_at (nat_cmp other)) values
 others_unchanged number other [] w apart = refl
 others_unchanged number other (value ∷ values) w apart =
-    elsewhere (at number value.0) number other value.0 value.1 w values (set_value (at number) values w) refl apart (others_unchanged number other values w apart)
+    elsewhere (at number value.0) number other value.0 value.1 w values (set_value (at number) values w) refl apart
+    (others_unchanged number other values w apart)
 
 abbrev value_or : {X : Type 0} → X → Option X → X
 value_or default None = default
@@ -72,7 +73,8 @@ pub same_unchanged : {X : Type 0} (number : ℕ) (values : List (ℕ × X)) (w :
     → set_value (is_at (nat_cmp number)) values w ≡ values
 same_unchanged number [] w found = refl
 same_unchanged number (value ∷ values) w found =
-    same_at (at number value.0) value.0 value.1 w values (set_value (at number) values w) (lookup (at number) values) (same_unchanged number values w) found
+    same_at (at number value.0) value.0 value.1 w values (set_value (at number) values w) (lookup (at number) values)
+    (same_unchanged number values w) found
 
 absent_at : {X : Type 0} (b : Bool) (key : ℕ) (x w : X) (rest changed : List (ℕ × X)) (found : Option X)
     → (found ≡ None → changed ≡ rest) → cond b (Some x) found ≡ None → cond b ((key, w) ∷ rest) ((key, x) ∷ changed) ≡ (key, x) ∷ rest
@@ -84,7 +86,8 @@ pub absent_unchanged : {X : Type 0} (number : ℕ) (values : List (ℕ × X)) (w
     → set_value (is_at (nat_cmp number)) values w ≡ values
 absent_unchanged number [] w none = refl
 absent_unchanged number (value ∷ values) w none =
-    absent_at (at number value.0) value.0 value.1 w values (set_value (at number) values w) (lookup (at number) values) (absent_unchanged number values w) none
+    absent_at (at number value.0) value.0 value.1 w values (set_value (at number) values w) (lookup (at number) values)
+    (absent_unchanged number values w) none
 
 twice_at : {X : Type 0} (b : Bool) (number key : ℕ) (x v w : X) (rest changed again : List (ℕ × X)) → at number key ≡ b
     → set_value (at number) changed w ≡ again
@@ -97,12 +100,14 @@ pub changed_twice : {X : Type 0} (number : ℕ) (values : List (ℕ × X)) (v w 
     → set_value (is_at (nat_cmp number)) (set_value (is_at (nat_cmp number)) values v) w ≡ set_value (is_at (nat_cmp number)) values w
 changed_twice number [] v w = refl
 changed_twice number (value ∷ values) v w =
-    twice_at (at number value.0) number value.0 value.1 v w values (set_value (at number) values v) (set_value (at number) values w) refl (changed_twice number values v w)
+    twice_at (at number value.0) number value.0 value.1 v w values (set_value (at number) values v) (set_value (at number) values w)
+    refl (changed_twice number values v w)
 
 beside : {X : Type 0} (order : Ordering) (number other key : ℕ) (x w : X) (rest inserted : List (ℕ × X)) → nat_cmp number key ≡ order
     → (number ≡ other → ⊥)
     → lookup (at other) inserted ≡ lookup (at other) rest
-    → lookup (at other) (match_ordering order ((number, w) ∷ (key, x) ∷ rest) ((key, w) ∷ rest) ((key, x) ∷ inserted)) ≡ cond (at other key) (Some x) (lookup (at other) rest)
+    → lookup (at other) (match_ordering order ((number, w) ∷ (key, x) ∷ rest) ((key, w) ∷ rest) ((key, x) ∷ inserted))
+    ≡ cond (at other key) (Some x) (lookup (at other) rest)
 beside Less number other key x w rest inserted is apart later = rw (not_number other number (λ same. apart (sym same))) refl
 beside Equal number other key x w rest inserted is apart later =
     let off : at other key ≡ false = not_number other key (λ same. apart (is_number number key (ap is_eq is) ∙ sym same)) in
@@ -114,4 +119,5 @@ pub others_beside : {X : Type 0} (number other : ℕ) (values : List (ℕ × X))
     → lookup (is_at (nat_cmp other)) (insert_entry nat_cmp values number w) ≡ lookup (is_at (nat_cmp other)) values
 others_beside number other [] w apart = rw (not_number other number (λ same. apart (sym same))) refl
 others_beside number other (value ∷ values) w apart =
-    beside (nat_cmp number value.0) number other value.0 value.1 w values (insert_entry nat_cmp values number w) refl apart (others_beside number other values w apart)
+    beside (nat_cmp number value.0) number other value.0 value.1 w values (insert_entry nat_cmp values number w) refl apart
+    (others_beside number other values w apart)

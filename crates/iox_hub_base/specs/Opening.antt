@@ -25,7 +25,8 @@ Made = Membership × ℕ
 abbrev pub IsClosedAgain : {T U B D : Type 0} → Membership → Hub T U B D → Hub T U B D → Type 0
 IsClosedAgain member old new =
     ((closed : Result (Unit {0}) CloseError)
-    × Does Sight old.table (λ accesses. Closes member.service.description.service_hash member.service.number member.node accesses closed) new.table)
+    × Does Sight old.table (λ accesses. Closes member.service.description.service_hash member.service.number member.node accesses
+    closed) new.table)
     × (new ≡ record old { table = new.table })
 
 -- A node is in a service. The service has one factory more, the next one of the hub, and its domain is made, where it fits and none is
@@ -33,8 +34,14 @@ IsClosedAgain member old new =
 abbrev pub Enters : {T U B D : Type 0} → Detail → Detail → Membership → Hub T U B D → Result Made Bool → Hub T U B D → Type 0
 Enters payload user_header member old (Ok made) new =
     (made ≡ (member, one_more old.factories))
-    × Opens payload user_header old.expired_connection_buffer member.service.number member.service.description.settings old.services (Ok tt) new.services
-    × (new ≡ record old { factories = one_more old.factories; factory_counts = with_factory member.service.number old.factory_counts; services = new.services })
+    × Opens payload user_header old.expired_connection_buffer member.service.number member.service.description.settings old.services
+    (Ok tt) new.services
+    × (new ≡ record old {
+      factories = one_more old.factories;
+      factory_counts
+          = with_factory member.service.number old.factory_counts;
+      services = new.services;
+    })
 Enters payload user_header member old (Err was_new) new = (was_new ≡ member.service.is_new) × IsClosedAgain member old new
 
 -- What the negotiation came to is what the hub answers, if a factory is made; the error of wanted memory depends on whether the
@@ -43,7 +50,8 @@ abbrev pub Settles : {T U B D E : Type 0} → Detail → Detail → (Bool → E)
     → Hub T U B D → Type 0
 Settles payload user_header lacking (Err error) old result new = (result ≡ Err error) × (new ≡ old)
 Settles payload user_header lacking (Ok member) old result new =
-    (entered : Result Made Bool) × Enters payload user_header member old entered new × (result ≡ result_map_both (λ made. made) lacking entered)
+    (entered : Result Made Bool) × Enters payload user_header member old entered new
+    × (result ≡ result_map_both (λ made. made) lacking entered)
 
 -- The service is negotiated over the hub's table, with these lists of foreign steps before the accesses.
 pub record OpensInHub {T U B D E : Type 0} (payload user_header : Detail) (lacking : Bool → E) (negotiates : Steps → Result Membership E

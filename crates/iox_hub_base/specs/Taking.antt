@@ -10,7 +10,8 @@ use Rattle.iox_hub_base.specs.declared.taking.DomainIsForeign.{DomainIsForeign}
 -- The domain of a number is taken out: what is agreed stays in its place. It is refused where it isn't here, and then nothing has changed.
 abbrev pub Takes : {T U B D : Type 0} → ℕ → OpenServices T U B D → Result (Domain T U B D) TakeError → OpenServices T U B D → Type 0
 Takes number old (Ok domain) new =
-    (presence_of number old.domains ≡ Some (Here domain)) × (new ≡ record old { domains = with_presence number old.domains (Out domain.agreed) })
+    (presence_of number old.domains ≡ Some (Here domain))
+    × (new ≡ record old { domains = with_presence number old.domains (Out domain.agreed) })
 Takes number old (Err error) new = (error ≡ DomainIsOut) × (domain_of number old.domains ≡ None) × (new ≡ old)
 
 -- A domain is awaited: it is of this hub, and under the number of its service one is out of which just this is agreed.

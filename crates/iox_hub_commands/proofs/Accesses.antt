@@ -8,4 +8,5 @@ pub one_made : {Y : Type 0} (f : ℕ → Y) (access left : ℕ) (made all : List
 one_made f access zero made all some is = absurd (lt_irrefl 0 some)
 one_made f access (suc left) made all some is =
     let same : suc left - 1 ≡ left = omega (arith) in
-    subst (λ rest. (made ++ f access ∷ []) ++ map f (from (access + 1) rest) ≡ all) (sym same) (append_assoc made (f access ∷ []) (map f (from (access + 1) left)) ∙ is)
+    subst (λ rest. (made ++ f access ∷ []) ++ map f (from (access + 1) rest) ≡ all) (sym same)
+    (append_assoc made (f access ∷ []) (map f (from (access + 1) left)) ∙ is)

@@ -12,7 +12,8 @@ module _ {T U B D : Type 0} where
   is_as_agreed : (number : ℕ) (presence : Presence T U B D) → HasGrown number presence → IsAsAgreed presence
   is_as_agreed number (Out agreed) grown = tt
   is_as_agreed number (Here domain) (buffer, (calls, happen)) =
-      let agree = (sizes_agree {T = T} {U = U} AnySlots AnyAction AnyDecision).agree number (sizes buffer domain.agreed) calls domain.state.ports happen in
+      let agree = (sizes_agree {T = T} {U = U} AnySlots AnyAction AnyDecision).agree number (sizes buffer domain.agreed) calls
+      domain.state.ports happen in
       subst (λ allowed. All (IsMadeFor (allowed_by allowed)) domain.state.ports.publishers) agree.0 agree.1
 
   pub are_as_agreed : (services : List (ℕ × Presence T U B D)) → HaveGrown services → AreAsAgreed services

@@ -10,16 +10,20 @@ use Rattle.iox_hub_commands.specs.Lives.{Stays, GetsOne, LosesOne, ChangesOne, G
 
 module _ {V : Type 0} where
   pub stays_on : (old new : NumberTable V) → Stays old new → GoesOn old new
-  stays_on old new (entries, next) rises = (rw (entries, next) rises, omega (arith, next), λ number below. inl (ap (lookup (nat_eq number)) entries))
+  stays_on old new (entries, next) rises
+      = (rw (entries, next) rises, omega (arith, next), λ number below. inl (ap (lookup (nat_eq number)) entries))
 
   gets_on : (old new : NumberTable V) → GetsOne old new → GoesOn old new
   gets_on old new (value, entries, next) rises = (
     rw (entries, next) (Rises-push 1 old.next old.entries value rises),
     omega (arith, next),
-    λ number below. inl (ap (lookup (nat_eq number)) entries ∙ (found_and_gone V).put_others old value number (λ same. omega (arith, below, same))),
+    λ number below. inl (ap (lookup (nat_eq number)) entries ∙ (found_and_gone V).put_others old value number
+        (λ same. omega (arith, below, same))),
   )
 
-  gone_or_there : (gone number : ℕ) (is : Bool) → nat_eq number gone ≡ is → (old new : NumberTable V) → new.entries ≡ remove_entry (nat_eq gone) old.entries → Rises 1 old.entries old.next → (value_at new number ≡ value_at old number) ⊎ (value_at new number ≡ None)
+  gone_or_there : (gone number : ℕ) (is : Bool) → nat_eq number gone ≡ is → (old new : NumberTable V)
+      → new.entries ≡ remove_entry (nat_eq gone) old.entries → Rises 1 old.entries old.next
+      → (value_at new number ≡ value_at old number) ⊎ (value_at new number ≡ None)
   gone_or_there gone number true is old new entries rises =
       inr (ap (lookup (nat_eq number)) entries ∙ rw (eqb-true number gone is) ((found_and_gone V).gone old gone rises))
   gone_or_there gone number false is old new entries rises =
@@ -56,7 +60,8 @@ module _ {V : Type 0} where
   changes_on old new (inr (inl gets)) = gets_on old new gets
   changes_on old new (inr (inr loses)) = loses_on old new loses
 
-  later : (old mid new : NumberTable V) (number : ℕ) → (value_at mid number ≡ value_at old number) ⊎ (value_at mid number ≡ None) → (value_at new number ≡ value_at mid number) ⊎ (value_at new number ≡ None)
+  later : (old mid new : NumberTable V) (number : ℕ) → (value_at mid number ≡ value_at old number) ⊎ (value_at mid number ≡ None)
+      → (value_at new number ≡ value_at mid number) ⊎ (value_at new number ≡ None)
       → (value_at new number ≡ value_at old number) ⊎ (value_at new number ≡ None)
   later old mid new number first (inr none) = inr none
   later old mid new number (inl same) (inl again) = inl (again ∙ same)
@@ -65,5 +70,9 @@ module _ {V : Type 0} where
   pub on_and_on : (old mid new : NumberTable V) → GoesOn old mid → GoesOn mid new → GoesOn old new
   on_and_on old mid new first second rises =
       let (rises_mid, next_mid, kept_mid) = first rises in
-      let (rises_new, next_new, kept_new) = second rises_mid in
-      (rises_new, omega (arith, next_mid, next_new), λ number below. later old mid new number (kept_mid number below) (kept_new number (omega (arith, below, next_mid))))
+      let (rises_new, next_new, kept_new) = second rises_mid in (
+        rises_new,
+        omega (arith, next_mid, next_new),
+        λ number below. later old mid new number (kept_mid number below)
+            (kept_new number (omega (arith, below, next_mid))),
+      )

@@ -10,6 +10,7 @@ mod Uncreated
 pub mod Unused
 pub mod Found
 pub mod Accesses
+mod Formed
 pub mod Coming
 pub mod GoingOn
 pub mod FactoryChanges

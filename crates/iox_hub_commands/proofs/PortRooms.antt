@@ -1,5 +1,6 @@
 -- Room for numbers goes on from command to command, and where it is there no loan and no sample lacks memory for its number.
-use Rattle.std.proofs.Common.{arith, ◌≡◌, ◌≤◌, ◌<◌, ◌+◌, ◌∙◌, inl, inr, ◌⊎◌, ℕ, Bool, true, List, [], ◌∷◌, Option, None, Some, Result, Ok, Err, refl, ap, sym, subst, length}
+use Rattle.std.proofs.Common.{arith, ◌≡◌, ◌≤◌, ◌<◌, ◌+◌, ◌∙◌, inl, inr, ◌⊎◌, ℕ, Bool, true, List, [], ◌∷◌, Option, None, Some, Result, Ok}
+use Rattle.std.proofs.Common.{Err, refl, ap, sym, subst, length}
 use Rattle.std.proofs.lemmas.List.Elements.{All-cons, All-nil}
 use Rattle.std.proofs.lemmas.List.Sums.{sum_by-le-sum_by}
 use Rattle.std.specs.Map.{values_of}
@@ -53,7 +54,8 @@ use Rattle.iox_hub_base.specs.declared.presence.Presence.{Presence}
 use Rattle.iox_hub_base.specs.declared.presence.Presence.TheVariants.{Here, Out}
 use Rattle.iox_delivery.specs.Container.NumberTable.{NumberTable, value_at}
 use Rattle.iox_hub_commands.specs.Grown.{AnySlots, AnyAction, AnyDecision, HasGrown, HaveGrown, GrowsOn}
-use Rattle.iox_hub_commands.specs.PortRoom.{OfPorts, OfOthers, Pledges, IsPledged, most_samples, most_samples_of, HasLoanRoom, HasSampleRoom, HasRoom, KeepsRoom, CameUnread, FindsPort, LacksInRoom}
+use Rattle.iox_hub_commands.specs.PortRoom.{OfPorts, OfOthers, Pledges, IsPledged, most_samples, most_samples_of, HasLoanRoom}
+use Rattle.iox_hub_commands.specs.PortRoom.{HasSampleRoom, HasRoom, KeepsRoom, CameUnread, FindsPort, LacksInRoom}
 use Rattle.iox_hub_commands.specs.Room.{OnlyRoomier}
 use Rattle.iox_hub_commands.specs.CommandSteps.{Step, subscriber_may_degrade}
 use Rattle.iox_hub_commands.specs.declared.numbered_hub.NumberedHub.{NumberedHub}
@@ -159,13 +161,15 @@ empty [] few = refl
 empty (x ∷ xs) few = absurd (omega (arith, few))
 
 -- a port that comes leaves the tables of loans and of samples as they are, and a subscriber that of publishers
-publisher_tables : {E : Type 0} (domain : DomainId) (holds_slices : Bool) (next : ℕ) (came answer : Option (Result ℕ E)) (made after : Made) → NumbersPort (with_publisher domain holds_slices) next came made answer after
+publisher_tables : {E : Type 0} (domain : DomainId) (holds_slices : Bool) (next : ℕ) (came answer : Option (Result ℕ E))
+    (made after : Made) → NumbersPort (with_publisher domain holds_slices) next came made answer after
     → (after.loans ≡ made.loans) × (after.samples ≡ made.samples)
 publisher_tables domain holds_slices next None answer made after numbers = rw numbers.1 (refl, refl)
 publisher_tables domain holds_slices next (Some (Err error)) answer made after numbers = rw numbers.1 (refl, refl)
 publisher_tables domain holds_slices next (Some (Ok number)) answer made after numbers = rw numbers.1 (refl, refl)
 
-subscriber_tables : {E : Type 0} (domain : DomainId) (next : ℕ) (came answer : Option (Result ℕ E)) (made after : Made) → NumbersPort (with_subscriber domain) next came made answer after
+subscriber_tables : {E : Type 0} (domain : DomainId) (next : ℕ) (came answer : Option (Result ℕ E)) (made after : Made)
+    → NumbersPort (with_subscriber domain) next came made answer after
     → (after.loans ≡ made.loans) × (after.samples ≡ made.samples) × (after.publishers ≡ made.publishers)
 subscriber_tables domain next None answer made after numbers = rw numbers.1 (refl, refl, refl)
 subscriber_tables domain next (Some (Err error)) answer made after numbers = rw numbers.1 (refl, refl, refl)
@@ -179,24 +183,29 @@ held_is : {T U : Type 0} (found : Option (ServicePorts T U)) → held_at sample_
 held_is None = refl
 held_is (Some ports) = refl
 
-few_loans : {T U : Type 0} (config : PublisherConfig) (found : Option (ServicePorts T U)) → brought_at loan_measure config found ≤ config.max_loaned_samples
+few_loans : {T U : Type 0} (config : PublisherConfig) (found : Option (ServicePorts T U))
+    → brought_at loan_measure config found ≤ config.max_loaned_samples
 few_loans config None = omega arith
 few_loans config (Some ports) = omega arith
 
-brought_is : {T U : Type 0} (config : PublisherConfig) (found : Option (ServicePorts T U)) → brought_at sample_measure config found ≡ most_samples_of found
+brought_is : {T U : Type 0} (config : PublisherConfig) (found : Option (ServicePorts T U))
+    → brought_at sample_measure config found ≡ most_samples_of found
 brought_is config None = refl
 brought_is config (Some ports) = refl
 
 -- where no more ports are there, no more stands in a table and may come to it, and no more is pledged, there is room still
-room_kept : {V W : Type 0} (ports ports_after : NumberTable V) (table table_after : NumberTable W) (left left_after pledged pledged_after : ℕ) → length ports_after.entries ≤ length ports.entries → table.room ≤ table_after.room
-    → length table_after.entries + left_after ≤ length table.entries + left → pledged_after ≡ pledged → IsPledged ports left pledged table → IsPledged ports_after left_after pledged_after table_after
+room_kept : {V W : Type 0} (ports ports_after : NumberTable V) (table table_after : NumberTable W)
+    (left left_after pledged pledged_after : ℕ) → length ports_after.entries ≤ length ports.entries → table.room ≤ table_after.room
+    → length table_after.entries + left_after ≤ length table.entries + left → pledged_after ≡ pledged
+    → IsPledged ports left pledged table → IsPledged ports_after left_after pledged_after table_after
 room_kept ports ports_after table table_after left left_after pledged pledged_after stay roomier few same (enough, inl none) =
     (omega (arith, few, same, enough), inl (empty ports_after.entries (let nothing = ap length none in omega (arith, stay, nothing))))
 room_kept ports ports_after table table_after left left_after pledged pledged_after stay roomier few same (enough, inr fits) =
     (omega (arith, few, same, enough), inr (omega (arith, fits, same, roomier)))
 
 -- where something stands in a table there is room in the other, so that isn't full
-not_full : {V W : Type 0} (ports : NumberTable V) (left pledged : ℕ) (table : NumberTable W) → IsPledged ports left pledged table → IsFull table → ports.entries ≡ []
+not_full : {V W : Type 0} (ports : NumberTable V) (left pledged : ℕ) (table : NumberTable W) → IsPledged ports left pledged table
+    → IsFull table → ports.entries ≡ []
 not_full ports left pledged table (enough, inl none) full = none
 not_full ports left pledged table (enough, inr fits) full = absurd (omega (arith, enough, fits, full))
 
@@ -209,34 +218,44 @@ lender_found : (elements : ℕ) (made : Option MadePublisher) → IsSome (lender
 lender_found elements None found = found
 lender_found elements (Some made) found = refl
 
-ready_found : {T U H : Type 0} (ports_of : DomainId → H → Option (ServicePorts T U)) (port : Option PortId) (home : H) → IsSome (ready ports_of port home) → IsSome port
+ready_found : {T U H : Type 0} (ports_of : DomainId → H → Option (ServicePorts T U)) (port : Option PortId) (home : H)
+    → IsSome (ready ports_of port home) → IsSome port
 ready_found ports_of None home found = found
 ready_found ports_of (Some port) home found = refl
 
 -- a sample that came has the next number
-numbered_next : (port : Option PortId) (got : Option (Result (Option Taken) ReceiveError)) (made after : Made) (sample : ℕ) → NumbersSample port got made (Some (Ok (Some sample))) after → (sample ≡ made.samples.next) × (after.samples.next ≡ made.samples.next + 1)
+numbered_next : (port : Option PortId) (got : Option (Result (Option Taken) ReceiveError)) (made after : Made) (sample : ℕ)
+    → NumbersSample port got made (Some (Ok (Some sample))) after → (sample ≡ made.samples.next)
+    × (after.samples.next ≡ made.samples.next + 1)
 numbered_next port None made after sample numbers = cc numbers.0
 numbered_next port (Some (Err error)) made after sample numbers = cc numbers.0
 numbered_next port (Some (Ok None)) made after sample numbers = cc numbers.0
 numbered_next None (Some (Ok (Some taken))) made after sample numbers = absurd numbers
-numbered_next (Some port) (Some (Ok (Some taken))) made after sample numbers = let is = numbers.0 in let same : sample ≡ made.samples.next = cc in (same, rw numbers.1 refl)
+numbered_next (Some port) (Some (Ok (Some taken))) made after sample numbers = let is = numbers.0 in let same : sample
+    ≡ made.samples.next = cc in (same, rw numbers.1 refl)
 
 -- so many more are pledged where there is room
-pub more_pledges : {V : Type 0} (table : NumberTable V) (left more pledged all : ℕ) → all ≡ pledged + more → all < table.room → length table.entries + left ≤ pledged → Pledges (left + more) all table
+pub more_pledges : {V : Type 0} (table : NumberTable V) (left more pledged all : ℕ) → all ≡ pledged + more → all < table.room
+    → length table.entries + left ≤ pledged → Pledges (left + more) all table
 more_pledges table left more pledged all is fits enough = (omega (arith, is, enough), omega (arith, fits))
 
 -- what is pledged anew of as many as may be held at once is enough for those that may come
-pub anew_pledges : {V : Type 0} (table : NumberTable V) (left all most more pledged : ℕ) → left ≤ all → most ≡ min all (2 ^ 64 - 1) → Pledges (most + more) pledged table → most + more + 1 < 2 ^ 64 → Pledges (left + more) pledged table
+pub anew_pledges : {V : Type 0} (table : NumberTable V) (left all most more pledged : ℕ) → left ≤ all → most ≡ min all (2 ^ 64 - 1)
+    → Pledges (most + more) pledged table → most + more + 1 < 2 ^ 64 → Pledges (left + more) pledged table
 anew_pledges table left all most more pledged few is (enough, fits) small = (omega (arith, few, is, enough, small), fits)
 
 -- what is pledged of a table is pledged still where that has only more room
-pub pledges_still : {V : Type 0} (more pledged pledged_after : ℕ) (table roomier : NumberTable V) → SameNumbers table roomier → pledged_after ≡ pledged → Pledges more pledged table → Pledges more pledged_after roomier
-pledges_still more pledged pledged_after table roomier (same, next, room) is (enough, fits) = let even = ap length same in (omega (arith, even, is, enough), omega (arith, is, fits, room))
+pub pledges_still : {V : Type 0} (more pledged pledged_after : ℕ) (table roomier : NumberTable V) → SameNumbers table roomier
+    → pledged_after ≡ pledged → Pledges more pledged table → Pledges more pledged_after roomier
+pledges_still more pledged pledged_after table roomier (same, next, room) is (enough, fits) = let even
+    = ap length same in (omega (arith, even, is, enough), omega (arith, is, fits, room))
 
 -- what a publisher brings is pledged where that is less than 2^64 - 1
-pub pledges_brought : {A E V : Type 0} (result : Result A E) (left left_mid most brings pledged : ℕ) (table : NumberTable V) → left_mid ≡ left → most ≡ min brings (2 ^ 64 - 1) → OnOk result (Pledges (left_mid + most) pledged table)
+pub pledges_brought : {A E V : Type 0} (result : Result A E) (left left_mid most brings pledged : ℕ) (table : NumberTable V)
+    → left_mid ≡ left → most ≡ min brings (2 ^ 64 - 1) → OnOk result (Pledges (left_mid + most) pledged table)
     → OnOk result (most + 1 < 2 ^ 64) → OnOk result (Pledges (left + brings) pledged table)
-pledges_brought (Ok value) left left_mid most brings pledged table same is (enough, fits) small = (omega (arith, same, is, enough, small), fits)
+pledges_brought (Ok value) left left_mid most brings pledged table same is (enough, fits) small
+    = (omega (arith, same, is, enough, small), fits)
 pledges_brought (Err error) left left_mid most brings pledged table same is pledges small = tt
 
 -- what holds holds where a call goes well
@@ -246,9 +265,11 @@ where_it_works (Err error) holds = tt
 
 module _ {T U : Type 0} where
   -- calls leave the ports of a service roomy
-  roomy_on : (calls : List (PortCall T U × ServicePorts T U)) (old new : ServicePorts T U) → Happen AnySlots AnyAction AnyDecision calls old new → AreRoomy old → AreRoomy new
+  roomy_on : (calls : List (PortCall T U × ServicePorts T U)) (old new : ServicePorts T U)
+      → Happen AnySlots AnyAction AnyDecision calls old new → AreRoomy old → AreRoomy new
   roomy_on [] old new is roomy = subst (λ ports. AreRoomy ports) (sym is) roomy
-  roomy_on ((call, mid) ∷ calls) old new (happens, rest) roomy = roomy_on calls mid new rest (stay_roomy AnySlots AnyAction AnyDecision call old mid happens roomy)
+  roomy_on ((call, mid) ∷ calls) old new (happens, rest) roomy
+      = roomy_on calls mid new rest (stay_roomy AnySlots AnyAction AnyDecision call old mid happens roomy)
 
 module _ {T U B D : Type 0} where
   fine_any : (presence : Presence T U B D) → IsFineAt loan_measure presence
@@ -259,82 +280,110 @@ module _ {T U B D : Type 0} where
   all_fine domains = λ k d within. fine_any _
 
   fine_grown : (number : ℕ) (presence : Presence T U B D) → HasGrown number presence → IsFineAt sample_measure presence
-  fine_grown number (Here domain) (buffer, (calls, happen)) = roomy_on calls (no_ports number (sizes buffer domain.agreed)) domain.state.ports happen (new_roomy AnySlots AnyAction AnyDecision number (sizes buffer domain.agreed))
+  fine_grown number (Here domain) (buffer, (calls, happen))
+      = roomy_on calls (no_ports number (sizes buffer domain.agreed)) domain.state.ports happen
+      (new_roomy AnySlots AnyAction AnyDecision number (sizes buffer domain.agreed))
   fine_grown number (Out agreed) grown = tt
 
   -- domains that grew by calls of ports are roomy
   roomy_grown : (domains : List (ℕ × Presence T U B D)) → HaveGrown domains → AreFine sample_measure domains
   roomy_grown [] grown = All-nil (λ presence. IsFineAt sample_measure presence)
-  roomy_grown (service ∷ services) (first, rest) = All-cons (λ presence. IsFineAt sample_measure presence) service.1 (values_of services) (fine_grown service.0 service.1 first) (roomy_grown services rest)
+  roomy_grown (service ∷ services) (first, rest)
+      = All-cons (λ presence. IsFineAt sample_measure presence) service.1 (values_of services) (fine_grown service.0 service.1 first)
+      (roomy_grown services rest)
 
-  few_at : (presence : Presence T U B D) → counted_at (λ ports. samples_left ports) presence ≤ counted_at (λ ports. samples_at_most ports) presence
+  few_at : (presence : Presence T U B D)
+      → counted_at (λ ports. samples_left ports) presence ≤ counted_at (λ ports. samples_at_most ports) presence
   few_at (Here domain) = few_left domain.state.ports
   few_at (Out agreed) = omega arith
 
   -- no more samples may still come than may be held at once
   pub few_samples : (domains : List (ℕ × Presence T U B D)) → samples_left_in domains ≤ samples_at_most_in domains
-  few_samples domains = sum_by-le-sum_by (λ presence. counted_at (λ ports. samples_left ports) presence) (λ presence. counted_at (λ ports. samples_at_most ports) presence) (values_of domains) few_at
+  few_samples domains = sum_by-le-sum_by (λ presence. counted_at (λ ports. samples_left ports) presence)
+      (λ presence. counted_at (λ ports. samples_at_most ports) presence) (values_of domains) few_at
 
   -- the loans that are out, and those that may still be made, are together no more than they were and are brought
   loans_over : (brings : ℕ) (made after : Made) (old new : Hub T U B D) → Balances loan_measure brings made old after new
-      → length after.loans.entries + loans_left_in new.services.domains ≤ length made.loans.entries + loans_left_in old.services.domains + brings
+      → length after.loans.entries + loans_left_in new.services.domains
+      ≤ length made.loans.entries + loans_left_in old.services.domains + brings
   loans_over brings made after old new balances = let (fine, few) = balances (all_fine old.services.domains) in omega (arith, few)
 
   -- and so are the samples that are held, and those that may still come
-  samples_over : (brings : ℕ) (made after : Made) (old new : Hub T U B D) → HaveGrown old.services.domains → Balances sample_measure brings made old after new
-      → length after.samples.entries + samples_left_in new.services.domains ≤ length made.samples.entries + samples_left_in old.services.domains + brings
-  samples_over brings made after old new grown balances = let (fine, few) = balances (roomy_grown old.services.domains grown) in omega (arith, few)
+  samples_over : (brings : ℕ) (made after : Made) (old new : Hub T U B D) → HaveGrown old.services.domains
+      → Balances sample_measure brings made old after new
+      → length after.samples.entries + samples_left_in new.services.domains
+      ≤ length made.samples.entries + samples_left_in old.services.domains + brings
+  samples_over brings made after old new grown balances = let (fine, few)
+      = balances (roomy_grown old.services.domains grown) in omega (arith, few)
 
-  loans_kept : (old new : NumberedHub T U B D) → old.made.loans.room ≤ new.made.loans.room → length new.made.publishers.entries ≤ length old.made.publishers.entries → new.pledged ≡ old.pledged
+  loans_kept : (old new : NumberedHub T U B D) → old.made.loans.room ≤ new.made.loans.room
+      → length new.made.publishers.entries ≤ length old.made.publishers.entries → new.pledged ≡ old.pledged
       → Balances loan_measure 0 old.made old.hub new.made new.hub → HasLoanRoom old → HasLoanRoom new
   loans_kept old new roomier stay same balances =
       let few = loans_over 0 old.made new.made old.hub new.hub balances in
-      room_kept old.made.publishers new.made.publishers old.made.loans new.made.loans (loans_left_in old.hub.services.domains) (loans_left_in new.hub.services.domains) old.pledged.loans new.pledged.loans stay roomier (omega (arith, few)) (ap (λ (all : Pledged). all.loans) same)
+      room_kept old.made.publishers new.made.publishers old.made.loans new.made.loans (loans_left_in old.hub.services.domains)
+      (loans_left_in new.hub.services.domains) old.pledged.loans new.pledged.loans stay roomier (omega (arith, few))
+      (ap (λ (all : Pledged). all.loans) same)
 
-  samples_kept : (old new : NumberedHub T U B D) → old.made.samples.room ≤ new.made.samples.room → length new.made.subscribers.entries ≤ length old.made.subscribers.entries → new.pledged ≡ old.pledged
-      → Balances sample_measure 0 old.made old.hub new.made new.hub → HaveGrown old.hub.services.domains → HasSampleRoom old → HasSampleRoom new
+  samples_kept : (old new : NumberedHub T U B D) → old.made.samples.room ≤ new.made.samples.room
+      → length new.made.subscribers.entries ≤ length old.made.subscribers.entries → new.pledged ≡ old.pledged
+      → Balances sample_measure 0 old.made old.hub new.made new.hub → HaveGrown old.hub.services.domains → HasSampleRoom old
+      → HasSampleRoom new
   samples_kept old new roomier stay same balances grown =
       let few = samples_over 0 old.made new.made old.hub new.hub grown balances in
-      room_kept old.made.subscribers new.made.subscribers old.made.samples new.made.samples (samples_left_in old.hub.services.domains) (samples_left_in new.hub.services.domains) old.pledged.samples new.pledged.samples stay roomier (omega (arith, few)) (ap (λ (all : Pledged). all.samples) same)
+      room_kept old.made.subscribers new.made.subscribers old.made.samples new.made.samples (samples_left_in old.hub.services.domains)
+      (samples_left_in new.hub.services.domains) old.pledged.samples new.pledged.samples stay roomier (omega (arith, few))
+      (ap (λ (all : Pledged). all.samples) same)
 
   -- where as many are pledged, more room is room still
-  pub roomier_loans : (old new : NumberedHub T U B D) → OnlyRoomier old new → new.pledged.loans ≡ old.pledged.loans → HasLoanRoom old → HasLoanRoom new
+  pub roomier_loans : (old new : NumberedHub T U B D) → OnlyRoomier old new → new.pledged.loans ≡ old.pledged.loans → HasLoanRoom old
+      → HasLoanRoom new
   roomier_loans old new (((publishers, p_next, p_room), subscribers, (loans, l_next, l_room), samples), is) same =
       let out = ap length loans in
       let stay = ap length publishers in
       let left = ap (λ hub. loans_left_in hub.hub.services.domains) is in
-      room_kept old.made.publishers new.made.publishers old.made.loans new.made.loans (loans_left_in old.hub.services.domains) (loans_left_in new.hub.services.domains) old.pledged.loans new.pledged.loans (omega (arith, stay)) (omega (arith, l_room)) (omega (arith, out, left)) same
+      room_kept old.made.publishers new.made.publishers old.made.loans new.made.loans (loans_left_in old.hub.services.domains)
+      (loans_left_in new.hub.services.domains) old.pledged.loans new.pledged.loans (omega (arith, stay)) (omega (arith, l_room))
+      (omega (arith, out, left)) same
 
-  pub roomier_samples : (old new : NumberedHub T U B D) → OnlyRoomier old new → new.pledged.samples ≡ old.pledged.samples → HasSampleRoom old → HasSampleRoom new
+  pub roomier_samples : (old new : NumberedHub T U B D) → OnlyRoomier old new → new.pledged.samples ≡ old.pledged.samples
+      → HasSampleRoom old → HasSampleRoom new
   roomier_samples old new ((publishers, (subscribers, s_next, s_room), loans, (samples, m_next, m_room)), is) same =
       let held = ap length samples in
       let remain = ap length subscribers in
       let come = ap (λ hub. samples_left_in hub.hub.services.domains) is in
-      room_kept old.made.subscribers new.made.subscribers old.made.samples new.made.samples (samples_left_in old.hub.services.domains) (samples_left_in new.hub.services.domains) old.pledged.samples new.pledged.samples (omega (arith, remain)) (omega (arith, m_room)) (omega (arith, held, come)) same
+      room_kept old.made.subscribers new.made.subscribers old.made.samples new.made.samples (samples_left_in old.hub.services.domains)
+      (samples_left_in new.hub.services.domains) old.pledged.samples new.pledged.samples (omega (arith, remain))
+      (omega (arith, m_room)) (omega (arith, held, come)) same
 
   -- where numbers of loans were pledged, or that failed, there is room still
-  pub loans_pledged : {A E : Type 0} (result : Result A E) (more : ℕ) (old new : NumberedHub T U B D) → OnlyRoomier old new → (HasLoanRoom old → OnOk result (Pledges (loans_left_in old.hub.services.domains + more) new.pledged.loans new.made.loans))
+  pub loans_pledged : {A E : Type 0} (result : Result A E) (more : ℕ) (old new : NumberedHub T U B D) → OnlyRoomier old new
+      → (HasLoanRoom old → OnOk result (Pledges (loans_left_in old.hub.services.domains + more) new.pledged.loans new.made.loans))
       → OnErr result (new.pledged ≡ old.pledged) → new.pledged.samples ≡ old.pledged.samples → KeepsRoom old new
   loans_pledged (Ok value) more old new only pledges stays same =
       let left = ap (λ hub. loans_left_in hub.hub.services.domains) only.1 in (
         λ room. let (enough, fits) = pledges room in (omega (arith, enough, left), inr fits),
         λ grown. roomier_samples old new only same,
       )
-  loans_pledged (Err error) more old new only pledges stays same = (roomier_loans old new only (ap (λ (all : Pledged). all.loans) stays), λ grown. roomier_samples old new only same)
+  loans_pledged (Err error) more old new only pledges stays same
+      = (roomier_loans old new only (ap (λ (all : Pledged). all.loans) stays), λ grown. roomier_samples old new only same)
 
   -- and where those of samples were
-  pub samples_pledged : {A E : Type 0} (result : Result A E) (more : ℕ) (old new : NumberedHub T U B D) → OnlyRoomier old new → (HasSampleRoom old → OnOk result (Pledges (samples_left_in old.hub.services.domains + more) new.pledged.samples new.made.samples))
+  pub samples_pledged : {A E : Type 0} (result : Result A E) (more : ℕ) (old new : NumberedHub T U B D) → OnlyRoomier old new
+      → (HasSampleRoom old → OnOk result (Pledges (samples_left_in old.hub.services.domains + more) new.pledged.samples new.made.samples))
       → OnErr result (new.pledged ≡ old.pledged) → new.pledged.loans ≡ old.pledged.loans → KeepsRoom old new
   samples_pledged (Ok value) more old new only pledges stays same =
       let come = ap (λ hub. samples_left_in hub.hub.services.domains) only.1 in (
         roomier_loans old new only same,
         λ grown room. let (enough, fits) = pledges room in (omega (arith, enough, come), inr fits),
       )
-  samples_pledged (Err error) more old new only pledges stays same = (roomier_loans old new only same, λ grown. roomier_samples old new only (ap (λ (all : Pledged). all.samples) stays))
+  samples_pledged (Err error) more old new only pledges stays same
+      = (roomier_loans old new only same, λ grown. roomier_samples old new only (ap (λ (all : Pledged). all.samples) stays))
 
   -- one after the other
   pub keeps_on : (old mid new : NumberedHub T U B D) → GrowsOn old.hub mid.hub → KeepsRoom old mid → KeepsRoom mid new → KeepsRoom old new
-  keeps_on old mid new grows (loans, samples) (more_loans, more_samples) = (λ room. more_loans (loans room), λ grown room. more_samples (grows grown) (samples grown room))
+  keeps_on old mid new grows (loans, samples) (more_loans, more_samples)
+      = (λ room. more_loans (loans room), λ grown room. more_samples (grows grown) (samples grown room))
 
   pub keeps_nowhere : (hub : NumberedHub T U B D) → KeepsRoom hub hub
   keeps_nowhere hub = (λ room. room, λ grown room. room)
@@ -344,18 +393,27 @@ module _ {T U B D : Type 0} where
   roomier_grows_on old new (tables, is) = subst (λ hub. GrowsOn old.hub hub) (sym (ap (λ hub. hub.hub) is)) (λ grown. grown)
 
   -- a publisher comes, for whose loans, and for the samples of which, numbers were pledged
-  pub publisher_room : (degrades : B → DegradationCause → DegradationInfo → DegradationAction → Type 0) (is_default : U → Type 0) (domain : DomainId) (config : PublisherConfig) (slots : Option ℕ) (handlers : B) (old mid new : NumberedHub T U B D) (answer : Reply T)
-      → OnlyRoomier old mid → (HasLoanRoom old → Pledges (loans_left_in old.hub.services.domains + config.max_loaned_samples) mid.pledged.loans mid.made.loans)
-      → (HasSampleRoom old → Pledges (samples_left_in old.hub.services.domains + most_samples_of (hub_ports domain old.hub)) mid.pledged.samples mid.made.samples) → new.pledged ≡ mid.pledged
-      → PublisherStep hub_ports with_hub_ports with_hub_publisher degrades is_default domain config slots handlers mid.made mid.hub answer new.made new.hub → KeepsRoom old new
+  pub publisher_room : (degrades : B → DegradationCause → DegradationInfo → DegradationAction → Type 0) (is_default : U → Type 0)
+      (domain : DomainId) (config : PublisherConfig) (slots : Option ℕ) (handlers : B) (old mid new : NumberedHub T U B D)
+      (answer : Reply T)
+      → OnlyRoomier old mid → (HasLoanRoom old
+      → Pledges (loans_left_in old.hub.services.domains + config.max_loaned_samples) mid.pledged.loans mid.made.loans)
+      → (HasSampleRoom old → Pledges (samples_left_in old.hub.services.domains + most_samples_of (hub_ports domain old.hub))
+      mid.pledged.samples mid.made.samples) → new.pledged ≡ mid.pledged
+      → PublisherStep hub_ports with_hub_ports with_hub_publisher degrades is_default domain config slots handlers mid.made mid.hub
+      answer new.made new.hub → KeepsRoom old new
   publisher_room degrades is_default domain config slots handlers old mid new answer only loans_pledge samples_pledge same comes =
-      let few = loans_over (brought_at loan_measure config (hub_ports domain mid.hub)) mid.made new.made mid.hub new.hub (publisher_balances loan_measure degrades is_default domain config slots handlers mid.made new.made mid.hub new.hub answer comes) in
+      let few = loans_over (brought_at loan_measure config (hub_ports domain mid.hub)) mid.made new.made mid.hub new.hub
+      (publisher_balances loan_measure degrades is_default domain config slots handlers mid.made new.made mid.hub new.hub answer
+      comes) in
       let within = few_loans config (hub_ports domain mid.hub) in
-      let arrives = publisher_balances sample_measure degrades is_default domain config slots handlers mid.made new.made mid.hub new.hub answer comes in
+      let arrives = publisher_balances sample_measure degrades is_default domain config slots handlers mid.made new.made mid.hub new.hub
+      answer comes in
       let (tables, is) = only in
       let left = ap (λ hub. loans_left_in hub.hub.services.domains) is in
       let come = ap (λ hub. samples_left_in hub.hub.services.domains) is in
-      let held = ap (λ hub. brought_at sample_measure config (hub_ports domain hub.hub)) is ∙ brought_is config (hub_ports domain old.hub) in
+      let held = ap (λ hub. brought_at sample_measure config (hub_ports domain hub.hub)) is ∙ brought_is config
+      (hub_ports domain old.hub) in
       let (user_header, is_header, came, (roomier, is_roomier, (outcome, makes, numbers)), is_answer) = comes in
       let (loans, samples) = publisher_tables domain true mid.made.publishers.next outcome came roomier new.made numbers in
       let even = ap (λ table. table.room) loans in
@@ -364,17 +422,23 @@ module _ {T U B D : Type 0} where
       let more_samples = is_roomier.3.2 in
       let of_loans = ap (λ (all : Pledged). all.loans) same in
       let of_samples = ap (λ (all : Pledged). all.samples) same in (
-        λ room. let (enough, fits) = loans_pledge room in (omega (arith, enough, few, within, left, of_loans), inr (omega (arith, fits, even, more, of_loans))),
+        λ room. let (enough, fits) = loans_pledge room in
+            (omega (arith, enough, few, within, left, of_loans), inr (omega (arith, fits, even, more, of_loans))),
         λ grown room.
             let (enough, fits) = samples_pledge room in
-            let many = samples_over (brought_at sample_measure config (hub_ports domain mid.hub)) mid.made new.made mid.hub new.hub (roomier_grows_on old mid only grown) arrives in
+            let many = samples_over (brought_at sample_measure config (hub_ports domain mid.hub)) mid.made new.made mid.hub new.hub
+            (roomier_grows_on old mid only grown) arrives in
             (omega (arith, enough, many, come, held, of_samples), inr (omega (arith, fits, steady, more_samples, of_samples))),
       )
 
   -- a subscriber comes, for whose samples numbers were pledged
-  pub subscriber_room : (degrades : D → DegradationCause → DegradationInfo → DegradationAction → Type 0) (domain : DomainId) (config : SubscriberConfig) (handler : D) (old mid new : NumberedHub T U B D) (answer : Reply T)
-      → OnlyRoomier old mid → mid.pledged.loans ≡ old.pledged.loans → (HasSampleRoom old → Pledges (samples_left_in old.hub.services.domains + most_samples (hub_ports domain old.hub)) mid.pledged.samples mid.made.samples) → new.pledged ≡ mid.pledged
-      → SubscriberStep hub_ports with_hub_ports with_hub_subscriber degrades domain config handler mid.made mid.hub answer new.made new.hub → KeepsRoom old new
+  pub subscriber_room : (degrades : D → DegradationCause → DegradationInfo → DegradationAction → Type 0) (domain : DomainId)
+      (config : SubscriberConfig) (handler : D) (old mid new : NumberedHub T U B D) (answer : Reply T)
+      → OnlyRoomier old mid → mid.pledged.loans ≡ old.pledged.loans
+      → (HasSampleRoom old → Pledges (samples_left_in old.hub.services.domains + most_samples (hub_ports domain old.hub))
+      mid.pledged.samples mid.made.samples) → new.pledged ≡ mid.pledged
+      → SubscriberStep hub_ports with_hub_ports with_hub_subscriber degrades domain config handler mid.made mid.hub answer new.made
+      new.hub → KeepsRoom old new
   subscriber_room degrades domain config handler old mid new answer only stays samples_pledge same comes =
       let balances = subscriber_balances loan_measure degrades domain config handler mid.made new.made mid.hub new.hub answer comes in
       let nothing = none_held (hub_ports domain mid.hub) in
@@ -391,47 +455,70 @@ module _ {T U B D : Type 0} where
       let more = is_roomier.2.2 in
       let more_samples = is_roomier.3.2 in
       let of_samples = ap (λ (all : Pledged). all.samples) same in (
-        λ room. loans_kept mid new (omega (arith, even, more)) (omega (arith, stay, remain)) same (rw nothing at balances) (roomier_loans old mid only stays room),
+        λ room. loans_kept mid new (omega (arith, even, more)) (omega (arith, stay, remain)) same (rw nothing at balances)
+            (roomier_loans old mid only stays room),
         λ grown room.
             let (enough, fits) = samples_pledge room in
-            let few = samples_over (held_at sample_measure (hub_ports domain mid.hub)) mid.made new.made mid.hub new.hub (roomier_grows_on old mid only grown) arrives in
+            let few = samples_over (held_at sample_measure (hub_ports domain mid.hub)) mid.made new.made mid.hub new.hub
+            (roomier_grows_on old mid only grown) arrives in
             (omega (arith, enough, few, left, held, of_samples), inr (omega (arith, fits, steady, more_samples, of_samples))),
       )
 
   module _ (payload user_header : Detail) (types : MessageTypeDetails) (is_default : T → Type 0) (is_default_header : U → Type 0)
-      (fixed : BackpressureStrategy → Option BackpressureAction → DegradationAction → B) (degrades : B → DegradationCause → DegradationInfo → DegradationAction → Type 0) (decides : B → BackpressureInfo → BackpressureDecision → Type 0)
-      (fixed_reader : DegradationAction → D) (reader_degrades : D → DegradationCause → DegradationInfo → DegradationAction → Type 0) (asked : Command T) (old new : NumberedHub T U B D) (answer : Result (Reply T) AllocError) where
+      (fixed : BackpressureStrategy → Option BackpressureAction → DegradationAction → B)
+      (degrades : B → DegradationCause → DegradationInfo → DegradationAction → Type 0)
+      (decides : B → BackpressureInfo → BackpressureDecision → Type 0)
+      (fixed_reader : DegradationAction → D) (reader_degrades : D → DegradationCause → DegradationInfo → DegradationAction → Type 0)
+      (asked : Command T) (old new : NumberedHub T U B D) (answer : Result (Reply T) AllocError) where
     -- each command leaves the room, if those do by which ports come, and no other pledges
-    pub step_room : Step payload user_header types is_default is_default_header fixed degrades decides fixed_reader reader_degrades asked old answer new → OfPorts (KeepsRoom old new) asked → OfOthers (new.pledged ≡ old.pledged) asked → KeepsRoom old new
+    pub step_room : Step payload user_header types is_default is_default_header fixed degrades decides fixed_reader reader_degrades
+        asked old answer new → OfPorts (KeepsRoom old new) asked → OfOthers (new.pledged ≡ old.pledged) asked → KeepsRoom old new
     step_room step of others = elim (of_either asked of others) [
       | inl keeps ↦ keeps
       | inr same ↦
-          let (loan_room, sample_room) = no_room_goes payload user_header types is_default is_default_header fixed degrades decides fixed_reader reader_degrades asked old new answer step in (
-            step_holds loan_measure payload user_header types is_default is_default_header fixed degrades decides fixed_reader reader_degrades old new (HasLoanRoom old → HasLoanRoom new)
-                (λ keeps. let (stay, balances) = keeps in loans_kept old new loan_room stay.0 same balances) asked answer step (of_ports asked (λ keeps. keeps.0) of),
-            step_holds sample_measure payload user_header types is_default is_default_header fixed degrades decides fixed_reader reader_degrades old new (HaveGrown old.hub.services.domains → HasSampleRoom old → HasSampleRoom new)
-                (λ keeps. let (stay, balances) = keeps in samples_kept old new sample_room stay.1 same balances) asked answer step (of_ports asked (λ keeps. keeps.1) of),
+          let (loan_room, sample_room) = no_room_goes payload user_header types is_default is_default_header fixed degrades decides
+          fixed_reader reader_degrades asked old new answer step in (
+            step_holds loan_measure payload user_header types is_default is_default_header fixed degrades decides fixed_reader
+                reader_degrades old new (HasLoanRoom old → HasLoanRoom new)
+                (λ keeps. let (stay, balances) = keeps in loans_kept old new loan_room stay.0 same balances) asked answer step
+                (of_ports asked (λ keeps. keeps.0) of),
+            step_holds sample_measure payload user_header types is_default is_default_header fixed degrades decides fixed_reader
+                reader_degrades old new (HaveGrown old.hub.services.domains → HasSampleRoom old → HasSampleRoom new)
+                (λ keeps. let (stay, balances) = keeps in samples_kept old new sample_room stay.1 same balances) asked answer step
+                (of_ports asked (λ keeps. keeps.1) of),
           )
     ]
 
   module _ (payload user_header : Detail) (types : MessageTypeDetails) (is_default : T → Type 0) (is_default_header : U → Type 0)
-      (fixed : BackpressureStrategy → Option BackpressureAction → DegradationAction → B) (degrades : B → DegradationCause → DegradationInfo → DegradationAction → Type 0) (decides : B → BackpressureInfo → BackpressureDecision → Type 0)
+      (fixed : BackpressureStrategy → Option BackpressureAction → DegradationAction → B)
+      (degrades : B → DegradationCause → DegradationInfo → DegradationAction → Type 0)
+      (decides : B → BackpressureInfo → BackpressureDecision → Type 0)
       (fixed_reader : DegradationAction → D) (reader_degrades : D → DegradationCause → DegradationInfo → DegradationAction → Type 0) where
-    received_in_room : (subscriber : ℕ) (old new : NumberedHub T U B D) (lacking : AllocError) (received : Result (Option (Result (Option ℕ) ReceiveError)) AllocError)
-        → GrowsFirst (IsFull old.made.samples) (ReceivesNumbered hub_ports with_hub_ports (subscriber_may_degrade reader_degrades) (value_at old.made.subscribers subscriber)) old.made old.hub received new.made new.hub
-        → IsTold {T = T} (λ sample. values_under hub_ports (value_at new.made.samples sample) new.hub) received (Err lacking) → IsSome (value_at old.made.subscribers subscriber) → HasSampleRoom old → CameUnread old new
-    received_in_room subscriber old new lacking (Err wanting) (full, same, here) told finds room = absurd (none_found old.made.subscribers subscriber (not_full old.made.subscribers _ _ old.made.samples room full) finds)
+    received_in_room : (subscriber : ℕ) (old new : NumberedHub T U B D) (lacking : AllocError)
+        (received : Result (Option (Result (Option ℕ) ReceiveError)) AllocError)
+        → GrowsFirst (IsFull old.made.samples)
+        (ReceivesNumbered hub_ports with_hub_ports (subscriber_may_degrade reader_degrades)
+        (value_at old.made.subscribers subscriber)) old.made old.hub received new.made new.hub
+        → IsTold {T = T} (λ sample. values_under hub_ports (value_at new.made.samples sample) new.hub) received (Err lacking)
+        → IsSome (value_at old.made.subscribers subscriber) → HasSampleRoom old → CameUnread old new
+    received_in_room subscriber old new lacking (Err wanting) (full, same, here) told finds room
+        = absurd (none_found old.made.subscribers subscriber (not_full old.made.subscribers _ _ old.made.samples room full) finds)
     received_in_room subscriber old new lacking (Ok None) grows told finds room = absurd told
     received_in_room subscriber old new lacking (Ok (Some (Err error))) grows told finds room = absurd told
     received_in_room subscriber old new lacking (Ok (Some (Ok None))) grows told finds room = absurd told
-    received_in_room subscriber old new lacking (Ok (Some (Ok (Some sample)))) (roomier, is_roomier, (outcome, at, numbers)) told finds room =
+    received_in_room subscriber old new lacking (Ok (Some (Ok (Some sample)))) (roomier, is_roomier, (outcome, at, numbers)) told finds
+        room =
         let (named, next) = numbered_next (value_at old.made.subscribers subscriber) outcome roomier new.made sample numbers in
-        let same = is_roomier.3.1 in
-        (next ∙ ap (λ n. n + 1) same, subst (λ number. SomeValues (values_under hub_ports (value_at new.made.samples number) new.hub)) (named ∙ same) told)
+        let same = is_roomier.3.1 in (
+          next ∙ ap (λ n. n + 1) same,
+          subst (λ number. SomeValues (values_under hub_ports (value_at new.made.samples number) new.hub))
+              (named ∙ same) told,
+        )
 
     -- where there is room a command that isn't replied to lacked memory for values
     lacks : (asked : Command T) (old new : NumberedHub T U B D) (lacking : AllocError)
-        → Step payload user_header types is_default is_default_header fixed degrades decides fixed_reader reader_degrades asked old (Err lacking) new → FindsPort asked old → HasRoom old → LacksInRoom asked old new
+        → Step payload user_header types is_default is_default_header fixed degrades decides fixed_reader reader_degrades asked old
+        (Err lacking) new → FindsPort asked old → HasRoom old → LacksInRoom asked old new
     lacks command.Node old new lacking step finds room = absurd step
     lacks (command.Create node name options attributes steps) old new lacking step finds room = absurd step
     lacks (command.Open node name options requirements steps) old new lacking step finds room = absurd step
@@ -442,11 +529,17 @@ module _ {T U B D : Type 0} where
     lacks (command.Subscriber factory options) old new lacking step finds room = absurd step
     lacks (command.Loan publisher elements) old new lacking ((value, is_value, lent, grows, is_answer), same) finds room =
         let port = ready hub_ports (lender elements (value_at old.made.publishers publisher)) old.hub in
-        let none = not_full old.made.publishers _ _ old.made.loans room.0 (lacking_is_full {T = T} (IsFull old.made.loans) (LendsWrittenNumbered hub_ports with_hub_ports elements value port) old.made new.made old.hub new.hub lacking lent is_answer grows) in
-        absurd (none_found old.made.publishers publisher none (lender_found elements (value_at old.made.publishers publisher) (ready_found hub_ports (lender elements (value_at old.made.publishers publisher)) old.hub finds)))
+        let none = not_full old.made.publishers _ _ old.made.loans room.0
+        (lacking_is_full {T = T} (IsFull old.made.loans) (LendsWrittenNumbered hub_ports with_hub_ports elements value port)
+        old.made new.made old.hub new.hub lacking lent is_answer grows) in
+        absurd (none_found old.made.publishers publisher none
+        (lender_found elements (value_at old.made.publishers publisher)
+        (ready_found hub_ports (lender elements (value_at old.made.publishers publisher)) old.hub finds)))
     lacks (command.LoanUninit publisher elements) old new lacking ((lent, grows, is_answer), same) finds room =
         let port = lender elements (value_at old.made.publishers publisher) in
-        let none = not_full old.made.publishers _ _ old.made.loans room.0 (lacking_is_full {T = T} (IsFull old.made.loans) (LendsNumbered hub_ports with_hub_ports elements port) old.made new.made old.hub new.hub lacking lent is_answer grows) in
+        let none = not_full old.made.publishers _ _ old.made.loans room.0
+        (lacking_is_full {T = T} (IsFull old.made.loans) (LendsNumbered hub_ports with_hub_ports elements port) old.made new.made
+        old.hub new.hub lacking lent is_answer grows) in
         absurd (none_found old.made.publishers publisher none (lender_found elements (value_at old.made.publishers publisher) finds))
     lacks (command.Set loan place value) old new lacking step finds room = absurd step
     lacks (command.Fill loan values) old new lacking step finds room = absurd step
@@ -455,7 +548,8 @@ module _ {T U B D : Type 0} where
     lacks (command.Put publisher values) old new lacking step finds room = absurd step
     lacks (command.Retry publisher nanoseconds) old new lacking step finds room = absurd step
     lacks (command.GiveUp publisher) old new lacking step finds room = absurd step
-    lacks (command.Receive subscriber) old new lacking ((received, grows, told), same) finds room = received_in_room subscriber old new lacking received grows told finds room.1
+    lacks (command.Receive subscriber) old new lacking ((received, grows, told), same) finds room
+        = received_in_room subscriber old new lacking received grows told finds room.1
     lacks (command.Read sample) old new lacking step finds room = tt
     lacks (command.Release sample) old new lacking step finds room = absurd step
     lacks (command.Update number) old new lacking step finds room = absurd step
@@ -463,6 +557,7 @@ module _ {T U B D : Type 0} where
     lacks (command.Has subscriber) old new lacking step finds room = absurd step
 
     pub lacks_in_room : (asked : Command T) (old new : NumberedHub T U B D) (answer : Result (Reply T) AllocError)
-        → Step payload user_header types is_default is_default_header fixed degrades decides fixed_reader reader_degrades asked old answer new → OnErr answer (FindsPort asked old) → HasRoom old → OnErr answer (LacksInRoom asked old new)
+        → Step payload user_header types is_default is_default_header fixed degrades decides fixed_reader reader_degrades asked old
+        answer new → OnErr answer (FindsPort asked old) → HasRoom old → OnErr answer (LacksInRoom asked old new)
     lacks_in_room asked old new (Ok reply) step finds room = tt
     lacks_in_room asked old new (Err lacking) step finds room = lacks asked old new lacking step finds room

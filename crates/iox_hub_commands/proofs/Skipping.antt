@@ -18,12 +18,15 @@ same_numbers table = (refl, refl, omega arith)
 same_room : (made : Made) → IsRoomier made made
 same_room made = (same_numbers made.publishers, same_numbers made.subscribers, same_numbers made.loans, same_numbers made.samples)
 
-module _ {T U H : Type 0} (ports_of : DomainId → H → Option (ServicePorts T U)) (with_ports : DomainId → ServicePorts T U → H → H) (is_full : Type 0) (made : Made) (home : H) where
+module _ {T U H : Type 0} (ports_of : DomainId → H → Option (ServicePorts T U)) (with_ports : DomainId → ServicePorts T U → H → H)
+    (is_full : Type 0) (made : Made) (home : H) where
   -- nothing is lent
-  pub skips_loan_uninit : (elements : ℕ) (port : Option PortId) → port ≡ None → GrowsFirst is_full (LendsNumbered ports_of with_ports elements port) made home (Ok None) made home
+  pub skips_loan_uninit : (elements : ℕ) (port : Option PortId) → port ≡ None
+      → GrowsFirst is_full (LendsNumbered ports_of with_ports elements port) made home (Ok None) made home
   skips_loan_uninit elements port none = (made, same_room made, (None, rw none (refl, refl), (refl, refl)))
 
-  pub skips_loan : (elements : ℕ) (value : T) (port : Option PortId) → port ≡ None → GrowsFirst is_full (LendsWrittenNumbered ports_of with_ports elements value port) made home (Ok None) made home
+  pub skips_loan : (elements : ℕ) (value : T) (port : Option PortId) → port ≡ None
+      → GrowsFirst is_full (LendsWrittenNumbered ports_of with_ports elements value port) made home (Ok None) made home
   skips_loan elements value port none = (made, same_room made, (None, rw none (refl, refl), (refl, refl)))
 
   -- nothing is received
@@ -32,11 +35,13 @@ module _ {T U H : Type 0} (ports_of : DomainId → H → Option (ServicePorts T 
   skips_receive degrades port none = (made, same_room made, (None, rw none (refl, refl), (refl, refl)))
 
 -- where a call isn't skipped that is where nothing is found, something is
-pub found_else_skipped : {A B E : Type 0} (found : Option A) (error : E) (skipped : B) → (found ≡ None → Err error ≡ Ok skipped) → IsSome found
+pub found_else_skipped : {A B E : Type 0} (found : Option A) (error : E) (skipped : B) → (found ≡ None → Err error ≡ Ok skipped)
+    → IsSome found
 found_else_skipped None error skipped skips = cc (skips refl)
 found_else_skipped (Some value) error skipped skips = refl
 
-pub found_else_none : {A B E : Type 0} (found : Option A) (result : Result (Option B) E) (some : B) → (found ≡ None → result ≡ Ok None) → result ≡ Ok (Some some) → IsSome found
+pub found_else_none : {A B E : Type 0} (found : Option A) (result : Result (Option B) E) (some : B) → (found ≡ None → result ≡ Ok None)
+    → result ≡ Ok (Some some) → IsSome found
 found_else_none None result some skips is = cc (skips refl, is)
 found_else_none (Some value) result some skips is = refl
 

@@ -6,7 +6,8 @@ use Rattle.iox_hub_base.specs.Negotiate.Factory.{segment_removed, RemovesSegment
 use Rattle.iox_hub_base.specs.Negotiate.declared.factory.Membership.{Membership}
 use Rattle.iox_command.specs.NegotiateBase.declared.errors.close.CloseError.{CloseError}
 use Rattle.iox_command.specs.NegotiateBase.declared.errors.close.CloseError.TheVariants.{StillInUse}
-use Rattle.iox_command.specs.NegotiateBase.Access.{Access, Look, Lock, MakeSegment, Publish, Unlock, OpenSegment, Leave, RemoveDescription, RemoveSegment}
+use Rattle.iox_command.specs.NegotiateBase.Access.{Access, Look, Lock, MakeSegment, Publish, Unlock, OpenSegment, Leave}
+use Rattle.iox_command.specs.NegotiateBase.Access.{RemoveDescription, RemoveSegment}
 use Rattle.iox_command.specs.NegotiateBase.declared.answer.LeaveAnswer.{LeaveAnswer}
 use Rattle.iox_command.specs.NegotiateBase.declared.answer.LeaveAnswer.TheVariants as leaving
 use Rattle.iox_command.specs.NegotiateBase.declared.answer.RemoveAnswer.{RemoveAnswer}
@@ -46,7 +47,8 @@ by_description hash number (Publish under of bytes answer ∷ rest) told = told
 by_description hash number (Unlock under of ∷ rest) told = told
 by_description hash number (OpenSegment under of node answer ∷ rest) told = told
 by_description hash number (Leave under of node answer ∷ rest) told = told
-by_description hash number (RemoveDescription under of answer ∷ rest) (same_hash, same_number, goes) = by_removal hash number answer rest goes
+by_description hash number (RemoveDescription under of answer ∷ rest) (same_hash, same_number, goes)
+    = by_removal hash number answer rest goes
 by_description hash number (RemoveSegment under of answer ∷ rest) told = told
 
 by_leaving : (hash : ServiceHash) (number : ℕ) (answer : LeaveAnswer) (made : List Access) → LeaveGoes hash number answer made in_use → ⊥
@@ -61,9 +63,11 @@ by_accesses hash number node (MakeSegment under of other nodes answer ∷ rest) 
 by_accesses hash number node (Publish under of bytes answer ∷ rest) told = told
 by_accesses hash number node (Unlock under of ∷ rest) told = told
 by_accesses hash number node (OpenSegment under of other answer ∷ rest) told = told
-by_accesses hash number node (Leave under of other answer ∷ rest) (same_hash, same_number, same_node, goes) = by_leaving hash number answer rest goes
+by_accesses hash number node (Leave under of other answer ∷ rest) (same_hash, same_number, same_node, goes)
+    = by_leaving hash number answer rest goes
 by_accesses hash number node (RemoveDescription under of answer ∷ rest) told = told
 by_accesses hash number node (RemoveSegment under of answer ∷ rest) told = told
 
 pub leaves_unused : {T U B D : Type 0} (member : Membership) (old new : Hub T U B D) → Leaves member old (Err StillInUse) new → ⊥
-leaves_unused member old new (does, is) = by_accesses member.service.description.service_hash member.service.number member.node does.made does.told
+leaves_unused member old new (does, is)
+    = by_accesses member.service.description.service_hash member.service.number member.node does.made does.told

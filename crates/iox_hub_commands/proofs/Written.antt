@@ -10,9 +10,12 @@ use Rattle.iox_hub_commands.specs.Numbering.{NumbersLoan, LendsWrittenNumbered}
 use Rattle.iox_hub_commands.specs.declared.ports.made.Made.{Made}
 
 -- what a publisher that may lend lent, and under which number
-pub numbered : {T U H : Type 0} (ports_of : DomainId → H → Option (ServicePorts T U)) (with_ports : DomainId → ServicePorts T U → H → H) (elements : ℕ) (value : T) (found : Option PortId) (port : PortId)
-    (lent : Result ℕ LoanError) (made made_after : Made) (old new : H) (answer : Option (Result ℕ LoanError)) → Some port ≡ found → LendsFilled ports_of with_ports port elements value old lent new
-    → IfOk lent (λ slot. IsReady port.number (replicate elements value) elements slot (ports_of port.domain new)) → NumbersLoan (Some port) (Some lent) made answer made_after
+pub numbered : {T U H : Type 0} (ports_of : DomainId → H → Option (ServicePorts T U)) (with_ports : DomainId → ServicePorts T U → H → H)
+    (elements : ℕ) (value : T) (found : Option PortId) (port : PortId)
+    (lent : Result ℕ LoanError) (made made_after : Made) (old new : H) (answer : Option (Result ℕ LoanError)) → Some port ≡ found
+    → LendsFilled ports_of with_ports port elements value old lent new
+    → IfOk lent (λ slot. IsReady port.number (replicate elements value) elements slot (ports_of port.domain new))
+    → NumbersLoan (Some port) (Some lent) made answer made_after
     → LendsWrittenNumbered ports_of with_ports elements value found made old answer made_after new
 numbered ports_of with_ports elements value found port lent made made_after old new answer there lends is numbers =
     let P : Option PortId → Type 0 = λ one. LendsWrittenNumbered ports_of with_ports elements value one made old answer made_after new in

@@ -26,7 +26,8 @@ FactoriesAgree table = (one other : ℕ) (first second : MadeFactory) → value_
 -- The domain of a service, be it here or out, is for the settings that a factory of the service carries.
 abbrev pub DomainsServe : {T U B D : Type 0} → FactoryTable → Hub T U B D → Type 0
 DomainsServe {T} {U} {B} {D} table hub = (one : ℕ) (factory : MadeFactory) (presence : Presence T U B D) → value_at table one ≡ Some factory
-    → presence_of (service_of factory) hub.services.domains ≡ Some presence → (carried_by factory).settings ≡ PublishSubscribe (agreed_in presence)
+    → presence_of (service_of factory) hub.services.domains ≡ Some presence
+    → (carried_by factory).settings ≡ PublishSubscribe (agreed_in presence)
 
 -- Where each service has one agreement, its factories agree, and its domain serves them.
 abbrev pub AgreementIsOne : Type 0 → Type 0 → Type 0 → Type 0 → Type 0

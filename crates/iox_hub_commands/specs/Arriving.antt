@@ -25,7 +25,10 @@ abbrev pub PublisherStep : {T U H B : Type 0} → (DomainId → H → Option (Se
     → PublisherConfig → Option ℕ → B → Made → H → Reply T → Made → H → Type 0
 PublisherStep {T} {U} ports_of with_ports keeping degrades is_default domain config slots handlers made old answer made_after new =
     (user_header : U) × is_default user_header × (came : Option (Result ℕ PublisherCreateError))
-    × MakesRoomFirst (MakesAt (λ after. with_ports domain after old) (λ number. keeping domain number handlers) (PublisherComes (λ worst_case named. named ≡ unwrap_or slots worst_case) (degrades handlers FailedToEstablishConnection) config user_header) (why_no_publisher config) (ports_of domain old)) (with_publisher domain true) made.publishers.next made old came made_after new
+    × MakesRoomFirst (MakesAt (λ after. with_ports domain after old) (λ number. keeping domain number handlers)
+    (PublisherComes (λ worst_case named. named ≡ unwrap_or slots worst_case) (degrades handlers FailedToEstablishConnection) config
+    user_header) (why_no_publisher config) (ports_of domain old)) (with_publisher domain true) made.publishers.next made old came
+    made_after new
     × (answer ≡ publisher_reply came)
 
 -- A subscriber comes to a domain, with this config and this handler, and gets the next number.
@@ -34,5 +37,7 @@ abbrev pub SubscriberStep : {T U H D : Type 0} → (DomainId → H → Option (S
     → D → Made → H → Reply T → Made → H → Type 0
 SubscriberStep ports_of with_ports keeping degrades domain config handler made old answer made_after new =
     (came : Option (Result ℕ SubscriberCreateError))
-    × MakesRoomFirst (MakesAt (λ after. with_ports domain after old) (λ number. keeping domain number handler) (SubscriberComes (degrades handler FailedToEstablishConnection) config) (why_no_subscriber config) (ports_of domain old)) (with_subscriber domain) made.subscribers.next made old came made_after new
+    × MakesRoomFirst (MakesAt (λ after. with_ports domain after old) (λ number. keeping domain number handler)
+    (SubscriberComes (degrades handler FailedToEstablishConnection) config) (why_no_subscriber config) (ports_of domain old))
+    (with_subscriber domain) made.subscribers.next made old came made_after new
     × (answer ≡ subscriber_reply came)

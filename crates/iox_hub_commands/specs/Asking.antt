@@ -55,11 +55,13 @@ required_request_response named types attributes = record (asked_request_respons
 -- the settings with which a service is created that was to be opened with these attributes
 abbrev pub required_settings : ServiceOptions → MessageTypeDetails → Required → Settings
 required_settings (options.PublishSubscribe named) types attributes =
-    settings.PublishSubscribe (publish_subscribe_settings.adjusted (publish_subscribe_clauses.asked (required_publish_subscribe named types attributes)))
+    settings.PublishSubscribe (publish_subscribe_settings.adjusted
+    (publish_subscribe_clauses.asked (required_publish_subscribe named types attributes)))
 required_settings (options.Event named) types attributes
     = settings.Event (event_settings.adjusted (event_clauses.asked (required_event named attributes)))
 required_settings (options.RequestResponse named) types attributes =
-    settings.RequestResponse (request_response_settings.adjusted (request_response_clauses.asked (required_request_response named types attributes)))
+    settings.RequestResponse (request_response_settings.adjusted
+    (request_response_clauses.asked (required_request_response named types attributes)))
 
 -- what would be agreed of a service that is created where none stands that could be opened: its attributes are the required pairs
 abbrev pub required_agreement : List ℕ → ServiceOptions → MessageTypeDetails → Required → Agreement

@@ -34,7 +34,8 @@ AtPortIf call (Some port) old answer new = call port old answer new
 abbrev pub Lends : {T U H : Type 0} → (DomainId → H → Option (ServicePorts T U)) → (DomainId → ServicePorts T U → H → H) → ℕ → PortId
     → H → Option (Result ℕ LoanError) → H → Type 0
 Lends ports_of with_ports elements port old answer new =
-    AtDomain (λ after. with_ports port.domain after old) (steps.LoansBy port.number elements elements) (ports_of port.domain old) old answer new
+    AtDomain (λ after. with_ports port.domain after old) (steps.LoansBy port.number elements elements) (ports_of port.domain old) old
+    answer new
 
 -- whether a publisher may lend: its domain is here, it didn't leave, and no send of it waits
 abbrev pub may_lend : {T U H : Type 0} → (DomainId → H → Option (ServicePorts T U)) → PortId → H → Bool
@@ -66,20 +67,24 @@ abbrev pub Follows : {T U H : Type 0} → (DomainId → H → Option (ServicePor
     → (DomainId → ℕ → H → DegradationInfo → DegradationAction → Type 0) → PortId → H → Option (Result (Unit {0}) ConnectionFailure) → H
     → Type 0
 Follows ports_of with_ports degrades port old answer new =
-    AtDomain (λ after. with_ports port.domain after old) (steps.UpdatesBy (degrades port.domain port.number old) port.number) (ports_of port.domain old) old answer new
+    AtDomain (λ after. with_ports port.domain after old) (steps.UpdatesBy (degrades port.domain port.number old) port.number)
+    (ports_of port.domain old) old answer new
 
 -- A publisher sends the written loan in a slot.
 abbrev pub Sends : {T U H : Type 0} → (DomainId → H → Option (ServicePorts T U)) → (DomainId → ServicePorts T U → H → H)
     → (DomainId → ℕ → H → DegradationInfo → DegradationAction → Type 0)
     → (DomainId → ℕ → H → BackpressureInfo → BackpressureDecision → Type 0) → ℕ → PortId → H → Option (Result Sent SendError) → H → Type 0
 Sends ports_of with_ports degrades decides slot port old answer new =
-    AtDomain (λ after. with_ports port.domain after old) (steps.SendsBy (degrades port.domain port.number old) (decides port.domain port.number old) port.number slot) (ports_of port.domain old) old answer new
+    AtDomain (λ after. with_ports port.domain after old)
+    (steps.SendsBy (degrades port.domain port.number old) (decides port.domain port.number old) port.number slot)
+    (ports_of port.domain old) old answer new
 
 -- The send of a publisher that waits is tried again.
 abbrev pub Retries : {T U H : Type 0} → (DomainId → H → Option (ServicePorts T U)) → (DomainId → ServicePorts T U → H → H)
     → (DomainId → ℕ → H → BackpressureInfo → BackpressureDecision → Type 0) → ℕ → PortId → H → Option (Result Sent SendError) → H → Type 0
 Retries ports_of with_ports decides elapsed port old answer new =
-    AtDomain (λ after. with_ports port.domain after old) (steps.RetriesBy (decides port.domain port.number old) port.number elapsed) (ports_of port.domain old) old answer new
+    AtDomain (λ after. with_ports port.domain after old) (steps.RetriesBy (decides port.domain port.number old) port.number elapsed)
+    (ports_of port.domain old) old answer new
 
 -- The send of a publisher that waits ends.
 abbrev pub GivesUp : {T U H : Type 0} → (DomainId → H → Option (ServicePorts T U)) → (DomainId → ServicePorts T U → H → H) → PortId → H
@@ -91,30 +96,35 @@ GivesUp ports_of with_ports port old answer new
 abbrev pub PublisherGoes : {T U H : Type 0} → (DomainId → H → Option (ServicePorts T U)) → (DomainId → ServicePorts T U → H → H)
     → (DomainId → ℕ → H → H) → PortId → H → Bool → H → Type 0
 PublisherGoes ports_of with_ports without port old answer new =
-    LeavesDomain (λ after. with_ports port.domain after old) (without port.domain port.number) (steps.PublisherLeaves port.number) (ports_of port.domain old) old answer new
+    LeavesDomain (λ after. with_ports port.domain after old) (without port.domain port.number) (steps.PublisherLeaves port.number)
+    (ports_of port.domain old) old answer new
 
 -- A subscriber follows the list of publishers.
 abbrev pub FollowsPublishers : {T U H : Type 0} → (DomainId → H → Option (ServicePorts T U)) → (DomainId → ServicePorts T U → H → H)
     → (DomainId → ℕ → H → DegradationInfo → DegradationAction → Type 0) → PortId → H → Option (Result (Unit {0}) ConnectionFailure) → H
     → Type 0
 FollowsPublishers ports_of with_ports degrades port old answer new =
-    AtDomain (λ after. with_ports port.domain after old) (steps.FollowsBy (degrades port.domain port.number old) port.number) (ports_of port.domain old) old answer new
+    AtDomain (λ after. with_ports port.domain after old) (steps.FollowsBy (degrades port.domain port.number old) port.number)
+    (ports_of port.domain old) old answer new
 
 -- It is told whether some connection of a subscriber has data.
 abbrev pub Tells : {T U H : Type 0} → (DomainId → H → Option (ServicePorts T U)) → (DomainId → ServicePorts T U → H → H)
     → (DomainId → ℕ → H → DegradationInfo → DegradationAction → Type 0) → PortId → H → Option (Result Bool ConnectionFailure) → H → Type 0
 Tells ports_of with_ports degrades port old answer new =
-    AtDomain (λ after. with_ports port.domain after old) (steps.TellsBy (degrades port.domain port.number old) port.number) (ports_of port.domain old) old answer new
+    AtDomain (λ after. with_ports port.domain after old) (steps.TellsBy (degrades port.domain port.number old) port.number)
+    (ports_of port.domain old) old answer new
 
 -- A subscriber receives.
 abbrev pub Receives : {T U H : Type 0} → (DomainId → H → Option (ServicePorts T U)) → (DomainId → ServicePorts T U → H → H)
     → (DomainId → ℕ → H → DegradationInfo → DegradationAction → Type 0) → PortId → H → Option (Result (Option Taken) ReceiveError) → H
     → Type 0
 Receives ports_of with_ports degrades port old answer new =
-    AtDomain (λ after. with_ports port.domain after old) (steps.ReceivesBy (degrades port.domain port.number old) port.number) (ports_of port.domain old) old answer new
+    AtDomain (λ after. with_ports port.domain after old) (steps.ReceivesBy (degrades port.domain port.number old) port.number)
+    (ports_of port.domain old) old answer new
 
 -- A subscriber leaves.
 abbrev pub SubscriberGoes : {T U H : Type 0} → (DomainId → H → Option (ServicePorts T U)) → (DomainId → ServicePorts T U → H → H)
     → (DomainId → ℕ → H → H) → PortId → H → Bool → H → Type 0
 SubscriberGoes ports_of with_ports without port old answer new =
-    LeavesDomain (λ after. with_ports port.domain after old) (without port.domain port.number) (steps.SubscriberLeaves port.number) (ports_of port.domain old) old answer new
+    LeavesDomain (λ after. with_ports port.domain after old) (without port.domain port.number) (steps.SubscriberLeaves port.number)
+    (ports_of port.domain old) old answer new

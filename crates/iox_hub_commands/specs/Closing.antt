@@ -16,7 +16,8 @@ use Rattle.iox_hub_commands.specs.declared.services.made.MadeFactory.{MadeFactor
 -- the node leaves its service in the table, with this answer, and the service has one factory less
 abbrev pub Leaves : {T U B D : Type 0} → Membership → Hub T U B D → Result (Unit {0}) CloseError → Hub T U B D → Type 0
 Leaves member old closed new =
-    Does Sight old.table (λ accesses. Closes member.service.description.service_hash member.service.number member.node accesses closed) new.table
+    Does Sight old.table (λ accesses. Closes member.service.description.service_hash member.service.number member.node accesses closed)
+    new.table
     × (new ≡ less_one member.service.number (record old { table = new.table }))
 
 -- A factory that is in use stays, and nothing happens; else it is closed, and its number is spent, whatever the table answers.

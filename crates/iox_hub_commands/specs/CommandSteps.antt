@@ -50,7 +50,8 @@ module _ {T U B D : Type 0} where
   -- messages; what is a default value, and a default user header; who decides by fixed actions, and what anybody who decides may answer.
   -- `Err` is a command that isn't replied to: no memory was found for a number, or for the values of the reply.
   abbrev pub Step : Detail → Detail → MessageTypeDetails → (T → Type 0) → (U → Type 0)
-      → (BackpressureStrategy → Option BackpressureAction → DegradationAction → B) → (B → DegradationCause → DegradationInfo → DegradationAction → Type 0) → (B → BackpressureInfo → BackpressureDecision → Type 0)
+      → (BackpressureStrategy → Option BackpressureAction → DegradationAction → B)
+      → (B → DegradationCause → DegradationInfo → DegradationAction → Type 0) → (B → BackpressureInfo → BackpressureDecision → Type 0)
       → (DegradationAction → D) → (D → DegradationCause → DegradationInfo → DegradationAction → Type 0)
       → Command T → NumberedHub T U B D → Result (Reply T) AllocError → NumberedHub T U B D → Type 0
   Step payload user_header types is_default is_default_header fixed degrades decides fixed_reader reader_degrades command.Node old
@@ -58,13 +59,16 @@ module _ {T U B D : Type 0} where
       IsReplied (λ reply. NodeMakes old reply new) answer
   Step payload user_header types is_default is_default_header fixed degrades decides fixed_reader reader_degrades
       (command.Create node name options attributes steps) old answer new =
-      IsReplied (λ reply. Creates payload user_header types (record { node = node; name = name; options = options }) attributes steps old reply new) answer
+      IsReplied (λ reply. Creates payload user_header types (record { node = node; name = name; options = options }) attributes steps
+      old reply new) answer
   Step payload user_header types is_default is_default_header fixed degrades decides fixed_reader reader_degrades
       (command.Open node name options requirements steps) old answer new =
-      IsReplied (λ reply. Opens payload user_header types (record { node = node; name = name; options = options }) requirements steps old reply new) answer
+      IsReplied (λ reply. Opens payload user_header types (record { node = node; name = name; options = options }) requirements steps
+      old reply new) answer
   Step payload user_header types is_default is_default_header fixed degrades decides fixed_reader reader_degrades
       (command.OpenOrCreate node name options requirements steps) old answer new =
-      IsReplied (λ reply. OpensOrCreates payload user_header types (record { node = node; name = name; options = options }) requirements steps old reply new) answer
+      IsReplied (λ reply. OpensOrCreates payload user_header types (record { node = node; name = name; options = options }) requirements
+      steps old reply new) answer
   Step payload user_header types is_default is_default_header fixed degrades decides fixed_reader reader_degrades
       (command.Foreign pattern name steps) old answer new =
       IsReplied (λ reply. Acts pattern name types steps old reply new) answer
@@ -79,46 +83,59 @@ module _ {T U B D : Type 0} where
       IsReplied (λ reply. MakesSubscriber fixed_reader reader_degrades factory options old reply new) answer
   Step payload user_header types is_default is_default_header fixed degrades decides fixed_reader reader_degrades
       (command.Loan publisher length) old answer new =
-      LoanStep hub_ports with_hub_ports is_default publisher length old.made old.hub answer new.made new.hub × (new.factories ≡ old.factories)
+      LoanStep hub_ports with_hub_ports is_default publisher length old.made old.hub answer new.made new.hub
+      × (new.factories ≡ old.factories)
   Step payload user_header types is_default is_default_header fixed degrades decides fixed_reader reader_degrades
       (command.LoanUninit publisher length) old answer new =
       LoanUninitStep hub_ports with_hub_ports publisher length old.made old.hub answer new.made new.hub × (new.factories ≡ old.factories)
   Step payload user_header types is_default is_default_header fixed degrades decides fixed_reader reader_degrades
       (command.Set loan place value) old answer new =
-      IsReplied (λ reply. SetStep hub_ports with_hub_ports loan place value old.made old.hub reply new.hub × (new ≡ record old { hub = new.hub })) answer
+      IsReplied (λ reply. SetStep hub_ports with_hub_ports loan place value old.made old.hub reply new.hub
+      × (new ≡ record old { hub = new.hub })) answer
   Step payload user_header types is_default is_default_header fixed degrades decides fixed_reader reader_degrades
       (command.Fill loan values) old answer new =
-      IsReplied (λ reply. FillStep hub_ports with_hub_ports loan values old.made old.hub reply new.hub × (new ≡ record old { hub = new.hub })) answer
+      IsReplied (λ reply. FillStep hub_ports with_hub_ports loan values old.made old.hub reply new.hub
+      × (new ≡ record old { hub = new.hub })) answer
   Step payload user_header types is_default is_default_header fixed degrades decides fixed_reader reader_degrades (command.Drop loan)
       old answer new =
-      IsReplied (λ reply. DropStep hub_ports with_hub_ports loan old.made old.hub reply new.made new.hub × (new.factories ≡ old.factories)) answer
+      IsReplied (λ reply. DropStep hub_ports with_hub_ports loan old.made old.hub reply new.made new.hub
+      × (new.factories ≡ old.factories)) answer
   Step payload user_header types is_default is_default_header fixed degrades decides fixed_reader reader_degrades (command.Send loan)
       old answer new =
-      IsReplied (λ reply. SendStep hub_ports with_hub_ports (publisher_may_degrade degrades) (publisher_may_decide decides) loan old.made old.hub reply new.made new.hub × (new.factories ≡ old.factories)) answer
+      IsReplied (λ reply. SendStep hub_ports with_hub_ports (publisher_may_degrade degrades) (publisher_may_decide decides) loan
+      old.made old.hub reply new.made new.hub × (new.factories ≡ old.factories)) answer
   Step payload user_header types is_default is_default_header fixed degrades decides fixed_reader reader_degrades
       (command.Put publisher values) old answer new =
-      IsReplied (λ reply. PutStep hub_ports with_hub_ports (publisher_may_degrade degrades) (publisher_may_decide decides) publisher values old.made old.hub reply new.hub × (new ≡ record old { hub = new.hub })) answer
+      IsReplied (λ reply. PutStep hub_ports with_hub_ports (publisher_may_degrade degrades) (publisher_may_decide decides) publisher
+      values old.made old.hub reply new.hub × (new ≡ record old { hub = new.hub })) answer
   Step payload user_header types is_default is_default_header fixed degrades decides fixed_reader reader_degrades
       (command.Retry publisher nanoseconds) old answer new =
-      IsReplied (λ reply. RetryStep hub_ports with_hub_ports (publisher_may_decide decides) publisher nanoseconds old.made old.hub reply new.hub × (new ≡ record old { hub = new.hub })) answer
+      IsReplied (λ reply. RetryStep hub_ports with_hub_ports (publisher_may_decide decides) publisher nanoseconds old.made old.hub reply
+      new.hub × (new ≡ record old { hub = new.hub })) answer
   Step payload user_header types is_default is_default_header fixed degrades decides fixed_reader reader_degrades
       (command.GiveUp publisher) old answer new =
-      IsReplied (λ reply. GiveUpStep hub_ports with_hub_ports publisher old.made old.hub reply new.hub × (new ≡ record old { hub = new.hub })) answer
+      IsReplied (λ reply. GiveUpStep hub_ports with_hub_ports publisher old.made old.hub reply new.hub
+      × (new ≡ record old { hub = new.hub })) answer
   Step payload user_header types is_default is_default_header fixed degrades decides fixed_reader reader_degrades
       (command.Receive subscriber) old answer new =
-      ReceiveStep hub_ports with_hub_ports (subscriber_may_degrade reader_degrades) subscriber old.made old.hub answer new.made new.hub × (new.factories ≡ old.factories)
+      ReceiveStep hub_ports with_hub_ports (subscriber_may_degrade reader_degrades) subscriber old.made old.hub answer new.made new.hub
+      × (new.factories ≡ old.factories)
   Step payload user_header types is_default is_default_header fixed degrades decides fixed_reader reader_degrades (command.Read sample)
       old answer new =
       ReadStep hub_ports sample old.made old.hub answer × (new ≡ old)
   Step payload user_header types is_default is_default_header fixed degrades decides fixed_reader reader_degrades
       (command.Release sample) old answer new =
-      IsReplied (λ reply. ReleaseStep hub_ports with_hub_ports sample old.made old.hub reply new.made new.hub × (new.factories ≡ old.factories)) answer
+      IsReplied (λ reply. ReleaseStep hub_ports with_hub_ports sample old.made old.hub reply new.made new.hub
+      × (new.factories ≡ old.factories)) answer
   Step payload user_header types is_default is_default_header fixed degrades decides fixed_reader reader_degrades (command.Update port)
       old answer new =
-      IsReplied (λ reply. UpdateStep hub_ports with_hub_ports (publisher_may_degrade degrades) (subscriber_may_degrade reader_degrades) port old.made old.hub reply new.hub × (new ≡ record old { hub = new.hub })) answer
+      IsReplied (λ reply. UpdateStep hub_ports with_hub_ports (publisher_may_degrade degrades) (subscriber_may_degrade reader_degrades)
+      port old.made old.hub reply new.hub × (new ≡ record old { hub = new.hub })) answer
   Step payload user_header types is_default is_default_header fixed degrades decides fixed_reader reader_degrades (command.Leave port)
       old answer new =
-      IsReplied (λ reply. LeaveStep hub_ports with_hub_ports without_hub_publisher without_hub_subscriber port old.made old.hub reply new.made new.hub × (new.factories ≡ old.factories)) answer
+      IsReplied (λ reply. LeaveStep hub_ports with_hub_ports without_hub_publisher without_hub_subscriber port old.made old.hub reply
+      new.made new.hub × (new.factories ≡ old.factories)) answer
   Step payload user_header types is_default is_default_header fixed degrades decides fixed_reader reader_degrades
       (command.Has subscriber) old answer new =
-      IsReplied (λ reply. HasStep hub_ports with_hub_ports (subscriber_may_degrade reader_degrades) subscriber old.made old.hub reply new.hub × (new ≡ record old { hub = new.hub })) answer
+      IsReplied (λ reply. HasStep hub_ports with_hub_ports (subscriber_may_degrade reader_degrades) subscriber old.made old.hub reply
+      new.hub × (new ≡ record old { hub = new.hub })) answer

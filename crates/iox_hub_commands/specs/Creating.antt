@@ -1,5 +1,5 @@
 -- A service is created as options ask, and its factory gets a number.
-use Rattle.std.specs.Prelude.{ℕ, ◌≡◌, Bool, true, false, List, Option, Some, Result, Ok, Err}
+use Rattle.std.specs.Prelude.{ℕ, ◌≡◌, Bool, true, false, List, Option, None, Some, Result, Ok, Err}
 use Rattle.std.specs.declared.alloc.AllocError.{AllocError}
 use Rattle.iox_command.specs.declared.refusal.Refusal.{Refusal}
 use Rattle.iox_command.specs.declared.refusal.Refusal.TheVariants as refusal
@@ -28,6 +28,8 @@ use Rattle.iox_command.specs.NegotiateBase.declared.failure.CreateFailure.TheVar
 use Rattle.iox_negotiate_table.specs.Stepped.{SteppedSight}
 use Rattle.iox_negotiate_table.specs.declared.step.ForeignStep.{ForeignStep}
 use Rattle.iox_hub_commands.specs.Asking.{hash_of, agreed_of, IsHistoryTooLong}
+use Rattle.iox_hub_commands.specs.Described.{settings_of}
+use Rattle.iox_hub_commands.specs.Refusing.{IsUncreated, create_refused}
 use Rattle.iox_hub_commands.specs.ServicesNumbering.{Prepares, GetsNumber, IsSkipped, IsRefusedWith}
 use Rattle.iox_hub_commands.specs.ServicesTables.{FactoryTable}
 use Rattle.iox_hub_commands.specs.declared.services.asked.ServiceAsked.{ServiceAsked}
@@ -37,7 +39,8 @@ abbrev pub CreatesAgreed : {T U B D E : Type 0} → Detail → Detail → (Creat
     → List (List ForeignStep) → Hub T U B D → Result Made E → Hub T U B D → Type 0
 CreatesAgreed payload user_header error hash node agreed lists old opened new =
     OpensInHub payload user_header (λ was_new. error OutOfMemory)
-    (λ before came after. Creates SteppedSight before.table.id hash node agreed (AreWithinLimits agreed.settings) (IsHistoryTooLong agreed.settings) error before came after)
+    (λ before came after. Creates SteppedSight before.table.id hash node agreed (AreWithinLimits agreed.settings)
+    (IsHistoryTooLong agreed.settings) error before came after)
     lists old opened new
 
 -- a service is created as these options ask, with these attributes, and its factory gets a number; a failure is told as the error
@@ -46,13 +49,16 @@ abbrev pub CreatesAs : {T U B D : Type 0} → ServiceOptions → Detail → Deta
     → List (List ForeignStep) → FactoryTable → Hub T U B D → Result ℕ Refusal → FactoryTable → Hub T U B D → Type 0
 CreatesAs (options.PublishSubscribe named) payload user_header types node name attributes lists table old answer after new =
     GetsNumber pattern.PublishSubscribe refusal.PublishSubscribeCreate
-    (CreatesAgreed payload user_header publish_subscribe.create_error (hash_of name (options.PublishSubscribe named)) node (agreed_of name (options.PublishSubscribe named) types attributes) lists) table old answer after new
+    (CreatesAgreed payload user_header publish_subscribe.create_error (hash_of name (options.PublishSubscribe named)) node
+    (agreed_of name (options.PublishSubscribe named) types attributes) lists) table old answer after new
 CreatesAs (options.Event named) payload user_header types node name attributes lists table old answer after new =
     GetsNumber pattern.Event refusal.EventCreate
-    (CreatesAgreed payload user_header event.create_error (hash_of name (options.Event named)) node (agreed_of name (options.Event named) types attributes) lists) table old answer after new
+    (CreatesAgreed payload user_header event.create_error (hash_of name (options.Event named)) node
+    (agreed_of name (options.Event named) types attributes) lists) table old answer after new
 CreatesAs (options.RequestResponse named) payload user_header types node name attributes lists table old answer after new =
     GetsNumber pattern.RequestResponse refusal.RequestResponseCreate
-    (CreatesAgreed payload user_header request_response.create_error (hash_of name (options.RequestResponse named)) node (agreed_of name (options.RequestResponse named) types attributes) lists) table old answer after new
+    (CreatesAgreed payload user_header request_response.create_error (hash_of name (options.RequestResponse named)) node
+    (agreed_of name (options.RequestResponse named) types attributes) lists) table old answer after new
 
 -- the refusal where no memory was found before the first access
 abbrev pub create_lacking : ServiceOptions → Refusal
@@ -68,11 +74,22 @@ CreatesPrepared (Err lacking) payload user_header types asked attributes table o
 CreatesPrepared (Ok lists) payload user_header types asked attributes table old answer after new
     = CreatesAs asked.options payload user_header types asked.node asked.name attributes lists table old answer after new
 
+-- what follows once it is told whether the settings can be: they are refused first, and nothing else happens, whatever memory there is;
+-- else the service is created with these steps of foreign nodes before the accesses, once there are lists of them and room
+abbrev pub CreatesUnlessRefused : {T U B D : Type 0} → Option CreateFailure → Detail → Detail → MessageTypeDetails → ServiceAsked
+    → List Attribute → List StepBefore → FactoryTable → Hub T U B D → Option (Result ℕ Refusal) → FactoryTable → Hub T U B D → Type 0
+CreatesUnlessRefused (Some failure) payload user_header types asked attributes steps table old answer after new
+    = (answer ≡ Some (Err (create_refused asked.options failure))) × (after ≡ table) × (new ≡ old)
+CreatesUnlessRefused None payload user_header types asked attributes steps table old answer after new =
+    (prepared : Result (List (List ForeignStep)) AllocError) × (roomier : FactoryTable) × (reply : Result ℕ Refusal)
+    × Prepares asked.name types steps table prepared roomier
+    × CreatesPrepared prepared payload user_header types asked attributes roomier old reply after new × (answer ≡ Some reply)
+
 -- The service that is asked for is created with these attributes, with these steps of foreign nodes before the accesses, and its
--- factory gets a number. Nothing happens where the node isn't there.
+-- factory gets a number; settings that can't be are refused before any memory is asked for. Nothing happens where the node isn't there.
 abbrev pub CreatesNumbered : {T U B D : Type 0} → Bool → Detail → Detail → MessageTypeDetails → ServiceAsked → List Attribute
     → List StepBefore → FactoryTable → Hub T U B D → Option (Result ℕ Refusal) → FactoryTable → Hub T U B D → Type 0
 CreatesNumbered false payload user_header types asked attributes steps table old answer after new = IsSkipped table old answer after new
 CreatesNumbered true payload user_header types asked attributes steps table old answer after new =
-    (prepared : Result (List (List ForeignStep)) AllocError) × (roomier : FactoryTable) × (reply : Result ℕ Refusal)
-    × Prepares asked.name types steps table prepared roomier × CreatesPrepared prepared payload user_header types asked attributes roomier old reply after new × (answer ≡ Some reply)
+    (refused : Option CreateFailure) × IsUncreated (settings_of asked.options types) refused
+    × CreatesUnlessRefused refused payload user_header types asked attributes steps table old answer after new

@@ -33,7 +33,8 @@ use Rattle.iox_command.specs.NegotiateBase.declared.errors.request_response.Requ
 use Rattle.iox_command.specs.NegotiateBase.declared.failure.OpenOrCreateFailure.{OpenOrCreateFailure}
 use Rattle.iox_negotiate_table.specs.Stepped.{SteppedSight}
 use Rattle.iox_negotiate_table.specs.declared.step.ForeignStep.{ForeignStep}
-use Rattle.iox_hub_commands.specs.Asking.{hash_of, required_agreement, IsHistoryTooLong, required_publish_subscribe, required_event, required_request_response}
+use Rattle.iox_hub_commands.specs.Asking.{hash_of, required_agreement, IsHistoryTooLong, required_publish_subscribe, required_event}
+use Rattle.iox_hub_commands.specs.Asking.{required_request_response}
 use Rattle.iox_hub_commands.specs.ServicesNumbering.{Prepares, GetsNumber, IsSkipped, IsRefusedWith}
 use Rattle.iox_hub_commands.specs.ServicesTables.{FactoryTable}
 use Rattle.iox_hub_commands.specs.declared.services.asked.ServiceAsked.{ServiceAsked}
@@ -43,7 +44,8 @@ abbrev pub EitherJudged : {T U B D V E : Type 0} → Detail → Detail → (Open
     → (Agreement → Result (Unit {0}) V) → Agreement → List (List ForeignStep) → Hub T U B D → Result Made E → Hub T U B D → Type 0
 EitherJudged payload user_header error hash node verdict agreed lists old opened new =
     OpensInHub payload user_header (λ was_new. error (lacking_either was_new))
-    (λ before came after. Either SteppedSight before.table.id hash node verdict agreed (AreWithinLimits agreed.settings) (IsHistoryTooLong agreed.settings) error before came after)
+    (λ before came after. Either SteppedSight before.table.id hash node verdict agreed (AreWithinLimits agreed.settings)
+    (IsHistoryTooLong agreed.settings) error before came after)
     lists old opened new
 
 -- a service is opened if it is as these options ask and has these attributes, or created so, and its factory gets a number; a
@@ -52,15 +54,18 @@ abbrev pub EitherAs : {T U B D : Type 0} → ServiceOptions → Detail → Detai
     → List (List ForeignStep) → FactoryTable → Hub T U B D → Result ℕ Refusal → FactoryTable → Hub T U B D → Type 0
 EitherAs (options.PublishSubscribe named) payload user_header types node name attributes lists table old answer after new =
     GetsNumber pattern.PublishSubscribe refusal.PublishSubscribeOpenOrCreate
-    (EitherJudged payload user_header publish_subscribe.open_or_create_error (hash_of name (options.PublishSubscribe named)) node (λ given. first_unmet (publish_subscribe_clauses.clauses (required_publish_subscribe named types attributes) given))
+    (EitherJudged payload user_header publish_subscribe.open_or_create_error (hash_of name (options.PublishSubscribe named)) node
+    (λ given. first_unmet (publish_subscribe_clauses.clauses (required_publish_subscribe named types attributes) given))
     (required_agreement name (options.PublishSubscribe named) types attributes) lists) table old answer after new
 EitherAs (options.Event named) payload user_header types node name attributes lists table old answer after new =
     GetsNumber pattern.Event refusal.EventOpenOrCreate
-    (EitherJudged payload user_header event.open_or_create_error (hash_of name (options.Event named)) node (λ given. first_unmet (event_clauses.clauses (required_event named attributes) given))
+    (EitherJudged payload user_header event.open_or_create_error (hash_of name (options.Event named)) node
+    (λ given. first_unmet (event_clauses.clauses (required_event named attributes) given))
     (required_agreement name (options.Event named) types attributes) lists) table old answer after new
 EitherAs (options.RequestResponse named) payload user_header types node name attributes lists table old answer after new =
     GetsNumber pattern.RequestResponse refusal.RequestResponseOpenOrCreate
-    (EitherJudged payload user_header request_response.open_or_create_error (hash_of name (options.RequestResponse named)) node (λ given. first_unmet (request_response_clauses.clauses (required_request_response named types attributes) given))
+    (EitherJudged payload user_header request_response.open_or_create_error (hash_of name (options.RequestResponse named)) node
+    (λ given. first_unmet (request_response_clauses.clauses (required_request_response named types attributes) given))
     (required_agreement name (options.RequestResponse named) types attributes) lists) table old answer after new
 
 -- the refusal where no memory was found before the first access: as at the first look
@@ -86,4 +91,5 @@ abbrev pub EitherNumbered : {T U B D : Type 0} → Bool → Detail → Detail �
 EitherNumbered false payload user_header types asked attributes steps table old answer after new = IsSkipped table old answer after new
 EitherNumbered true payload user_header types asked attributes steps table old answer after new =
     (prepared : Result (List (List ForeignStep)) AllocError) × (roomier : FactoryTable) × (reply : Result ℕ Refusal)
-    × Prepares asked.name types steps table prepared roomier × EitherPrepared prepared payload user_header types asked attributes roomier old reply after new × (answer ≡ Some reply)
+    × Prepares asked.name types steps table prepared roomier
+    × EitherPrepared prepared payload user_header types asked attributes roomier old reply after new × (answer ≡ Some reply)

@@ -46,15 +46,19 @@ pub record FoundUntilClosed (T U B D : Type 0) : Type 0 where
   pub created : (is_there : Bool) (payload user_header : Detail) (types : MessageTypeDetails) (asked : ServiceAsked)
       (attributes : List Attribute) (steps : List StepBefore)
       (table : FactoryTable) (old : Hub T U B D) (answer : Option (Result ℕ Refusal)) (after : FactoryTable) (new : Hub T U B D)
-      → Rises 1 table.entries table.next → CreatesNumbered is_there payload user_header types asked attributes steps table old answer after new → IsFound (pattern_of asked.options) table answer after
+      → Rises 1 table.entries table.next → CreatesNumbered is_there payload user_header types asked attributes steps table old answer
+      after new → IsFound (pattern_of asked.options) table answer after
   pub opened : (is_there : Bool) (payload user_header : Detail) (types : MessageTypeDetails) (asked : ServiceAsked)
       (attributes : Required) (steps : List StepBefore)
       (table : FactoryTable) (old : Hub T U B D) (answer : Option (Result ℕ Refusal)) (after : FactoryTable) (new : Hub T U B D)
-      → Rises 1 table.entries table.next → OpensNumbered is_there payload user_header types asked attributes steps table old answer after new → IsFound (pattern_of asked.options) table answer after
+      → Rises 1 table.entries table.next → OpensNumbered is_there payload user_header types asked attributes steps table old answer
+      after new → IsFound (pattern_of asked.options) table answer after
   pub opened_or_created : (is_there : Bool) (payload user_header : Detail) (types : MessageTypeDetails) (asked : ServiceAsked)
       (attributes : Required) (steps : List StepBefore)
       (table : FactoryTable) (old : Hub T U B D) (answer : Option (Result ℕ Refusal)) (after : FactoryTable) (new : Hub T U B D)
-      → Rises 1 table.entries table.next → EitherNumbered is_there payload user_header types asked attributes steps table old answer after new → IsFound (pattern_of asked.options) table answer after
+      → Rises 1 table.entries table.next → EitherNumbered is_there payload user_header types asked attributes steps table old answer
+      after new → IsFound (pattern_of asked.options) table answer after
   pub closed : (number : ℕ) (table : FactoryTable) (old : Hub T U B D) (answer : Option (Result (Unit {0}) CloseError))
       (after : FactoryTable) (new : Hub T U B D)
-      → Rises 1 table.entries table.next → ClosesNumbered number (value_at table number) table old answer after new → IsGone number table answer after
+      → Rises 1 table.entries table.next → ClosesNumbered number (value_at table number) table old answer after new
+      → IsGone number table answer after

@@ -20,17 +20,20 @@ abbrev pub UpdateStep : {T U H : Type 0} → (DomainId → H → Option (Service
     → (DomainId → ℕ → H → DegradationInfo → DegradationAction → Type 0)
     → (DomainId → ℕ → H → DegradationInfo → DegradationAction → Type 0) → PortNumber → Made → H → Reply T → H → Type 0
 UpdateStep ports_of with_ports degrades subscriber_degrades (port.Publisher number) made old answer new =
-    (outcome : Option (Result (Unit {0}) ConnectionFailure)) × AtPort (Follows ports_of with_ports degrades) (port_under (value_at made.publishers number)) old outcome new
+    (outcome : Option (Result (Unit {0}) ConnectionFailure))
+    × AtPort (Follows ports_of with_ports degrades) (port_under (value_at made.publishers number)) old outcome new
     × (answer ≡ updated_reply outcome)
 UpdateStep ports_of with_ports degrades subscriber_degrades (port.Subscriber number) made old answer new =
-    (outcome : Option (Result (Unit {0}) ConnectionFailure)) × AtPort (FollowsPublishers ports_of with_ports subscriber_degrades) (value_at made.subscribers number) old outcome new
+    (outcome : Option (Result (Unit {0}) ConnectionFailure))
+    × AtPort (FollowsPublishers ports_of with_ports subscriber_degrades) (value_at made.subscribers number) old outcome new
     × (answer ≡ updated_reply outcome)
 
 -- It is told whether some connection of a subscriber has data.
 abbrev pub HasStep : {T U H : Type 0} → (DomainId → H → Option (ServicePorts T U)) → (DomainId → ServicePorts T U → H → H)
     → (DomainId → ℕ → H → DegradationInfo → DegradationAction → Type 0) → ℕ → Made → H → Reply T → H → Type 0
 HasStep ports_of with_ports degrades subscriber made old answer new =
-    (outcome : Option (Result Bool ConnectionFailure)) × AtPort (Tells ports_of with_ports degrades) (value_at made.subscribers subscriber) old outcome new
+    (outcome : Option (Result Bool ConnectionFailure))
+    × AtPort (Tells ports_of with_ports degrades) (value_at made.subscribers subscriber) old outcome new
     × (answer ≡ has_reply outcome)
 
 -- A publisher or a subscriber leaves, and its number is spent.

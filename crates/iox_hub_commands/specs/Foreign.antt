@@ -1,5 +1,6 @@
 -- Nodes of others do the steps that a command names.
 use Rattle.std.specs.Prelude.{ℕ, ◌≡◌, ◌⊎◌, List, [], Result, Err}
+use Rattle.std.specs.List.{AllByRecursion}
 use Rattle.iox_command.specs.declared.refusal.HubError.{HubError}
 use Rattle.iox_command.specs.declared.refusal.HubError.TheVariants.{OutOfMemory}
 use Rattle.iox_command.specs.declared.step.ForeignStep.{ForeignStep as Named}
@@ -8,12 +9,13 @@ use Rattle.iox_hub_base.specs.DescribeBase.declared.message_type.MessageTypeDeta
 use Rattle.iox_hub_base.specs.DescribeBase.declared.pattern.MessagingPattern.{MessagingPattern}
 use Rattle.iox_hub_base.specs.Foreign.{ActsOn}
 use Rattle.iox_hub_base.specs.declared.hub.Hub.{Hub}
-use Rattle.iox_hub_commands.specs.Steps.{list_of}
+use Rattle.iox_hub_commands.specs.Steps.{PublishesInForm, list_of}
 
--- The steps are done in turn on the service of this pattern and name; or steps are named, and no memory is found for their list,
--- and nothing happens.
+-- The steps are done in turn on the service of this pattern and name, and what they publish has the form of a description; or steps are
+-- named, and no memory is found for their list, and nothing happens.
 abbrev pub ActsNamed : {T U B D : Type 0} → MessagingPattern → List ℕ → MessageTypeDetails → List Named → Hub T U B D
     → Result (Unit {0}) HubError → Hub T U B D → Type 0
 ActsNamed pattern name types steps old answer new =
-    ActsOn (service_hash_of pattern name) (list_of name types steps) old answer new
+    (ActsOn (service_hash_of pattern name) (list_of name types steps) old answer new
+    × AllByRecursion PublishesInForm (list_of name types steps))
     ⊎ ((steps ≡ [] → ⊥) × (answer ≡ Err OutOfMemory) × (new ≡ old))

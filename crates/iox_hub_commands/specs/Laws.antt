@@ -12,11 +12,13 @@ use Rattle.iox_hub_commands.specs.declared.ports.made.MadeLoan.{MadeLoan}
 abbrev pub MisfitChangesNothing : {T U H : Type 0} → (DomainId → H → Option (ServicePorts T U)) → (DomainId → ServicePorts T U → H → H)
     → Type 0
 MisfitChangesNothing {T} {U} {H} ports_of with_ports =
-    (values : List T) (loan : Option MadeLoan) (home : H) → is_filled ports_of values loan home ≡ false → changed_under ports_of with_ports (filled_in values) loan home ≡ home
+    (values : List T) (loan : Option MadeLoan) (home : H) → is_filled ports_of values loan home ≡ false
+    → changed_under ports_of with_ports (filled_in values) loan home ≡ home
 
 -- A loan of a publisher is answered, or refused, just where it may lend; else nothing is answered.
 abbrev pub AnswersWhereReady : {T U H : Type 0} → (DomainId → H → Option (ServicePorts T U)) → (DomainId → ServicePorts T U → H → H)
     → Type 0
 AnswersWhereReady {T} {U} {H} ports_of with_ports =
-    (elements : ℕ) (port : Option PortId) (old new : H) (answer : Option (Result ℕ LoanError)) → AtPort (Lends ports_of with_ports elements) port old answer new
+    (elements : ℕ) (port : Option PortId) (old new : H) (answer : Option (Result ℕ LoanError))
+    → AtPort (Lends ports_of with_ports elements) port old answer new
     → is_some answer ≡ is_some (ready ports_of port old)

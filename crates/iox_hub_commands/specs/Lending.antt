@@ -29,7 +29,8 @@ abbrev pub LoanUninitStep : {T U H : Type 0} → (DomainId → H → Option (Ser
     → ℕ → Made → H → Result (Reply T) AllocError → Made → H → Type 0
 LoanUninitStep ports_of with_ports publisher elements made old answer made_after new =
     (lent : Result (Option (Result ℕ LoanError)) AllocError)
-    × GrowsFirst (IsFull made.loans) (LendsNumbered ports_of with_ports elements (lender elements (value_at made.publishers publisher))) made old lent made_after new
+    × GrowsFirst (IsFull made.loans) (LendsNumbered ports_of with_ports elements (lender elements (value_at made.publishers publisher)))
+    made old lent made_after new
     × (answer ≡ lent_reply lent)
 
 -- A publisher lends so many elements, each of which is written: a default.
@@ -37,7 +38,8 @@ abbrev pub LoanStep : {T U H : Type 0} → (DomainId → H → Option (ServicePo
     → (T → Type 0) → ℕ → ℕ → Made → H → Result (Reply T) AllocError → Made → H → Type 0
 LoanStep {T} ports_of with_ports is_default publisher elements made old answer made_after new =
     (value : T) × is_default value × (lent : Result (Option (Result ℕ LoanError)) AllocError)
-    × GrowsFirst (IsFull made.loans) (LendsWrittenNumbered ports_of with_ports elements value (ready ports_of (lender elements (value_at made.publishers publisher)) old)) made old lent made_after new
+    × GrowsFirst (IsFull made.loans) (LendsWrittenNumbered ports_of with_ports elements value
+    (ready ports_of (lender elements (value_at made.publishers publisher)) old)) made old lent made_after new
     × (answer ≡ lent_reply lent)
 
 -- A publisher sends these values.
@@ -46,5 +48,6 @@ abbrev pub PutStep : {T U H : Type 0} → (DomainId → H → Option (ServicePor
     → (DomainId → ℕ → H → BackpressureInfo → BackpressureDecision → Type 0) → ℕ → List T → Made → H → Reply T → H → Type 0
 PutStep ports_of with_ports degrades decides publisher values made old answer new =
     (sent : Option (Result Sent SendError))
-    × AtPort (Puts ports_of with_ports degrades decides values) (ready ports_of (lender (length values) (value_at made.publishers publisher)) old) old sent new
+    × AtPort (Puts ports_of with_ports degrades decides values)
+    (ready ports_of (lender (length values) (value_at made.publishers publisher)) old) old sent new
     × (answer ≡ sent_reply sent)

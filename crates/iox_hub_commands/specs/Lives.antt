@@ -27,7 +27,8 @@ module _ {V : Type 0} where
   abbrev pub GoesOn : NumberTable V → NumberTable V → Type 0
   GoesOn old new =
       Rises 1 old.entries old.next
-      → Rises 1 new.entries new.next × (old.next ≤ new.next) × ((number : ℕ) → number < old.next → (value_at new number ≡ value_at old number) ⊎ (value_at new number ≡ None))
+      → Rises 1 new.entries new.next × (old.next ≤ new.next)
+      × ((number : ℕ) → number < old.next → (value_at new number ≡ value_at old number) ⊎ (value_at new number ≡ None))
 
 -- ports, loans and samples go by the numbers that they went by, and no number was given out
 abbrev pub AllStay : Made → Made → Type 0
@@ -37,10 +38,14 @@ AllStay old new = Stays old.publishers new.publishers × Stays old.subscribers n
 -- among ports, loans and samples there is one more, or one less, and all others stay
 abbrev pub OneChanges : Made → Made → Type 0
 OneChanges old new =
-    (ChangesOne old.publishers new.publishers × Stays old.subscribers new.subscribers × Stays old.loans new.loans × Stays old.samples new.samples)
-    ⊎ ((Stays old.publishers new.publishers × ChangesOne old.subscribers new.subscribers × Stays old.loans new.loans × Stays old.samples new.samples)
-    ⊎ ((Stays old.publishers new.publishers × Stays old.subscribers new.subscribers × ChangesOne old.loans new.loans × Stays old.samples new.samples)
-    ⊎ (Stays old.publishers new.publishers × Stays old.subscribers new.subscribers × Stays old.loans new.loans × ChangesOne old.samples new.samples)))
+    (ChangesOne old.publishers new.publishers × Stays old.subscribers new.subscribers × Stays old.loans new.loans
+    × Stays old.samples new.samples)
+    ⊎ ((Stays old.publishers new.publishers × ChangesOne old.subscribers new.subscribers × Stays old.loans new.loans
+    × Stays old.samples new.samples)
+    ⊎ ((Stays old.publishers new.publishers × Stays old.subscribers new.subscribers × ChangesOne old.loans new.loans
+    × Stays old.samples new.samples)
+    ⊎ (Stays old.publishers new.publishers × Stays old.subscribers new.subscribers × Stays old.loans new.loans
+    × ChangesOne old.samples new.samples)))
 
 module _ {T U B D : Type 0} where
   -- Of each kind but nodes, numbers rise from 1 on, and stay below the one that comes next.
@@ -53,7 +58,8 @@ module _ {T U B D : Type 0} where
   -- Of all that goes by numbers there is one more at most, or one less, and all else stays.
   abbrev pub ChangesOneThing : NumberedHub T U B D → NumberedHub T U B D → Type 0
   ChangesOneThing old new =
-      (ChangesOne old.factories.made new.factories.made × AllStay old.made new.made) ⊎ (Stays old.factories.made new.factories.made × OneChanges old.made new.made)
+      (ChangesOne old.factories.made new.factories.made × AllStay old.made new.made)
+      ⊎ (Stays old.factories.made new.factories.made × OneChanges old.made new.made)
 
   -- No number comes again, of any kind but nodes, and what a number stood for it stands for still, or for nothing.
   abbrev pub NumbersGoOn : NumberedHub T U B D → NumberedHub T U B D → Type 0

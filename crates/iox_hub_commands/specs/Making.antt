@@ -8,7 +8,10 @@ use Rattle.iox_hub_commands.specs.declared.ports.made.Made.{Made}
 -- a publisher of a domain gets the next number
 abbrev pub with_publisher : DomainId → Bool → ℕ → Made → Made
 with_publisher domain holds_slices number made =
-    record made { publishers = inserted made.publishers (record { port = record { domain = domain; number = number }; holds_slices = holds_slices }) }
+    record made {
+      publishers
+          = inserted made.publishers (record { port = record { domain = domain; number = number }; holds_slices = holds_slices });
+    }
 
 -- a subscriber of a domain gets the next number
 abbrev pub with_subscriber : DomainId → ℕ → Made → Made

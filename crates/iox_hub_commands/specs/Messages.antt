@@ -60,7 +60,8 @@ SendStep ports_of with_ports degrades decides loan made old answer made_after ne
 abbrev pub RetryStep : {T U H : Type 0} → (DomainId → H → Option (ServicePorts T U)) → (DomainId → ServicePorts T U → H → H)
     → (DomainId → ℕ → H → BackpressureInfo → BackpressureDecision → Type 0) → ℕ → ℕ → Made → H → Reply T → H → Type 0
 RetryStep ports_of with_ports decides publisher elapsed made old answer new =
-    (sent : Option (Result Sent SendError)) × AtPort (Retries ports_of with_ports decides elapsed) (port_under (value_at made.publishers publisher)) old sent new
+    (sent : Option (Result Sent SendError))
+    × AtPort (Retries ports_of with_ports decides elapsed) (port_under (value_at made.publishers publisher)) old sent new
     × (answer ≡ sent_reply sent)
 
 -- A send that waits ends.

@@ -31,7 +31,8 @@ publisher_config owner options = record {
 abbrev pub publisher_handlers : {B : Type 0} → (BackpressureStrategy → Option BackpressureAction → DegradationAction → B)
     → PublisherOptions → B
 publisher_handlers fixed options =
-    fixed (unwrap_or options.backpressure_strategy publisher_defaults.strategy) options.backpressure_handler (unwrap_or options.degradation_handler Warn)
+    fixed (unwrap_or options.backpressure_strategy publisher_defaults.strategy) options.backpressure_handler
+    (unwrap_or options.degradation_handler Warn)
 
 -- how many slots a publisher gets
 abbrev pub named_slots : PublisherOptions → NamedSlots

@@ -36,13 +36,15 @@ NumbersLoan (Some port) (Some (Ok slot)) old answer new = (answer ≡ Some (Ok o
 abbrev pub LendsNumbered : {T U H : Type 0} → (DomainId → H → Option (ServicePorts T U)) → (DomainId → ServicePorts T U → H → H) → ℕ
     → Option PortId → Made → H → Option (Result ℕ LoanError) → Made → H → Type 0
 LendsNumbered ports_of with_ports elements port made old answer made_after new =
-    (lent : Option (Result ℕ LoanError)) × AtPort (Lends ports_of with_ports elements) port old lent new × NumbersLoan port lent made answer made_after
+    (lent : Option (Result ℕ LoanError)) × AtPort (Lends ports_of with_ports elements) port old lent new
+    × NumbersLoan port lent made answer made_after
 
 -- A publisher lends a slot for so many elements, each of which is written: all the same; and the loan gets a number.
 abbrev pub LendsWrittenNumbered : {T U H : Type 0} → (DomainId → H → Option (ServicePorts T U)) → (DomainId → ServicePorts T U → H → H)
     → ℕ → T → Option PortId → Made → H → Option (Result ℕ LoanError) → Made → H → Type 0
 LendsWrittenNumbered ports_of with_ports elements value port made old answer made_after new =
-    (lent : Option (Result ℕ LoanError)) × AtPort (LendsWritten ports_of with_ports elements value) port old lent new × NumbersLoan port lent made answer made_after
+    (lent : Option (Result ℕ LoanError)) × AtPort (LendsWritten ports_of with_ports elements value) port old lent new
+    × NumbersLoan port lent made answer made_after
 
 -- A sample that was received gets the next number, which is answered; else nothing gets one.
 abbrev pub NumbersSample : Option PortId → Option (Result (Option Taken) ReceiveError) → Made → Option (Result (Option ℕ) ReceiveError)
@@ -59,4 +61,5 @@ abbrev pub ReceivesNumbered : {T U H : Type 0} → (DomainId → H → Option (S
     → (DomainId → ℕ → H → DegradationInfo → DegradationAction → Type 0) → Option PortId → Made → H
     → Option (Result (Option ℕ) ReceiveError) → Made → H → Type 0
 ReceivesNumbered ports_of with_ports degrades port made old answer made_after new =
-    (received : Option (Result (Option Taken) ReceiveError)) × AtPort (Receives ports_of with_ports degrades) port old received new × NumbersSample port received made answer made_after
+    (received : Option (Result (Option Taken) ReceiveError)) × AtPort (Receives ports_of with_ports degrades) port old received new
+    × NumbersSample port received made answer made_after

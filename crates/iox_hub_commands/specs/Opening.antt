@@ -42,7 +42,8 @@ abbrev pub OpensJudged : {T U B D V E : Type 0} → Detail → Detail → (OpenF
     → (Agreement → Result (Unit {0}) V) → List (List ForeignStep) → Hub T U B D → Result Made E → Hub T U B D → Type 0
 OpensJudged payload user_header error hash node verdict lists old opened new =
     OpensInHub payload user_header (λ was_new. error OutOfMemory)
-    (λ before came after. Negotiates SteppedSight before.table.id node error (λ made answer. Opens hash node verdict made answer) before came after)
+    (λ before came after. Negotiates SteppedSight before.table.id node error (λ made answer. Opens hash node verdict made answer) before
+    came after)
     lists old opened new
 
 -- a service is opened if it is as these options ask and has these attributes, and its factory gets a number; a failure is told as
@@ -51,13 +52,18 @@ abbrev pub OpensAs : {T U B D : Type 0} → ServiceOptions → Detail → Detail
     → List (List ForeignStep) → FactoryTable → Hub T U B D → Result ℕ Refusal → FactoryTable → Hub T U B D → Type 0
 OpensAs (options.PublishSubscribe named) payload user_header types node name attributes lists table old answer after new =
     GetsNumber pattern.PublishSubscribe refusal.PublishSubscribeOpen
-    (OpensJudged payload user_header publish_subscribe.open_error (hash_of name (options.PublishSubscribe named)) node (λ given. first_unmet (publish_subscribe_clauses.clauses (required_publish_subscribe named types attributes) given)) lists) table old answer after new
+    (OpensJudged payload user_header publish_subscribe.open_error (hash_of name (options.PublishSubscribe named)) node
+    (λ given. first_unmet (publish_subscribe_clauses.clauses (required_publish_subscribe named types attributes) given)) lists)
+    table old answer after new
 OpensAs (options.Event named) payload user_header types node name attributes lists table old answer after new =
     GetsNumber pattern.Event refusal.EventOpen
-    (OpensJudged payload user_header event.open_error (hash_of name (options.Event named)) node (λ given. first_unmet (event_clauses.clauses (required_event named attributes) given)) lists) table old answer after new
+    (OpensJudged payload user_header event.open_error (hash_of name (options.Event named)) node
+    (λ given. first_unmet (event_clauses.clauses (required_event named attributes) given)) lists) table old answer after new
 OpensAs (options.RequestResponse named) payload user_header types node name attributes lists table old answer after new =
     GetsNumber pattern.RequestResponse refusal.RequestResponseOpen
-    (OpensJudged payload user_header request_response.open_error (hash_of name (options.RequestResponse named)) node (λ given. first_unmet (request_response_clauses.clauses (required_request_response named types attributes) given)) lists) table old answer after new
+    (OpensJudged payload user_header request_response.open_error (hash_of name (options.RequestResponse named)) node
+    (λ given. first_unmet (request_response_clauses.clauses (required_request_response named types attributes) given)) lists) table
+    old answer after new
 
 -- the refusal where no memory was found before the first access
 abbrev pub open_lacking : ServiceOptions → Refusal
@@ -80,4 +86,5 @@ abbrev pub OpensNumbered : {T U B D : Type 0} → Bool → Detail → Detail →
 OpensNumbered false payload user_header types asked attributes steps table old answer after new = IsSkipped table old answer after new
 OpensNumbered true payload user_header types asked attributes steps table old answer after new =
     (prepared : Result (List (List ForeignStep)) AllocError) × (roomier : FactoryTable) × (reply : Result ℕ Refusal)
-    × Prepares asked.name types steps table prepared roomier × OpensPrepared prepared payload user_header types asked attributes roomier old reply after new × (answer ≡ Some reply)
+    × Prepares asked.name types steps table prepared roomier
+    × OpensPrepared prepared payload user_header types asked attributes roomier old reply after new × (answer ≡ Some reply)

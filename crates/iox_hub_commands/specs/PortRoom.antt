@@ -86,7 +86,8 @@ module _ {T U B D : Type 0} where
   -- The publisher that a command lends of may lend what it names, and the subscriber that one receives by is there; of other commands
   -- nothing is said.
   abbrev pub FindsPort : Command T → NumberedHub T U B D → Type 0
-  FindsPort (command.Loan publisher elements) hub = IsSome (ready hub_ports (lender elements (value_at hub.made.publishers publisher)) hub.hub)
+  FindsPort (command.Loan publisher elements) hub
+      = IsSome (ready hub_ports (lender elements (value_at hub.made.publishers publisher)) hub.hub)
   FindsPort (command.LoanUninit publisher elements) hub = IsSome (lender elements (value_at hub.made.publishers publisher))
   FindsPort (command.Receive subscriber) hub = IsSome (value_at hub.made.subscribers subscriber)
   FindsPort other hub = Unit {0}

@@ -56,5 +56,6 @@ abbrev pub ReceiveStep : {T U H : Type 0} → (DomainId → H → Option (Servic
     → (DomainId → ℕ → H → DegradationInfo → DegradationAction → Type 0) → ℕ → Made → H → Result (Reply T) AllocError → Made → H → Type 0
 ReceiveStep ports_of with_ports degrades subscriber made old answer made_after new =
     (received : Result (Option (Result (Option ℕ) ReceiveError)) AllocError)
-    × GrowsFirst (IsFull made.samples) (ReceivesNumbered ports_of with_ports degrades (value_at made.subscribers subscriber)) made old received made_after new
+    × GrowsFirst (IsFull made.samples) (ReceivesNumbered ports_of with_ports degrades (value_at made.subscribers subscriber)) made old
+    received made_after new
     × IsTold (λ sample. values_under ports_of (value_at made_after.samples sample) new) received answer

@@ -56,7 +56,8 @@ module _ {T U B D : Type 0} where
       → Reply T → NumberedHub T U B D → Type 0
   Creates payload user_header types asked attributes steps old answer new =
       (made : Option (Result ℕ Refusal))
-      × CreatesNumbered (is_node asked.node old.hub.nodes) payload user_header types asked attributes steps old.factories.made old.hub made new.factories.made new.hub
+      × CreatesNumbered (is_node asked.node old.hub.nodes) payload user_header types asked attributes steps old.factories.made old.hub
+      made new.factories.made new.hub
       × (new.made ≡ old.made) × (answer ≡ factory_reply made)
 
   -- A service is opened, and its factory gets the next number.
@@ -64,7 +65,8 @@ module _ {T U B D : Type 0} where
       → NumberedHub T U B D → Type 0
   Opens payload user_header types asked attributes steps old answer new =
       (made : Option (Result ℕ Refusal))
-      × OpensNumbered (is_node asked.node old.hub.nodes) payload user_header types asked attributes steps old.factories.made old.hub made new.factories.made new.hub
+      × OpensNumbered (is_node asked.node old.hub.nodes) payload user_header types asked attributes steps old.factories.made old.hub
+      made new.factories.made new.hub
       × (new.made ≡ old.made) × (answer ≡ factory_reply made)
 
   -- A service is opened, or created where none stands, and its factory gets the next number.
@@ -72,7 +74,8 @@ module _ {T U B D : Type 0} where
       → Reply T → NumberedHub T U B D → Type 0
   OpensOrCreates payload user_header types asked attributes steps old answer new =
       (made : Option (Result ℕ Refusal))
-      × EitherNumbered (is_node asked.node old.hub.nodes) payload user_header types asked attributes steps old.factories.made old.hub made new.factories.made new.hub
+      × EitherNumbered (is_node asked.node old.hub.nodes) payload user_header types asked attributes steps old.factories.made old.hub
+      made new.factories.made new.hub
       × (new.made ≡ old.made) × (answer ≡ factory_reply made)
 
   -- Nodes of others act on a service.
@@ -93,7 +96,8 @@ module _ {T U B D : Type 0} where
   abbrev pub PublisherArrives : (U → Type 0) → (B → DegradationCause → DegradationInfo → DegradationAction → Type 0) → DomainId
       → PortOwner → PublisherOptions → B → NumberedHub T U B D → Reply T → NumberedHub T U B D → Type 0
   PublisherArrives is_default degrades domain owner options handlers old answer new =
-      PublisherStep hub_ports with_hub_ports with_hub_publisher degrades is_default domain (publisher_config owner options) options.preallocated_samples handlers old.made old.hub answer new.made new.hub
+      PublisherStep hub_ports with_hub_ports with_hub_publisher degrades is_default domain (publisher_config owner options)
+      options.preallocated_samples handlers old.made old.hub answer new.made new.hub
       × (new.factories ≡ old.factories)
 
   -- A publisher of the service of a factory comes, if that is of publish-subscribe.
@@ -102,7 +106,8 @@ module _ {T U B D : Type 0} where
       → Option Opened → PublisherOptions → NumberedHub T U B D → Reply T → NumberedHub T U B D → Type 0
   PublisherComes is_default fixed degrades None options old answer new = (answer ≡ reply.Skipped) × (new ≡ old)
   PublisherComes is_default fixed degrades (Some opened) options old answer new =
-      PublisherArrives is_default degrades (domain_of_factory opened) (owner_of_factory opened) options (publisher_handlers fixed options) old answer new
+      PublisherArrives is_default degrades (domain_of_factory opened) (owner_of_factory opened) options
+      (publisher_handlers fixed options) old answer new
 
   -- A publisher of the service of the factory that goes by a number comes.
   abbrev pub MakesPublisher : (U → Type 0) → (BackpressureStrategy → Option BackpressureAction → DegradationAction → B)
@@ -115,7 +120,8 @@ module _ {T U B D : Type 0} where
   abbrev pub SubscriberArrives : (D → DegradationCause → DegradationInfo → DegradationAction → Type 0) → DomainId → PortOwner
       → SubscriberOptions → D → NumberedHub T U B D → Reply T → NumberedHub T U B D → Type 0
   SubscriberArrives degrades domain owner options handler old answer new =
-      SubscriberStep hub_ports with_hub_ports with_hub_subscriber degrades domain (subscriber_config owner options) handler old.made old.hub answer new.made new.hub
+      SubscriberStep hub_ports with_hub_ports with_hub_subscriber degrades domain (subscriber_config owner options) handler old.made
+      old.hub answer new.made new.hub
       × (new.factories ≡ old.factories)
 
   -- A subscriber of the service of a factory comes, if that is of publish-subscribe.
@@ -123,7 +129,8 @@ module _ {T U B D : Type 0} where
       → Option Opened → SubscriberOptions → NumberedHub T U B D → Reply T → NumberedHub T U B D → Type 0
   SubscriberComes fixed degrades None options old answer new = (answer ≡ reply.Skipped) × (new ≡ old)
   SubscriberComes fixed degrades (Some opened) options old answer new =
-      SubscriberArrives degrades (domain_of_factory opened) (owner_of_factory opened) options (subscriber_handler fixed options) old answer new
+      SubscriberArrives degrades (domain_of_factory opened) (owner_of_factory opened) options (subscriber_handler fixed options) old
+      answer new
 
   -- A subscriber of the service of the factory that goes by a number comes.
   abbrev pub MakesSubscriber : (DegradationAction → D) → (D → DegradationCause → DegradationInfo → DegradationAction → Type 0) → ℕ

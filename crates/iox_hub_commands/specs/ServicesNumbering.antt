@@ -1,5 +1,6 @@
 -- How a factory gets a number, and what is made ready before the first access.
-use Rattle.std.specs.Prelude.{ℕ, ◌≡◌, ◌<◌, ◌≤◌, ◌⊎◌, List, [], length, Option, None, Some, Result, Ok, Err}
+use Rattle.std.specs.Prelude.{ℕ, ◌≡◌, ◌<◌, ◌≤◌, ◌⊎◌, List, [], length, Option, None, Result, Ok, Err}
+use Rattle.std.specs.List.{AllByRecursion}
 use Rattle.std.specs.declared.alloc.AllocError.{AllocError}
 use Rattle.iox_command.specs.declared.refusal.Refusal.{Refusal}
 use Rattle.iox_command.specs.declared.step.StepBefore.{StepBefore}
@@ -7,7 +8,7 @@ use Rattle.iox_negotiate_table.specs.Describe.Within.{HasForm}
 use Rattle.iox_hub_base.specs.DescribeBase.declared.message_type.MessageTypeDetails.{MessageTypeDetails}
 use Rattle.iox_hub_base.specs.DescribeBase.declared.pattern.MessagingPattern.{MessagingPattern}
 use Rattle.iox_hub_base.specs.Opening.{Made}
-use Rattle.iox_hub_commands.specs.Steps.{lists_of}
+use Rattle.iox_hub_commands.specs.Steps.{PublishesInForm, lists_of}
 use Rattle.iox_negotiate_table.specs.declared.step.ForeignStep.{ForeignStep}
 use Rattle.iox_container.specs.NumberTable.{inserted}
 use Rattle.iox_hub_commands.specs.ServicesTables.{FactoryTable, SameNumbers, pattern_in, parts_of}
@@ -18,12 +19,12 @@ abbrev pub MakesRoom : FactoryTable → Result (Unit {0}) AllocError → Factory
 MakesRoom old (Ok done) new = SameNumbers old new × (length new.entries < new.room)
 MakesRoom old (Err lacking) new = (new ≡ old) × (old.room ≤ length old.entries)
 
--- There is room for one factory more, or nothing was done for that, and the lists of steps are there; or no memory was found for either, as
--- steps are named or there was no room.
+-- There is room for one factory more, or nothing was done for that, and the lists of steps are there, and what the steps publish has the
+-- form of a description; or no memory was found for either, as steps are named or there was no room.
 abbrev pub Prepares : List ℕ → MessageTypeDetails → List StepBefore → FactoryTable → Result (List (List ForeignStep)) AllocError
     → FactoryTable → Type 0
 Prepares name types steps old (Ok lists) new = SameNumbers old new × (lists ≡ lists_of name types steps)
-    × ((length new.entries < new.room) ⊎ (new ≡ old))
+    × ((length new.entries < new.room) ⊎ (new ≡ old)) × AllByRecursion (AllByRecursion PublishesInForm) lists
 Prepares name types steps old (Err lacking) new = SameNumbers old new × (steps ≡ [] → old.room ≤ length old.entries)
 
 -- A factory that was opened, of a service of this pattern, gets the next number, which is answered, and carries a description,
@@ -31,7 +32,8 @@ Prepares name types steps old (Err lacking) new = SameNumbers old new × (steps 
 abbrev pub Numbers : {E : Type 0} → MessagingPattern → (E → Refusal) → Result Made E → FactoryTable → Result ℕ Refusal → FactoryTable
     → Type 0
 Numbers pattern refusal (Ok parts) old answer new =
-    (factory : MadeFactory) × (pattern_in factory ≡ pattern) × (parts_of factory ≡ parts) × (new ≡ inserted old factory) × (answer ≡ Ok old.next)
+    (factory : MadeFactory) × (pattern_in factory ≡ pattern) × (parts_of factory ≡ parts) × (new ≡ inserted old factory)
+    × (answer ≡ Ok old.next)
     × HasForm parts.0.service.description
 Numbers pattern refusal (Err error) old answer new = (answer ≡ Err (refusal error)) × (new ≡ old)
 

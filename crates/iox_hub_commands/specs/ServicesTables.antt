@@ -1,5 +1,5 @@
 -- Which factory goes by a number.
-use Rattle.std.specs.Prelude.{ℕ, ◌≡◌, [], Option, None, Some}
+use Rattle.std.specs.Prelude.{◌≡◌, [], Option, None, Some}
 use Rattle.iox_hub_base.specs.DescribeBase.declared.pattern.MessagingPattern.{MessagingPattern}
 use Rattle.iox_hub_base.specs.DescribeBase.declared.pattern.MessagingPattern.TheVariants as pattern
 use Rattle.iox_hub_base.specs.Opening.{Made}

@@ -4,6 +4,7 @@ use Rattle.std.specs.List.{filter}
 use Rattle.iox_command.specs.declared.step.ForeignStep.{ForeignStep as Named}
 use Rattle.iox_command.specs.declared.step.ForeignStep.TheVariants as named
 use Rattle.iox_command.specs.declared.step.StepBefore.{StepBefore}
+use Rattle.iox_negotiate_table.specs.Describe.Within.{HasForm}
 use Rattle.iox_negotiate_table.specs.DescribeBase.declared.message_type.MessageTypeDetails.{MessageTypeDetails}
 use Rattle.iox_negotiate_table.specs.declared.step.ForeignStep.{ForeignStep}
 use Rattle.iox_negotiate_table.specs.declared.step.ForeignStep.TheVariants as step
@@ -17,6 +18,11 @@ step_of name types (named.Publish node options) = step.Publish node (described n
 step_of name types (named.Register node) = step.Register node
 step_of name types (named.Leave node) = step.Leave node
 step_of name types (named.Remove node) = step.Remove node
+
+-- What a step publishes, if it does, has the form of a description: texts within their limits, a whole hash, numbers of 64 bits.
+abbrev pub PublishesInForm : ForeignStep → Type 0
+PublishesInForm (step.Publish node agreed) = HasForm agreed
+PublishesInForm other = Unit {0}
 
 -- the steps in their order
 abbrev pub list_of : List ℕ → MessageTypeDetails → List Named → List ForeignStep

@@ -44,7 +44,12 @@ pub trait SubscriberHandler: Degrades {
 }
 
 impl PublisherHandlers for Handlers {
-    ghost fixed = { λ strategy action degrading. record { strategy = strategy; backpressure = option_map (λ named. backpressure.Fixed named) action; degradation = degradation.Fixed degrading } };
+    ghost fixed = { λ strategy action degrading. record {
+      strategy = strategy;
+      backpressure = option_map (λ named. backpressure.Fixed named) action;
+      degradation
+          = degradation.Fixed degrading;
+    } };
 
     fn with_actions(
         strategy: BackpressureStrategy,

@@ -1,7 +1,8 @@
 //! What a command names of a port.
 ghost use Rattle.std.specs.Prelude.{◌≡◌};
 ghost use Rattle.std.specs.Option.{unwrap_or};
-ghost use Rattle.iox_hub_commands.specs.Naming.{most_loans, publisher_config, publisher_handlers, named_slots, subscriber_config, subscriber_handler};
+ghost use Rattle.iox_hub_commands.specs.Naming.{most_loans, publisher_config, publisher_handlers, named_slots, subscriber_config};
+ghost use Rattle.iox_hub_commands.specs.Naming.{subscriber_handler};
 
 use crate::handlers::{NamedSlots, PublisherHandlers, SubscriberHandler};
 use iox_command::{PublisherOptions, SubscriberOptions};

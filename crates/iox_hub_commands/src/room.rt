@@ -2,7 +2,8 @@
 ghost use Rattle.std.specs.Prelude.{◌≡◌, ◌+◌, ◌-◌, ◌^◌, ◌≤◌, ◌<◌, length, min, IfSome, IfOk, IsOk, OnOk, OnErr};
 ghost use Rattle.iox_hub_commands.specs.Tables.{SameNumbers};
 ghost use Rattle.iox_hub_base.specs.Room.{loans_left_in, samples_left_in, samples_at_most_in};
-ghost use Rattle.iox_hub_commands.specs.PortRoom.{FitsBeside, Pledges, HasLoanRoom, HasSampleRoom, KeepsRoom, most_samples_at, most_samples_from};
+ghost use Rattle.iox_hub_commands.specs.PortRoom.{FitsBeside, Pledges, HasLoanRoom, HasSampleRoom, KeepsRoom, most_samples_at};
+ghost use Rattle.iox_hub_commands.specs.PortRoom.{most_samples_from};
 ghost use Rattle.iox_hub_commands.specs.Room.{FitsMore, OnlyRoomier};
 
 use crate::numbered_hub::NumberedHub;

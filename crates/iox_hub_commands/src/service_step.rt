@@ -4,7 +4,8 @@ ghost use Rattle.iox_delivery.specs.DescribeBase.Detail.{detail};
 ghost use Rattle.iox_delivery.specs.DescribeBase.declared.type_detail.TypeVariant.TheVariants.{FixedSize};
 ghost use Rattle.iox_hub_commands.specs.Asked.{types_of};
 ghost use Rattle.iox_hub_commands.specs.PortRoom.{KeepsRoom};
-ghost use Rattle.iox_hub_commands.specs.Services.{NodeMakes, Creates, Opens, OpensOrCreates, Acts, Closes, MakesPublisher, MakesSubscriber, domain_of_factory, owner_of_factory};
+ghost use Rattle.iox_hub_commands.specs.Services.{NodeMakes, Creates, Opens, OpensOrCreates, Acts, Closes, MakesPublisher};
+ghost use Rattle.iox_hub_commands.specs.Services.{MakesSubscriber, domain_of_factory, owner_of_factory};
 ghost use Rattle.iox_hub_commands.specs.ServicesTables.{publish_subscribe_in};
 ghost use Rattle.iox_delivery.specs.Container.NumberTable.{value_at};
 
@@ -97,7 +98,8 @@ impl<T: Words + ZeroCopySend, U: Copy + ZeroCopySend, B: Drop, D: Drop> Numbered
         steps: &[ForeignStep],
     ) -> Reply<T>
         ensures pledged { self.new.pledged ≡ self.old.pledged }
-        ensures does { Acts pattern name.now (types_of T.name T.size T.alignment U.name U.size U.alignment) steps.now self.old result self.new }
+        ensures does { Acts pattern name.now (types_of T.name T.size T.alignment U.name U.size U.alignment) steps.now self.old result
+            self.new }
     {
         foreign_reply(foreign(alloc, &mut self.hub, pattern, name, steps))
     }

@@ -86,7 +86,14 @@ module _ {T U : Type 0} (by : Renaming) where
       → taken_of number attached (all among) ≡ taken_of number attached among
   taken_of_as number None among = refl
   taken_of_as number (Some attached) among =
-      ap (λ (connection : Connection (Message T U)). Some (record { subscriber = number; publisher = attached.publisher; index = attached.index; slot = get_or (map (λ message. message.slot) connection.waiting) 0 0 }))
+      ap (λ (connection : Connection (Message T U)). Some
+      (record {
+        subscriber = number;
+        publisher = attached.publisher;
+        index = attached.index;
+        slot
+            = get_or (map (λ message. message.slot) connection.waiting) 0 0;
+      }))
       (connection_as attached.publisher attached.index among)
 
   -- ---- what changes
@@ -138,7 +145,8 @@ module _ {T U : Type 0} (by : Renaming) where
       → ended_ports attached (all among) ≡ all (ended_ports attached among)
   ended_ports_as None among = refl
   ended_ports_as (Some attached) among =
-      ap (ports.settled attached.publisher) (changed_as attached.publisher (ports.ended_if_left attached.index) (left_as by attached.index) among)
+      ap (ports.settled attached.publisher)
+      (changed_as attached.publisher (ports.ended_if_left attached.index) (left_as by attached.index) among)
       ∙ settled_as attached.publisher (ports.changed attached.publisher (ports.ended_if_left attached.index) among)
 
   pub taken_ports_as : (attached : Option Attached) (among : List (ℕ × PublisherPort T U))
@@ -150,7 +158,8 @@ module _ {T U : Type 0} (by : Renaming) where
       → ports.released number index at (all among) ≡ all (ports.released number index at among)
   released_as number index None among = refl
   released_as number index (Some at) among =
-      ap (ports.settled number) (changed_as number (given_back_at index (Some at)) (given_back_as by index (Some at)) among) ∙ settled_as number (ports.changed number (given_back_at index (Some at)) among)
+      ap (ports.settled number) (changed_as number (given_back_at index (Some at)) (given_back_as by index (Some at)) among) ∙
+      settled_as number (ports.changed number (given_back_at index (Some at)) among)
 
   pub detached_as : (number index : ℕ) (among : List (ℕ × PublisherPort T U))
       → ports.changed number (detached_at index) (all among) ≡ all (ports.changed number (detached_at index) among)
@@ -158,7 +167,8 @@ module _ {T U : Type 0} (by : Renaming) where
 
   attaches_found : (number subscriber limit : ℕ) (found : Option (PublisherPort T U)) (old new : List (ℕ × PublisherPort T U))
       (answer : Option (Result ℕ AllocError))
-      → ports.AttachesAtPort number subscriber limit found old answer new → ports.AttachesAtPort number subscriber limit (option_map named found) (all old) answer (all new)
+      → ports.AttachesAtPort number subscriber limit found old answer new
+      → ports.AttachesAtPort number subscriber limit (option_map named found) (all old) answer (all new)
   attaches_found number subscriber limit None old new answer (is, same) = (is, ap all same)
   attaches_found number subscriber limit (Some port) old new None never = never
   attaches_found number subscriber limit (Some port) old new (Some (Err error)) (none, same) = (none, ap all same)
@@ -168,4 +178,5 @@ module _ {T U : Type 0} (by : Renaming) where
   pub attaches_to : (number subscriber limit : ℕ) (old new : List (ℕ × PublisherPort T U)) (answer : Option (Result ℕ AllocError))
       → ports.AttachesTo number subscriber limit old answer new → ports.AttachesTo number subscriber limit (all old) answer (all new)
   attaches_to number subscriber limit old new answer does =
-      subst (λ found. ports.AttachesAtPort number subscriber limit found (all old) answer (all new)) (sym (found_as number old)) (attaches_found number subscriber limit (ports.port_of number old) old new answer does)
+      subst (λ found. ports.AttachesAtPort number subscriber limit found (all old) answer (all new)) (sym (found_as number old))
+      (attaches_found number subscriber limit (ports.port_of number old) old new answer does)

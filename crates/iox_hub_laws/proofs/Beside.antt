@@ -1,5 +1,5 @@
 -- Services are beside one another.
-use Rattle.std.proofs.Common.{arith, ◌∙◌, ℕ, Option, Result, false, refl, ap}
+use Rattle.std.proofs.Common.{◌∙◌, ℕ, Option, Result, false, refl, ap}
 use Rattle.std.specs.declared.alloc.AllocError.{AllocError}
 use Rattle.iox_hub_commands.specs.DescribeBase.Detail.{Detail}
 use Rattle.iox_hub_commands.specs.DescribeBase.declared.message_type.MessageTypeDetails.{MessageTypeDetails}
@@ -70,12 +70,15 @@ module _ {T U B D : Type 0} where
 
 module _ {T U B D : Type 0} (payload user_header : Detail) (types : MessageTypeDetails) (is_default : T → Type 0)
     (is_default_header : U → Type 0)
-    (fixed : BackpressureStrategy → Option BackpressureAction → DegradationAction → B) (degrades : B → DegradationCause → DegradationInfo → DegradationAction → Type 0) (decides : B → BackpressureInfo → BackpressureDecision → Type 0)
+    (fixed : BackpressureStrategy → Option BackpressureAction → DegradationAction → B)
+    (degrades : B → DegradationCause → DegradationInfo → DegradationAction → Type 0)
+    (decides : B → BackpressureInfo → BackpressureDecision → Type 0)
     (fixed_reader : DegradationAction → D) (reader_degrades : D → DegradationCause → DegradationInfo → DegradationAction → Type 0) where
   pub leaves_others : LeavesOthers (Step payload user_header types is_default is_default_header fixed degrades decides fixed_reader
       reader_degrades)
   leaves_others hash number asked old new answer rises one_agreement service (step, nothing) =
-      (step_left hash number payload user_header types is_default is_default_header fixed degrades decides fixed_reader reader_degrades asked old new answer rises (λ kind. (one_agreement.is_reached, service)) nothing step).0
+      (step_left hash number payload user_header types is_default is_default_header fixed degrades decides fixed_reader reader_degrades
+      asked old new answer rises (λ kind. (one_agreement.is_reached, service)) nothing step).0
 
   abbrev each : Command T → NumberedHub T U B D → Result (Reply T) AllocError → NumberedHub T U B D → Type 0
   each asked old answer new = Step payload user_header types is_default is_default_header fixed degrades decides fixed_reader
@@ -84,7 +87,9 @@ module _ {T U B D : Type 0} (payload user_header : Detail) (types : MessageTypeD
   step_holds : (asked : Command T) (old new : NumberedHub T U B D) (answer : Result (Reply T) AllocError) → each asked old answer new
       → Holds old → Holds new
   step_holds asked old new answer step holds =
-      let (f, p, s, l, m) = numbers_go_on old new (step_changes payload user_header types is_default is_default_header fixed degrades decides fixed_reader reader_degrades asked old new answer step) in
+      let (f, p, s, l, m) = numbers_go_on old new
+      (step_changes payload user_header types is_default is_default_header fixed degrades decides fixed_reader reader_degrades asked
+      old new answer step) in
       let (rf, rp, rs, rl, rm) = holds.rise in
       record {
         rise = ((f rf).0, (p rp).0, (s rs).0, (l rl).0, (m rm).0);
@@ -107,12 +112,16 @@ module _ {T U B D : Type 0} (payload user_header : Detail) (types : MessageTypeD
     beside_step : (asked : Command T) (old new : NumberedHub T U B D) (answer : Result (Reply T) AllocError)
         → StepBeside each hash number asked old answer new → Goes old new
     beside_step asked old new answer (step, nothing) holds service =
-        let (left, past) = step_left hash number payload user_header types is_default is_default_header fixed degrades decides fixed_reader reader_degrades asked old new answer holds.rise (λ kind. (holds.agree.is_reached, service)) nothing step in
+        let (left, past) = step_left hash number payload user_header types is_default is_default_header fixed degrades decides
+        fixed_reader reader_degrades asked old new answer holds.rise (λ kind. (holds.agree.is_reached, service)) nothing step in
         let (agreed, was, same) = service in
         (step_holds asked old new answer step holds, (agreed, was-agreed-on number agreed old.hub.table new.hub.table was past, same), left)
 
   pub runs_leave_others : RunsLeaveOthers
       (Step payload user_header types is_default is_default_header fixed degrades decides fixed_reader reader_degrades)
   runs_leave_others config first old new hash number before commands told replies stopped is_new runs service goes =
-      let holds = run_goes each (λ one other. Holds one → Holds other) (λ one holds. holds) (λ one mid other h g holds. g (h holds)) step_holds before first old told false runs (new_holds config first is_new) in
-      (run_goes (StepBeside each hash number) (Goes hash number) (λ one holds service. (holds, service, (by_same hash number one one refl).0)) (beside_on hash number) (beside_step hash number) commands old new replies stopped goes holds service).2
+      let holds = run_goes each (λ one other. Holds one → Holds other) (λ one holds. holds) (λ one mid other h g holds. g (h holds))
+      step_holds before first old told false runs (new_holds config first is_new) in
+      (run_goes (StepBeside each hash number) (Goes hash number)
+      (λ one holds service. (holds, service, (by_same hash number one one refl).0)) (beside_on hash number)
+      (beside_step hash number) commands old new replies stopped goes holds service).2

@@ -1,5 +1,6 @@
 -- What closing a factory does in two hubs that agree on its service.
-use Rattle.std.proofs.Common.{◌≡◌, ◌≢◌, ◌∙◌, ◌-◌, ℕ, nat_eq, Bool, true, false, List, [], ◌∷◌, Option, None, Some, option_map, Result, refl, sym, ap, subst, if◌then◌else◌}
+use Rattle.std.proofs.Common.{◌≡◌, ◌≢◌, ◌∙◌, ◌-◌, ℕ, nat_eq, Bool, true, false, List, [], ◌∷◌, Option, None, Some, option_map, Result}
+use Rattle.std.proofs.Common.{refl, sym, ap, subst, if◌then◌else◌}
 use Rattle.std.specs.Prelude.{nat_le}
 use Rattle.std.specs.Option.{unwrap_or}
 use Rattle.std.proofs.lemmas.Bool.{eqb-true, eq-eqb}
@@ -67,10 +68,13 @@ once_distinct (entry ∷ entries) once = (once.0, once_distinct entries once.1)
 gone_here : {X Y : Type 0} (read : Option X → Y) (number n : ℕ) (is : Bool) → nat_eq number n ≡ is → (one other : List (ℕ × X))
     → EachOnce one → EachOnce other
     → read (lookup (is_at (nat_cmp n)) other) ≡ read (lookup (is_at (nat_cmp n)) one)
-    → read (lookup (is_at (nat_cmp n)) (remove_entry (is_at (nat_cmp number)) other)) ≡ read (lookup (is_at (nat_cmp n)) (remove_entry (is_at (nat_cmp number)) one))
+    → read (lookup (is_at (nat_cmp n)) (remove_entry (is_at (nat_cmp number)) other))
+    ≡ read (lookup (is_at (nat_cmp n)) (remove_entry (is_at (nat_cmp number)) one))
 gone_here read number n true is one other once other_once same =
-    subst (λ m. read (lookup (is_at (nat_cmp m)) (remove_entry (is_at (nat_cmp number)) other)) ≡ read (lookup (is_at (nat_cmp m)) (remove_entry (is_at (nat_cmp number)) one))) (eqb-true number n is)
-    (ap read (remove-same (is_at (nat_cmp number)) (at_number number) other (once_distinct other other_once) ∙ sym (remove-same (is_at (nat_cmp number)) (at_number number) one (once_distinct one once))))
+    subst (λ m. read (lookup (is_at (nat_cmp m)) (remove_entry (is_at (nat_cmp number)) other))
+    ≡ read (lookup (is_at (nat_cmp m)) (remove_entry (is_at (nat_cmp number)) one))) (eqb-true number n is)
+    (ap read (remove-same (is_at (nat_cmp number)) (at_number number) other (once_distinct other other_once) ∙ sym
+    (remove-same (is_at (nat_cmp number)) (at_number number) one (once_distinct one once))))
 gone_here read number n false is one other once other_once same =
     let differ : number ≢ n = λ both. no (sym is ∙ eq-eqb number n both) in
     ap read (remove-apart (is_at (nat_cmp number)) (is_at (nat_cmp n)) (number_apart number n differ) other)
@@ -80,7 +84,8 @@ gone_here read number n false is one other once other_once same =
 -- what stands under a number once one is gone
 gone_both : {X Y : Type 0} (read : Option X → Y) (number n : ℕ) (one other : List (ℕ × X)) → EachOnce one → EachOnce other
     → read (lookup (is_at (nat_cmp n)) other) ≡ read (lookup (is_at (nat_cmp n)) one)
-    → read (lookup (is_at (nat_cmp n)) (remove_entry (is_at (nat_cmp number)) other)) ≡ read (lookup (is_at (nat_cmp n)) (remove_entry (is_at (nat_cmp number)) one))
+    → read (lookup (is_at (nat_cmp n)) (remove_entry (is_at (nat_cmp number)) other))
+    ≡ read (lookup (is_at (nat_cmp n)) (remove_entry (is_at (nat_cmp number)) one))
 gone_both read number n one other once other_once same = gone_here read number n (nat_eq number n) refl one other once other_once same
 
 abbrev count_of : Option ℕ → ℕ
@@ -167,12 +172,14 @@ module _ {T U B D : Type 0} (hash : ServiceHash) (mine : ℕ → Bool) where
   less_one_agree : (number : ℕ) → mine number ≡ true → (one other : Hub T U B D) → HubsAgree hash mine one other → NumbersOnce one
       → NumbersOnce other → HubsAgree hash mine (less_one number one) (less_one number other)
   less_one_agree number of one other agree once other_once =
-      subst (λ last. HubsAgree hash mine (less_one number one) (less_by last number other)) (sym (last_same hash mine number of one other agree))
+      subst (λ last. HubsAgree hash mine (less_one number one) (less_by last number other))
+      (sym (last_same hash mine number of one other agree))
       (less_agree (is_last number one.factory_counts) number of one other agree once other_once)
 
   module _ (one other : Hub T U B D) (agree : HubsAgree hash mine one other) (first : IsTable one.table) (second : IsTable other.table)
       (once : NumbersOnce one) (other_once : NumbersOnce other)
-      (table other_table : FactoryTable) (same : SameOf service_of mine table other_table) (rises : Rises 1 table.entries table.next) (other_rises : Rises 1 other_table.entries other_table.next) where
+      (table other_table : FactoryTable) (same : SameOf service_of mine table other_table) (rises : Rises 1 table.entries table.next)
+      (other_rises : Rises 1 other_table.entries other_table.next) where
     -- so it is in the other hub, too, with its factories
     abbrev GoesSo : (FactoryTable → Hub T U B D → FactoryTable → Hub T U B D → Type 0) → FactoryTable → Hub T U B D → Type 0
     GoesSo does after new = (there : FactoryTable) × (hub : Hub T U B D) × does other_table other there hub
@@ -183,20 +190,37 @@ module _ {T U B D : Type 0} (hash : ServiceHash) (mine : ℕ → Bool) where
 
     closes_unless : (used : Bool) (n : ℕ) (member : Membership) (answer : Option (Result (Unit {0}) CloseError)) (after : FactoryTable)
         (new : Hub T U B D) → member.service.description.service_hash ≡ hash → mine member.service.number ≡ true
-        → ClosesUnless used n member table one answer after new → GoesSo (λ t old a h. ClosesUnless used n member t old answer a h) after new
+        → ClosesUnless used n member table one answer after new
+        → GoesSo (λ t old a h. ClosesUnless used n member t old answer a h) after new
     closes_unless true n member answer after new under of (is, unchanged, still)
         = (other_table, other, (is, refl, refl), same_still after unchanged, agree_still hash mine one new other agree still)
     closes_unless false n member answer after new under of (closed, (does, less), is, gone) =
         let number = member.service.number in
         let all_under : AllUnder hash does.made =
-        subst (λ h. AllUnder h does.made) under (closes_under member.service.description.service_hash number closed member.node does.made does.told) in
-        let (later, went, tables) = went_alike hash does.made one.table new.table other.table all_under (tables_agree hash mine one other agree) first second does.went in
+        subst (λ h. AllUnder h does.made) under
+        (closes_under member.service.description.service_hash number closed member.node does.made does.told) in
+        let (later, went, tables) = went_alike hash does.made one.table new.table other.table all_under
+        (tables_agree hash mine one other agree) first second does.went in
         let hub = less_one number (record other { table = later }) in
         let is_table : hub.table ≡ later = less_table (is_last number other.factory_counts) number (record other { table = later }) in
-        let before : HubsAgree hash mine (record one { table = new.table }) (record other { table = later }) = with_tables hash mine one (record one { table = new.table }) other later agree refl tables in (
+        let before : HubsAgree hash mine (record one { table = new.table }) (record other { table = later })
+        = with_tables hash mine one (record one { table = new.table }) other later agree refl tables in (
           removed other_table n,
           hub,
-          (closed, (record { made = does.made; went = subst (λ it. Went Sight other.table does.made it) (sym is_table) went; told = does.told }, ap (λ it. less_one number (record other { table = it })) (sym is_table)), is, refl),
+          (
+            closed,
+            (
+              record {
+                made = does.made;
+                went = subst (λ it. Went Sight other.table does.made it) (sym is_table) went;
+                told
+                    = does.told;
+              },
+              ap (λ it. less_one number (record other { table = it })) (sym is_table),
+            ),
+            is,
+            refl,
+          ),
           subst (λ it. SameOf service_of mine it (removed other_table n)) (sym gone)
               (removed_both service_of mine table other_table rises other_rises n same),
           agree_still hash mine (less_one number (record one { table = new.table })) new hub
@@ -211,8 +235,15 @@ module _ {T U B D : Type 0} (hash : ServiceHash) (mine : ℕ → Bool) where
     closes_if_of true n made answer after new under of closes =
         let number = service_of made in
         let owner = (parts_of made).1 in
-        let (there, hub, done, tables, hubs) = closes_unless (in_use number owner one) n (parts_of made).0 answer after new under of closes in
-        (there, hub, subst (λ used. ClosesUnless used n (parts_of made).0 other_table other answer there hub) (sym (use_same hash mine number owner of one other agree)) done, tables, hubs)
+        let (there, hub, done, tables, hubs)
+        = closes_unless (in_use number owner one) n (parts_of made).0 answer after new under of closes in (
+          there,
+          hub,
+          subst (λ used. ClosesUnless used n (parts_of made).0 other_table other answer there hub)
+              (sym (use_same hash mine number owner of one other agree)) done,
+          tables,
+          hubs,
+        )
 
     closes_numbered : (n : ℕ) (found : Option MadeFactory) (answer : Option (Result (Unit {0}) CloseError)) (after : FactoryTable)
         (new : Hub T U B D) → IsOf service_of mine found → HashFound hash (option_map (λ made. (carried_by made).service_hash) found)
@@ -220,19 +251,29 @@ module _ {T U B D : Type 0} (hash : ServiceHash) (mine : ℕ → Bool) where
     closes_numbered n None answer after new of under (is, unchanged, still)
         = (other_table, other, (is, refl, refl), same_still after unchanged, agree_still hash mine one new other agree still)
     closes_numbered n (Some made) answer after new of under closes =
-        let (there, hub, done, tables, hubs) = closes_if_of (nat_eq (parts_of made).0.storage one.table.id) n made answer after new under of closes in
-        (there, hub, subst (λ id. ClosesIfOf (nat_eq (parts_of made).0.storage id) n made other_table other answer there hub) (sym agree.table_id) done, tables, hubs)
+        let (there, hub, done, tables, hubs)
+        = closes_if_of (nat_eq (parts_of made).0.storage one.table.id) n made answer after new under of closes in (
+          there,
+          hub,
+          subst (λ id. ClosesIfOf (nat_eq (parts_of made).0.storage id) n made other_table other answer there hub)
+              (sym agree.table_id) done,
+          tables,
+          hubs,
+        )
 
 module _ {T U B D : Type 0} (hash : ServiceHash) (mine : ℕ → Bool) where
-  pub close_alike : (factory : ℕ) (one new other : NumberedHub T U B D) (reply : Reply T) → IsTable one.hub.table
+  close_alike : (factory : ℕ) (one new other : NumberedHub T U B D) (reply : Reply T) → IsTable one.hub.table
       → IsTable other.hub.table → NumbersRise one → NumbersRise other → NumbersOnce one.hub → NumbersOnce other.hub
       → AgreeOn hash mine one other
-      → FoundMine mine (option_map service_of (value_at one.factories.made factory)) (option_map service_of (value_at other.factories.made factory)) → HashFound hash (option_map (λ made. (carried_by made).service_hash) (value_at one.factories.made factory))
+      → FoundMine mine (option_map service_of (value_at one.factories.made factory))
+      (option_map service_of (value_at other.factories.made factory))
+      → HashFound hash (option_map (λ made. (carried_by made).service_hash) (value_at one.factories.made factory))
       → Closes factory one reply new → (after : NumberedHub T U B D) × Closes factory other reply after × AgreeOn hash mine new after
   close_alike factory one new other reply first second rises other_rises once other_once agree named under (closed, closes, unchanged, is) =
       let (found, of) = named_alike service_of mine one.factories.made other.factories.made factory agree.factories named in
       let (there, hub, done, tables, hubs) =
-      closes_numbered hash mine one.hub other.hub agree.hubs first second once other_once one.factories.made other.factories.made agree.factories rises.0 other_rises.0
+      closes_numbered hash mine one.hub other.hub agree.hubs first second once other_once one.factories.made other.factories.made
+      agree.factories rises.0 other_rises.0
       factory (value_at one.factories.made factory) closed new.factories.made new.hub of under closes in (
         record other { hub = hub; factories = record other.factories { made = there } },
         (closed, subst (λ it. ClosesNumbered factory it other.factories.made other.hub closed there hub) (sym found) done, refl, is),
@@ -241,12 +282,15 @@ module _ {T U B D : Type 0} (hash : ServiceHash) (mine : ℕ → Bool) where
 
 module _ {T U B D : Type 0} (payload user_header : Detail) (types : MessageTypeDetails) (is_default : T → Type 0)
     (is_default_header : U → Type 0)
-    (fixed : BackpressureStrategy → Option BackpressureAction → DegradationAction → B) (degrades : B → DegradationCause → DegradationInfo → DegradationAction → Type 0) (decides : B → BackpressureInfo → BackpressureDecision → Type 0)
+    (fixed : BackpressureStrategy → Option BackpressureAction → DegradationAction → B)
+    (degrades : B → DegradationCause → DegradationInfo → DegradationAction → Type 0)
+    (decides : B → BackpressureInfo → BackpressureDecision → Type 0)
     (fixed_reader : DegradationAction → D) (reader_degrades : D → DegradationCause → DegradationInfo → DegradationAction → Type 0) where
   pub close_answers_alike : CloseAnswersAlike
       (Step {T = T} {U = U} payload user_header types is_default is_default_header fixed degrades decides fixed_reader reader_degrades)
   close_answers_alike hash mine (command.Close factory) one new other reply kind reached_one reached_other rises other_rises once
       other_once agree named under step =
-      close_alike hash mine factory one new other reply (reached one.hub.table reached_one) (reached other.hub.table reached_other) rises other_rises once other_once agree named under step
+      close_alike hash mine factory one new other reply (reached one.hub.table reached_one) (reached other.hub.table reached_other)
+      rises other_rises once other_once agree named under step
   close_answers_alike hash mine asked one new other reply kind reached_one reached_other rises other_rises once other_once agree named
       under step = absurd kind

@@ -29,10 +29,11 @@ use Rattle.iox_hub_laws.specs.Negotiate.NegotiateTable.Contents.{Contents}
 use Rattle.iox_hub_laws.specs.NegotiateRenamedRenaming.{AreInOrder, GoBy}
 use Rattle.iox_hub_laws.proofs.Keeping.{step_keeps}
 use Rattle.iox_hub_laws.specs.RenamedRenaming.{renamed_numbered}
-use Rattle.iox_hub_laws.specs.RenamedRenamingLaws.{LooksAtNoService, HaveNumbers, HubGoesBy, HasNumbers, GoesBy, IsOfPorts, EachGoesByOtherNumbers}
+use Rattle.iox_hub_laws.specs.RenamedRenamingLaws.{LooksAtNoService, HaveNumbers, HubGoesBy, HasNumbers, GoesBy, IsOfPorts}
+use Rattle.iox_hub_laws.specs.RenamedRenamingLaws.{EachGoesByOtherNumbers}
 use Rattle.iox_hub_laws.proofs.Homes.{still_live}
 use Rattle.iox_hub_laws.proofs.Making.{own}
-use Rattle.iox_hub_laws.proofs.RenamedServices.{creates_numbered, opens_numbered, either_numbered, closes_numbered, acts_named}
+use Rattle.iox_hub_laws.proofs.RenamedFactories.{creates_numbered, opens_numbered, either_numbered, closes_numbered, acts_named}
 use Rattle.iox_hub_laws.proofs.RenamedSteps.{apart, goes_as}
 
 module _ {T U B D : Type 0} where
@@ -55,7 +56,14 @@ module _ {T U B D : Type 0} where
       × (HaveNumbers by one.services.domains → HaveNumbers by other.services.domains)
 
   aside_same : (by : Renaming) (one other : Hub T U B D) → other ≡ one → Aside by one other
-  aside_same by one other same = (ap (λ hub. hub.table) same, ap (λ hub. hub.factories) same, ap (λ hub. hub.factory_counts) same, λ live. subst (λ (hub : Hub T U B D). HaveNumbers by hub.services.domains) (sym same) live)
+  aside_same by one other same
+      = (
+        ap (λ hub. hub.table) same,
+        ap (λ hub. hub.factories) same,
+        ap (λ hub. hub.factory_counts) same,
+        λ live. subst
+            (λ (hub : Hub T U B D). HaveNumbers by hub.services.domains) (sym same) live,
+      )
 
   aside_on : (by : Renaming) (one mid other : Hub T U B D) → Aside by one mid → Aside by mid other → Aside by one other
   aside_on by one mid other (table, factories, counts, live) (next_table, next_factories, next_counts, next_live)
@@ -75,7 +83,9 @@ module _ {T U B D : Type 0} where
 
 module _ {T U B D : Type 0} (payload user_header : Detail) (types : MessageTypeDetails) (is_default : T → Type 0)
     (is_default_header : U → Type 0)
-    (fixed : BackpressureStrategy → Option BackpressureAction → DegradationAction → B) (degrades : B → DegradationCause → DegradationInfo → DegradationAction → Type 0) (decides : B → BackpressureInfo → BackpressureDecision → Type 0)
+    (fixed : BackpressureStrategy → Option BackpressureAction → DegradationAction → B)
+    (degrades : B → DegradationCause → DegradationInfo → DegradationAction → Type 0)
+    (decides : B → BackpressureInfo → BackpressureDecision → Type 0)
     (fixed_reader : DegradationAction → D) (reader_degrades : D → DegradationCause → DegradationInfo → DegradationAction → Type 0) where
   abbrev each : Command T → NumberedHub T U B D → Result (Reply T) AllocError → NumberedHub T U B D → Type 0
   each asked old answer new = Step payload user_header types is_default is_default_header fixed degrades decides fixed_reader
@@ -136,7 +146,9 @@ module _ {T U B D : Type 0} (payload user_header : Detail) (types : MessageTypeD
         → Leads new (λ later counted. each asked (whole next count old) answer (whole later counted new))
     of_ports asked old new answer of (goes, all) does =
         let aside =
-        step_keeps (Aside by) (aside_same by) (aside_on by) (λ id step hub. (refl, refl, refl, λ live. still_live by order id step hub.services live)) payload user_header types is_default is_default_header fixed degrades decides fixed_reader reader_degrades asked old new answer
+        step_keeps (Aside by) (aside_same by) (aside_on by)
+        (λ id step hub. (refl, refl, refl, λ live. still_live by order id step hub.services live)) payload user_header types
+        is_default is_default_header fixed degrades decides fixed_reader reader_degrades asked old new answer
         (λ services. absurd (apart asked of services)) does in (
           next,
           count,
@@ -155,7 +167,18 @@ module _ {T U B D : Type 0} (payload user_header : Detail) (types : MessageTypeD
       next,
       count,
       (is, ap (whole next count) same),
-      subst (λ (it : NumberedHub T U B D). GoesBy by end fewer next last without count it) (sym same) (record { table = goes.table; domains = goes.domains; counts = goes.counts; ahead = goes.ahead; earlier = goes.earlier; few = goes.few }, all),
+      subst (λ (it : NumberedHub T U B D). GoesBy by end fewer next last without count it) (sym same) (
+        record {
+          table = goes.table;
+          domains = goes.domains;
+          counts = goes.counts;
+          ahead = goes.ahead;
+          earlier = goes.earlier;
+          few
+              = goes.few;
+        },
+        all,
+      ),
     )
 
     pub any : (asked : Command T) (old new : NumberedHub T U B D) (answer : Result (Reply T) AllocError) → IsTable old.hub.table
@@ -165,29 +188,42 @@ module _ {T U B D : Type 0} (payload user_header : Detail) (types : MessageTypeD
     any command.Node old new (Err lacking) table goes within few step = absurd step
     any (command.Create node name named attributes steps) old new (Ok reply) table (goes, all) within few (made, does, same, is) =
         let ((later, counted, done, go_on), all_after) =
-        creates_numbered by order own_order end fewer last without payload user_header next count old.hub new.hub table goes within few (is_node node old.hub.nodes) types (record { node = node; name = name; options = named }) attributes steps made old.factories.made new.factories.made all does in
+        creates_numbered by order own_order end fewer last without payload user_header next count old.hub new.hub table goes within few
+        (is_node node old.hub.nodes) types (record { node = node; name = name; options = named }) attributes steps made
+        old.factories.made new.factories.made all does in
         (later, counted, (made, done, ap (own by) same, is), (go_on, all_after))
     any (command.Create node name named attributes steps) old new (Err lacking) table goes within few step = absurd step
     any (command.Open node name named requirements steps) old new (Ok reply) table (goes, all) within few (made, does, same, is) =
         let ((later, counted, done, go_on), all_after) =
-        opens_numbered by order own_order end fewer last without payload user_header next count old.hub new.hub table goes within few (is_node node old.hub.nodes) types (record { node = node; name = name; options = named }) requirements steps made old.factories.made new.factories.made all does in
+        opens_numbered by order own_order end fewer last without payload user_header next count old.hub new.hub table goes within few
+        (is_node node old.hub.nodes) types (record { node = node; name = name; options = named }) requirements steps made
+        old.factories.made new.factories.made all does in
         (later, counted, (made, done, ap (own by) same, is), (go_on, all_after))
     any (command.Open node name named requirements steps) old new (Err lacking) table goes within few step = absurd step
     any (command.OpenOrCreate node name named requirements steps) old new (Ok reply) table (goes, all) within few (made, does, same, is) =
         let ((later, counted, done, go_on), all_after) =
-        either_numbered by order own_order end fewer last without payload user_header next count old.hub new.hub table goes within few (is_node node old.hub.nodes) types (record { node = node; name = name; options = named }) requirements steps made old.factories.made new.factories.made all does in
+        either_numbered by order own_order end fewer last without payload user_header next count old.hub new.hub table goes within few
+        (is_node node old.hub.nodes) types (record { node = node; name = name; options = named }) requirements steps made
+        old.factories.made new.factories.made all does in
         (later, counted, (made, done, ap (own by) same, is), (go_on, all_after))
     any (command.OpenOrCreate node name named requirements steps) old new (Err lacking) table goes within few step = absurd step
     any (command.Foreign pattern name steps) old new (Ok reply) table (goes, all) within few (acted, does, same, is) =
-        let (later, counted, done, go_on) = acts_named by order own_order end fewer last without next count old.hub new.hub goes within pattern name types steps acted does in (
+        let (later, counted, done, go_on) = acts_named by order own_order end fewer last without next count old.hub new.hub goes within
+        pattern name types steps acted does in (
           later,
           counted,
           (acted, done, ap (whole later counted) same, is),
-          (go_on, subst (λ (factories : Factories). AllByRecursion (λ entry. HasNumbers by entry.1) factories.made.entries) (sym (ap (λ (hub : NumberedHub T U B D). hub.factories) same)) all),
+          (
+            go_on,
+            subst (λ (factories : Factories). AllByRecursion (λ entry. HasNumbers by entry.1) factories.made.entries)
+                (sym (ap (λ (hub : NumberedHub T U B D). hub.factories) same)) all,
+          ),
         )
     any (command.Foreign pattern name steps) old new (Err lacking) table goes within few step = absurd step
     any (command.Close factory) old new (Ok reply) table (goes, all) within few (closed, does, same, is) =
-        let ((later, counted, done, go_on), all_after) = closes_numbered by order own_order end fewer last without next count old.hub new.hub goes within factory closed old.factories.made new.factories.made all does in
+        let ((later, counted, done, go_on), all_after)
+        = closes_numbered by order own_order end fewer last without next count old.hub new.hub goes within factory closed
+        old.factories.made new.factories.made all does in
         (later, counted, (closed, done, ap (own by) same, is), (go_on, all_after))
     any (command.Close factory) old new (Err lacking) table goes within few step = absurd step
     any (command.Publisher factory options) old new answer table goes within few step

@@ -1,5 +1,6 @@
 -- What happens in a domain that two hubs have the same.
-use Rattle.std.proofs.Common.{◌≡◌, ◌≢◌, ◌∙◌, ◌==◌, ℕ, nat_eq, Bool, true, false, if◌then◌else◌, List, Option, None, Some, option_map, Result, Ok, Err, refl, sym, ap, subst}
+use Rattle.std.proofs.Common.{◌≡◌, ◌≢◌, ◌∙◌, ◌==◌, ℕ, nat_eq, Bool, true, false, if◌then◌else◌, List, Option, None, Some, option_map}
+use Rattle.std.proofs.Common.{Result, Ok, Err, refl, sym, ap, subst}
 use Rattle.std.proofs.lemmas.Bool.{eqb-true, eq-eqb}
 use Rattle.std.specs.BTreeMap.{is_at}
 use Rattle.std.specs.Map.{lookup, set_value}
@@ -28,7 +29,8 @@ set_found number values w (Some value) is = changed_found number values value w 
 -- what stands under a number is written in both
 set_both : {X : Type 0} (number : ℕ) (one other : List (ℕ × X)) (w : X)
     → lookup (is_at (nat_cmp number)) other ≡ lookup (is_at (nat_cmp number)) one
-    → lookup (is_at (nat_cmp number)) (set_value (is_at (nat_cmp number)) other w) ≡ lookup (is_at (nat_cmp number)) (set_value (is_at (nat_cmp number)) one w)
+    → lookup (is_at (nat_cmp number)) (set_value (is_at (nat_cmp number)) other w)
+    ≡ lookup (is_at (nat_cmp number)) (set_value (is_at (nat_cmp number)) one w)
 set_both number one other w same = set_found number other w (lookup (is_at (nat_cmp number)) one) same ∙ sym
     (set_found number one w (lookup (is_at (nat_cmp number)) one) refl)
 
@@ -54,10 +56,12 @@ module _ {T U B D : Type 0} (hash : ServiceHash) (mine : ℕ → Bool) where
   stepped_here n number is at None step one other same = same
   stepped_here n number true at (Some domain) step one other same =
       let here : number ≡ n = eqb-true number n at in
-      subst (λ m. presence_of n (with_domain m other.domains (step domain)) ≡ presence_of n (with_domain m one.domains (step domain))) (sym here) (set_both n one.domains other.domains (Here (step domain)) same)
+      subst (λ m. presence_of n (with_domain m other.domains (step domain)) ≡ presence_of n (with_domain m one.domains (step domain)))
+      (sym here) (set_both n one.domains other.domains (Here (step domain)) same)
   stepped_here n number false at (Some domain) step one other same =
       let off : number ≢ n = λ is. differ (sym at ∙ eq-eqb number n is) in
-      others_unchanged number n other.domains (Here (step domain)) off ∙ same ∙ sym (others_unchanged number n one.domains (Here (step domain)) off)
+      others_unchanged number n other.domains (Here (step domain)) off ∙ same ∙ sym
+      (others_unchanged number n one.domains (Here (step domain)) off)
     where
       differ : false ≡ true → ⊥
       differ e = cc
@@ -79,7 +83,9 @@ module _ {T U B D : Type 0} (hash : ServiceHash) (mine : ℕ → Bool) where
       named = agree.named;
       presence = λ n own. subst (λ found. presence_of n (stepped_if found id.service step other.services).domains
           ≡ presence_of n (stepped_if (domain_at id one.services) id.service step one.services).domains)
-          (sym (domain_same one other agree)) (stepped_here n id.service (nat_eq id.service n) refl (domain_at id one.services) step one.services other.services (agree.presence n own));
+          (sym (domain_same one other agree))
+          (stepped_here n id.service (nat_eq id.service n) refl (domain_at id one.services) step one.services other.services
+          (agree.presence n own));
       counts = agree.counts;
       nodes = agree.nodes;
       lives = agree.lives;
@@ -93,14 +99,20 @@ module _ {T U B D : Type 0} (hash : ServiceHash) (mine : ℕ → Bool) where
     at_found : {A : Type 0} (step : ServicePorts T U → Option A → ServicePorts T U → Type 0) (found : Option (ServicePorts T U))
         (one new other : Hub T U B D) (answer : Option A) → HubsAgree hash mine one other
         → AtDomain (λ after. with_hub_ports id after one) step found one answer new
-        → (after : Hub T U B D) × AtDomain (λ ports. with_hub_ports id ports other) step found other answer after × HubsAgree hash mine new after
+        → (after : Hub T U B D) × AtDomain (λ ports. with_hub_ports id ports other) step found other answer after
+        × HubsAgree hash mine new after
     at_found step None one new other answer agree at = (other, (at.0, refl), agree_still one new other agree at.1)
-    at_found step (Some ports) one new other answer agree (after, does, is) =
-        (with_hub_ports id after other, (after, does, refl), agree_still (with_hub_ports id after one) new (with_hub_ports id after other) (stepped_agree (with_ports after) one other agree) is)
+    at_found step (Some ports) one new other answer agree (after, does, is) = (
+      with_hub_ports id after other,
+      (after, does, refl),
+      agree_still (with_hub_ports id after one) new (with_hub_ports id after other)
+          (stepped_agree (with_ports after) one other agree) is,
+    )
 
     -- a call at a domain, which may look at who decides there
     pub at_domain_alike : {A : Type 0} (step : Option (Domain T U B D) → ServicePorts T U → Option A → ServicePorts T U → Type 0)
-        → Alike (λ old answer new. AtDomain (λ after. with_hub_ports id after old) (step (domain_at id old.services)) (hub_ports id old) old answer new)
+        → Alike (λ old answer new. AtDomain (λ after. with_hub_ports id after old) (step (domain_at id old.services)) (hub_ports id old)
+        old answer new)
     at_domain_alike step one new other answer agree at =
         let (after, there, agree_after) = at_found (step (domain_at id one.services)) (hub_ports id one) one new other answer agree at in (
           after,
@@ -111,11 +123,17 @@ module _ {T U B D : Type 0} (hash : ServiceHash) (mine : ℕ → Bool) where
 
     leaves_found : (forget : Domain T U B D → Domain T U B D) (step : ServicePorts T U → Bool → ServicePorts T U → Type 0)
         (found : Option (ServicePorts T U)) (one new other : Hub T U B D) (answer : Bool) → HubsAgree hash mine one other
-        → LeavesDomain (λ after. with_hub_ports id after one) (λ hub. with_services hub (stepped id forget hub.services)) step found one answer new
-        → (after : Hub T U B D) × LeavesDomain (λ ports. with_hub_ports id ports other) (λ hub. with_services hub (stepped id forget hub.services)) step found other answer after × HubsAgree hash mine new after
+        → LeavesDomain (λ after. with_hub_ports id after one) (λ hub. with_services hub (stepped id forget hub.services)) step found one
+        answer new
+        → (after : Hub T U B D) × LeavesDomain (λ ports. with_hub_ports id ports other)
+        (λ hub. with_services hub (stepped id forget hub.services)) step found other answer after × HubsAgree hash mine new after
     leaves_found forget step None one new other answer agree at = (other, (at.0, refl), agree_still one new other agree at.1)
-    leaves_found forget step (Some ports) one new other false agree (after, does, is) =
-        (with_hub_ports id after other, (after, does, refl), agree_still (with_hub_ports id after one) new (with_hub_ports id after other) (stepped_agree (with_ports after) one other agree) is)
+    leaves_found forget step (Some ports) one new other false agree (after, does, is) = (
+      with_hub_ports id after other,
+      (after, does, refl),
+      agree_still (with_hub_ports id after one) new (with_hub_ports id after other)
+          (stepped_agree (with_ports after) one other agree) is,
+    )
     leaves_found forget step (Some ports) one new other true agree (after, does, is) =
         let first = with_hub_ports id after one in
         let second = with_hub_ports id after other in (
@@ -128,7 +146,8 @@ module _ {T U B D : Type 0} (hash : ServiceHash) (mine : ℕ → Bool) where
 
     -- a port leaves a domain
     pub leaves_alike : (forget : Domain T U B D → Domain T U B D) (step : ServicePorts T U → Bool → ServicePorts T U → Type 0)
-        → Alike (λ old answer new. LeavesDomain (λ after. with_hub_ports id after old) (λ hub. with_services hub (stepped id forget hub.services)) step (hub_ports id old) old answer new)
+        → Alike (λ old answer new. LeavesDomain (λ after. with_hub_ports id after old)
+        (λ hub. with_services hub (stepped id forget hub.services)) step (hub_ports id old) old answer new)
     leaves_alike forget step one new other answer agree at =
         let (after, there, agree_after) = leaves_found forget step (hub_ports id one) one new other answer agree at in (
           after,
@@ -141,8 +160,11 @@ module _ {T U B D : Type 0} (hash : ServiceHash) (mine : ℕ → Bool) where
     makes_found : {E : Type 0} (keep : ℕ → Domain T U B D → Domain T U B D) (step : ServicePorts T U → ℕ → ServicePorts T U → Type 0)
         (refusal : ServicePorts T U → E) (found : Option (ServicePorts T U)) (one new other : Hub T U B D)
         (answer : Option (Result ℕ E)) → HubsAgree hash mine one other
-        → MakesAt (λ after. with_hub_ports id after one) (λ n hub. with_services hub (stepped id (keep n) hub.services)) step refusal found one answer new
-        → (after : Hub T U B D) × MakesAt (λ ports. with_hub_ports id ports other) (λ n hub. with_services hub (stepped id (keep n) hub.services)) step refusal found other answer after × HubsAgree hash mine new after
+        → MakesAt (λ after. with_hub_ports id after one) (λ n hub. with_services hub (stepped id (keep n) hub.services)) step refusal
+        found one answer new
+        → (after : Hub T U B D) × MakesAt (λ ports. with_hub_ports id ports other)
+        (λ n hub. with_services hub (stepped id (keep n) hub.services)) step refusal found other answer after
+        × HubsAgree hash mine new after
     makes_found keep step refusal None one new other answer agree at = (other, (at.0, refl), agree_still one new other agree at.1)
     makes_found keep step refusal (Some ports) one new other None agree at = absurd at
     makes_found keep step refusal (Some ports) one new other (Some (Err error)) agree at
@@ -160,7 +182,8 @@ module _ {T U B D : Type 0} (hash : ServiceHash) (mine : ℕ → Bool) where
     -- a port comes to a domain
     pub makes_alike : {E : Type 0} (keep : ℕ → Domain T U B D → Domain T U B D)
         (step : ServicePorts T U → ℕ → ServicePorts T U → Type 0) (refusal : ServicePorts T U → E)
-        → Alike (λ old answer new. MakesAt (λ after. with_hub_ports id after old) (λ n hub. with_services hub (stepped id (keep n) hub.services)) step refusal (hub_ports id old) old answer new)
+        → Alike (λ old answer new. MakesAt (λ after. with_hub_ports id after old)
+        (λ n hub. with_services hub (stepped id (keep n) hub.services)) step refusal (hub_ports id old) old answer new)
     makes_alike keep step refusal one new other answer agree at =
         let (after, there, agree_after) = makes_found keep step refusal (hub_ports id one) one new other answer agree at in (
           after,
@@ -172,13 +195,16 @@ module _ {T U B D : Type 0} (hash : ServiceHash) (mine : ℕ → Bool) where
 
     changed_found_both : (change : ServicePorts T U → ServicePorts T U) (found : Option (ServicePorts T U)) (one other : Hub T U B D)
         → HubsAgree hash mine one other
-        → HubsAgree hash mine (changed_at (λ after. with_hub_ports id after one) change found one) (changed_at (λ after. with_hub_ports id after other) change found other)
+        → HubsAgree hash mine (changed_at (λ after. with_hub_ports id after one) change found one)
+        (changed_at (λ after. with_hub_ports id after other) change found other)
     changed_found_both change None one other agree = agree
     changed_found_both change (Some ports) one other agree = stepped_agree (with_ports (change ports)) one other agree
 
     -- the ports of a domain change in the same way in both
     pub changed_agree : (change : ServicePorts T U → ServicePorts T U) (one other : Hub T U B D) → HubsAgree hash mine one other
-        → HubsAgree hash mine (changed_at (λ after. with_hub_ports id after one) change (hub_ports id one) one) (changed_at (λ after. with_hub_ports id after other) change (hub_ports id other) other)
+        → HubsAgree hash mine (changed_at (λ after. with_hub_ports id after one) change (hub_ports id one) one)
+        (changed_at (λ after. with_hub_ports id after other) change (hub_ports id other) other)
     changed_agree change one other agree =
-        subst (λ found. HubsAgree hash mine (changed_at (λ after. with_hub_ports id after one) change (hub_ports id one) one) (changed_at (λ after. with_hub_ports id after other) change found other))
+        subst (λ found. HubsAgree hash mine (changed_at (λ after. with_hub_ports id after one) change (hub_ports id one) one)
+        (changed_at (λ after. with_hub_ports id after other) change found other))
         (sym (ports_same one other agree)) (changed_found_both change (hub_ports id one) one other agree)

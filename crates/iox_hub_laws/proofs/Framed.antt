@@ -1,5 +1,6 @@
 -- What a command leaves of a hub besides its services: what no command but a node's changes, what grows, and that numbers stay in order.
-use Rattle.std.proofs.Common.{◌≡◌, ◌∙◌, ◌⊎◌, ◌-◌, ℕ, Bool, true, false, List, Option, None, Some, Result, Ok, Err, refl, sym, ap, subst, inl, inr, if◌then◌else◌}
+use Rattle.std.proofs.Common.{◌≡◌, ◌∙◌, ◌⊎◌, ◌-◌, ℕ, Bool, true, false, List, Option, None, Some, Result, Ok, Err, refl, sym, ap, subst}
+use Rattle.std.proofs.Common.{inl, inr, if◌then◌else◌}
 use Rattle.std.specs.BTreeMap.{is_at}
 use Rattle.std.specs.Cmp.{nat_cmp_total}
 use Rattle.std.specs.Ordering.{nat_cmp}
@@ -51,10 +52,15 @@ use Rattle.iox_hub_laws.proofs.Negotiate.Agreements.{past-on, no-past, went-past
 use Rattle.iox_hub_laws.proofs.Negotiate.Maps.{Rising, insert-rising, remove-rising, set-rising}
 use Rattle.iox_hub_laws.proofs.Negotiate.Stepping.{Past, acts-ran}
 use Rattle.iox_hub_laws.specs.HubCommands.Asking.{hash_of}
-use Rattle.iox_hub_laws.specs.Locality.{IsNode, IsOpening}
+use Rattle.iox_hub_laws.specs.Locality.{IsOpening}
 use Rattle.iox_hub_laws.proofs.Keeping.{OfServices, step_keeps}
 use Rattle.iox_hub_laws.proofs.LocalityNegotiated.{IsNegotiation}
 use Rattle.iox_hub_laws.proofs.Opened.{opening_goes}
+
+-- A command that makes a node.
+abbrev IsNode : {T : Type 0} → Command T → Type 0
+IsNode command.Node = Unit {0}
+IsNode asked = ⊥
 
 -- What is as it was in the hub, and what went on: the table, and the count of factories, by one at most; where numbers of domains
 -- and of counts rose they rise.
@@ -169,13 +175,17 @@ module _ {T U B D : Type 0} where
       → (new.hub ≡ old.hub) × (Rising nat_cmp old.domains → Rising nat_cmp new.domains)
   opens_rising payload user_header buffer number settings old new (inl (why, same))
       = (ap (λ s. s.hub) same, λ rising. subst (λ s. Rising nat_cmp s.domains) (sym same) rising)
-  opens_rising payload user_header buffer number settings old new (inr (closed, fits, (domain, is_new, is))) =
-      (ap (λ s. s.hub) is, λ rising. subst (λ s. Rising nat_cmp s.domains) (sym is) (insert-rising nat_cmp nat_cmp_total (λ x y same. exact_unsigned x y same) number (Here domain) old.domains rising))
+  opens_rising payload user_header buffer number settings old new (inr (closed, fits, (domain, is_new, is))) = (
+    ap (λ s. s.hub) is,
+    λ rising. subst (λ s. Rising nat_cmp s.domains) (sym is)
+        (insert-rising nat_cmp nat_cmp_total (λ x y same. exact_unsigned x y same) number (Here domain) old.domains rising),
+  )
 
   entered_goes : (payload user_header : Detail) (member : Membership) (entered : Result Made Bool) (old new : Hub T U B D)
       → Enters payload user_header member old entered new → GoesBy old new
   entered_goes payload user_header member (Ok made) old new (is_made, opens, is) =
-      let (hub, rising) = opens_rising payload user_header old.expired_connection_buffer member.service.number member.service.description.settings old.services new.services opens in
+      let (hub, rising) = opens_rising payload user_header old.expired_connection_buffer member.service.number
+      member.service.description.settings old.services new.services opens in
       record {
         on = record {
           buffer = ap (λ hub. hub.expired_connection_buffer) is;
@@ -184,7 +194,8 @@ module _ {T U B D : Type 0} where
           owners = inr (ap (λ hub. hub.factories) is);
           domains = rising;
           counts = λ before. subst (λ hub. Rising nat_cmp hub.factory_counts) (sym is)
-              (insert-rising nat_cmp nat_cmp_total (λ x y same. exact_unsigned x y same) member.service.number (one_more (factories_of member.service.number old.factory_counts)) old.factory_counts before);
+              (insert-rising nat_cmp nat_cmp_total (λ x y same. exact_unsigned x y same) member.service.number
+              (one_more (factories_of member.service.number old.factory_counts)) old.factory_counts before);
         };
         nodes = ap (λ hub. hub.nodes) is;
       }
@@ -200,11 +211,14 @@ module _ {T U B D : Type 0} where
   gets_goes : {E : Type 0} (hash : ServiceHash) (payload user_header : Detail) (lacking : Bool → E)
       (negotiates : Steps → Result Membership E → Steps → Type 0) → IsNegotiation hash negotiates
       → (lists : List (List ForeignStep)) (pattern : MessagingPattern) (refusal : E → Refusal)
-      (reply : Result ℕ Refusal) (table after : FactoryTable) (old new : Hub T U B D) → GetsNumber pattern refusal (λ before made later. OpensInHub payload user_header lacking negotiates lists before made later) table old reply after new → GoesBy old new
+      (reply : Result ℕ Refusal) (table after : FactoryTable) (old new : Hub T U B D)
+      → GetsNumber pattern refusal (λ before made later. OpensInHub payload user_header lacking negotiates lists before made later)
+      table old reply after new → GoesBy old new
   gets_goes hash payload user_header lacking negotiates is lists pattern refusal reply table after old new (made, opens, numbers) =
       let start : Steps = record { table = old.table; lists = lists } in
       let (accesses, under, went) = is.goes start opens.mid opens.answer opens.negotiated in
-      after_table old new opens.mid.table (stepped-went-past accesses start opens.mid went) (settled_goes payload user_header lacking opens.answer made (record old { table = opens.mid.table }) new opens.settled)
+      after_table old new opens.mid.table (stepped-went-past accesses start opens.mid went)
+      (settled_goes payload user_header lacking opens.answer made (record old { table = opens.mid.table }) new opens.settled)
 
   less_goes : (last : Bool) (hub fewer gone : Hub T U B D) → GoesBy hub fewer → GoesBy hub gone → GoesBy hub (if last then gone else fewer)
   less_goes true hub fewer gone some all = all
@@ -243,7 +257,8 @@ module _ {T U B D : Type 0} where
   closes_unless true one member table after old new answer closes = by_same old new closes.2
   closes_unless false one member table after old new answer (closed, (does, is), is_answer, is_after) =
       let before : Hub T U B D = record old { table = new.table } in
-      after_table old new new.table (went-past does.made old.table new.table does.went) (subst (λ hub. GoesBy before hub) (sym is) (less_one_goes member.service.number before))
+      after_table old new new.table (went-past does.made old.table new.table does.went)
+      (subst (λ hub. GoesBy before hub) (sym is) (less_one_goes member.service.number before))
 
   closes_if : (is_of : Bool) (one : ℕ) (made : MadeFactory) (table after : FactoryTable) (old new : Hub T U B D)
       (answer : Option (Result (Unit {0}) CloseError)) → ClosesIfOf is_of one made table old answer after new → GoesBy old new
@@ -257,7 +272,7 @@ module _ {T U B D : Type 0} where
 
   foreign_goes : (pattern : MessagingPattern) (name : List ℕ) (types : MessageTypeDetails) (steps : List Named) (old new : Hub T U B D)
       (answer : Result (Unit {0}) HubError) → ActsNamed pattern name types steps old answer new → GoesBy old new
-  foreign_goes pattern name types steps old new answer (inl ((happened, acts, told), is))
+  foreign_goes pattern name types steps old new answer (inl (((happened, acts, told), is), forms))
       = by_table old new (acts-ran _ _ old.table new.table happened acts) is
   foreign_goes pattern name types steps old new answer (inr (some, is_answer, is)) = by_same old new is
 
@@ -275,7 +290,9 @@ module _ {T U B D : Type 0} where
   }
 
   module _ (payload user_header : Detail) (types : MessageTypeDetails) (is_default : T → Type 0) (is_default_header : U → Type 0)
-      (fixed : BackpressureStrategy → Option BackpressureAction → DegradationAction → B) (degrades : B → DegradationCause → DegradationInfo → DegradationAction → Type 0) (decides : B → BackpressureInfo → BackpressureDecision → Type 0)
+      (fixed : BackpressureStrategy → Option BackpressureAction → DegradationAction → B)
+      (degrades : B → DegradationCause → DegradationInfo → DegradationAction → Type 0)
+      (decides : B → BackpressureInfo → BackpressureDecision → Type 0)
       (fixed_reader : DegradationAction → D) (reader_degrades : D → DegradationCause → DegradationInfo → DegradationAction → Type 0) where
     abbrev each : Command T → NumberedHub T U B D → Result (Reply T) AllocError → NumberedHub T U B D → Type 0
     each asked old answer new = Step payload user_header types is_default is_default_header fixed degrades decides fixed_reader
@@ -284,18 +301,21 @@ module _ {T U B D : Type 0} where
     opening : (hash : ServiceHash) (asked : Command T) (old new : NumberedHub T U B D) (answer : Result (Reply T) AllocError)
         → IsOpening asked → hash_asked asked old ≡ Some hash → each asked old answer new → GoesBy old.hub new.hub
     opening hash asked old new answer kind named step =
-        (opening_goes hash payload user_header (λ table after before later. GoesBy before later) (λ table after before later same is. by_same before later is) (λ table roomy after before later same goes. goes)
-        (λ E lacking negotiates is lists pattern refusal reply table after before later gets. gets_goes hash payload user_header lacking negotiates is lists pattern refusal reply table after before later gets)
+        (opening_goes hash payload user_header (λ table after before later. GoesBy before later)
+        (λ table after before later same is. by_same before later is) (λ table roomy after before later same goes. goes)
+        (λ E lacking negotiates is lists pattern refusal reply table after before later gets. gets_goes hash payload user_header lacking
+        negotiates is lists pattern refusal reply table after before later gets)
         types is_default is_default_header fixed degrades decides fixed_reader reader_degrades asked old new answer kind named step).0
 
     -- a command that makes no node
-    pub step_goes_by : (asked : Command T) (old new : NumberedHub T U B D) (answer : Result (Reply T) AllocError) → (IsNode asked → ⊥)
+    step_goes_by : (asked : Command T) (old new : NumberedHub T U B D) (answer : Result (Reply T) AllocError) → (IsNode asked → ⊥)
         → each asked old answer new → GoesBy old.hub new.hub
     step_goes_by asked old new answer other step = kept asked other step
       where
         ports : (command : Command T) → (OfServices command → Framed old.hub new.hub) → each command old answer new → GoesBy old.hub new.hub
         ports command given does = by_frame old.hub new.hub
-            (step_keeps (λ before later. Framed before later) framed_same framed_on framed_moves payload user_header types is_default is_default_header fixed degrades decides fixed_reader reader_degrades command old new answer given does)
+            (step_keeps (λ before later. Framed before later) framed_same framed_on framed_moves payload user_header types is_default
+            is_default_header fixed degrades decides fixed_reader reader_degrades command old new answer given does)
 
         kept : (command : Command T) → (IsNode command → ⊥) → each command old answer new → GoesBy old.hub new.hub
         kept command.Node other does = absurd (other tt)

@@ -1,5 +1,6 @@
 -- Tables of what goes by numbers: what is of one service stays where something of another comes or goes.
-use Rattle.std.proofs.Common.{◌≡◌, ◌≢◌, ◌∙◌, ◌++◌, ℕ, Bool, true, false, cond, List, [], ◌∷◌, Option, None, Some, option_map, refl, sym, ap, nat_eq}
+use Rattle.std.proofs.Common.{◌≡◌, ◌≢◌, ◌∙◌, ◌++◌, ℕ, Bool, true, false, cond, List, [], ◌∷◌, Option, None, Some, option_map, refl, sym}
+use Rattle.std.proofs.Common.{ap, nat_eq}
 use Rattle.std.proofs.lemmas.Bool.{eqb-true, eq-eqb}
 use Rattle.std.specs.Map.{lookup}
 use Rattle.iox_hub_commands.specs.Container.NumberTable.{NumberTable, Rises, value_at, inserted, removed}
@@ -58,7 +59,8 @@ module _ {V : Type 0} (service : V → ℕ) (number : ℕ) where
       → if_of service number (value_at (removed table gone) one) ≡ if_of service number (value_at table one)
   gone_here one gone true is table rises apart =
       let same = eqb-true one gone is in
-      ap (λ n. if_of service number (value_at (removed table gone) n)) same ∙ ap (if_of service number) ((found_and_gone V).gone table gone rises)
+      ap (λ n. if_of service number (value_at (removed table gone) n)) same ∙ ap (if_of service number)
+      ((found_and_gone V).gone table gone rises)
       ∙ sym (ap (λ n. if_of service number (value_at table n)) same ∙ none_of (value_at table gone) apart)
   gone_here one gone false is table rises apart
       = ap (if_of service number) ((found_and_gone V).gone_others table gone one (λ same. differ (sym is ∙ rw same (self gone))))
@@ -92,5 +94,8 @@ module _ {V : Type 0} (service : V → ℕ) (number : ℕ) where
 
   -- what is of the service is found as before
   pub found_as_before : (old new : NumberTable V) → AllLeft service number old new → FoundAsBefore service number old new
-  found_as_before old new left one value same =
-      (found_on value same (value_at old one) (value_at new one) (left one), found_on value same (value_at new one) (value_at old one) (sym (left one)))
+  found_as_before old new left one value same = (
+    found_on value same (value_at old one) (value_at new one) (left one),
+    found_on value same (value_at new one) (value_at old one)
+        (sym (left one)),
+  )

@@ -1,5 +1,6 @@
 -- What a command about ports does to a hub: steps of its domains, and no more.
-use Rattle.std.proofs.Common.{◌≡◌, ℕ, Bool, true, false, List, Option, None, Some, Result, Ok, Err, if◌then◌else◌, refl, sym, ap, subst, length}
+use Rattle.std.proofs.Common.{◌≡◌, ℕ, Bool, true, false, List, Option, None, Some, Result, Ok, Err, if◌then◌else◌, refl, sym, ap, subst}
+use Rattle.std.proofs.Common.{length}
 use Rattle.std.specs.Prelude.{replicate}
 use Rattle.std.specs.declared.alloc.AllocError.{AllocError}
 use Rattle.iox_hub_laws.specs.HubCommands.Command.declared.port.PortNumber.{PortNumber}
@@ -27,12 +28,14 @@ use Rattle.iox_hub_laws.specs.HubCommands.DomainValues.declared.port_error.Recei
 use Rattle.iox_hub_laws.specs.HubCommands.DomainValues.declared.port_error.SendError.{SendError}
 use Rattle.iox_hub_laws.specs.HubCommands.HubBase.AsHome.{hub_ports, with_hub_ports, without_hub_publisher, without_hub_subscriber}
 use Rattle.iox_hub_laws.specs.HubCommands.HubBase.declared.hub.Hub.{Hub}
-use Rattle.iox_hub_laws.specs.HubCommands.HubBase.ServicesAsHome.{publisher_kept, subscriber_kept, publisher_forgotten, subscriber_forgotten}
+use Rattle.iox_hub_laws.specs.HubCommands.HubBase.ServicesAsHome.{publisher_kept, subscriber_kept, publisher_forgotten}
+use Rattle.iox_hub_laws.specs.HubCommands.HubBase.ServicesAsHome.{subscriber_forgotten}
 use Rattle.iox_hub_laws.specs.HubCommands.Following.{UpdateStep, HasStep, LeaveStep}
 use Rattle.iox_hub_laws.specs.HubCommands.Lending.{LoanStep, LoanUninitStep, PutStep}
 use Rattle.iox_hub_laws.specs.HubCommands.Messages.{SetStep, FillStep, DropStep, SendStep, RetryStep, GiveUpStep, ReleaseStep}
 use Rattle.iox_hub_laws.specs.HubCommands.Receiving.{ReceiveStep}
-use Rattle.iox_hub_laws.specs.HubCommands.Calls.{AtPort, AtPortIf, Lends, LendsWritten, Puts, Follows, Sends, Retries, GivesUp, PublisherGoes, FollowsPublishers, Tells, Receives, SubscriberGoes, ready}
+use Rattle.iox_hub_laws.specs.HubCommands.Calls.{AtPort, AtPortIf, Lends, LendsWritten, Puts, Follows, Sends, Retries, GivesUp}
+use Rattle.iox_hub_laws.specs.HubCommands.Calls.{PublisherGoes, FollowsPublishers, Tells, Receives, SubscriberGoes, ready}
 use Rattle.iox_hub_laws.specs.HubCommands.Growing.{GrowsFirst}
 use Rattle.iox_hub_laws.specs.HubCommands.Loans.{changed_under, set_in, filled_in, SendsUnder}
 use Rattle.iox_hub_laws.specs.HubCommands.Numbering.{LendsNumbered, LendsWrittenNumbered, ReceivesNumbered}
@@ -59,7 +62,8 @@ use Rattle.iox_hub_laws.specs.HubCommands.HubBase.AsHome.{with_services}
 use Rattle.iox_hub_laws.specs.HubCommands.HubBase.Opening.{Made as Opened}
 use Rattle.iox_hub_laws.specs.HubCommands.HubBase.ServicesAsHome.{stepped}
 use Rattle.iox_hub_laws.specs.HubCommands.Services.{PublisherComes, SubscriberComes, domain_of_factory}
-use Rattle.iox_hub_laws.specs.HubCommands.CommandSteps.{IsReplied, Step, publisher_may_degrade, publisher_may_decide, subscriber_may_degrade}
+use Rattle.iox_hub_laws.specs.HubCommands.CommandSteps.{IsReplied, Step, publisher_may_degrade, publisher_may_decide}
+use Rattle.iox_hub_laws.specs.HubCommands.CommandSteps.{subscriber_may_degrade}
 use Rattle.iox_hub_laws.specs.HubCommands.declared.numbered_hub.NumberedHub.{NumberedHub}
 
 -- a command that makes a node, or is about a service and its factories
@@ -74,7 +78,8 @@ OfServices asked = ⊥
 
 module _ {T U B D : Type 0} (R : Hub T U B D → Hub T U B D → Type 0) (stays : (old new : Hub T U B D) → new ≡ old → R old new)
     (on : (old mid new : Hub T U B D) → R old mid → R mid new → R old new)
-    (moves : (id : DomainId) (step : Domain T U B D → Domain T U B D) (hub : Hub T U B D) → R hub (with_services hub (stepped id step hub.services))) where
+    (moves : (id : DomainId) (step : Domain T U B D → Domain T U B D) (hub : Hub T U B D)
+    → R hub (with_services hub (stepped id step hub.services))) where
   put : (id : DomainId) (after : ServicePorts T U) (old : Hub T U B D) → R old (with_hub_ports id after old)
   put id after old = moves id (with_ports after) old
 
@@ -86,23 +91,27 @@ module _ {T U B D : Type 0} (R : Hub T U B D → Hub T U B D → Type 0) (stays 
 
   leaves : (id : DomainId) (forget : Domain T U B D → Domain T U B D) (step : ServicePorts T U → Bool → ServicePorts T U → Type 0)
       (found : Option (ServicePorts T U)) (old new : Hub T U B D) (answer : Bool)
-      → LeavesDomain (λ after. with_hub_ports id after old) (λ hub. with_services hub (stepped id forget hub.services)) step found old answer new → R old new
+      → LeavesDomain (λ after. with_hub_ports id after old) (λ hub. with_services hub (stepped id forget hub.services)) step found old
+      answer new → R old new
   leaves id forget step None old new answer at = stays old new at.1
   leaves id forget step (Some ports) old new false (after, does, is) = subst (λ hub. R old hub) (sym is) (put id after old)
   leaves id forget step (Some ports) old new true (after, does, is) =
       let mid = with_hub_ports id after old in
-      subst (λ hub. R old hub) (sym is) (on old mid (with_services mid (stepped id forget mid.services)) (put id after old) (moves id forget mid))
+      subst (λ hub. R old hub) (sym is) (on old mid (with_services mid (stepped id forget mid.services)) (put id after old)
+      (moves id forget mid))
 
   makes : {E : Type 0} (id : DomainId) (keep : ℕ → Domain T U B D → Domain T U B D)
       (step : ServicePorts T U → ℕ → ServicePorts T U → Type 0) (refusal : ServicePorts T U → E) (found : Option (ServicePorts T U))
       (old new : Hub T U B D) (answer : Option (Result ℕ E))
-      → MakesAt (λ after. with_hub_ports id after old) (λ n hub. with_services hub (stepped id (keep n) hub.services)) step refusal found old answer new → R old new
+      → MakesAt (λ after. with_hub_ports id after old) (λ n hub. with_services hub (stepped id (keep n) hub.services)) step refusal
+      found old answer new → R old new
   makes id keep step refusal None old new answer at = stays old new at.1
   makes id keep step refusal (Some ports) old new None at = absurd at
   makes id keep step refusal (Some ports) old new (Some (Err error)) at = stays old new at.1
   makes id keep step refusal (Some ports) old new (Some (Ok n)) (after, does, is) =
       let mid = with_hub_ports id after old in
-      subst (λ hub. R old hub) (sym is) (on old mid (with_services mid (stepped id (keep n) mid.services)) (put id after old) (moves id (keep n) mid))
+      subst (λ hub. R old hub) (sym is) (on old mid (with_services mid (stepped id (keep n) mid.services)) (put id after old)
+      (moves id (keep n) mid))
 
   changed_found : (id : DomainId) (change : ServicePorts T U → ServicePorts T U) (found : Option (ServicePorts T U)) (old : Hub T U B D)
       → R old (changed_at (λ after. with_hub_ports id after old) change found old)
@@ -128,7 +137,8 @@ module _ {T U B D : Type 0} (R : Hub T U B D → Hub T U B D → Type 0) (stays 
   -- room is made first
   first : {A : Type 0} (is_full : Type 0) (does : Made → Hub T U B D → A → Made → Hub T U B D → Type 0)
       → ((made after : Made) (old new : Hub T U B D) (answer : A) → does made old answer after new → R old new)
-      → (made after : Made) (old new : Hub T U B D) (answer : Result A AllocError) → GrowsFirst is_full does made old answer after new → R old new
+      → (made after : Made) (old new : Hub T U B D) (answer : Result A AllocError) → GrowsFirst is_full does made old answer after new
+      → R old new
   first is_full does each made after old new (Err lacking) goes = stays old new goes.2
   first is_full does each made after old new (Ok answer) (roomier, is_roomier, done) = each roomier after old new answer done
 
@@ -146,7 +156,8 @@ module _ {T U B D : Type 0} (R : Hub T U B D → Hub T U B D → Type 0) (stays 
   lends_written : (elements : ℕ) (value : T) (port : PortId) (old new : Hub T U B D) (answer : Option (Result ℕ LoanError))
       → LendsWritten hub_ports with_hub_ports elements value port old answer new → R old new
   lends_written elements value port old new answer (came, (lent, middle, does, fills), is_ready, is) =
-      on old middle new (at_domain port.domain (steps.LoansBy port.number elements elements) (hub_ports port.domain old) old middle (Some lent) does) (filled port elements value lent came middle new fills)
+      on old middle new (at_domain port.domain (steps.LoansBy port.number elements elements) (hub_ports port.domain old) old middle
+      (Some lent) does) (filled port elements value lent came middle new fills)
 
   pub loan_keeps : (is_default : T → Type 0) (publisher elements : ℕ) (made after : Made) (old new : Hub T U B D)
       (answer : Result (Reply T) AllocError) → LoanStep hub_ports with_hub_ports is_default publisher elements made old answer after new
@@ -154,14 +165,16 @@ module _ {T U B D : Type 0} (R : Hub T U B D → Hub T U B D → Type 0) (stays 
   loan_keeps is_default publisher elements made after old new answer (value, is_value, lent, goes, is_answer) =
       let port = ready hub_ports (lender elements (value_at made.publishers publisher)) old in
       first (IsFull made.loans) (LendsWrittenNumbered hub_ports with_hub_ports elements value port)
-      (λ before later hub other reply (outcome, at, numbers). at_port (LendsWritten hub_ports with_hub_ports elements value) (lends_written elements value) port hub other outcome at) made after old new lent goes
+      (λ before later hub other reply (outcome, at, numbers). at_port (LendsWritten hub_ports with_hub_ports elements value)
+      (lends_written elements value) port hub other outcome at) made after old new lent goes
 
   pub loan_uninit_keeps : (publisher elements : ℕ) (made after : Made) (old new : Hub T U B D) (answer : Result (Reply T) AllocError)
       → LoanUninitStep hub_ports with_hub_ports publisher elements made old answer after new → R old new
   loan_uninit_keeps publisher elements made after old new answer (lent, goes, is_answer) =
       let port = lender elements (value_at made.publishers publisher) in
       first (IsFull made.loans) (LendsNumbered hub_ports with_hub_ports elements port)
-      (λ before later hub other reply (outcome, at, numbers). at_port (Lends hub_ports with_hub_ports elements) (lends elements) port hub other outcome at) made after old new lent goes
+      (λ before later hub other reply (outcome, at, numbers). at_port (Lends hub_ports with_hub_ports elements) (lends elements) port
+      hub other outcome at) made after old new lent goes
 
   under : (change : ℕ → ℕ → ServicePorts T U → ServicePorts T U) (found : Option MadeLoan) (old : Hub T U B D)
       → R old (changed_under hub_ports with_hub_ports change found old)
@@ -210,17 +223,20 @@ module _ {T U B D : Type 0} (R : Hub T U B D → Hub T U B D → Type 0) (stays 
         → AfterLoan refused (WritesAndSends hub_ports with_hub_ports degrades decides port values) lent old answer new → R old new
     sent_after port values refused (Err error) answer old new after = stays old new after.1
     sent_after port values refused (Ok slot) answer old new (middle, writes, is_ready, sends) =
-        on old middle new (subst (λ hub. R old hub) (sym writes) (changed port.domain _ old)) (sends_at port slot middle new (Some answer) sends)
+        on old middle new (subst (λ hub. R old hub) (sym writes) (changed port.domain _ old))
+        (sends_at port slot middle new (Some answer) sends)
 
     puts : (values : List T) (port : PortId) (old new : Hub T U B D) (answer : Option (Result Sent SendError))
         → Puts hub_ports with_hub_ports degrades decides values port old answer new → R old new
     puts values port old new answer (sent, (lent, middle, does, sends), is) =
-        on old middle new (at_domain port.domain (steps.LoansBy port.number (length values) (length values)) (hub_ports port.domain old) old middle (Some lent) does) (sent_after port values _ lent sent middle new sends)
+        on old middle new (at_domain port.domain (steps.LoansBy port.number (length values) (length values)) (hub_ports port.domain old)
+        old middle (Some lent) does) (sent_after port values _ lent sent middle new sends)
 
     pub put_keeps : (publisher : ℕ) (values : List T) (made : Made) (old new : Hub T U B D) (answer : Reply T)
         → PutStep hub_ports with_hub_ports degrades decides publisher values made old answer new → R old new
     put_keeps publisher values made old new answer (sent, at, is) =
-        at_port (Puts hub_ports with_hub_ports degrades decides values) (puts values) (ready hub_ports (lender (length values) (value_at made.publishers publisher)) old) old new sent at
+        at_port (Puts hub_ports with_hub_ports degrades decides values) (puts values)
+        (ready hub_ports (lender (length values) (value_at made.publishers publisher)) old) old new sent at
 
     retries : (elapsed : ℕ) (port : PortId) (old new : Hub T U B D) (answer : Option (Result Sent SendError))
         → Retries hub_ports with_hub_ports decides elapsed port old answer new → R old new
@@ -266,7 +282,8 @@ module _ {T U B D : Type 0} (R : Hub T U B D → Hub T U B D → Type 0) (stays 
     receive_keeps subscriber made after old new answer (received, goes, is_told) =
         let port = value_at made.subscribers subscriber in
         first (IsFull made.samples) (ReceivesNumbered hub_ports with_hub_ports reader_degrades port)
-        (λ before later hub other reply (outcome, at, numbers). at_port (Receives hub_ports with_hub_ports reader_degrades) receives port hub other outcome at) made after old new received goes
+        (λ before later hub other reply (outcome, at, numbers). at_port (Receives hub_ports with_hub_ports reader_degrades) receives
+        port hub other outcome at) made after old new received goes
 
     follows : (port : PortId) (old new : Hub T U B D) (answer : Option (Result (Unit {0}) ConnectionFailure))
         → Follows hub_ports with_hub_ports degrades port old answer new → R old new
@@ -320,7 +337,8 @@ module _ {T U B D : Type 0} (R : Hub T U B D → Hub T U B D → Type 0) (stays 
 
   publisher_keeps : (is_default : U → Type 0) (fixed : BackpressureStrategy → Option BackpressureAction → DegradationAction → B)
       (degrades : B → DegradationCause → DegradationInfo → DegradationAction → Type 0) (opened : Option Opened) (options : PublisherOptions)
-      (old new : NumberedHub T U B D) (answer : Reply T) → PublisherComes is_default fixed degrades opened options old answer new → R old.hub new.hub
+      (old new : NumberedHub T U B D) (answer : Reply T) → PublisherComes is_default fixed degrades opened options old answer new
+      → R old.hub new.hub
   publisher_keeps is_default fixed degrades None options old new answer comes
       = stays old.hub new.hub (ap (λ numbered. numbered.hub) comes.1)
   publisher_keeps is_default fixed degrades (Some opened) options old new answer
@@ -343,7 +361,9 @@ module _ {T U B D : Type 0} (R : Hub T U B D → Hub T U B D → Type 0) (stays 
   replied does old new (Err lacking) keeps done = absurd done
 
   module _ (payload user_header : Detail) (types : MessageTypeDetails) (is_default : T → Type 0) (is_default_header : U → Type 0)
-      (fixed : BackpressureStrategy → Option BackpressureAction → DegradationAction → B) (degrades : B → DegradationCause → DegradationInfo → DegradationAction → Type 0) (decides : B → BackpressureInfo → BackpressureDecision → Type 0)
+      (fixed : BackpressureStrategy → Option BackpressureAction → DegradationAction → B)
+      (degrades : B → DegradationCause → DegradationInfo → DegradationAction → Type 0)
+      (decides : B → BackpressureInfo → BackpressureDecision → Type 0)
       (fixed_reader : DegradationAction → D) (reader_degrades : D → DegradationCause → DegradationInfo → DegradationAction → Type 0) where
     abbrev each : Command T → NumberedHub T U B D → Result (Reply T) AllocError → NumberedHub T U B D → Type 0
     each asked old answer new = Step payload user_header types is_default is_default_header fixed degrades decides fixed_reader

@@ -32,24 +32,12 @@ pub mod Opened
 pub mod Keeping
 pub mod Framed
 pub mod Ordered
-pub mod AloneNumbers
-pub mod AloneBeside
-pub mod Concerning
-pub mod Kept
-pub mod AloneRuns
-pub mod Factories
-pub mod Telling
-pub mod Beginning
-pub mod RenumberedTables
-pub mod RenumberedMade
-pub mod RenumberedSteps
-pub mod RenumberedRuns
 pub mod Homes
 pub mod Making
 pub mod RenamedPorts
 pub mod RenamedSteps
 pub mod RenamedServices
+pub mod RenamedFactories
 pub mod Commands
-pub mod RenamedRuns
 pub use Rattle.iox_hub_commands.proofs as HubCommands
 pub use Rattle.iox_negotiate.proofs as Negotiate

@@ -58,4 +58,5 @@ module _ {K X : Type 0} (step : X → X) where
       → insert_entry cmp (each entries) key (step new) ≡ each (insert_entry cmp entries key new)
   each_come cmp [] key new = refl
   each_come cmp (entry ∷ entries) key new =
-      come_here (cmp key entry.0) key entry.0 entry.1 new entries (insert_entry cmp entries key new) (insert_entry cmp (each entries) key (step new)) (each_come cmp entries key new)
+      come_here (cmp key entry.0) key entry.0 entry.1 new entries (insert_entry cmp entries key new)
+      (insert_entry cmp (each entries) key (step new)) (each_come cmp entries key new)

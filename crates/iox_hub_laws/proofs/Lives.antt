@@ -9,7 +9,8 @@ use Rattle.iox_hub_laws.specs.Negotiate.NegotiateTable.Contents.{Contents, entry
 use Rattle.iox_hub_laws.specs.Negotiate.NegotiateTable.declared.entry.Entry.{Entry}
 use Rattle.iox_hub_laws.specs.Negotiate.NegotiateTable.declared.entry.Entry.TheVariants.{Locked, Described}
 use Rattle.iox_hub_laws.specs.Negotiate.NegotiateTable.declared.node.Node.TheVariants.{Own, Foreign}
-use Rattle.iox_hub_laws.proofs.Negotiate.Changes.{Change, Same, LockOf, Without, PublishOf, NewSegment, OfSegment, WithoutSegment, ServiceOf, Removal, hash_of, changes, by_hash, elsewhere, rises}
+use Rattle.iox_hub_laws.proofs.Negotiate.Changes.{Change, Same, LockOf, Without, PublishOf, NewSegment, OfSegment, WithoutSegment}
+use Rattle.iox_hub_laws.proofs.Negotiate.Changes.{ServiceOf, Removal, hash_of, changes, by_hash, elsewhere, rises}
 use Rattle.iox_hub_laws.proofs.Negotiate.Closing.{entry-gone}
 use Rattle.iox_hub_laws.proofs.Negotiate.Stepping.{Past}
 use Rattle.iox_hub_laws.proofs.Negotiate.Tables.{IsTable, digest-self, happens}
@@ -53,18 +54,21 @@ module _ (hash : ServiceHash) (old new : Contents) where
   follows_change event table (Without is) = follows_none (ap (λ t. entry_at hash t) is ∙ entry-gone hash old table)
   follows_change event table (PublishOf node number bytes locked by is) =
       follows_described (Locked (Own node) number) number bytes locked refl
-      (ap (λ t. entry_at hash t) is ∙ set_at (is_at (digest_cmp hash.digest)) old.entries (Described number bytes) ∙ ap (λ found. option_map (λ e. Described number bytes) found) locked)
+      (ap (λ t. entry_at hash t) is ∙ set_at (is_at (digest_cmp hash.digest)) old.entries (Described number bytes) ∙ ap
+      (λ found. option_map (λ e. Described number bytes) found) locked)
   follows_change event table (NewSegment number node segment locked is) = follows_same (ap (λ t. entry_at hash t) is)
   follows_change event table (OfSegment number before segment stood room turns is) = follows_same (ap (λ t. entry_at hash t) is)
   follows_change event table (WithoutSegment number is) = follows_same (ap (λ t. entry_at hash t) is)
   follows_change event table (ServiceOf node number agreed locked by own is) =
       follows_described (Locked (Foreign node) number) number (line agreed) locked refl
-      (ap (λ t. entry_at hash t) is ∙ set_at (is_at (digest_cmp hash.digest)) old.entries (Described number (line agreed)) ∙ ap (λ found. option_map (λ e. Described number (line agreed)) found) locked)
+      (ap (λ t. entry_at hash t) is ∙ set_at (is_at (digest_cmp hash.digest)) old.entries (Described number (line agreed)) ∙ ap
+      (λ found. option_map (λ e. Described number (line agreed)) found) locked)
   follows_change event table (Removal number is) = follows_none (ap (λ t. entry_at hash t) is ∙ entry-gone hash old table)
 
   follows_event : (event : Event) → IsTable old → Happens old event new → Follows hash old new
   follows_event event table does =
-      by_hash (hash_of event) hash (λ same. follows_change event table (subst (λ h. Change event h old new) same (changes old new event does)))
+      by_hash (hash_of event) hash (λ same. follows_change event table
+      (subst (λ h. Change event h old new) same (changes old new event does)))
       (λ apart. follows_same (elsewhere (hash_of event) hash apart old new event (changes old new event does)).entry)
 
 -- the number that comes next never falls
@@ -89,7 +93,8 @@ follows_ran : (hash : ServiceHash) (events : List Event) (old new : Contents) �
 follows_ran hash [] old new table ran = follows_same hash old new (ap (λ t. entry_at hash t) ran)
 follows_ran hash (event ∷ events) old new table (mid, does, ran) =
     let first : old.next ≤ mid.next = rises event (hash_of event) old mid (changes old mid event does) in
-    λ entry found. from_on hash old mid new first (next_rises events mid new ran) (follows_event hash old mid event table does) (number_of entry)
+    λ entry found. from_on hash old mid new first (next_rises events mid new ran) (follows_event hash old mid event table does)
+    (number_of entry)
     (follows_ran hash events mid new (happens old mid table event does) ran entry found)
 
 -- where a table went on
@@ -98,23 +103,3 @@ past_rises old new past = next_rises past.events old new past.ran
 
 pub past_follows : (hash : ServiceHash) (old new : Contents) → IsTable old → Past old new → Follows hash old new
 past_follows hash old new table past = follows_ran hash past.events old new table past.ran
-
--- the table is the same one
-change_id : (event : Event) (hash : ServiceHash) (old new : Contents) → Change event hash old new → new.id ≡ old.id
-change_id event hash old new (Same is) = ap (λ t. t.id) is
-change_id event hash old new (LockOf node free is) = ap (λ t. t.id) is
-change_id event hash old new (Without is) = ap (λ t. t.id) is
-change_id event hash old new (PublishOf node number bytes locked by is) = ap (λ t. t.id) is
-change_id event hash old new (NewSegment number node segment locked is) = ap (λ t. t.id) is
-change_id event hash old new (OfSegment number before segment stood room turns is) = ap (λ t. t.id) is
-change_id event hash old new (WithoutSegment number is) = ap (λ t. t.id) is
-change_id event hash old new (ServiceOf node number agreed locked by own is) = ap (λ t. t.id) is
-change_id event hash old new (Removal number is) = ap (λ t. t.id) is
-
-ran_id : (events : List Event) (old new : Contents) → Ran old events new → new.id ≡ old.id
-ran_id [] old new ran = ap (λ t. t.id) ran
-ran_id (event ∷ events) old new (mid, does, ran)
-    = ran_id events mid new ran ∙ change_id event (hash_of event) old mid (changes old mid event does)
-
-pub past_id : (old new : Contents) → Past old new → new.id ≡ old.id
-past_id old new past = ran_id past.events old new past.ran

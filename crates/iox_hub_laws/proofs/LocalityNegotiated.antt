@@ -64,17 +64,25 @@ newest : (node : ℕ) (hash : ServiceHash) (service : Opened) (member : Membersh
     → StandsAs hash member table
 newest node hash service member table world of same =
     let is_open = (world.stand (factory_of node service) (inl refl)).is_open in
-    subst (λ s. (bytes : List ℕ) × (entry_at hash table ≡ Some (Described s.number bytes)) × (s.description.service_hash ≡ hash)) same
-    (line service.description, subst (λ h. entry_at h table ≡ Some (Described service.number (line service.description))) of is_open.published, of)
+    subst (λ s. (bytes : List ℕ) × (entry_at hash table ≡ Some (Described s.number bytes)) × (s.description.service_hash ≡ hash)) same (
+      line service.description,
+      subst (λ h. entry_at h table ≡ Some (Described service.number (line service.description))) of
+          is_open.published,
+      of,
+    )
 
 module _ {E : Type 0} (node : ℕ) where
   pub creating : (agreed : Agreement) (limits is_too_long : Type 0) (error : CreateFailure → E)
-      → IsNegotiation agreed.service_hash (λ before came after. Creates SteppedSight before.table.id agreed.service_hash node agreed limits is_too_long error before came after)
+      → IsNegotiation agreed.service_hash
+      (λ before came after. Creates SteppedSight before.table.id agreed.service_hash node agreed limits is_too_long error before
+      came after)
   creating agreed limits is_too_long error = record {
     alike = λ one new other came agree first second creates.
         let done = creates.negotiated.done in
         let (after, went, later) =
-        stepped_went_alike agreed.service_hash done.made one new other (creates_under agreed.service_hash agreed node creates.refusal done.made creates.negotiated.answer done.told) agree first second done.went in (
+        stepped_went_alike agreed.service_hash done.made one new other
+        (creates_under agreed.service_hash agreed node creates.refusal done.made creates.negotiated.answer done.told) agree first
+        second done.went in (
           after,
           record {
             refusal = creates.refusal;
@@ -94,16 +102,19 @@ module _ {E : Type 0} (node : ℕ) where
     stands = λ old new member table creates. let done = creates.negotiated.done in
         let (service, came, same) = member_is old.table.id node error creates.negotiated.answer member creates.negotiated.told in
         let told = subst (λ a. CreatesIf agreed.service_hash node agreed creates.refusal done.made a) came done.told in
-        newest node agreed.service_hash service member new.table (creates-ends [] node agreed old new (alone old.table table) creates.refusal done.made service told done.went)
+        newest node agreed.service_hash service member new.table
+        (creates-ends [] node agreed old new (alone old.table table) creates.refusal done.made service told done.went)
         (ap (λ a. a.service_hash) (creates-service agreed.service_hash node agreed creates.refusal done.made service told).1) same;
   }
 
   pub opening : {V : Type 0} (hash : ServiceHash) (verdict : Agreement → Result (Unit {0}) V) (error : OpenFailure V → E)
-      → IsNegotiation hash (λ before came after. Negotiates SteppedSight before.table.id node error (λ made answer. Opens hash node verdict made answer) before came after)
+      → IsNegotiation hash (λ before came after. Negotiates SteppedSight before.table.id node error
+      (λ made answer. Opens hash node verdict made answer) before came after)
   opening {V} hash verdict error = record {
     alike = λ one new other came agree first second opens.
         let done = opens.done in
-        let (after, went, later) = stepped_went_alike hash done.made one new other (opens_under hash node verdict done.made opens.answer done.told) agree first second done.went in (
+        let (after, went, later) = stepped_went_alike hash done.made one new other
+        (opens_under hash node verdict done.made opens.answer done.told) agree first second done.went in (
           after,
           record {
             answer = opens.answer;
@@ -112,21 +123,28 @@ module _ {E : Type 0} (node : ℕ) where
           },
           later,
         );
-    goes = λ old new came opens. (opens.done.made, opens_under hash node verdict opens.done.made opens.answer opens.done.told, opens.done.went);
+    goes = λ old new came opens.
+        (opens.done.made, opens_under hash node verdict opens.done.made opens.answer opens.done.told, opens.done.went);
     stands = λ old new member table opens. let done = opens.done in
         let (service, came, same) = member_is old.table.id node error opens.answer member opens.told in
         let told = subst (λ a. Opens hash node verdict done.made a) came done.told in
-        newest node hash service member new.table (opens-ends hash node verdict [] done.made service old new (alone old.table table) told done.went) (opens-met V hash node verdict done.made service told).0 same;
+        newest node hash service member new.table
+        (opens-ends hash node verdict [] done.made service old new (alone old.table table) told done.went)
+        (opens-met V hash node verdict done.made service told).0 same;
   }
 
   pub either : {V : Type 0} (verdict : Agreement → Result (Unit {0}) V) (agreed : Agreement) (limits is_too_long : Type 0)
       (error : OpenOrCreateFailure V → E)
-      → IsNegotiation agreed.service_hash (λ before came after. Either SteppedSight before.table.id agreed.service_hash node verdict agreed limits is_too_long error before came after)
+      → IsNegotiation agreed.service_hash
+      (λ before came after. Either SteppedSight before.table.id agreed.service_hash node verdict agreed limits is_too_long error
+      before came after)
   either {V} verdict agreed limits is_too_long error = record {
     alike = λ one new other came agree first second either.
         let done = either.negotiated.done in
         let (after, went, later) =
-        stepped_went_alike agreed.service_hash done.made one new other (either_under agreed.service_hash node verdict agreed either.refusal done.made either.negotiated.answer done.told) agree first second done.went in (
+        stepped_went_alike agreed.service_hash done.made one new other
+        (either_under agreed.service_hash node verdict agreed either.refusal done.made either.negotiated.answer done.told) agree
+        first second done.went in (
           after,
           record {
             refusal = either.refusal;
@@ -141,11 +159,16 @@ module _ {E : Type 0} (node : ℕ) where
           },
           later,
         );
-    goes = λ old new came either. let done = either.negotiated.done in
-        (done.made, either_under agreed.service_hash node verdict agreed either.refusal done.made either.negotiated.answer done.told, done.went);
+    goes = λ old new came either. let done = either.negotiated.done in (
+      done.made,
+      either_under agreed.service_hash node verdict agreed either.refusal done.made either.negotiated.answer done.told,
+      done.went,
+    );
     stands = λ old new member table either. let done = either.negotiated.done in
         let (service, came, same) = member_is old.table.id node error either.negotiated.answer member either.negotiated.told in
         let told = subst (λ a. OpensOrCreates agreed.service_hash node verdict agreed either.refusal done.made a) came done.told in
-        newest node agreed.service_hash service member new.table (either-ends node verdict agreed either.refusal [] done.made service old new (alone old.table table) told done.went)
-        (⊎_elim (λ met. met.0) (λ created. ap (λ a. a.service_hash) created.0) (either-met V agreed.service_hash node verdict agreed either.refusal done.made service told)) same;
+        newest node agreed.service_hash service member new.table
+        (either-ends node verdict agreed either.refusal [] done.made service old new (alone old.table table) told done.went)
+        (⊎_elim (λ met. met.0) (λ created. ap (λ a. a.service_hash) created.0)
+        (either-met V agreed.service_hash node verdict agreed either.refusal done.made service told)) same;
   }

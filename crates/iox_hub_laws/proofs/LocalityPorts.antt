@@ -1,5 +1,6 @@
 -- What the calls of a port do in two hubs that have its domain the same.
-use Rattle.std.proofs.Common.{◌≡◌, ◌∙◌, ◌||◌, ◌==◌, if◌then◌else◌, ℕ, Bool, true, false, List, Option, None, Some, Result, Ok, Err, refl, sym, ap, subst, length}
+use Rattle.std.proofs.Common.{◌≡◌, ◌∙◌, ◌||◌, ◌==◌, if◌then◌else◌, ℕ, Bool, true, false, List, Option, None, Some, Result, Ok, Err, refl}
+use Rattle.std.proofs.Common.{sym, ap, subst, length}
 use Rattle.std.specs.Prelude.{replicate, IfOk}
 use Rattle.iox_hub_laws.specs.HubCommands.DescribeBase.declared.hash.ServiceHash.{ServiceHash}
 use Rattle.iox_hub_laws.specs.HubCommands.Delivery.Lent.{IsReady}
@@ -21,7 +22,8 @@ use Rattle.iox_hub_laws.specs.HubCommands.DomainValues.declared.degradation.Degr
 use Rattle.iox_hub_laws.specs.HubCommands.DomainValues.declared.degradation.DegradationInfo.{DegradationInfo}
 use Rattle.iox_hub_laws.specs.HubCommands.DomainValues.declared.port_error.LoanError.{LoanError}
 use Rattle.iox_hub_laws.specs.HubCommands.DomainValues.declared.port_error.SendError.{SendError}
-use Rattle.iox_hub_laws.specs.HubCommands.Calls.{AtPort, AtPortIf, Lends, LendsWritten, Puts, Follows, Sends, Retries, GivesUp, PublisherGoes, FollowsPublishers, Tells, Receives, SubscriberGoes, may_lend, ready}
+use Rattle.iox_hub_laws.specs.HubCommands.Calls.{AtPort, AtPortIf, Lends, LendsWritten, Puts, Follows, Sends, Retries, GivesUp}
+use Rattle.iox_hub_laws.specs.HubCommands.Calls.{PublisherGoes, FollowsPublishers, Tells, Receives, SubscriberGoes, may_lend, ready}
 use Rattle.iox_hub_laws.specs.HubCommands.Loans.{changed_under, SendsUnder}
 use Rattle.iox_hub_laws.specs.HubCommands.Reading.{ReleasesUnder}
 use Rattle.iox_hub_laws.specs.HubCommands.Tables.{lender, port_under}
@@ -31,7 +33,8 @@ use Rattle.iox_hub_laws.specs.HubCommands.declared.ports.made.MadeSample.{MadeSa
 use Rattle.iox_hub_laws.specs.HubCommands.Domain.Handling.{kept_degrades, kept_decides}
 use Rattle.iox_hub_laws.specs.HubCommands.HubBase.AsHome.{hub_ports, with_hub_ports, without_hub_publisher, without_hub_subscriber}
 use Rattle.iox_hub_laws.specs.HubCommands.HubBase.declared.hub.Hub.{Hub}
-use Rattle.iox_hub_laws.specs.HubCommands.HubBase.ServicesAsHome.{publisher_forgotten, subscriber_forgotten, publisher_handlers_in, subscriber_handler_in}
+use Rattle.iox_hub_laws.specs.HubCommands.HubBase.ServicesAsHome.{publisher_forgotten, subscriber_forgotten, publisher_handlers_in}
+use Rattle.iox_hub_laws.specs.HubCommands.HubBase.ServicesAsHome.{subscriber_handler_in}
 use Rattle.iox_hub_laws.specs.Asking.{service_at, publisher_service, loan_service, sample_service}
 use Rattle.iox_hub_laws.specs.HubCommands.CommandSteps.{publisher_may_degrade, publisher_may_decide, subscriber_may_degrade}
 use Rattle.iox_hub_laws.specs.Agreeing.{HubsAgree}
@@ -93,7 +96,9 @@ module _ {T U B D : Type 0} (hash : ServiceHash) (mine : ℕ → Bool) where
   filled_alike elements value port of (Ok slot) one new other answer agree ((written, finds), is) =
       let change = each_written_in port.number slot (replicate elements value) in
       let after = changed_at (λ ports. with_hub_ports port.domain ports other) change (hub_ports port.domain other) other in
-      let agree_after = agree_still hash mine (changed_at (λ ports. with_hub_ports port.domain ports one) change (hub_ports port.domain one) one) new after (changed_agree hash mine port.domain of change one other agree) written in (
+      let agree_after = agree_still hash mine
+      (changed_at (λ ports. with_hub_ports port.domain ports one) change (hub_ports port.domain one) one) new after
+      (changed_agree hash mine port.domain of change one other agree) written in (
         after,
         (
           (
@@ -125,7 +130,8 @@ module _ {T U B D : Type 0} (hash : ServiceHash) (mine : ℕ → Bool) where
 
   changed_found : (change : ℕ → ℕ → ServicePorts T U → ServicePorts T U) (found : Option MadeLoan) → IsOf loan_service mine found
       → (one other : Hub T U B D) → HubsAgree hash mine one other
-      → HubsAgree hash mine (changed_under hub_ports with_hub_ports change found one) (changed_under hub_ports with_hub_ports change found other)
+      → HubsAgree hash mine (changed_under hub_ports with_hub_ports change found one)
+      (changed_under hub_ports with_hub_ports change found other)
   changed_found change None of one other agree = agree
   changed_found change (Some made) of one other agree
       = changed_agree hash mine made.port.domain of (change made.port.number made.slot) one other agree
@@ -133,10 +139,12 @@ module _ {T U B D : Type 0} (hash : ServiceHash) (mine : ℕ → Bool) where
   -- the loan that goes by a number changes
   pub changed_alike : (done : Bool) (change : ℕ → ℕ → ServicePorts T U → ServicePorts T U) (found : Option MadeLoan)
       → IsOf loan_service mine found → (one new other : Hub T U B D) → HubsAgree hash mine one other
-      → new ≡ (if done then changed_under hub_ports with_hub_ports change found one else one) → HubsAgree hash mine new (if done then changed_under hub_ports with_hub_ports change found other else other)
+      → new ≡ (if done then changed_under hub_ports with_hub_ports change found one else one)
+      → HubsAgree hash mine new (if done then changed_under hub_ports with_hub_ports change found other else other)
   changed_alike false change found of one new other agree is = agree_still hash mine one new other agree is
   changed_alike true change found of one new other agree is =
-      agree_still hash mine (changed_under hub_ports with_hub_ports change found one) new (changed_under hub_ports with_hub_ports change found other) (changed_found change found of one other agree) is
+      agree_still hash mine (changed_under hub_ports with_hub_ports change found one) new
+      (changed_under hub_ports with_hub_ports change found other) (changed_found change found of one other agree) is
 
   -- ---- sends
 
@@ -146,7 +154,9 @@ module _ {T U B D : Type 0} (hash : ServiceHash) (mine : ℕ → Bool) where
         → Alike {T = T} {U = U} {B = B} {D = D} hash mine
         (Sends {T = T} {U = U} hub_ports with_hub_ports (publisher_may_degrade degrades) (publisher_may_decide decides) slot port)
     sends_alike slot port of =
-        at_domain_alike hash mine port.domain of (λ found. steps.SendsBy (kept_degrades degrades (publisher_handlers_in port.number found)) (kept_decides decides (publisher_handlers_in port.number found)) port.number slot)
+        at_domain_alike hash mine port.domain of
+        (λ found. steps.SendsBy (kept_degrades degrades (publisher_handlers_in port.number found))
+        (kept_decides decides (publisher_handlers_in port.number found)) port.number slot)
 
     pub sends_under_alike : (found : Option MadeLoan) → IsOf loan_service mine found
         → Alike {T = T} {U = U} {B = B} {D = D} hash mine
@@ -156,16 +166,26 @@ module _ {T U B D : Type 0} (hash : ServiceHash) (mine : ℕ → Bool) where
 
     sent_alike : (values : List T) (port : PortId) → mine (service_at port) ≡ true
         → (refused : LoanError → Result Sent SendError) (lent : Result ℕ LoanError)
-        → Alike {T = T} {U = U} {B = B} {D = D} hash mine (AfterLoan refused (WritesAndSends {T = T} {U = U} hub_ports with_hub_ports (publisher_may_degrade degrades) (publisher_may_decide decides) port values) lent)
+        → Alike {T = T} {U = U} {B = B} {D = D} hash mine
+        (AfterLoan refused (WritesAndSends {T = T} {U = U} hub_ports with_hub_ports (publisher_may_degrade degrades)
+        (publisher_may_decide decides) port values) lent)
     sent_alike values port of refused (Err error) one new other answer agree after
         = (other, (after.0, refl), agree_still hash mine one new other agree after.1)
     sent_alike values port of refused (Ok slot) one new other answer agree (middle, writes, is_ready, sends) =
         let change = written_in port.number (λ publisher. has_length slot (length values) publisher.sender.uses) slot (write_all values) in
         let between = changed_at (λ ports. with_hub_ports port.domain ports other) change (hub_ports port.domain other) other in
-        let agree_between = agree_still hash mine (changed_at (λ ports. with_hub_ports port.domain ports one) change (hub_ports port.domain one) one) middle between (changed_agree hash mine port.domain of change one other agree) writes in
+        let agree_between = agree_still hash mine
+        (changed_at (λ ports. with_hub_ports port.domain ports one) change (hub_ports port.domain one) one) middle between
+        (changed_agree hash mine port.domain of change one other agree) writes in
         let (after, sends_there, agree_after) = sends_alike slot port of middle new between (Some answer) agree_between sends in (
           after,
-          (between, refl, subst (λ ports. IsReady port.number values (length values) slot ports) (sym (ports_same hash mine port.domain of middle between agree_between)) is_ready, sends_there),
+          (
+            between,
+            refl,
+            subst (λ ports. IsReady port.number values (length values) slot ports)
+                (sym (ports_same hash mine port.domain of middle between agree_between)) is_ready,
+            sends_there,
+          ),
           agree_after,
         )
 

@@ -1,5 +1,6 @@
 -- What each command of ports does in two hubs that agree on the service that it asks.
-use Rattle.std.proofs.Common.{◌≡◌, ◌∙◌, ℕ, Bool, true, List, Option, None, Some, option_map, Result, Ok, Err, refl, sym, ap, subst, length, if◌then◌else◌}
+use Rattle.std.proofs.Common.{◌≡◌, ◌∙◌, ℕ, Bool, true, List, Option, None, Some, option_map, Result, Ok, Err, refl, sym, ap, subst}
+use Rattle.std.proofs.Common.{length, if◌then◌else◌}
 use Rattle.std.specs.Prelude.{is_some}
 use Rattle.std.specs.declared.alloc.AllocError.{AllocError}
 use Rattle.iox_hub_laws.specs.HubCommands.Command.declared.command.Command.{Command}
@@ -24,7 +25,8 @@ use Rattle.iox_hub_laws.specs.HubCommands.DomainValues.declared.degradation.Degr
 use Rattle.iox_hub_laws.specs.HubCommands.DomainValues.declared.degradation.DegradationInfo.{DegradationInfo}
 use Rattle.iox_hub_laws.specs.HubCommands.DomainValues.declared.port_error.ReceiveError.{ReceiveError}
 use Rattle.iox_hub_laws.specs.HubCommands.Following.{LeaveStep}
-use Rattle.iox_hub_laws.specs.HubCommands.Calls.{AtPort, AtPortIf, Lends, LendsWritten, Puts, Follows, Retries, GivesUp, PublisherGoes, FollowsPublishers, Tells, Receives, SubscriberGoes, ready}
+use Rattle.iox_hub_laws.specs.HubCommands.Calls.{AtPort, AtPortIf, Lends, LendsWritten, Puts, Follows, Retries, GivesUp, PublisherGoes}
+use Rattle.iox_hub_laws.specs.HubCommands.Calls.{FollowsPublishers, Tells, Receives, SubscriberGoes, ready}
 use Rattle.iox_hub_laws.specs.HubCommands.Loans.{loan_under, is_set, set_in, is_filled, filled_in, changed_under, SendsUnder}
 use Rattle.iox_hub_laws.specs.HubCommands.Numbering.{removed_if, LendsNumbered, LendsWrittenNumbered, ReceivesNumbered, NumbersSample}
 use Rattle.iox_hub_laws.specs.HubCommands.Reading.{values_under, is_held, ReleasesUnder}
@@ -59,8 +61,13 @@ use Rattle.iox_hub_laws.specs.Agreeing.{SameOf, HubsAgree, MadeAgree, AgreeOn}
 use Rattle.iox_hub_laws.specs.Locality.{IsOfPorts, FoundMine, Concerns, PortsAnswerAlike}
 use Rattle.iox_hub_laws.proofs.LocalityTables.{IsOf, named_alike}
 use Rattle.iox_hub_laws.proofs.Domains.{Alike, ports_same, makes_alike}
-use Rattle.iox_hub_laws.proofs.Made.{MadeRises, same_room, roomier_rises, made_still, roomier_agrees, publishers_spent, subscribers_spent, loans_spent, samples_spent, loans_numbered, samples_numbered, publishers_numbered, subscribers_numbered}
-use Rattle.iox_hub_laws.proofs.LocalityPorts.{under_of, lender_of, ready_of, ready_same, at_port_alike, at_port_if_alike, lends_alike, lends_written_alike, changed_alike, sends_under_alike, puts_alike, retries_alike, follows_alike, gives_up_alike, releases_alike, receives_alike, follows_publishers_alike, tells_alike, publisher_goes_alike, subscriber_goes_alike}
+use Rattle.iox_hub_laws.proofs.Made.{MadeRises, same_room, roomier_rises, made_still, roomier_agrees, publishers_spent, subscribers_spent}
+use Rattle.iox_hub_laws.proofs.Made.{loans_spent, samples_spent, loans_numbered, samples_numbered, publishers_numbered}
+use Rattle.iox_hub_laws.proofs.Made.{subscribers_numbered}
+use Rattle.iox_hub_laws.proofs.LocalityPorts.{under_of, lender_of, ready_of, ready_same, at_port_alike, at_port_if_alike, lends_alike}
+use Rattle.iox_hub_laws.proofs.LocalityPorts.{lends_written_alike, changed_alike, sends_under_alike, puts_alike, retries_alike}
+use Rattle.iox_hub_laws.proofs.LocalityPorts.{follows_alike, gives_up_alike, releases_alike, receives_alike, follows_publishers_alike}
+use Rattle.iox_hub_laws.proofs.LocalityPorts.{tells_alike, publisher_goes_alike, subscriber_goes_alike}
 
 not_lacking : {A : Type 0} (answer : A) (lacking : AllocError) → Ok answer ≡ Err lacking → ⊥
 not_lacking answer lacking e = cc
@@ -102,11 +109,13 @@ module _ {T U B D : Type 0} (hash : ServiceHash) (mine : ℕ → Bool) where
   -- so it is in the other hub, too, with what goes by numbers there, and then they agree again
   abbrev Goes : {A : Type 0} → (Made → Hub T U B D → A → Made → Hub T U B D → Type 0) → Made → Hub T U B D → A → Made → Hub T U B D → Type 0
   Goes does other_made other answer after new =
-      (there : Made) × (later : Hub T U B D) × does other_made other answer there later × MadeAgree mine after there × HubsAgree hash mine new later
+      (there : Made) × (later : Hub T U B D) × does other_made other answer there later × MadeAgree mine after there
+      × HubsAgree hash mine new later
 
   loan_alike : (is_default : T → Type 0) (publisher elements : ℕ) (one_made after other_made : Made) (one new other : Hub T U B D)
       (reply : Reply T) → MadeRises one_made → MadeRises other_made → MadeAgree mine one_made other_made → HubsAgree hash mine one other
-      → (value_at other_made.publishers publisher ≡ value_at one_made.publishers publisher) × IsOf publisher_service mine (value_at one_made.publishers publisher)
+      → (value_at other_made.publishers publisher ≡ value_at one_made.publishers publisher)
+      × IsOf publisher_service mine (value_at one_made.publishers publisher)
       → LoanStep hub_ports with_hub_ports is_default publisher elements one_made one (Ok reply) after new
       → Goes (LoanStep hub_ports with_hub_ports is_default publisher elements) other_made other (Ok reply) after new
   loan_alike is_default publisher elements one_made after other_made one new other reply rises other_rises agree hubs found
@@ -115,9 +124,13 @@ module _ {T U B D : Type 0} (hash : ServiceHash) (mine : ℕ → Bool) where
       (value, is_value, Ok lent, (roomier, is_roomier, (came, at, numbers)), is) =
       let named = lender elements (value_at one_made.publishers publisher) in
       let named_of = lender_of mine elements (value_at one_made.publishers publisher) found.1 in
-      let (later, at_there, hubs_after) = at_port_alike hash mine (LendsWritten hub_ports with_hub_ports elements value) (λ port own. lends_written_alike hash mine elements value port own) (ready hub_ports named one) (ready_of hash mine named one named_of) one new other came hubs at in
+      let (later, at_there, hubs_after) = at_port_alike hash mine (LendsWritten hub_ports with_hub_ports elements value)
+      (λ port own. lends_written_alike hash mine elements value port own) (ready hub_ports named one)
+      (ready_of hash mine named one named_of) one new other came hubs at in
       let (there, numbers_there, agree_after) =
-      loans_numbered mine (ready hub_ports named one) came lent roomier after other_made (roomier_rises one_made roomier is_roomier rises) other_rises (roomier_agrees mine one_made roomier other_made is_roomier agree) numbers in
+      loans_numbered mine (ready hub_ports named one) came lent roomier after other_made
+      (roomier_rises one_made roomier is_roomier rises) other_rises
+      (roomier_agrees mine one_made roomier other_made is_roomier agree) numbers in
       let same : ready hub_ports (lender elements (value_at other_made.publishers publisher)) other ≡ ready hub_ports named one =
       ap (λ it. ready hub_ports (lender elements it) other) found.0 ∙ ready_same hash mine named one other named_of hubs in (
         there,
@@ -140,7 +153,8 @@ module _ {T U B D : Type 0} (hash : ServiceHash) (mine : ℕ → Bool) where
 
   loan_uninit_alike : (publisher elements : ℕ) (one_made after other_made : Made) (one new other : Hub T U B D) (reply : Reply T)
       → MadeRises one_made → MadeRises other_made → MadeAgree mine one_made other_made → HubsAgree hash mine one other
-      → (value_at other_made.publishers publisher ≡ value_at one_made.publishers publisher) × IsOf publisher_service mine (value_at one_made.publishers publisher)
+      → (value_at other_made.publishers publisher ≡ value_at one_made.publishers publisher)
+      × IsOf publisher_service mine (value_at one_made.publishers publisher)
       → LoanUninitStep {T = T} {U = U} hub_ports with_hub_ports publisher elements one_made one (Ok reply) after new
       → Goes (LoanUninitStep {T = T} {U = U} hub_ports with_hub_ports publisher elements) other_made other (Ok reply) after new
   loan_uninit_alike publisher elements one_made after other_made one new other reply rises other_rises agree hubs found
@@ -149,9 +163,11 @@ module _ {T U B D : Type 0} (hash : ServiceHash) (mine : ℕ → Bool) where
       (Ok lent, (roomier, is_roomier, (came, at, numbers)), is) =
       let named = lender elements (value_at one_made.publishers publisher) in
       let named_of = lender_of mine elements (value_at one_made.publishers publisher) found.1 in
-      let (later, at_there, hubs_after) = at_port_alike hash mine (Lends hub_ports with_hub_ports elements) (λ port own. lends_alike hash mine elements port own) named named_of one new other came hubs at in
+      let (later, at_there, hubs_after) = at_port_alike hash mine (Lends hub_ports with_hub_ports elements)
+      (λ port own. lends_alike hash mine elements port own) named named_of one new other came hubs at in
       let (there, numbers_there, agree_after) =
-      loans_numbered mine named came lent roomier after other_made (roomier_rises one_made roomier is_roomier rises) other_rises (roomier_agrees mine one_made roomier other_made is_roomier agree) numbers in (
+      loans_numbered mine named came lent roomier after other_made (roomier_rises one_made roomier is_roomier rises) other_rises
+      (roomier_agrees mine one_made roomier other_made is_roomier agree) numbers in (
         there,
         later,
         (
@@ -172,40 +188,52 @@ module _ {T U B D : Type 0} (hash : ServiceHash) (mine : ℕ → Bool) where
   told_alike : (port : Option PortId) (taken : Option (Result (Option Taken) ReceiveError))
       (received : Option (Result (Option ℕ) ReceiveError)) (one_made after other_made there : Made) (new later : Hub T U B D)
       (reply : Reply T)
-      → IsOf service_at mine port → MadeRises one_made → MadeRises other_made → MadeAgree mine one_made other_made → HubsAgree hash mine new later
+      → IsOf service_at mine port → MadeRises one_made → MadeRises other_made → MadeAgree mine one_made other_made
+      → HubsAgree hash mine new later
       → NumbersSample port taken one_made received after → NumbersSample port taken other_made received there
       → IsReceiveReply (λ sample. values_under hub_ports (value_at after.samples sample) new) received reply
       → IsReceiveReply (λ sample. values_under hub_ports (value_at there.samples sample) later) received reply
   told_alike port None received one_made after other_made there new later reply of rises other_rises agree hubs numbers numbers_there told =
-      let back = subst (λ answer. IsReceiveReply (λ sample. values_under hub_ports (value_at after.samples sample) new) answer reply) numbers.0 told in
-      subst (λ answer. IsReceiveReply (λ sample. values_under hub_ports (value_at there.samples sample) later) answer reply) (sym numbers.0) back
+      let back = subst (λ answer. IsReceiveReply (λ sample. values_under hub_ports (value_at after.samples sample) new) answer reply)
+      numbers.0 told in
+      subst (λ answer. IsReceiveReply (λ sample. values_under hub_ports (value_at there.samples sample) later) answer reply)
+      (sym numbers.0) back
   told_alike port (Some (Err error)) received one_made after other_made there new later reply of rises other_rises agree hubs numbers
       numbers_there told =
-      let back = subst (λ answer. IsReceiveReply (λ sample. values_under hub_ports (value_at after.samples sample) new) answer reply) numbers.0 told in
-      subst (λ answer. IsReceiveReply (λ sample. values_under hub_ports (value_at there.samples sample) later) answer reply) (sym numbers.0) back
+      let back = subst (λ answer. IsReceiveReply (λ sample. values_under hub_ports (value_at after.samples sample) new) answer reply)
+      numbers.0 told in
+      subst (λ answer. IsReceiveReply (λ sample. values_under hub_ports (value_at there.samples sample) later) answer reply)
+      (sym numbers.0) back
   told_alike port (Some (Ok None)) received one_made after other_made there new later reply of rises other_rises agree hubs numbers
       numbers_there told =
-      let back = subst (λ answer. IsReceiveReply (λ sample. values_under hub_ports (value_at after.samples sample) new) answer reply) numbers.0 told in
-      subst (λ answer. IsReceiveReply (λ sample. values_under hub_ports (value_at there.samples sample) later) answer reply) (sym numbers.0) back
+      let back = subst (λ answer. IsReceiveReply (λ sample. values_under hub_ports (value_at after.samples sample) new) answer reply)
+      numbers.0 told in
+      subst (λ answer. IsReceiveReply (λ sample. values_under hub_ports (value_at there.samples sample) later) answer reply)
+      (sym numbers.0) back
   told_alike None (Some (Ok (Some taken))) received one_made after other_made there new later reply of rises other_rises agree hubs
       numbers numbers_there told = absurd numbers
   told_alike (Some port) (Some (Ok (Some taken))) received one_made after other_made there new later reply of rises other_rises agree
       hubs numbers numbers_there told =
       let sample : MadeSample = record { port = port; taken = taken } in
       let n = one_made.samples.next in
-      let here : value_at after.samples n ≡ Some sample = ap (λ (made : Made). value_at made.samples n) numbers.1 ∙ (found_and_gone MadeSample).put one_made.samples sample rises.3 in
+      let here : value_at after.samples n ≡ Some sample
+      = ap (λ (made : Made). value_at made.samples n) numbers.1 ∙ (found_and_gone MadeSample).put one_made.samples sample rises.3 in
       let elsewhere : value_at there.samples n ≡ Some sample =
-      ap (λ (made : Made). value_at made.samples n) numbers_there.1 ∙ ap (λ m. value_at (inserted other_made.samples sample) m) (sym agree.samples.1) ∙ (found_and_gone MadeSample).put other_made.samples sample other_rises.3 in
+      ap (λ (made : Made). value_at made.samples n) numbers_there.1 ∙ ap (λ m. value_at (inserted other_made.samples sample) m)
+      (sym agree.samples.1) ∙ (found_and_gone MadeSample).put other_made.samples sample other_rises.3 in
       let same : values_under hub_ports (value_at there.samples n) later ≡ values_under hub_ports (value_at after.samples n) new =
-      ap (λ found. values_under hub_ports found later) elsewhere ∙ values_same (Some sample) of new later hubs ∙ sym (ap (λ found. values_under hub_ports found new) here) in
+      ap (λ found. values_under hub_ports found later) elsewhere ∙ values_same (Some sample) of new later hubs ∙ sym
+      (ap (λ found. values_under hub_ports found new) here) in
       let back : IsArrival n (values_under hub_ports (value_at after.samples n) new) reply =
       subst (λ answer. IsReceiveReply (λ one. values_under hub_ports (value_at after.samples one) new) answer reply) numbers.0 told in
-      subst (λ answer. IsReceiveReply (λ one. values_under hub_ports (value_at there.samples one) later) answer reply) (sym numbers.0) (subst (λ values. IsArrival n values reply) (sym same) back)
+      subst (λ answer. IsReceiveReply (λ one. values_under hub_ports (value_at there.samples one) later) answer reply) (sym numbers.0)
+      (subst (λ values. IsArrival n values reply) (sym same) back)
 
   receive_alike : (degrades : D → DegradationCause → DegradationInfo → DegradationAction → Type 0) (subscriber : ℕ)
       (one_made after other_made : Made) (one new other : Hub T U B D) (reply : Reply T) → MadeRises one_made → MadeRises other_made
       → MadeAgree mine one_made other_made → HubsAgree hash mine one other
-      → (value_at other_made.subscribers subscriber ≡ value_at one_made.subscribers subscriber) × IsOf service_at mine (value_at one_made.subscribers subscriber)
+      → (value_at other_made.subscribers subscriber ≡ value_at one_made.subscribers subscriber)
+      × IsOf service_at mine (value_at one_made.subscribers subscriber)
       → ReceiveStep hub_ports with_hub_ports (subscriber_may_degrade degrades) subscriber one_made one (Ok reply) after new
       → Goes (ReceiveStep hub_ports with_hub_ports (subscriber_may_degrade degrades) subscriber) other_made other (Ok reply) after new
   receive_alike degrades subscriber one_made after other_made one new other reply rises other_rises agree hubs found
@@ -213,10 +241,12 @@ module _ {T U B D : Type 0} (hash : ServiceHash) (mine : ℕ → Bool) where
   receive_alike degrades subscriber one_made after other_made one new other reply rises other_rises agree hubs found
       (Ok received, (roomier, is_roomier, (came, at, numbers)), told) =
       let port = value_at one_made.subscribers subscriber in
-      let (later, at_there, hubs_after) = at_port_alike hash mine (Receives hub_ports with_hub_ports (subscriber_may_degrade degrades)) (λ it own. receives_alike hash mine degrades it own) port found.1 one new other came hubs at in
+      let (later, at_there, hubs_after) = at_port_alike hash mine (Receives hub_ports with_hub_ports (subscriber_may_degrade degrades))
+      (λ it own. receives_alike hash mine degrades it own) port found.1 one new other came hubs at in
       let roomier_rise = roomier_rises one_made roomier is_roomier rises in
       let roomier_agree = roomier_agrees mine one_made roomier other_made is_roomier agree in
-      let (there, numbers_there, agree_after) = samples_numbered mine port came received roomier after other_made roomier_rise other_rises roomier_agree numbers in (
+      let (there, numbers_there, agree_after)
+      = samples_numbered mine port came received roomier after other_made roomier_rise other_rises roomier_agree numbers in (
         there,
         later,
         (
@@ -256,7 +286,8 @@ module _ {T U B D : Type 0} (hash : ServiceHash) (mine : ℕ → Bool) where
   pub agree_in_hub : (one new other : NumberedHub T U B D) (hub : Hub T U B D) → AgreeOn hash mine one other
       → new ≡ record one { hub = new.hub } → HubsAgree hash mine new.hub hub → AgreeOn hash mine new (record other { hub = hub })
   agree_in_hub one new other hub agree is hubs =
-      agree_after one new other other.made hub agree (ap (λ numbered. numbered.factories) is) (made_still mine one.made new.made other.made agree.made (ap (λ numbered. numbered.made) is)) hubs
+      agree_after one new other other.made hub agree (ap (λ numbered. numbered.factories) is)
+      (made_still mine one.made new.made other.made agree.made (ap (λ numbered. numbered.made) is)) hubs
 
   -- nothing changed
   agree_as_before : (one new other : NumberedHub T U B D) → AgreeOn hash mine one other → new ≡ one → AgreeOn hash mine new other
@@ -317,8 +348,10 @@ module _ {T U B D : Type 0} (hash : ServiceHash) (mine : ℕ → Bool) where
 
   publisher_opened : (is_default : U → Type 0) (fixed : BackpressureStrategy → Option BackpressureAction → DegradationAction → B)
       (degrades : B → DegradationCause → DegradationInfo → DegradationAction → Type 0) (opened : Opened) (options : PublisherOptions)
-      (one new other : NumberedHub T U B D) (reply : Reply T) → mine (domain_of_factory opened).service ≡ true → MadeRises one.made → MadeRises other.made → AgreeOn hash mine one other
-      → PublisherComes is_default fixed degrades (Some opened) options one reply new → Answers (PublisherComes is_default fixed degrades (Some opened) options) other new reply
+      (one new other : NumberedHub T U B D) (reply : Reply T) → mine (domain_of_factory opened).service ≡ true → MadeRises one.made
+      → MadeRises other.made → AgreeOn hash mine one other
+      → PublisherComes is_default fixed degrades (Some opened) options one reply new
+      → Answers (PublisherComes is_default fixed degrades (Some opened) options) other new reply
   publisher_opened is_default fixed degrades opened options one new other reply of rises other_rises agree
       ((user_header, is_header, came, (roomier, is_roomier, (outcome, comes, numbers)), is), same) =
       let id = domain_of_factory opened in
@@ -326,7 +359,9 @@ module _ {T U B D : Type 0} (hash : ServiceHash) (mine : ℕ → Bool) where
       let (hub, comes_there, hubs_after) =
       makes_alike hash mine id of (λ n. publisher_kept n handlers) _ _ one.hub new.hub other.hub outcome agree.hubs comes in
       let (made, numbers_there, mades_after) =
-      publishers_numbered mine id one.made.publishers.next other.made.publishers.next outcome came roomier new.made other.made agree.made.publishers.1 (roomier_rises one.made roomier is_roomier rises) other_rises (roomier_agrees mine one.made roomier other.made is_roomier agree.made) numbers in (
+      publishers_numbered mine id one.made.publishers.next other.made.publishers.next outcome came roomier new.made other.made
+      agree.made.publishers.1 (roomier_rises one.made roomier is_roomier rises) other_rises
+      (roomier_agrees mine one.made roomier other.made is_roomier agree.made) numbers in (
         record other { hub = hub; made = made },
         ((user_header, is_header, came, (other.made, same_room other.made, (outcome, comes_there, numbers_there)), is), refl),
         agree_after one new other made hub agree same mades_after hubs_after,
@@ -335,13 +370,16 @@ module _ {T U B D : Type 0} (hash : ServiceHash) (mine : ℕ → Bool) where
   publisher_of : (is_default : U → Type 0) (fixed : BackpressureStrategy → Option BackpressureAction → DegradationAction → B)
       (degrades : B → DegradationCause → DegradationInfo → DegradationAction → Type 0) (found : Option MadeFactory)
       (options : PublisherOptions)
-      (one new other : NumberedHub T U B D) (reply : Reply T) → IsOf service_of mine found → MadeRises one.made → MadeRises other.made → AgreeOn hash mine one other
-      → PublisherComes is_default fixed degrades (publish_subscribe_in found) options one reply new → Answers (PublisherComes is_default fixed degrades (publish_subscribe_in found) options) other new reply
+      (one new other : NumberedHub T U B D) (reply : Reply T) → IsOf service_of mine found → MadeRises one.made → MadeRises other.made
+      → AgreeOn hash mine one other
+      → PublisherComes is_default fixed degrades (publish_subscribe_in found) options one reply new
+      → Answers (PublisherComes is_default fixed degrades (publish_subscribe_in found) options) other new reply
   publisher_of is_default fixed degrades None options one new other reply of rises other_rises agree comes
       = (other, (comes.0, refl), agree_as_before one new other agree comes.1)
   publisher_of is_default fixed degrades (Some (made.PublishSubscribe factory)) options one new other reply of rises other_rises agree
       comes =
-      publisher_opened is_default fixed degrades (factory.service.membership, factory.owner) options one new other reply of rises other_rises agree comes
+      publisher_opened is_default fixed degrades (factory.service.membership, factory.owner) options one new other reply of rises
+      other_rises agree comes
   publisher_of is_default fixed degrades (Some (made.Event factory)) options one new other reply of rises other_rises agree comes
       = (other, (comes.0, refl), agree_as_before one new other agree comes.1)
   publisher_of is_default fixed degrades (Some (made.RequestResponse factory)) options one new other reply of rises other_rises agree
@@ -349,8 +387,10 @@ module _ {T U B D : Type 0} (hash : ServiceHash) (mine : ℕ → Bool) where
 
   subscriber_opened : (fixed : DegradationAction → D) (degrades : D → DegradationCause → DegradationInfo → DegradationAction → Type 0)
       (opened : Opened) (options : SubscriberOptions)
-      (one new other : NumberedHub T U B D) (reply : Reply T) → mine (domain_of_factory opened).service ≡ true → MadeRises one.made → MadeRises other.made → AgreeOn hash mine one other
-      → SubscriberComes fixed degrades (Some opened) options one reply new → Answers (SubscriberComes fixed degrades (Some opened) options) other new reply
+      (one new other : NumberedHub T U B D) (reply : Reply T) → mine (domain_of_factory opened).service ≡ true → MadeRises one.made
+      → MadeRises other.made → AgreeOn hash mine one other
+      → SubscriberComes fixed degrades (Some opened) options one reply new
+      → Answers (SubscriberComes fixed degrades (Some opened) options) other new reply
   subscriber_opened fixed degrades opened options one new other reply of rises other_rises agree
       ((came, (roomier, is_roomier, (outcome, comes, numbers)), is), same) =
       let id = domain_of_factory opened in
@@ -358,7 +398,9 @@ module _ {T U B D : Type 0} (hash : ServiceHash) (mine : ℕ → Bool) where
       let (hub, comes_there, hubs_after) =
       makes_alike hash mine id of (λ n. subscriber_kept n handler) _ _ one.hub new.hub other.hub outcome agree.hubs comes in
       let (made, numbers_there, mades_after) =
-      subscribers_numbered mine id one.made.subscribers.next other.made.subscribers.next outcome came roomier new.made other.made agree.made.subscribers.1 (roomier_rises one.made roomier is_roomier rises) other_rises (roomier_agrees mine one.made roomier other.made is_roomier agree.made) numbers in (
+      subscribers_numbered mine id one.made.subscribers.next other.made.subscribers.next outcome came roomier new.made other.made
+      agree.made.subscribers.1 (roomier_rises one.made roomier is_roomier rises) other_rises
+      (roomier_agrees mine one.made roomier other.made is_roomier agree.made) numbers in (
         record other { hub = hub; made = made },
         ((came, (other.made, same_room other.made, (outcome, comes_there, numbers_there)), is), refl),
         agree_after one new other made hub agree same mades_after hubs_after,
@@ -366,12 +408,15 @@ module _ {T U B D : Type 0} (hash : ServiceHash) (mine : ℕ → Bool) where
 
   subscriber_of : (fixed : DegradationAction → D) (degrades : D → DegradationCause → DegradationInfo → DegradationAction → Type 0)
       (found : Option MadeFactory) (options : SubscriberOptions)
-      (one new other : NumberedHub T U B D) (reply : Reply T) → IsOf service_of mine found → MadeRises one.made → MadeRises other.made → AgreeOn hash mine one other
-      → SubscriberComes fixed degrades (publish_subscribe_in found) options one reply new → Answers (SubscriberComes fixed degrades (publish_subscribe_in found) options) other new reply
+      (one new other : NumberedHub T U B D) (reply : Reply T) → IsOf service_of mine found → MadeRises one.made → MadeRises other.made
+      → AgreeOn hash mine one other
+      → SubscriberComes fixed degrades (publish_subscribe_in found) options one reply new
+      → Answers (SubscriberComes fixed degrades (publish_subscribe_in found) options) other new reply
   subscriber_of fixed degrades None options one new other reply of rises other_rises agree comes
       = (other, (comes.0, refl), agree_as_before one new other agree comes.1)
   subscriber_of fixed degrades (Some (made.PublishSubscribe factory)) options one new other reply of rises other_rises agree comes =
-      subscriber_opened fixed degrades (factory.service.membership, factory.owner) options one new other reply of rises other_rises agree comes
+      subscriber_opened fixed degrades (factory.service.membership, factory.owner) options one new other reply of rises other_rises
+      agree comes
   subscriber_of fixed degrades (Some (made.Event factory)) options one new other reply of rises other_rises agree comes
       = (other, (comes.0, refl), agree_as_before one new other agree comes.1)
   subscriber_of fixed degrades (Some (made.RequestResponse factory)) options one new other reply of rises other_rises agree comes
@@ -382,7 +427,8 @@ module _ {T U B D : Type 0} (hash : ServiceHash) (mine : ℕ → Bool) where
   set_alike : (n place : ℕ) (value : T) (one new other : NumberedHub T U B D) (reply : Reply T) → AgreeOn hash mine one other
       → (value_at other.made.loans n ≡ value_at one.made.loans n) × IsOf loan_service mine (value_at one.made.loans n)
       → SetStep hub_ports with_hub_ports n place value one.made one.hub reply new.hub × (new ≡ record one { hub = new.hub })
-      → Answers (λ old answer after. SetStep hub_ports with_hub_ports n place value old.made old.hub answer after.hub × (after ≡ record old { hub = after.hub })) other new reply
+      → Answers (λ old answer after. SetStep hub_ports with_hub_ports n place value old.made old.hub answer after.hub
+      × (after ≡ record old { hub = after.hub })) other new reply
   set_alike n place value one new other reply agree (found, of) ((done, is_done, is_new, is), same) =
       let named = value_at one.made.loans n in
       let hub = if done then changed_under hub_ports with_hub_ports (set_in place value) named other.hub else other.hub in (
@@ -401,7 +447,8 @@ module _ {T U B D : Type 0} (hash : ServiceHash) (mine : ℕ → Bool) where
   fill_alike : (n : ℕ) (values : List T) (one new other : NumberedHub T U B D) (reply : Reply T) → AgreeOn hash mine one other
       → (value_at other.made.loans n ≡ value_at one.made.loans n) × IsOf loan_service mine (value_at one.made.loans n)
       → FillStep hub_ports with_hub_ports n values one.made one.hub reply new.hub × (new ≡ record one { hub = new.hub })
-      → Answers (λ old answer after. FillStep hub_ports with_hub_ports n values old.made old.hub answer after.hub × (after ≡ record old { hub = after.hub })) other new reply
+      → Answers (λ old answer after. FillStep hub_ports with_hub_ports n values old.made old.hub answer after.hub
+      × (after ≡ record old { hub = after.hub })) other new reply
   fill_alike n values one new other reply agree (found, of) ((done, is_done, is_new, is), same) =
       let named = value_at one.made.loans n in
       let hub = changed_under hub_ports with_hub_ports (filled_in values) named other.hub in (
@@ -420,7 +467,8 @@ module _ {T U B D : Type 0} (hash : ServiceHash) (mine : ℕ → Bool) where
       → AgreeOn hash mine one other → (value_at other.made.loans n ≡ value_at one.made.loans n)
       × IsOf loan_service mine (value_at one.made.loans n)
       → DropStep hub_ports with_hub_ports n one.made one.hub reply new.made new.hub × (new.factories ≡ one.factories)
-      → Answers (λ old answer after. DropStep hub_ports with_hub_ports n old.made old.hub answer after.made after.hub × (after.factories ≡ old.factories)) other new reply
+      → Answers (λ old answer after. DropStep hub_ports with_hub_ports n old.made old.hub answer after.made after.hub
+      × (after.factories ≡ old.factories)) other new reply
   drop_alike n one new other reply rises other_rises agree (found, of) ((done, is_done, is_new, is_made, is), same) =
       let named = value_at one.made.loans n in
       let hub = if done then changed_under hub_ports with_hub_ports gave_up_in named other.hub else other.hub in
@@ -442,7 +490,8 @@ module _ {T U B D : Type 0} (hash : ServiceHash) (mine : ℕ → Bool) where
       → AgreeOn hash mine one other → (value_at other.made.samples n ≡ value_at one.made.samples n)
       × IsOf sample_service mine (value_at one.made.samples n)
       → ReleaseStep hub_ports with_hub_ports n one.made one.hub reply new.made new.hub × (new.factories ≡ one.factories)
-      → Answers (λ old answer after. ReleaseStep hub_ports with_hub_ports n old.made old.hub answer after.made after.hub × (after.factories ≡ old.factories)) other new reply
+      → Answers (λ old answer after. ReleaseStep hub_ports with_hub_ports n old.made old.hub answer after.made after.hub
+      × (after.factories ≡ old.factories)) other new reply
   release_alike n one new other reply rises other_rises agree (found, of) ((done, is_done, releases, is_made, is), same) =
       let named = value_at one.made.samples n in
       let (hub, releases_there, hubs_after) = releases_alike hash mine done named of one.hub new.hub other.hub agree.hubs releases in
@@ -461,10 +510,16 @@ module _ {T U B D : Type 0} (hash : ServiceHash) (mine : ℕ → Bool) where
 
   read_alike : (n : ℕ) (one new other : NumberedHub T U B D) (reply : Reply T) → AgreeOn hash mine one other
       → (value_at other.made.samples n ≡ value_at one.made.samples n) × IsOf sample_service mine (value_at one.made.samples n)
-      → ReadStep hub_ports n one.made one.hub (Ok reply) × (new ≡ one) → Answers (λ old answer after. ReadStep hub_ports n old.made old.hub (Ok answer) × (after ≡ old)) other new reply
+      → ReadStep hub_ports n one.made one.hub (Ok reply) × (new ≡ one)
+      → Answers (λ old answer after. ReadStep hub_ports n old.made old.hub (Ok answer) × (after ≡ old)) other new reply
   read_alike n one new other reply agree (found, of) (reads, same) = (
     other,
-    (subst (λ values. IsReadReply values reply) (sym (ap (λ it. values_under hub_ports it other.hub) found ∙ values_same hash mine (value_at one.made.samples n) of one.hub other.hub agree.hubs)) reads, refl),
+    (
+      subst (λ values. IsReadReply values reply)
+          (sym (ap (λ it. values_under hub_ports it other.hub) found ∙ values_same hash mine (value_at one.made.samples n) of one.hub
+          other.hub agree.hubs)) reads,
+      refl,
+    ),
     agree_as_before one new other agree same,
   )
 
@@ -472,13 +527,18 @@ module _ {T U B D : Type 0} (hash : ServiceHash) (mine : ℕ → Bool) where
   call_alike : {A : Type 0} (does : PortId → Hub T U B D → Option A → Hub T U B D → Type 0)
       → ((port : PortId) → mine (service_at port) ≡ true → Alike {T = T} {U = U} {B = B} {D = D} hash mine (does port))
       → (told : Option A → Reply T)
-      → (port there : Option PortId) (one new other : NumberedHub T U B D) (reply : Reply T) → AgreeOn hash mine one other → IsOf service_at mine port → there ≡ port
+      → (port there : Option PortId) (one new other : NumberedHub T U B D) (reply : Reply T) → AgreeOn hash mine one other
+      → IsOf service_at mine port → there ≡ port
       → ((outcome : Option A) × AtPort does port one.hub outcome new.hub × (reply ≡ told outcome)) × (new ≡ record one { hub = new.hub })
-      → Answers (λ old answer after. ((outcome : Option A) × AtPort does there old.hub outcome after.hub × (answer ≡ told outcome)) × (after ≡ record old { hub = after.hub })) other new reply
+      → Answers (λ old answer after. ((outcome : Option A) × AtPort does there old.hub outcome after.hub × (answer ≡ told outcome))
+      × (after ≡ record old { hub = after.hub })) other new reply
   call_alike {A} does alike told port there one new other reply agree of is_port ((outcome, at, is), same) =
       let (hub, at_there, hubs_after) = at_port_alike hash mine does alike port of one.hub new.hub other.hub outcome agree.hubs at in (
         record other { hub = hub },
-        (subst (λ it. (came : Option A) × AtPort does it other.hub came hub × (reply ≡ told came)) (sym is_port) (outcome, at_there, is), refl),
+        (
+          subst (λ it. (came : Option A) × AtPort does it other.hub came hub × (reply ≡ told came)) (sym is_port) (outcome, at_there, is),
+          refl,
+        ),
         agree_in_hub one new other hub agree same hubs_after,
       )
 
@@ -487,14 +547,26 @@ module _ {T U B D : Type 0} (hash : ServiceHash) (mine : ℕ → Bool) where
       (decides : B → BackpressureInfo → BackpressureDecision → Type 0) (n : ℕ) (one new other : NumberedHub T U B D) (reply : Reply T)
       → MadeRises one.made → MadeRises other.made → AgreeOn hash mine one other
       → (value_at other.made.loans n ≡ value_at one.made.loans n) × IsOf loan_service mine (value_at one.made.loans n)
-      → SendStep hub_ports with_hub_ports (publisher_may_degrade degrades) (publisher_may_decide decides) n one.made one.hub reply new.made new.hub × (new.factories ≡ one.factories)
-      → Answers (λ old answer after. SendStep hub_ports with_hub_ports (publisher_may_degrade degrades) (publisher_may_decide decides) n old.made old.hub answer after.made after.hub × (after.factories ≡ old.factories)) other new reply
+      → SendStep hub_ports with_hub_ports (publisher_may_degrade degrades) (publisher_may_decide decides) n one.made one.hub reply
+      new.made new.hub × (new.factories ≡ one.factories)
+      → Answers (λ old answer after. SendStep hub_ports with_hub_ports (publisher_may_degrade degrades) (publisher_may_decide decides) n
+      old.made old.hub answer after.made after.hub × (after.factories ≡ old.factories)) other new reply
   send_alike degrades decides n one new other reply rises other_rises agree (found, of) ((sent, sends, is_made, is), same) =
       let named = value_at one.made.loans n in
-      let (hub, sends_there, hubs_after) = sends_under_alike hash mine degrades decides named of one.hub new.hub other.hub sent agree.hubs sends in
+      let (hub, sends_there, hubs_after) = sends_under_alike hash mine degrades decides named of one.hub new.hub other.hub sent
+      agree.hubs sends in
       let made = removed_if (is_some sent) (without_loan n) other.made in (
         record other { hub = hub; made = made },
-        ((sent, subst (λ it. SendsUnder hub_ports with_hub_ports (publisher_may_degrade degrades) (publisher_may_decide decides) it other.hub sent hub) (sym found) sends_there, refl, is), refl),
+        (
+          (
+            sent,
+            subst (λ it. SendsUnder hub_ports with_hub_ports (publisher_may_degrade degrades) (publisher_may_decide decides) it
+                other.hub sent hub) (sym found) sends_there,
+            refl,
+            is,
+          ),
+          refl,
+        ),
         agree_after one new other made hub agree same
             (loans_spent mine (is_some sent) n one.made new.made other.made rises other_rises agree.made is_made) hubs_after,
       )
@@ -502,14 +574,27 @@ module _ {T U B D : Type 0} (hash : ServiceHash) (mine : ℕ → Bool) where
   leave_publisher_alike : (n : ℕ) (one new other : NumberedHub T U B D) (reply : Reply T) → MadeRises one.made → MadeRises other.made
       → AgreeOn hash mine one other
       → (value_at other.made.publishers n ≡ value_at one.made.publishers n) × IsOf publisher_service mine (value_at one.made.publishers n)
-      → LeaveStep hub_ports with_hub_ports without_hub_publisher without_hub_subscriber (port_number.Publisher n) one.made one.hub reply new.made new.hub × (new.factories ≡ one.factories)
-      → Answers (λ old answer after. LeaveStep hub_ports with_hub_ports without_hub_publisher without_hub_subscriber (port_number.Publisher n) old.made old.hub answer after.made after.hub × (after.factories ≡ old.factories)) other new reply
+      → LeaveStep hub_ports with_hub_ports without_hub_publisher without_hub_subscriber (port_number.Publisher n) one.made one.hub reply
+      new.made new.hub × (new.factories ≡ one.factories)
+      → Answers (λ old answer after. LeaveStep hub_ports with_hub_ports without_hub_publisher without_hub_subscriber
+      (port_number.Publisher n) old.made old.hub answer after.made after.hub × (after.factories ≡ old.factories)) other new reply
   leave_publisher_alike n one new other reply rises other_rises agree (found, of) ((done, at, is_made, is), same) =
       let named = value_at one.made.publishers n in
-      let (hub, at_there, hubs_after) = at_port_if_alike hash mine (PublisherGoes hub_ports with_hub_ports without_hub_publisher) (λ port own. publisher_goes_alike hash mine port own) (port_under named) (under_of mine named of) one.hub new.hub other.hub done agree.hubs at in
+      let (hub, at_there, hubs_after) = at_port_if_alike hash mine (PublisherGoes hub_ports with_hub_ports without_hub_publisher)
+      (λ port own. publisher_goes_alike hash mine port own) (port_under named) (under_of mine named of) one.hub new.hub other.hub
+      done agree.hubs at in
       let made = removed_if done (without_publisher n) other.made in (
         record other { hub = hub; made = made },
-        ((done, subst (λ it. AtPortIf (PublisherGoes hub_ports with_hub_ports without_hub_publisher) (port_under it) other.hub done hub) (sym found) at_there, refl, is), refl),
+        (
+          (
+            done,
+            subst (λ it. AtPortIf (PublisherGoes hub_ports with_hub_ports without_hub_publisher) (port_under it) other.hub done hub)
+                (sym found) at_there,
+            refl,
+            is,
+          ),
+          refl,
+        ),
         agree_after one new other made hub agree same
             (publishers_spent mine done n one.made new.made other.made rises other_rises agree.made is_made) hubs_after,
       )
@@ -517,14 +602,26 @@ module _ {T U B D : Type 0} (hash : ServiceHash) (mine : ℕ → Bool) where
   leave_subscriber_alike : (n : ℕ) (one new other : NumberedHub T U B D) (reply : Reply T) → MadeRises one.made → MadeRises other.made
       → AgreeOn hash mine one other
       → (value_at other.made.subscribers n ≡ value_at one.made.subscribers n) × IsOf service_at mine (value_at one.made.subscribers n)
-      → LeaveStep hub_ports with_hub_ports without_hub_publisher without_hub_subscriber (port_number.Subscriber n) one.made one.hub reply new.made new.hub × (new.factories ≡ one.factories)
-      → Answers (λ old answer after. LeaveStep hub_ports with_hub_ports without_hub_publisher without_hub_subscriber (port_number.Subscriber n) old.made old.hub answer after.made after.hub × (after.factories ≡ old.factories)) other new reply
+      → LeaveStep hub_ports with_hub_ports without_hub_publisher without_hub_subscriber (port_number.Subscriber n) one.made one.hub
+      reply new.made new.hub × (new.factories ≡ one.factories)
+      → Answers (λ old answer after. LeaveStep hub_ports with_hub_ports without_hub_publisher without_hub_subscriber
+      (port_number.Subscriber n) old.made old.hub answer after.made after.hub × (after.factories ≡ old.factories)) other new reply
   leave_subscriber_alike n one new other reply rises other_rises agree (found, of) ((done, at, is_made, is), same) =
       let named = value_at one.made.subscribers n in
-      let (hub, at_there, hubs_after) = at_port_if_alike hash mine (SubscriberGoes hub_ports with_hub_ports without_hub_subscriber) (λ port own. subscriber_goes_alike hash mine port own) named of one.hub new.hub other.hub done agree.hubs at in
+      let (hub, at_there, hubs_after) = at_port_if_alike hash mine (SubscriberGoes hub_ports with_hub_ports without_hub_subscriber)
+      (λ port own. subscriber_goes_alike hash mine port own) named of one.hub new.hub other.hub done agree.hubs at in
       let made = removed_if done (without_subscriber n) other.made in (
         record other { hub = hub; made = made },
-        ((done, subst (λ it. AtPortIf (SubscriberGoes hub_ports with_hub_ports without_hub_subscriber) it other.hub done hub) (sym found) at_there, refl, is), refl),
+        (
+          (
+            done,
+            subst (λ it. AtPortIf (SubscriberGoes hub_ports with_hub_ports without_hub_subscriber) it other.hub done hub) (sym found)
+                at_there,
+            refl,
+            is,
+          ),
+          refl,
+        ),
         agree_after one new other made hub agree same
             (subscribers_spent mine done n one.made new.made other.made rises other_rises agree.made is_made) hubs_after,
       )
@@ -532,13 +629,17 @@ module _ {T U B D : Type 0} (hash : ServiceHash) (mine : ℕ → Bool) where
   -- what a command lends or receives, with the factories as they were
   lends_in : (does : Made → Hub T U B D → Made → Hub T U B D → Type 0) (one new other : NumberedHub T U B D)
       → AgreeOn hash mine one other → new.factories ≡ one.factories
-      → ((there : Made) × (later : Hub T U B D) × does other.made other.hub there later × MadeAgree mine new.made there × HubsAgree hash mine new.hub later)
-      → (after : NumberedHub T U B D) × (does other.made other.hub after.made after.hub × (after.factories ≡ other.factories)) × AgreeOn hash mine new after
+      → ((there : Made) × (later : Hub T U B D) × does other.made other.hub there later × MadeAgree mine new.made there
+      × HubsAgree hash mine new.hub later)
+      → (after : NumberedHub T U B D) × (does other.made other.hub after.made after.hub × (after.factories ≡ other.factories))
+      × AgreeOn hash mine new after
   lends_in does one new other agree same (there, later, done, mades, hubs)
       = (record other { hub = later; made = there }, (done, refl), agree_after one new other there later agree same mades hubs)
 
   module _ (payload user_header : Detail) (types : MessageTypeDetails) (is_default : T → Type 0) (is_default_header : U → Type 0)
-      (fixed : BackpressureStrategy → Option BackpressureAction → DegradationAction → B) (degrades : B → DegradationCause → DegradationInfo → DegradationAction → Type 0) (decides : B → BackpressureInfo → BackpressureDecision → Type 0)
+      (fixed : BackpressureStrategy → Option BackpressureAction → DegradationAction → B)
+      (degrades : B → DegradationCause → DegradationInfo → DegradationAction → Type 0)
+      (decides : B → BackpressureInfo → BackpressureDecision → Type 0)
       (fixed_reader : DegradationAction → D) (reader_degrades : D → DegradationCause → DegradationInfo → DegradationAction → Type 0) where
     abbrev Steps : Command T → NumberedHub T U B D → Result (Reply T) AllocError → NumberedHub T U B D → Type 0
     Steps = Step payload user_header types is_default is_default_header fixed degrades decides fixed_reader reader_degrades
@@ -555,18 +656,32 @@ module _ {T U B D : Type 0} (hash : ServiceHash) (mine : ℕ → Bool) where
     step_alike (command.Close factory) one new other reply kind rises other_rises agree named step = absurd kind
     step_alike (command.Publisher factory options) one new other reply kind rises other_rises agree named step =
         let (found, of) = factory_found factory one other agree named in
-        let (after, there, agree_after) = publisher_of is_default_header fixed degrades (value_at one.factories.made factory) options one new other reply of rises other_rises agree step in
-        (after, subst (λ it. PublisherComes is_default_header fixed degrades (publish_subscribe_in it) options other reply after) (sym found) there, agree_after)
+        let (after, there, agree_after) = publisher_of is_default_header fixed degrades (value_at one.factories.made factory) options
+        one new other reply of rises other_rises agree step in (
+          after,
+          subst (λ it. PublisherComes is_default_header fixed degrades (publish_subscribe_in it) options other reply after)
+              (sym found) there,
+          agree_after,
+        )
     step_alike (command.Subscriber factory options) one new other reply kind rises other_rises agree named step =
         let (found, of) = factory_found factory one other agree named in
-        let (after, there, agree_after) = subscriber_of fixed_reader reader_degrades (value_at one.factories.made factory) options one new other reply of rises other_rises agree step in
-        (after, subst (λ it. SubscriberComes fixed_reader reader_degrades (publish_subscribe_in it) options other reply after) (sym found) there, agree_after)
+        let (after, there, agree_after) = subscriber_of fixed_reader reader_degrades (value_at one.factories.made factory) options one
+        new other reply of rises other_rises agree step in (
+          after,
+          subst (λ it. SubscriberComes fixed_reader reader_degrades (publish_subscribe_in it) options other reply after) (sym found)
+              there,
+          agree_after,
+        )
     step_alike (command.Loan publisher elements) one new other reply kind rises other_rises agree named (step, same) =
-        lends_in (λ made old after new. LoanStep hub_ports with_hub_ports is_default publisher elements made old (Ok reply) after new) one new other agree same
-        (loan_alike hash mine is_default publisher elements one.made new.made other.made one.hub new.hub other.hub reply rises other_rises agree.made agree.hubs (publisher_found publisher one other agree named) step)
+        lends_in (λ made old after new. LoanStep hub_ports with_hub_ports is_default publisher elements made old (Ok reply) after new)
+        one new other agree same
+        (loan_alike hash mine is_default publisher elements one.made new.made other.made one.hub new.hub other.hub reply rises
+        other_rises agree.made agree.hubs (publisher_found publisher one other agree named) step)
     step_alike (command.LoanUninit publisher elements) one new other reply kind rises other_rises agree named (step, same) =
-        lends_in (λ made old after new. LoanUninitStep hub_ports with_hub_ports publisher elements made old (Ok reply) after new) one new other agree same
-        (loan_uninit_alike hash mine publisher elements one.made new.made other.made one.hub new.hub other.hub reply rises other_rises agree.made agree.hubs (publisher_found publisher one other agree named) step)
+        lends_in (λ made old after new. LoanUninitStep hub_ports with_hub_ports publisher elements made old (Ok reply) after new) one
+        new other agree same
+        (loan_uninit_alike hash mine publisher elements one.made new.made other.made one.hub new.hub other.hub reply rises other_rises
+        agree.made agree.hubs (publisher_found publisher one other agree named) step)
     step_alike (command.Set loan place value) one new other reply kind rises other_rises agree named step
         = set_alike loan place value one new other reply agree (loan_found_alike loan one other agree named) step
     step_alike (command.Fill loan values) one new other reply kind rises other_rises agree named step
@@ -579,31 +694,42 @@ module _ {T U B D : Type 0} (hash : ServiceHash) (mine : ℕ → Bool) where
         let (found, of) = publisher_found publisher one other agree named in
         let by = lender (length values) (value_at one.made.publishers publisher) in
         let by_of = lender_of mine (length values) (value_at one.made.publishers publisher) of in
-        call_alike (Puts hub_ports with_hub_ports (publisher_may_degrade degrades) (publisher_may_decide decides) values) (λ port own. puts_alike hash mine degrades decides values port own) sent_reply
-        (ready hub_ports by one.hub) (ready hub_ports (lender (length values) (value_at other.made.publishers publisher)) other.hub) one new other reply agree (ready_of hash mine by one.hub by_of)
-        (ap (λ it. ready hub_ports (lender (length values) it) other.hub) found ∙ ready_same hash mine by one.hub other.hub by_of agree.hubs) step
+        call_alike (Puts hub_ports with_hub_ports (publisher_may_degrade degrades) (publisher_may_decide decides) values)
+        (λ port own. puts_alike hash mine degrades decides values port own) sent_reply
+        (ready hub_ports by one.hub) (ready hub_ports (lender (length values) (value_at other.made.publishers publisher)) other.hub) one
+        new other reply agree (ready_of hash mine by one.hub by_of)
+        (ap (λ it. ready hub_ports (lender (length values) it) other.hub) found ∙ ready_same hash mine by one.hub other.hub by_of
+        agree.hubs) step
     step_alike (command.Retry publisher nanoseconds) one new other reply kind rises other_rises agree named step =
         let (found, of) = publisher_found publisher one other agree named in
-        call_alike (Retries hub_ports with_hub_ports (publisher_may_decide decides) nanoseconds) (λ port own. retries_alike hash mine degrades decides nanoseconds port own) sent_reply
-        (port_under (value_at one.made.publishers publisher)) (port_under (value_at other.made.publishers publisher)) one new other reply agree (under_of mine (value_at one.made.publishers publisher) of) (ap port_under found) step
+        call_alike (Retries hub_ports with_hub_ports (publisher_may_decide decides) nanoseconds)
+        (λ port own. retries_alike hash mine degrades decides nanoseconds port own) sent_reply
+        (port_under (value_at one.made.publishers publisher)) (port_under (value_at other.made.publishers publisher)) one new other
+        reply agree (under_of mine (value_at one.made.publishers publisher) of) (ap port_under found) step
     step_alike (command.GiveUp publisher) one new other reply kind rises other_rises agree named step =
         let (found, of) = publisher_found publisher one other agree named in
         call_alike (GivesUp hub_ports with_hub_ports) (λ port own. gives_up_alike hash mine port own) given_up_reply
-        (port_under (value_at one.made.publishers publisher)) (port_under (value_at other.made.publishers publisher)) one new other reply agree (under_of mine (value_at one.made.publishers publisher) of) (ap port_under found) step
+        (port_under (value_at one.made.publishers publisher)) (port_under (value_at other.made.publishers publisher)) one new other
+        reply agree (under_of mine (value_at one.made.publishers publisher) of) (ap port_under found) step
     step_alike (command.Receive subscriber) one new other reply kind rises other_rises agree named (step, same) =
-        lends_in (λ made old after new. ReceiveStep hub_ports with_hub_ports (subscriber_may_degrade reader_degrades) subscriber made old (Ok reply) after new) one new other agree same
-        (receive_alike hash mine reader_degrades subscriber one.made new.made other.made one.hub new.hub other.hub reply rises other_rises agree.made agree.hubs (subscriber_found subscriber one other agree named) step)
+        lends_in (λ made old after new. ReceiveStep hub_ports with_hub_ports (subscriber_may_degrade reader_degrades) subscriber made
+        old (Ok reply) after new) one new other agree same
+        (receive_alike hash mine reader_degrades subscriber one.made new.made other.made one.hub new.hub other.hub reply rises
+        other_rises agree.made agree.hubs (subscriber_found subscriber one other agree named) step)
     step_alike (command.Read sample) one new other reply kind rises other_rises agree named step
         = read_alike sample one new other reply agree (sample_found sample one other agree named) step
     step_alike (command.Release sample) one new other reply kind rises other_rises agree named step
         = release_alike sample one new other reply rises other_rises agree (sample_found sample one other agree named) step
     step_alike (command.Update (port_number.Publisher n)) one new other reply kind rises other_rises agree named step =
         let (found, of) = publisher_found n one other agree named in
-        call_alike (Follows hub_ports with_hub_ports (publisher_may_degrade degrades)) (λ port own. follows_alike hash mine degrades decides port own) updated_reply
-        (port_under (value_at one.made.publishers n)) (port_under (value_at other.made.publishers n)) one new other reply agree (under_of mine (value_at one.made.publishers n) of) (ap port_under found) step
+        call_alike (Follows hub_ports with_hub_ports (publisher_may_degrade degrades))
+        (λ port own. follows_alike hash mine degrades decides port own) updated_reply
+        (port_under (value_at one.made.publishers n)) (port_under (value_at other.made.publishers n)) one new other reply agree
+        (under_of mine (value_at one.made.publishers n) of) (ap port_under found) step
     step_alike (command.Update (port_number.Subscriber n)) one new other reply kind rises other_rises agree named step =
         let (found, of) = subscriber_found n one other agree named in
-        call_alike (FollowsPublishers hub_ports with_hub_ports (subscriber_may_degrade reader_degrades)) (λ port own. follows_publishers_alike hash mine reader_degrades port own) updated_reply
+        call_alike (FollowsPublishers hub_ports with_hub_ports (subscriber_may_degrade reader_degrades))
+        (λ port own. follows_publishers_alike hash mine reader_degrades port own) updated_reply
         (value_at one.made.subscribers n) (value_at other.made.subscribers n) one new other reply agree of found step
     step_alike (command.Leave (port_number.Publisher n)) one new other reply kind rises other_rises agree named step
         = leave_publisher_alike n one new other reply rises other_rises agree (publisher_found n one other agree named) step
@@ -611,14 +737,19 @@ module _ {T U B D : Type 0} (hash : ServiceHash) (mine : ℕ → Bool) where
         = leave_subscriber_alike n one new other reply rises other_rises agree (subscriber_found n one other agree named) step
     step_alike (command.Has subscriber) one new other reply kind rises other_rises agree named step =
         let (found, of) = subscriber_found subscriber one other agree named in
-        call_alike (Tells hub_ports with_hub_ports (subscriber_may_degrade reader_degrades)) (λ port own. tells_alike hash mine reader_degrades port own) has_reply
+        call_alike (Tells hub_ports with_hub_ports (subscriber_may_degrade reader_degrades))
+        (λ port own. tells_alike hash mine reader_degrades port own) has_reply
         (value_at one.made.subscribers subscriber) (value_at other.made.subscribers subscriber) one new other reply agree of found step
 
 module _ {T U B D : Type 0} (payload user_header : Detail) (types : MessageTypeDetails) (is_default : T → Type 0)
     (is_default_header : U → Type 0)
-    (fixed : BackpressureStrategy → Option BackpressureAction → DegradationAction → B) (degrades : B → DegradationCause → DegradationInfo → DegradationAction → Type 0) (decides : B → BackpressureInfo → BackpressureDecision → Type 0)
+    (fixed : BackpressureStrategy → Option BackpressureAction → DegradationAction → B)
+    (degrades : B → DegradationCause → DegradationInfo → DegradationAction → Type 0)
+    (decides : B → BackpressureInfo → BackpressureDecision → Type 0)
     (fixed_reader : DegradationAction → D) (reader_degrades : D → DegradationCause → DegradationInfo → DegradationAction → Type 0) where
   pub ports_answer_alike : PortsAnswerAlike
       (Step {T = T} {U = U} payload user_header types is_default is_default_header fixed degrades decides fixed_reader reader_degrades)
   ports_answer_alike hash mine asked one new other reply kind rises other_rises agree named step =
-      step_alike hash mine payload user_header types is_default is_default_header fixed degrades decides fixed_reader reader_degrades asked one new other reply kind (rises.1, rises.2, rises.3, rises.4) (other_rises.1, other_rises.2, other_rises.3, other_rises.4) agree named step
+      step_alike hash mine payload user_header types is_default is_default_header fixed degrades decides fixed_reader reader_degrades
+      asked one new other reply kind (rises.1, rises.2, rises.3, rises.4)
+      (other_rises.1, other_rises.2, other_rises.3, other_rises.4) agree named step

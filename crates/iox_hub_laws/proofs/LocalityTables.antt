@@ -79,7 +79,8 @@ module _ {V : Type 0} (service : V → ℕ) (mine : ℕ → Bool) (one other : N
     (other_rises : Rises 1 other.entries other.next) where
   -- the same comes in both, under the same number
   pub inserted_both : (value : V) → SameOf service mine one other → SameOf service mine (inserted one value) (inserted other value)
-  inserted_both value same = (λ number of. inserted_one service number one other value rises other_rises same.1 (same.0 number of), ap (λ n. n + 1) same.1)
+  inserted_both value same
+      = (λ number of. inserted_one service number one other value rises other_rises same.1 (same.0 number of), ap (λ n. n + 1) same.1)
 
   -- what goes by a number goes in both
   pub removed_both : (gone : ℕ) → SameOf service mine one other → SameOf service mine (removed one gone) (removed other gone)

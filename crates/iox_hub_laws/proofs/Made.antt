@@ -29,8 +29,12 @@ at_most_itself n = omega arith
 
 -- a table has the room that it has
 pub same_room : (made : Made) → IsRoomier made made
-same_room made =
-    ((refl, refl, at_most_itself made.publishers.room), (refl, refl, at_most_itself made.subscribers.room), (refl, refl, at_most_itself made.loans.room), (refl, refl, at_most_itself made.samples.room))
+same_room made = (
+  (refl, refl, at_most_itself made.publishers.room),
+  (refl, refl, at_most_itself made.subscribers.room),
+  (refl, refl, at_most_itself made.loans.room),
+  (refl, refl, at_most_itself made.samples.room),
+)
 
 pub rises_as : {V : Type 0} (table roomier : NumberTable V) → roomier.entries ≡ table.entries → roomier.next ≡ table.next
     → Rises 1 table.entries table.next → Rises 1 roomier.entries roomier.next
@@ -38,12 +42,13 @@ rises_as {V} table roomier same next rises =
     subst (λ (entries : List (ℕ × V)). Rises 1 entries roomier.next) (sym same) (subst (λ n. Rises 1 table.entries n) (sym next) rises)
 
 pub roomier_rises : (made roomier : Made) → IsRoomier made roomier → MadeRises made → MadeRises roomier
-roomier_rises made roomier ((p, p_next, p_room), (s, s_next, s_room), (l, l_next, l_room), (m, m_next, m_room)) (publishers, subscribers, loans, samples) = (
-  rises_as made.publishers roomier.publishers p p_next publishers,
-  rises_as made.subscribers roomier.subscribers s s_next subscribers,
-  rises_as made.loans roomier.loans l l_next loans,
-  rises_as made.samples roomier.samples m m_next samples,
-)
+roomier_rises made roomier ((p, p_next, p_room), (s, s_next, s_room), (l, l_next, l_room), (m, m_next, m_room))
+    (publishers, subscribers, loans, samples) = (
+      rises_as made.publishers roomier.publishers p p_next publishers,
+      rises_as made.subscribers roomier.subscribers s s_next subscribers,
+      rises_as made.loans roomier.loans l l_next loans,
+      rises_as made.samples roomier.samples m m_next samples,
+    )
 
 -- a table with more room has the same
 pub roomier_same : {V : Type 0} (service : V → ℕ) (mine : ℕ → Bool) (one roomier other : NumberTable V) → roomier.entries ≡ one.entries
@@ -73,28 +78,51 @@ module _ (mine : ℕ → Bool) where
   publishers_spent false n one after other rises other_rises agree is = made_still one after other agree is
   publishers_spent true n one after other rises other_rises agree is =
       made_still (without_publisher n one) after (without_publisher n other)
-      (record { publishers = removed_both publisher_service mine one.publishers other.publishers rises.0 other_rises.0 n agree.publishers; subscribers = agree.subscribers; loans = agree.loans; samples = agree.samples }) is
+      (record {
+        publishers = removed_both publisher_service mine one.publishers other.publishers rises.0 other_rises.0 n agree.publishers;
+        subscribers = agree.subscribers;
+        loans = agree.loans;
+        samples = agree.samples;
+      }) is
 
   pub subscribers_spent : (done : Bool) (n : ℕ) (one after other : Made) → MadeRises one → MadeRises other → MadeAgree mine one other
       → after ≡ removed_if done (without_subscriber n) one → MadeAgree mine after (removed_if done (without_subscriber n) other)
   subscribers_spent false n one after other rises other_rises agree is = made_still one after other agree is
   subscribers_spent true n one after other rises other_rises agree is =
       made_still (without_subscriber n one) after (without_subscriber n other)
-      (record { publishers = agree.publishers; subscribers = removed_both service_at mine one.subscribers other.subscribers rises.1 other_rises.1 n agree.subscribers; loans = agree.loans; samples = agree.samples }) is
+      (record {
+        publishers = agree.publishers;
+        subscribers
+            = removed_both service_at mine one.subscribers other.subscribers rises.1 other_rises.1 n agree.subscribers;
+        loans = agree.loans;
+        samples = agree.samples;
+      }) is
 
   pub loans_spent : (done : Bool) (n : ℕ) (one after other : Made) → MadeRises one → MadeRises other → MadeAgree mine one other
       → after ≡ removed_if done (without_loan n) one → MadeAgree mine after (removed_if done (without_loan n) other)
   loans_spent false n one after other rises other_rises agree is = made_still one after other agree is
   loans_spent true n one after other rises other_rises agree is =
       made_still (without_loan n one) after (without_loan n other)
-      (record { publishers = agree.publishers; subscribers = agree.subscribers; loans = removed_both loan_service mine one.loans other.loans rises.2 other_rises.2 n agree.loans; samples = agree.samples }) is
+      (record {
+        publishers = agree.publishers;
+        subscribers = agree.subscribers;
+        loans
+            = removed_both loan_service mine one.loans other.loans rises.2 other_rises.2 n agree.loans;
+        samples = agree.samples;
+      }) is
 
   pub samples_spent : (done : Bool) (n : ℕ) (one after other : Made) → MadeRises one → MadeRises other → MadeAgree mine one other
       → after ≡ removed_if done (without_sample n) one → MadeAgree mine after (removed_if done (without_sample n) other)
   samples_spent false n one after other rises other_rises agree is = made_still one after other agree is
   samples_spent true n one after other rises other_rises agree is =
       made_still (without_sample n one) after (without_sample n other)
-      (record { publishers = agree.publishers; subscribers = agree.subscribers; loans = agree.loans; samples = removed_both sample_service mine one.samples other.samples rises.3 other_rises.3 n agree.samples }) is
+      (record {
+        publishers = agree.publishers;
+        subscribers = agree.subscribers;
+        loans = agree.loans;
+        samples
+            = removed_both sample_service mine one.samples other.samples rises.3 other_rises.3 n agree.samples;
+      }) is
 
   -- ---- something gets the same number in both
 
@@ -111,13 +139,20 @@ module _ (mine : ℕ → Bool) where
         with_loan port slot other,
         (numbers.0 ∙ ap (λ n. Some (Ok n)) (sym agree.loans.1), refl),
         made_still (with_loan port slot one) after (with_loan port slot other)
-            (record { publishers = agree.publishers; subscribers = agree.subscribers; loans = inserted_both loan_service mine one.loans other.loans rises.2 other_rises.2 loan agree.loans; samples = agree.samples }) numbers.1,
+            (record {
+              publishers = agree.publishers;
+              subscribers = agree.subscribers;
+              loans
+                  = inserted_both loan_service mine one.loans other.loans rises.2 other_rises.2 loan agree.loans;
+              samples = agree.samples;
+            }) numbers.1,
       )
 
   pub samples_numbered : (port : Option PortId) (received : Option (Result (Option Taken) ReceiveError))
       (answer : Option (Result (Option ℕ) ReceiveError)) (one after other : Made) → MadeRises one → MadeRises other
       → MadeAgree mine one other
-      → NumbersSample port received one answer after → (there : Made) × NumbersSample port received other answer there × MadeAgree mine after there
+      → NumbersSample port received one answer after → (there : Made) × NumbersSample port received other answer there
+      × MadeAgree mine after there
   samples_numbered port None answer one after other rises other_rises agree numbers
       = (other, (numbers.0, refl), made_still one after other agree numbers.1)
   samples_numbered port (Some (Err error)) answer one after other rises other_rises agree numbers
@@ -130,12 +165,19 @@ module _ (mine : ℕ → Bool) where
         with_sample port taken other,
         (numbers.0 ∙ ap (λ n. Some (Ok (Some n))) (sym agree.samples.1), refl),
         made_still (with_sample port taken one) after (with_sample port taken other)
-            (record { publishers = agree.publishers; subscribers = agree.subscribers; loans = agree.loans; samples = inserted_both sample_service mine one.samples other.samples rises.3 other_rises.3 sample agree.samples }) numbers.1,
+            (record {
+              publishers = agree.publishers;
+              subscribers = agree.subscribers;
+              loans = agree.loans;
+              samples
+                  = inserted_both sample_service mine one.samples other.samples rises.3 other_rises.3 sample agree.samples;
+            }) numbers.1,
       )
 
   pub publishers_numbered : {E : Type 0} (domain : DomainId) (next other_next : ℕ) (came answer : Option (Result ℕ E))
       (one after other : Made) → other_next ≡ next → MadeRises one → MadeRises other → MadeAgree mine one other
-      → NumbersPort (with_publisher domain true) next came one answer after → (there : Made) × NumbersPort (with_publisher domain true) other_next came other answer there × MadeAgree mine after there
+      → NumbersPort (with_publisher domain true) next came one answer after → (there : Made)
+      × NumbersPort (with_publisher domain true) other_next came other answer there × MadeAgree mine after there
   publishers_numbered domain next other_next None answer one after other same rises other_rises agree numbers
       = (other, (numbers.0, refl), made_still one after other agree numbers.1)
   publishers_numbered domain next other_next (Some (Err error)) answer one after other same rises other_rises agree numbers
@@ -145,12 +187,19 @@ module _ (mine : ℕ → Bool) where
         with_publisher domain true n other,
         (numbers.0 ∙ ap (λ n. Some (Ok n)) (sym same), refl),
         made_still (with_publisher domain true n one) after (with_publisher domain true n other)
-            (record { publishers = inserted_both publisher_service mine one.publishers other.publishers rises.0 other_rises.0 made agree.publishers; subscribers = agree.subscribers; loans = agree.loans; samples = agree.samples }) numbers.1,
+            (record {
+              publishers = inserted_both publisher_service mine one.publishers other.publishers rises.0 other_rises.0 made
+                  agree.publishers;
+              subscribers = agree.subscribers;
+              loans = agree.loans;
+              samples = agree.samples;
+            }) numbers.1,
       )
 
   pub subscribers_numbered : {E : Type 0} (domain : DomainId) (next other_next : ℕ) (came answer : Option (Result ℕ E))
       (one after other : Made) → other_next ≡ next → MadeRises one → MadeRises other → MadeAgree mine one other
-      → NumbersPort (with_subscriber domain) next came one answer after → (there : Made) × NumbersPort (with_subscriber domain) other_next came other answer there × MadeAgree mine after there
+      → NumbersPort (with_subscriber domain) next came one answer after → (there : Made)
+      × NumbersPort (with_subscriber domain) other_next came other answer there × MadeAgree mine after there
   subscribers_numbered domain next other_next None answer one after other same rises other_rises agree numbers
       = (other, (numbers.0, refl), made_still one after other agree numbers.1)
   subscribers_numbered domain next other_next (Some (Err error)) answer one after other same rises other_rises agree numbers
@@ -160,5 +209,11 @@ module _ (mine : ℕ → Bool) where
         with_subscriber domain n other,
         (numbers.0 ∙ ap (λ n. Some (Ok n)) (sym same), refl),
         made_still (with_subscriber domain n one) after (with_subscriber domain n other)
-            (record { publishers = agree.publishers; subscribers = inserted_both service_at mine one.subscribers other.subscribers rises.1 other_rises.1 made agree.subscribers; loans = agree.loans; samples = agree.samples }) numbers.1,
+            (record {
+              publishers = agree.publishers;
+              subscribers
+                  = inserted_both service_at mine one.subscribers other.subscribers rises.1 other_rises.1 made agree.subscribers;
+              loans = agree.loans;
+              samples = agree.samples;
+            }) numbers.1,
       )

@@ -1,5 +1,6 @@
 -- What goes by numbers in a hub whose lives go by other numbers.
-use Rattle.std.proofs.Common.{◌≡◌, ◌∙◌, ◌≤◌, ℕ, Bool, true, false, List, [], ◌∷◌, ◌++◌, map, length, Option, None, Some, option_map, Result, Ok, Err, nat_eq, refl, sym, ap, subst, suc, if◌then◌else◌}
+use Rattle.std.proofs.Common.{◌≡◌, ◌∙◌, ◌≤◌, ℕ, Bool, true, false, List, [], ◌∷◌, ◌++◌, map, length, Option, None, Some, option_map}
+use Rattle.std.proofs.Common.{Result, Ok, Err, nat_eq, refl, sym, ap, subst, suc, if◌then◌else◌}
 use Rattle.iox_hub_laws.specs.Renaming.{Renaming}
 use Rattle.iox_hub_laws.proofs.Lists.{each_found, each_gone}
 use Rattle.iox_hub_laws.specs.HubCommands.Delivery.declared.port_id.PortId.{PortId}
@@ -9,7 +10,8 @@ use Rattle.iox_hub_laws.specs.HubCommands.DomainValues.declared.port_error.LoanE
 use Rattle.iox_hub_laws.specs.HubCommands.DomainValues.declared.port_error.ReceiveError.{ReceiveError}
 use Rattle.iox_hub_laws.specs.HubCommands.Making.{with_publisher, with_subscriber, NumbersPort}
 use Rattle.iox_hub_laws.specs.HubCommands.Numbering.{removed_if, with_loan, with_sample, NumbersLoan, NumbersSample}
-use Rattle.iox_hub_laws.specs.HubCommands.Tables.{SameNumbers, IsRoomier, IsFull, lender, port_under, without_publisher, without_subscriber, without_loan, without_sample}
+use Rattle.iox_hub_laws.specs.HubCommands.Tables.{SameNumbers, IsRoomier, IsFull, lender, port_under, without_publisher}
+use Rattle.iox_hub_laws.specs.HubCommands.Tables.{without_subscriber, without_loan, without_sample}
 use Rattle.iox_hub_laws.specs.HubCommands.declared.ports.made.Made.{Made}
 use Rattle.iox_hub_laws.specs.HubCommands.declared.ports.made.MadePublisher.{MadePublisher}
 use Rattle.iox_hub_laws.specs.HubCommands.HubBase.Opening.{Made as Opened}
@@ -18,7 +20,8 @@ use Rattle.iox_hub_laws.specs.HubCommands.ServicesTables.{publish_subscribe_in}
 use Rattle.iox_hub_laws.specs.HubCommands.declared.services.made.MadeFactory.{MadeFactory}
 use Rattle.iox_hub_laws.specs.HubCommands.declared.services.made.MadeFactory.TheVariants as made_factory
 use Rattle.iox_hub_laws.specs.NegotiateRenamedRenaming.{renamed_member}
-use Rattle.iox_hub_laws.specs.RenamedRenaming.{renamed_id, renamed_port, renamed_made_publisher, renamed_made_loan, renamed_made_sample, mapped, renamed_made, renamed_factory}
+use Rattle.iox_hub_laws.specs.RenamedRenaming.{renamed_id, renamed_port, renamed_made_publisher, renamed_made_loan, renamed_made_sample}
+use Rattle.iox_hub_laws.specs.RenamedRenaming.{mapped, renamed_made, renamed_factory}
 
 -- ---- tables
 
@@ -36,7 +39,8 @@ module _ {V : Type 0} (step : V → V) where
 
   pub inserted_as : (table : NumberTable V) (value : V) → inserted (mapped step table) (step value) ≡ mapped step (inserted table value)
   inserted_as table value =
-      ap (λ entries. record (inserted (mapped step table) (step value)) { entries = entries }) (sym (map_join (λ (entry : ℕ × V). (entry.0, step entry.1)) table.entries ((table.next, value) ∷ [])))
+      ap (λ entries. record (inserted (mapped step table) (step value)) { entries = entries })
+      (sym (map_join (λ (entry : ℕ × V). (entry.0, step entry.1)) table.entries ((table.next, value) ∷ [])))
 
   pub removed_as : (table : NumberTable V) (number : ℕ) → removed (mapped step table) number ≡ mapped step (removed table number)
   removed_as table number = ap (λ entries. record (mapped step table) { entries = entries }) (each_gone step (nat_eq number) table.entries)
@@ -113,7 +117,9 @@ module _ (by : Renaming) where
   pub publisher_numbered : (id : DomainId) (holds_slices : Bool) (number : ℕ) (made : Made)
       → with_publisher (renamed_id by id) holds_slices number (own made) ≡ own (with_publisher id holds_slices number made)
   publisher_numbered id holds_slices number made =
-      ap (λ table. record (own made) { publishers = table }) (inserted_as (renamed_made_publisher by) made.publishers (record { port = record { domain = id; number = number }; holds_slices = holds_slices }))
+      ap (λ table. record (own made) { publishers = table })
+      (inserted_as (renamed_made_publisher by) made.publishers
+      (record { port = record { domain = id; number = number }; holds_slices = holds_slices }))
 
   pub subscriber_numbered : (id : DomainId) (number : ℕ) (made : Made)
       → with_subscriber (renamed_id by id) number (own made) ≡ own (with_subscriber id number made)

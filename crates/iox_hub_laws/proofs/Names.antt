@@ -1,14 +1,18 @@
 -- What happens under one hash leaves what lies under each other one.
-use Rattle.std.proofs.Common.{◌≡◌, ◌≢◌, ◌∙◌, ◌++◌, ◌⊎◌, ⊎_elim, ℕ, List, [], ◌∷◌, Option, None, Some, Result, Ok, Err, refl, sym, ap, subst, zero, suc}
+use Rattle.std.proofs.Common.{◌≡◌, ◌≢◌, ◌∙◌, ◌++◌, ⊎_elim, ℕ, List, [], ◌∷◌, Option, None, Some, Result, Ok, Err, refl, sym, ap}
+use Rattle.std.proofs.Common.{subst, zero, suc}
 use Rattle.std.specs.declared.alloc.AllocError.{AllocError}
 use Rattle.iox_negotiate.specs.Describe.DescribeBase.declared.hash.ServiceHash.{ServiceHash}
 use Rattle.iox_negotiate.specs.Describe.DescribeSettings.Agreement.{Agreement}
 use Rattle.iox_negotiate.specs.Factory.{Closes, LeaveGoes, Removes, RemovalGoes, RemovesSegment}
 use Rattle.iox_negotiate.specs.NegotiateBase.declared.errors.close.CloseError.{CloseError}
-use Rattle.iox_negotiate.specs.NegotiateBase.Access.{Access, Look, Lock, MakeSegment, Publish, Unlock, OpenSegment, Leave, RemoveDescription, RemoveSegment}
-use Rattle.iox_negotiate.specs.NegotiateBase.Creating.{CreatesIf, CreatesSeen, Locks, LockGoes, Makes, MakeGoes, Publishes, PublishGoes, Undoes, Unlocks}
+use Rattle.iox_negotiate.specs.NegotiateBase.Access.{Access, Look, Lock, MakeSegment, Publish, Unlock, OpenSegment, Leave}
+use Rattle.iox_negotiate.specs.NegotiateBase.Access.{RemoveDescription, RemoveSegment}
+use Rattle.iox_negotiate.specs.NegotiateBase.Creating.{CreatesIf, CreatesSeen, Locks, LockGoes, Makes, MakeGoes, Publishes, PublishGoes}
+use Rattle.iox_negotiate.specs.NegotiateBase.Creating.{Undoes, Unlocks}
 use Rattle.iox_negotiate.specs.NegotiateBase.Failing.{refusal_seen, lock_gives, making_failure, publishing_failure}
-use Rattle.iox_negotiate.specs.NegotiateBase.Opening.{Registers, OpensJudged, OpensSeen, OpenRound, Opens, EitherCreates, EitherSeen, EitherRound, OpensOrCreates}
+use Rattle.iox_negotiate.specs.NegotiateBase.Opening.{Registers, OpensJudged, OpensSeen, OpenRound, Opens, EitherCreates, EitherSeen}
+use Rattle.iox_negotiate.specs.NegotiateBase.Opening.{EitherRound, OpensOrCreates}
 use Rattle.iox_negotiate.specs.NegotiateBase.Runs.{Went, Led, Rounds}
 use Rattle.iox_negotiate.specs.NegotiateBase.declared.answer.LeaveAnswer.{LeaveAnswer}
 use Rattle.iox_negotiate.specs.NegotiateBase.declared.answer.LeaveAnswer.TheVariants as leaving
@@ -103,7 +107,8 @@ module _ (hash : ServiceHash) where
       → Led round count made → AllUnder hash made
   led_under round under zero made none = none_under hash made none
   led_under round under (suc count) made (before, last, is, led, goes) =
-      subst (λ accesses. AllUnder hash accesses) (sym is) (both_under hash before last (led_under round under count before led) (under last None goes))
+      subst (λ accesses. AllUnder hash accesses) (sym is)
+      (both_under hash before last (led_under round under count before led) (under last None goes))
 
   rounds_under : {R : Type 0} (round : List Access → Option R → Type 0) (exhausted : R)
       → ((made : List Access) (result : Option R) → round made result → AllUnder hash made)
@@ -199,14 +204,16 @@ untouched_on other old mid new first second
 module _ (hash other : ServiceHash) (apart : hash ≢ other) where
   event_leaves : (event : Event) (old new : Contents) → hash_of event ≡ hash → Happens old event new → IsUntouched other old new
   event_leaves event old new own happens =
-      let e = elsewhere hash other (λ same. apart (hash-from hash other same)) old new event (subst (λ h. Change event h old new) own (changes old new event happens)) in
+      let e = elsewhere hash other (λ same. apart (hash-from hash other same)) old new event
+      (subst (λ h. Change event h old new) own (changes old new event happens)) in
       record { entry = e.entry; segments = e.segment }
 
   pub acts_leave : (steps : List ForeignStep) (old new : Contents) (result : Result (Unit {0}) AllocError)
       → ActsAll hash steps old result new → IsUntouched other old new
   acts_leave [] old new result h = untouched_same other old new h.1
   acts_leave (one ∷ steps) old new result (mid, first, acts, goes_on) =
-      untouched_on other old mid new (event_leaves (Stepping hash one) old mid refl (first, acts)) (goes first (λ later. acts_leave steps mid new result later) goes_on)
+      untouched_on other old mid new (event_leaves (Stepping hash one) old mid refl (first, acts))
+      (goes first (λ later. acts_leave steps mid new result later) goes_on)
     where
       goes : (first : Result (Unit {0}) AllocError) → (ActsAll hash steps mid result new → IsUntouched other mid new)
           → GoesOn first (ActsAll hash steps mid result new) ((result ≡ first) × (new ≡ mid)) → IsUntouched other mid new
@@ -216,7 +223,9 @@ module _ (hash other : ServiceHash) (apart : hash ≢ other) where
   preceded_leaves : (under : ServiceHash) (access : Access) (lacking : Type 0) (old new : Steps) → under ≡ hash
       → hash_of (Accesses access) ≡ hash → Preceded under access lacking old new → IsUntouched other old.table new.table
   preceded_leaves under access lacking old new same own (mid, happened, acts, goes_on, lists) =
-      untouched_on other old.table mid new.table (acts_leave (next_list old.lists) old.table mid happened (subst (λ u. ActsAll u (next_list old.lists) old.table happened mid) same acts)) (goes happened goes_on)
+      untouched_on other old.table mid new.table
+      (acts_leave (next_list old.lists) old.table mid happened
+      (subst (λ u. ActsAll u (next_list old.lists) old.table happened mid) same acts)) (goes happened goes_on)
     where
       goes : (happened : Result (Unit {0}) AllocError) → GoesOn happened (Sight mid access new.table) (lacking × (new.table ≡ mid))
           → IsUntouched other mid new.table
@@ -246,7 +255,8 @@ module _ (hash other : ServiceHash) (apart : hash ≢ other) where
       → IsUntouched other old.table new.table
   stepped_went_leaves [] old new under went = untouched_same other old.table new.table (ap (λ steps. steps.table) went)
   stepped_went_leaves (access ∷ made) old new (own, under) (mid, first, rest) =
-      untouched_on other old.table mid.table new.table (stepped_leaves access old mid own first) (stepped_went_leaves made mid new under rest)
+      untouched_on other old.table mid.table new.table (stepped_leaves access old mid own first)
+      (stepped_went_leaves made mid new under rest)
 
   -- accesses under another hash, without foreign steps
   pub went_leaves : (made : List Access) (old new : Contents) → AllUnder hash made → Went Sight old made new → IsUntouched other old new

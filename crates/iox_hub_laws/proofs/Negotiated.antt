@@ -75,7 +75,8 @@ member_is {E} storage node error (Err failure) member is = absurd (not-bad membe
 -- a service that is created is the one that was to be agreed, within the limits
 created_is : (node : ℕ) (lists : List (List ForeignStep)) (old : Contents) (new : Steps) (agreed : Agreement) (is_too_long : Type 0)
     (refusal : Option CreateFailure) (service : Opened)
-    → IsRefusal (AreWithinLimits agreed.settings) is_too_long refusal → Does SteppedSight (start lists old) (λ made. CreatesIf agreed.service_hash node agreed refusal made (Ok service)) new
+    → IsRefusal (AreWithinLimits agreed.settings) is_too_long refusal
+    → Does SteppedSight (start lists old) (λ made. CreatesIf agreed.service_hash node agreed refusal made (Ok service)) new
     → (service.description ≡ agreed) × (refusal ≡ None) × AreWithinLimits agreed.settings
 created_is node lists old new agreed is_too_long (Some failure) service refused does = absurd (not-bad service failure does.told.1)
 created_is node lists old new agreed is_too_long None service refused does
@@ -83,7 +84,8 @@ created_is node lists old new agreed is_too_long None service refused does
 
 module _ {E : Type 0} (storage node : ℕ) (lists : List (List ForeignStep)) (old : Contents) (new : Steps) (is_reached : IsReached old) where
   pub create_comes : (agreed : Agreement) (is_too_long : Type 0) (error : CreateFailure → E) (answer : Result Membership E)
-      → Creates SteppedSight storage agreed.service_hash node agreed (AreWithinLimits agreed.settings) is_too_long error (start lists old) answer new → Comes agreed.service_hash old new.table answer
+      → Creates SteppedSight storage agreed.service_hash node agreed (AreWithinLimits agreed.settings) is_too_long error
+      (start lists old) answer new → Comes agreed.service_hash old new.table answer
   create_comes agreed is_too_long error answer creates = record {
     past = stepped-went-past done.made (start lists old) new done.went;
     leaves = λ other apart. stepped_went_leaves agreed.service_hash other apart done.made (start lists old) new
@@ -95,8 +97,10 @@ module _ {E : Type 0} (storage node : ℕ) (lists : List (List ForeignStep)) (ol
     as_before = λ member is form. let (service, came, same)
         = member_is storage node error creates.negotiated.answer member (sym creates.negotiated.told ∙ is) in
         let created = created_is node lists old new agreed is_too_long creates.refusal service creates.refused (does service came) in
-        let well = agrees (λ kind. Unit {0}) (call.Creates node agreed creates.refusal (Ok service)) old new.table service is_reached (lists, new, does service came, refl) refl
-        (within_of service.description (subst (λ s. HasForm s.description) (sym same) form) (subst (λ a. AreWithinLimits a.settings) (sym created.0) created.2)) in
+        let well = agrees (λ kind. Unit {0}) (call.Creates node agreed creates.refusal (Ok service)) old new.table service is_reached
+        (lists, new, does service came, refl) refl
+        (within_of service.description (subst (λ s. HasForm s.description) (sym same) form)
+        (subst (λ a. AreWithinLimits a.settings) (sym created.0) created.2)) in
         subst (λ s. (agreed : Agreement) → WasAgreed s.number agreed old → agreed ≡ s.description) same well.1;
   }
     where
@@ -111,7 +115,8 @@ module _ {E : Type 0} (storage node : ℕ) (lists : List (List ForeignStep)) (ol
 
   pub open_comes : {V : Type 0} (hash : ServiceHash) (verdict : Agreement → Result (Unit {0}) V) (error : OpenFailure V → E)
       (answer : Result Membership E)
-      → Negotiates SteppedSight storage node error (λ made came. Opens hash node verdict made came) (start lists old) answer new → Comes hash old new.table answer
+      → Negotiates SteppedSight storage node error (λ made came. Opens hash node verdict made came) (start lists old) answer new
+      → Comes hash old new.table answer
   open_comes {V} hash verdict error answer opens = record {
     past = stepped-went-past opens.done.made (start lists old) new opens.done.went;
     leaves = λ other apart. stepped_went_leaves hash other apart opens.done.made (start lists old) new
@@ -119,7 +124,8 @@ module _ {E : Type 0} (storage node : ℕ) (lists : List (List ForeignStep)) (ol
     is_of = λ member is. let (service, came, same) = member_is storage node error opens.answer member (sym opens.told ∙ is) in
         ap (λ s. s.description.service_hash) (sym same) ∙ (met service came).0;
     as_before = λ member is form. let (service, came, same) = member_is storage node error opens.answer member (sym opens.told ∙ is) in
-        let well = agrees (λ kind. V) (call.Opening 0 hash node verdict (Ok service)) old new.table service is_reached (lists, new, does service came, refl) refl (met service came).2 in
+        let well = agrees (λ kind. V) (call.Opening 0 hash node verdict (Ok service)) old new.table service is_reached
+        (lists, new, does service came, refl) refl (met service came).2 in
         subst (λ s. (agreed : Agreement) → WasAgreed s.number agreed old → agreed ≡ s.description) same well.1;
   }
     where
@@ -132,21 +138,26 @@ module _ {E : Type 0} (storage node : ℕ) (lists : List (List ForeignStep)) (ol
 
   pub either_comes : {V : Type 0} (verdict : Agreement → Result (Unit {0}) V) (agreed : Agreement) (is_too_long : Type 0)
       (error : OpenOrCreateFailure V → E) (answer : Result Membership E)
-      → Either SteppedSight storage agreed.service_hash node verdict agreed (AreWithinLimits agreed.settings) is_too_long error (start lists old) answer new → Comes agreed.service_hash old new.table answer
+      → Either SteppedSight storage agreed.service_hash node verdict agreed (AreWithinLimits agreed.settings) is_too_long error
+      (start lists old) answer new → Comes agreed.service_hash old new.table answer
   either_comes {V} verdict agreed is_too_long error answer either = record {
     past = stepped-went-past done.made (start lists old) new done.went;
     leaves = λ other apart. stepped_went_leaves agreed.service_hash other apart done.made (start lists old) new
         (either_under agreed.service_hash node verdict agreed either.refusal done.made either.negotiated.answer done.told) done.went;
     is_of = λ member is. let (service, came, same)
         = member_is storage node error either.negotiated.answer member (sym either.negotiated.told ∙ is) in
-        ap (λ s. s.description.service_hash) (sym same) ∙ ⊎_elim (λ met. met.0) (λ created. ap (λ a. a.service_hash) created.0) (ways service came);
+        ap (λ s. s.description.service_hash) (sym same) ∙ ⊎_elim (λ met. met.0) (λ created. ap (λ a. a.service_hash) created.0)
+        (ways service came);
     as_before = λ member is form. let (service, came, same)
         = member_is storage node error either.negotiated.answer member (sym either.negotiated.told ∙ is) in
         let within : IsWithinLimits service.description = ⊎_elim
         (λ met. met.2)
-        (λ created. within_of service.description (subst (λ s. HasForm s.description) (sym same) form) (subst (λ a. AreWithinLimits a.settings) (sym created.0) (unrefused (AreWithinLimits agreed.settings) is_too_long either.refusal either.refused created.1)))
+        (λ created. within_of service.description (subst (λ s. HasForm s.description) (sym same) form)
+        (subst (λ a. AreWithinLimits a.settings) (sym created.0)
+        (unrefused (AreWithinLimits agreed.settings) is_too_long either.refusal either.refused created.1)))
         (ways service came) in
-        let well = agrees (λ kind. V) (call.Either 0 node verdict agreed either.refusal (Ok service)) old new.table service is_reached (lists, new, does service came, refl) refl within in
+        let well = agrees (λ kind. V) (call.Either 0 node verdict agreed either.refusal (Ok service)) old new.table service is_reached
+        (lists, new, does service came, refl) refl within in
         subst (λ s. (agreed : Agreement) → WasAgreed s.number agreed old → agreed ≡ s.description) same well.1;
   }
     where

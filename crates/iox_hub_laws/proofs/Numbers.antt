@@ -1,5 +1,6 @@
 -- Keys that go by other numbers, and what stands under them.
-use Rattle.std.proofs.Common.{◌≡◌, ◌∙◌, ◌⊎◌, ◌<◌, ℕ, Bool, true, false, cond, List, [], ◌∷◌, map, Option, Some, option_map, nat_eq, refl, sym, ap, subst, inl, inr, arith}
+use Rattle.std.proofs.Common.{◌≡◌, ◌∙◌, ◌⊎◌, ◌<◌, ℕ, Bool, true, false, cond, List, [], ◌∷◌, map, Option, Some, option_map, nat_eq, refl}
+use Rattle.std.proofs.Common.{sym, ap, subst, inl, inr, arith}
 use Rattle.std.proofs.lemmas.Bool.{eqb-true, eq-eqb}
 use Rattle.std.proofs.lemmas.Cmp.{ranked}
 use Rattle.std.specs.BTreeMap.{insert_entry, is_at}
@@ -135,7 +136,8 @@ module _ {K X : Type 0} (key : K → K) (step : X → X) where
       (moved_found test other entries all)
 
   set_here : (is there : Bool) (at : K) (value new : X) (entries after later : List (K × X)) → there ≡ is → later ≡ moved after
-      → cond there ((key at, step new) ∷ moved entries) ((key at, step value) ∷ later) ≡ moved (cond is ((at, new) ∷ entries) ((at, value) ∷ after))
+      → cond there ((key at, step new) ∷ moved entries) ((key at, step value) ∷ later)
+      ≡ moved (cond is ((at, new) ∷ entries) ((at, value) ∷ after))
   set_here true there at value new entries after later same alike
       = ap (λ b. cond b ((key at, step new) ∷ moved entries) ((key at, step value) ∷ later)) same
   set_here false there at value new entries after later same alike
@@ -147,7 +149,8 @@ module _ {K X : Type 0} (key : K → K) (step : X → X) where
       → set_value other (moved entries) (step new) ≡ moved (set_value test entries new)
   moved_set test other [] new all = refl
   moved_set test other (entry ∷ entries) new (one, all) =
-      set_here (test entry.0) (other (key entry.0)) entry.0 entry.1 new entries (set_value test entries new) (set_value other (moved entries) (step new)) one (moved_set test other entries new all)
+      set_here (test entry.0) (other (key entry.0)) entry.0 entry.1 new entries (set_value test entries new)
+      (set_value other (moved entries) (step new)) one (moved_set test other entries new all)
 
   gone_here : (is there : Bool) (at : K) (value : X) (entries after later : List (K × X)) → there ≡ is → later ≡ moved after
       → cond there (moved entries) ((key at, step value) ∷ later) ≡ moved (cond is entries ((at, value) ∷ after))
@@ -160,10 +163,12 @@ module _ {K X : Type 0} (key : K → K) (step : X → X) where
       → remove_entry other (moved entries) ≡ moved (remove_entry test entries)
   moved_gone test other [] all = refl
   moved_gone test other (entry ∷ entries) (one, all) =
-      gone_here (test entry.0) (other (key entry.0)) entry.0 entry.1 entries (remove_entry test entries) (remove_entry other (moved entries)) one (moved_gone test other entries all)
+      gone_here (test entry.0) (other (key entry.0)) entry.0 entry.1 entries (remove_entry test entries)
+      (remove_entry other (moved entries)) one (moved_gone test other entries all)
 
   come_here : (is there : Ordering) (at other : K) (value new : X) (entries after later : List (K × X)) → there ≡ is → later ≡ moved after
-      → match_ordering there ((key at, step new) ∷ (key other, step value) ∷ moved entries) ((key other, step new) ∷ moved entries) ((key other, step value) ∷ later)
+      → match_ordering there ((key at, step new) ∷ (key other, step value) ∷ moved entries) ((key other, step new) ∷ moved entries)
+      ((key other, step value) ∷ later)
       ≡ moved (match_ordering is ((at, new) ∷ (other, value) ∷ entries) ((other, new) ∷ entries) ((other, value) ∷ after))
   come_here Less there at other value new entries after later same alike
       = ap (λ o. match_ordering o ((key at, step new) ∷ (key other, step value) ∷ moved entries) ((key other, step new) ∷ moved entries)
@@ -172,14 +177,16 @@ module _ {K X : Type 0} (key : K → K) (step : X → X) where
       = ap (λ o. match_ordering o ((key at, step new) ∷ (key other, step value) ∷ moved entries) ((key other, step new) ∷ moved entries)
       ((key other, step value) ∷ later)) same
   come_here Greater there at other value new entries after later same alike =
-      ap (λ o. match_ordering o ((key at, step new) ∷ (key other, step value) ∷ moved entries) ((key other, step new) ∷ moved entries) ((key other, step value) ∷ later)) same ∙ ap (λ rest. (key other, step value) ∷ rest) alike
+      ap (λ o. match_ordering o ((key at, step new) ∷ (key other, step value) ∷ moved entries) ((key other, step new) ∷ moved entries)
+      ((key other, step value) ∷ later)) same ∙ ap (λ rest. (key other, step value) ∷ rest) alike
 
   pub moved_come : (cmp : K → K → Ordering) (entries : List (K × X)) (at : K) (new : X)
       → AllByRecursion (λ entry. cmp (key at) (key entry.0) ≡ cmp at entry.0) entries
       → insert_entry cmp (moved entries) (key at) (step new) ≡ moved (insert_entry cmp entries at new)
   moved_come cmp [] at new all = refl
   moved_come cmp (entry ∷ entries) at new (one, all) =
-      come_here (cmp at entry.0) (cmp (key at) (key entry.0)) at entry.0 entry.1 new entries (insert_entry cmp entries at new) (insert_entry cmp (moved entries) (key at) (step new)) one (moved_come cmp entries at new all)
+      come_here (cmp at entry.0) (cmp (key at) (key entry.0)) at entry.0 entry.1 new entries (insert_entry cmp entries at new)
+      (insert_entry cmp (moved entries) (key at) (step new)) one (moved_come cmp entries at new all)
 
 -- what holds of each entry
 pub weaker : {E : Type 0} (P Q : E → Type 0) → ((e : E) → P e → Q e) → (es : List E) → AllByRecursion P es → AllByRecursion Q es

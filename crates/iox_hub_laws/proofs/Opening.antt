@@ -1,5 +1,6 @@
 -- What creating and opening do in two hubs that agree on the service.
-use Rattle.std.proofs.Common.{◌≡◌, ◌≢◌, ◌∙◌, ◌+◌, ◌≤◌, ◌<◌, ℕ, nat_eq, Bool, true, false, List, Option, Some, Result, Ok, Err, refl, sym, ap, subst, inl, inr, length, is_some, arith}
+use Rattle.std.proofs.Common.{◌≡◌, ◌≢◌, ◌∙◌, ◌+◌, ◌≤◌, ◌<◌, ℕ, nat_eq, Bool, true, false, List, Option, None, Some, Result, Ok, Err, refl}
+use Rattle.std.proofs.Common.{sym, ap, subst, inl, inr, length, is_some, arith}
 use Rattle.std.specs.BTreeMap.{insert_entry, is_at}
 use Rattle.std.specs.Map.{lookup}
 use Rattle.std.specs.Ordering.{nat_cmp}
@@ -74,7 +75,8 @@ put_both : {X : Type 0} (number n : ℕ) (is : Bool) → nat_eq number n ≡ is 
     → lookup (is_at (nat_cmp n)) other ≡ lookup (is_at (nat_cmp n)) one
     → lookup (is_at (nat_cmp n)) (insert_entry nat_cmp other number w) ≡ lookup (is_at (nat_cmp n)) (insert_entry nat_cmp one number w)
 put_both number n true is one other w same =
-    subst (λ m. lookup (is_at (nat_cmp m)) (insert_entry nat_cmp other number w) ≡ lookup (is_at (nat_cmp m)) (insert_entry nat_cmp one number w)) (eqb-true number n is)
+    subst (λ m. lookup (is_at (nat_cmp m)) (insert_entry nat_cmp other number w)
+    ≡ lookup (is_at (nat_cmp m)) (insert_entry nat_cmp one number w)) (eqb-true number n is)
     (put_found number other w ∙ sym (put_found number one w))
 put_both number n false is one other w same =
     let differ : number ≢ n = λ both. no (sym is ∙ eq-eqb number n both) in
@@ -116,13 +118,15 @@ module _ (mine : ℕ → Bool) where
   numbers_alike : {E : Type 0} (pattern : MessagingPattern) (refusal : E → Refusal) (made : Result Made E) (answer : Result ℕ Refusal)
       (table after other : FactoryTable) → SameOf service_of mine table other → Rises 1 table.entries table.next
       → Rises 1 other.entries other.next
-      → Numbers pattern refusal made table answer after → (there : FactoryTable) × Numbers pattern refusal made other answer there × SameOf service_of mine after there
-  numbers_alike pattern refusal (Ok parts) answer table after other same rises other_rises (factory, is_pattern, is_parts, is_new, is_answer, form) = (
-    inserted other factory,
-    (factory, is_pattern, is_parts, refl, is_answer ∙ ap (λ n. Ok n) (sym same.1), form),
-    subst (λ it. SameOf service_of mine it (inserted other factory)) (sym is_new)
-        (inserted_both service_of mine table other rises other_rises factory same),
-  )
+      → Numbers pattern refusal made table answer after → (there : FactoryTable) × Numbers pattern refusal made other answer there
+      × SameOf service_of mine after there
+  numbers_alike pattern refusal (Ok parts) answer table after other same rises other_rises
+      (factory, is_pattern, is_parts, is_new, is_answer, form) = (
+        inserted other factory,
+        (factory, is_pattern, is_parts, refl, is_answer ∙ ap (λ n. Ok n) (sym same.1), form),
+        subst (λ it. SameOf service_of mine it (inserted other factory)) (sym is_new)
+            (inserted_both service_of mine table other rises other_rises factory same),
+      )
   numbers_alike pattern refusal (Err error) answer table after other same rises other_rises (is_answer, is_new) =
       (other, (is_answer, refl), subst (λ it. SameOf service_of mine it other) (sym is_new) same)
 
@@ -139,14 +143,24 @@ module _ {T U B D : Type 0} (hash : ServiceHash) (mine : ℕ → Bool) (payload 
   opens_alike : (buffer number : ℕ) (settings : Settings) (one new other : OpenServices T U B D) → mine number ≡ true
       → other.hub ≡ one.hub → ((n : ℕ) → mine n ≡ true → presence_of n other.domains ≡ presence_of n one.domains)
       → ServiceOpens payload user_header buffer number settings one (Ok tt) new
-      → (after : OpenServices T U B D) × ServiceOpens payload user_header buffer number settings other (Ok tt) after × (after.hub ≡ new.hub) × ((n : ℕ) → mine n ≡ true → presence_of n after.domains ≡ presence_of n new.domains)
-  opens_alike buffer number settings one new other of hub same (inl (inl is_open, is)) =
-      (other, inl (inl (ap is_some (same number of) ∙ is_open), refl), hub ∙ sym (ap (λ s. s.hub) is), λ n own. same n own ∙ sym (ap (λ s. presence_of n s.domains) is))
+      → (after : OpenServices T U B D) × ServiceOpens payload user_header buffer number settings other (Ok tt) after
+      × (after.hub ≡ new.hub) × ((n : ℕ) → mine n ≡ true → presence_of n after.domains ≡ presence_of n new.domains)
+  opens_alike buffer number settings one new other of hub same (inl (inl is_open, is)) = (
+    other,
+    inl (inl (ap is_some (same number of) ∙ is_open), refl),
+    hub ∙ sym (ap (λ s. s.hub) is),
+    λ n own. same n own ∙ sym
+        (ap (λ s. presence_of n s.domains) is),
+  )
   opens_alike buffer number settings one new other of hub same (inl (inr unfit, is)) =
       (other, inl (inr unfit, refl), hub ∙ sym (ap (λ s. s.hub) is), λ n own. same n own ∙ sym (ap (λ s. presence_of n s.domains) is))
   opens_alike buffer number settings one new other of hub same (inr (closed, fits, (domain, is_new, is))) = (
     record other { domains = opened number (Here domain) other.domains },
-    inr (ap is_some (same number of) ∙ closed, fits, (domain, subst (λ h. IsNewDomain (record { hub = h; service = number }) buffer settings domain) (sym hub) is_new, refl)),
+    inr (
+      ap is_some (same number of) ∙ closed,
+      fits,
+      (domain, subst (λ h. IsNewDomain (record { hub = h; service = number }) buffer settings domain) (sym hub) is_new, refl),
+    ),
     hub ∙ sym (ap (λ s. s.hub) is),
     λ n own. put_both number n (nat_eq number n) refl one.domains other.domains (Here domain) (same n own) ∙ sym
         (ap (λ s. presence_of n s.domains) is),
@@ -155,12 +169,17 @@ module _ {T U B D : Type 0} (hash : ServiceHash) (mine : ℕ → Bool) (payload 
   entered_alike : (member : Membership) (entered : Result Made Bool) (one new other : Hub T U B D)
       → member.service.description.service_hash ≡ hash → mine member.service.number ≡ true → HubsAgree hash mine one other
       → IsTable one.table → IsTable other.table
-      → Enters payload user_header member one entered new → (after : Hub T U B D) × Enters payload user_header member other entered after × HubsAgree hash mine new after
+      → Enters payload user_header member one entered new → (after : Hub T U B D)
+      × Enters payload user_header member other entered after × HubsAgree hash mine new after
   entered_alike member (Ok made) one new other under of agree first second (is_made, opens, is) =
       let number = member.service.number in
-      let (services, there, hub, presence) = opens_alike one.expired_connection_buffer number member.service.description.settings one.services new.services other.services of agree.id agree.presence opens in
-      let before = record one { factories = one_more one.factories; factory_counts = with_factory number one.factory_counts; services = new.services } in
-      let after = record other { factories = one_more other.factories; factory_counts = with_factory number other.factory_counts; services = services } in
+      let (services, there, hub, presence)
+      = opens_alike one.expired_connection_buffer number member.service.description.settings one.services new.services
+      other.services of agree.id agree.presence opens in
+      let before = record one
+      { factories = one_more one.factories; factory_counts = with_factory number one.factory_counts; services = new.services } in
+      let after = record other
+      { factories = one_more other.factories; factory_counts = with_factory number other.factory_counts; services = services } in
       let agree_after : HubsAgree hash mine before after = record {
         named = agree.named;
         presence = presence;
@@ -185,9 +204,15 @@ module _ {T U B D : Type 0} (hash : ServiceHash) (mine : ℕ → Bool) (payload 
       )
   entered_alike member (Err was_new) one new other under of agree first second (is_new, ((closed, does), is)) =
       let all_under : AllUnder hash does.made =
-      subst (λ h. AllUnder h does.made) under (closes_under member.service.description.service_hash member.service.number closed member.node does.made does.told) in
-      let (later, went, tables) = went_alike hash does.made one.table new.table other.table all_under (tables_agree hash mine one other agree) first second does.went in
-      (record other { table = later }, (is_new, ((closed, record { made = does.made; went = went; told = does.told }), refl)), with_tables hash mine one new other later agree is tables)
+      subst (λ h. AllUnder h does.made) under
+      (closes_under member.service.description.service_hash member.service.number closed member.node does.made does.told) in
+      let (later, went, tables) = went_alike hash does.made one.table new.table other.table all_under
+      (tables_agree hash mine one other agree) first second does.went in (
+        record other { table = later },
+        (is_new, ((closed, record { made = does.made; went = went; told = does.told }), refl)),
+        with_tables
+            hash mine one new other later agree is tables,
+      )
 
   module _ {E : Type 0} (lacking : Bool → E) where
     -- the table went on
@@ -201,8 +226,10 @@ module _ {T U B D : Type 0} (hash : ServiceHash) (mine : ℕ → Bool) (payload 
 
     settled_alike : (answer : Result Membership E) (result : Result Made E) (one new other : Hub T U B D)
         → HubsAgree hash mine one other → IsTable one.table → IsTable other.table
-        → ((member : Membership) → answer ≡ Ok member → (member.service.description.service_hash ≡ hash) × (mine member.service.number ≡ true))
-        → Settles payload user_header lacking answer one result new → (after : Hub T U B D) × Settles payload user_header lacking answer other result after × HubsAgree hash mine new after
+        → ((member : Membership) → answer ≡ Ok member → (member.service.description.service_hash ≡ hash)
+        × (mine member.service.number ≡ true))
+        → Settles payload user_header lacking answer one result new → (after : Hub T U B D)
+        × Settles payload user_header lacking answer other result after × HubsAgree hash mine new after
     settled_alike (Err error) result one new other agree first second of (is, same)
         = (other, (is, refl), agree_still hash mine one new other agree same)
     settled_alike (Ok member) result one new other agree first second of (entered, enters, is) =
@@ -213,19 +240,24 @@ module _ {T U B D : Type 0} (hash : ServiceHash) (mine : ℕ → Bool) (payload 
     in_hub_alike : (negotiates : Steps → Result Membership E → Steps → Type 0) → IsNegotiation hash negotiates
         → (lists : List (List ForeignStep)) (one new other : Hub T U B D) (result : Result Made E)
         → HubsAgree hash mine one other → IsTable one.table → IsTable other.table → LivesAreMine hash mine one.table new.table
-        → OpensInHub payload user_header lacking negotiates lists one result new → (after : Hub T U B D) × OpensInHub payload user_header lacking negotiates lists other result after × HubsAgree hash mine new after
+        → OpensInHub payload user_header lacking negotiates lists one result new → (after : Hub T U B D)
+        × OpensInHub payload user_header lacking negotiates lists other result after × HubsAgree hash mine new after
     in_hub_alike negotiates is lists one new other result agree first second lives opens =
         let start : Steps = record { table = one.table; lists = lists } in
         let (mid, negotiated, later) =
-        is.alike start opens.mid (record { table = other.table; lists = lists }) opens.answer (record { tables = tables_agree hash mine one other agree; lists = refl }) first second opens.negotiated in
+        is.alike start opens.mid (record { table = other.table; lists = lists }) opens.answer
+        (record { tables = tables_agree hash mine one other agree; lists = refl }) first second opens.negotiated in
         let (made, under, went) = is.goes start opens.mid opens.answer opens.negotiated in
         let (made_there, under_there, went_there) = is.goes (record { table = other.table; lists = lists }) mid opens.answer negotiated in
         let follows = past_follows hash one.table opens.mid.table first (stepped-went-past made start opens.mid went) in
         let more = settled_rises opens.answer result (record one { table = opens.mid.table }) new opens.settled in
         let (after, settled, agree_after) =
-        settled_alike opens.answer result (record one { table = opens.mid.table }) new (record other { table = mid.table }) (with_tables hash mine one (record one { table = opens.mid.table }) other mid.table agree refl later.tables)
-        (stepped-went-table made start opens.mid first went) (stepped-went-table made_there (record { table = other.table; lists = lists }) mid second went_there)
-        (λ member came. let stands = is.stands start opens.mid member first (subst (λ a. negotiates start a opens.mid) came opens.negotiated) in
+        settled_alike opens.answer result (record one { table = opens.mid.table }) new (record other { table = mid.table })
+        (with_tables hash mine one (record one { table = opens.mid.table }) other mid.table agree refl later.tables)
+        (stepped-went-table made start opens.mid first went)
+        (stepped-went-table made_there (record { table = other.table; lists = lists }) mid second went_there)
+        (λ member came. let stands = is.stands start opens.mid member first
+        (subst (λ a. negotiates start a opens.mid) came opens.negotiated) in
         (stands.2, stands_mine hash mine one.table opens.mid.table new.table member first follows more lives stands))
         opens.settled in
         (after, record { answer = opens.answer; mid = mid; negotiated = negotiated; settled = settled }, agree_after)
@@ -236,12 +268,17 @@ module _ {T U B D : Type 0} (hash : ServiceHash) (mine : ℕ → Bool) (payload 
       (second : IsTable other.table) (lives : LivesAreMine hash mine one.table new.table) where
     gets_alike : {E : Type 0} (lacking : Bool → E) (negotiates : Steps → Result Membership E → Steps → Type 0)
         → IsNegotiation hash negotiates → (lists : List (List ForeignStep)) (pattern : MessagingPattern) (refusal : E → Refusal)
-        (answer : Result ℕ Refusal) (table after other_table : FactoryTable) → SameOf service_of mine table other_table → Rises 1 table.entries table.next → Rises 1 other_table.entries other_table.next
-        → GetsNumber pattern refusal (λ before made later. OpensInHub payload user_header lacking negotiates lists before made later) table one answer after new
-        → GoesSo hash mine (λ t old a h. GetsNumber pattern refusal (λ before made later. OpensInHub payload user_header lacking negotiates lists before made later) t old answer a h) other_table other after new
+        (answer : Result ℕ Refusal) (table after other_table : FactoryTable) → SameOf service_of mine table other_table
+        → Rises 1 table.entries table.next → Rises 1 other_table.entries other_table.next
+        → GetsNumber pattern refusal (λ before made later. OpensInHub payload user_header lacking negotiates lists before made later)
+        table one answer after new
+        → GoesSo hash mine (λ t old a h. GetsNumber pattern refusal
+        (λ before made later. OpensInHub payload user_header lacking negotiates lists before made later) t old answer a h)
+        other_table other after new
     gets_alike lacking negotiates is lists pattern refusal answer table after other_table same rises other_rises (made, opens, numbers) =
         let (hub, opens_there, hubs) = in_hub_alike lacking negotiates is lists one new other made agree first second lives opens in
-        let (there, numbers_there, tables) = numbers_alike mine pattern refusal made answer table after other_table same rises other_rises numbers in
+        let (there, numbers_there, tables) = numbers_alike mine pattern refusal made answer table after other_table same rises
+        other_rises numbers in
         (there, hub, (made, opens_there, numbers_there), tables, hubs)
 
     module _ (table after other_table : FactoryTable) (same : SameOf service_of mine table other_table)
@@ -249,92 +286,156 @@ module _ {T U B D : Type 0} (hash : ServiceHash) (mine : ℕ → Bool) (payload 
       create_as : (named : ServiceOptions) (types : MessageTypeDetails) (node : ℕ) (name : List ℕ) (attributes : List Attribute)
           (lists : List (List ForeignStep)) (answer : Result ℕ Refusal) → hash_of name named ≡ hash
           → CreatesAs named payload user_header types node name attributes lists table one answer after new
-          → GoesSo hash mine (λ t old a h. CreatesAs named payload user_header types node name attributes lists t old answer a h) other_table other after new
+          → GoesSo hash mine (λ t old a h. CreatesAs named payload user_header types node name attributes lists t old answer a h)
+          other_table other after new
       create_as (options.PublishSubscribe named) types node name attributes lists answer under gets =
-          gets_alike _ _ (of_hash (hash_of name (options.PublishSubscribe named)) hash under (creating node (agreed_of name (options.PublishSubscribe named) types attributes) _ _ _)) lists _ _ answer table after other_table same rises other_rises gets
+          gets_alike _ _ (of_hash (hash_of name (options.PublishSubscribe named)) hash under
+          (creating node (agreed_of name (options.PublishSubscribe named) types attributes) _ _ _)) lists _ _ answer table after
+          other_table same rises other_rises gets
       create_as (options.Event named) types node name attributes lists answer under gets =
-          gets_alike _ _ (of_hash (hash_of name (options.Event named)) hash under (creating node (agreed_of name (options.Event named) types attributes) _ _ _)) lists _ _ answer table after other_table same rises other_rises gets
+          gets_alike _ _ (of_hash (hash_of name (options.Event named)) hash under
+          (creating node (agreed_of name (options.Event named) types attributes) _ _ _)) lists _ _ answer table after other_table
+          same rises other_rises gets
       create_as (options.RequestResponse named) types node name attributes lists answer under gets =
-          gets_alike _ _ (of_hash (hash_of name (options.RequestResponse named)) hash under (creating node (agreed_of name (options.RequestResponse named) types attributes) _ _ _)) lists _ _ answer table after other_table same rises other_rises gets
+          gets_alike _ _ (of_hash (hash_of name (options.RequestResponse named)) hash under
+          (creating node (agreed_of name (options.RequestResponse named) types attributes) _ _ _)) lists _ _ answer table after
+          other_table same rises other_rises gets
 
       open_as : (named : ServiceOptions) (types : MessageTypeDetails) (node : ℕ) (name : List ℕ) (attributes : Required)
           (lists : List (List ForeignStep)) (answer : Result ℕ Refusal) → hash_of name named ≡ hash
           → OpensAs named payload user_header types node name attributes lists table one answer after new
-          → GoesSo hash mine (λ t old a h. OpensAs named payload user_header types node name attributes lists t old answer a h) other_table other after new
+          → GoesSo hash mine (λ t old a h. OpensAs named payload user_header types node name attributes lists t old answer a h)
+          other_table other after new
       open_as (options.PublishSubscribe named) types node name attributes lists answer under gets =
-          gets_alike _ _ (of_hash (hash_of name (options.PublishSubscribe named)) hash under (opening node (hash_of name (options.PublishSubscribe named)) _ _)) lists _ _ answer table after other_table same rises other_rises gets
+          gets_alike _ _ (of_hash (hash_of name (options.PublishSubscribe named)) hash under
+          (opening node (hash_of name (options.PublishSubscribe named)) _ _)) lists _ _ answer table after other_table same rises
+          other_rises gets
       open_as (options.Event named) types node name attributes lists answer under gets =
-          gets_alike _ _ (of_hash (hash_of name (options.Event named)) hash under (opening node (hash_of name (options.Event named)) _ _)) lists _ _ answer table after other_table same rises other_rises gets
+          gets_alike _ _ (of_hash (hash_of name (options.Event named)) hash under
+          (opening node (hash_of name (options.Event named)) _ _)) lists _ _ answer table after other_table same rises other_rises gets
       open_as (options.RequestResponse named) types node name attributes lists answer under gets =
-          gets_alike _ _ (of_hash (hash_of name (options.RequestResponse named)) hash under (opening node (hash_of name (options.RequestResponse named)) _ _)) lists _ _ answer table after other_table same rises other_rises gets
+          gets_alike _ _ (of_hash (hash_of name (options.RequestResponse named)) hash under
+          (opening node (hash_of name (options.RequestResponse named)) _ _)) lists _ _ answer table after other_table same rises
+          other_rises gets
 
       either_as : (named : ServiceOptions) (types : MessageTypeDetails) (node : ℕ) (name : List ℕ) (attributes : Required)
           (lists : List (List ForeignStep)) (answer : Result ℕ Refusal) → hash_of name named ≡ hash
           → EitherAs named payload user_header types node name attributes lists table one answer after new
-          → GoesSo hash mine (λ t old a h. EitherAs named payload user_header types node name attributes lists t old answer a h) other_table other after new
+          → GoesSo hash mine (λ t old a h. EitherAs named payload user_header types node name attributes lists t old answer a h)
+          other_table other after new
       either_as (options.PublishSubscribe named) types node name attributes lists answer under gets =
-          gets_alike _ _ (of_hash (hash_of name (options.PublishSubscribe named)) hash under (either node _ (required_agreement name (options.PublishSubscribe named) types attributes) _ _ _)) lists _ _ answer table after other_table same rises other_rises gets
+          gets_alike _ _ (of_hash (hash_of name (options.PublishSubscribe named)) hash under
+          (either node _ (required_agreement name (options.PublishSubscribe named) types attributes) _ _ _)) lists _ _ answer table
+          after other_table same rises other_rises gets
       either_as (options.Event named) types node name attributes lists answer under gets =
-          gets_alike _ _ (of_hash (hash_of name (options.Event named)) hash under (either node _ (required_agreement name (options.Event named) types attributes) _ _ _)) lists _ _ answer table after other_table same rises other_rises gets
+          gets_alike _ _ (of_hash (hash_of name (options.Event named)) hash under
+          (either node _ (required_agreement name (options.Event named) types attributes) _ _ _)) lists _ _ answer table after
+          other_table same rises other_rises gets
       either_as (options.RequestResponse named) types node name attributes lists answer under gets =
-          gets_alike _ _ (of_hash (hash_of name (options.RequestResponse named)) hash under (either node _ (required_agreement name (options.RequestResponse named) types attributes) _ _ _)) lists _ _ answer table after other_table same rises other_rises gets
+          gets_alike _ _ (of_hash (hash_of name (options.RequestResponse named)) hash under
+          (either node _ (required_agreement name (options.RequestResponse named) types attributes) _ _ _)) lists _ _ answer table
+          after other_table same rises other_rises gets
 
     create_numbered : (is_node : Bool) (types : MessageTypeDetails) (asked : ServiceAsked) (attributes : List Attribute)
         (steps : List StepBefore) (answer : Option (Result ℕ Refusal)) (table after other_table : FactoryTable)
         → hash_of asked.name asked.options ≡ hash
-        → (answer ≡ Some (Err (create_lacking asked.options)) → ⊥) → SameOf service_of mine table other_table → Rises 1 table.entries table.next → Rises 1 other_table.entries other_table.next
+        → (answer ≡ Some (Err (create_lacking asked.options)) → ⊥) → SameOf service_of mine table other_table
+        → Rises 1 table.entries table.next → Rises 1 other_table.entries other_table.next
         → CreatesNumbered is_node payload user_header types asked attributes steps table one answer after new
-        → GoesSo hash mine (λ t old a h. CreatesNumbered is_node payload user_header types asked attributes steps t old answer a h) other_table other after new
+        → GoesSo hash mine (λ t old a h. CreatesNumbered is_node payload user_header types asked attributes steps t old answer a h)
+        other_table other after new
     create_numbered false types asked attributes steps answer table after other_table under wanted same rises other_rises
-        (is, unchanged, still) =
-        (other_table, other, (is, refl, refl), subst (λ it. SameOf service_of mine it other_table) (sym unchanged) same, agree_still hash mine one new other agree still)
+        (is, unchanged, still) = (
+          other_table,
+          other,
+          (is, refl, refl),
+          subst (λ it. SameOf service_of mine it other_table) (sym unchanged) same,
+          agree_still hash
+              mine one new other agree still,
+        )
     create_numbered true types asked attributes steps answer table after other_table under wanted same rises other_rises
-        (Err lacking, roomier, reply, prepares, (is_reply, unchanged, still), is) =
+        (Some failure, unfit, (is, unchanged, still)) = (
+          other_table,
+          other,
+          (Some failure, unfit, (is, refl, refl)),
+          subst (λ it. SameOf service_of mine it other_table) (sym unchanged) same,
+          agree_still hash
+              mine one new other agree still,
+        )
+    create_numbered true types asked attributes steps answer table after other_table under wanted same rises other_rises
+        (None, fit, (Err lacking, roomier, reply, prepares, (is_reply, unchanged, still), is)) =
         absurd (wanted (is ∙ ap (λ r. Some r) is_reply))
     create_numbered true types asked attributes steps answer table after other_table under wanted same rises other_rises
-        (Ok lists, roomier, reply, (numbers, is_lists, room), does, is) =
+        (None, fit, (Ok lists, roomier, reply, (numbers, is_lists, room, forms), does, is)) =
         let roomy = roomy_table other_table in
         let (there, hub, done, tables, hubs) =
-        create_as roomier after roomy (roomier_same service_of mine table roomier roomy numbers.0 numbers.1 same) (rises_as table roomier numbers.0 numbers.1 rises) other_rises asked.options types asked.node asked.name attributes lists reply under does in
-        (there, hub, (Ok lists, roomy, reply, ((refl, refl), is_lists, inl (has_room other_table)), done, is), tables, hubs)
+        create_as roomier after roomy (roomier_same service_of mine table roomier roomy numbers.0 numbers.1 same)
+        (rises_as table roomier numbers.0 numbers.1 rises) other_rises asked.options types asked.node asked.name attributes lists
+        reply under does in (
+          there,
+          hub,
+          (None, fit, (Ok lists, roomy, reply, ((refl, refl), is_lists, inl (has_room other_table), forms), done, is)),
+          tables,
+          hubs,
+        )
 
     open_numbered : (is_node : Bool) (types : MessageTypeDetails) (asked : ServiceAsked) (attributes : Required)
         (steps : List StepBefore) (answer : Option (Result ℕ Refusal)) (table after other_table : FactoryTable)
         → hash_of asked.name asked.options ≡ hash
-        → (answer ≡ Some (Err (open_lacking asked.options)) → ⊥) → SameOf service_of mine table other_table → Rises 1 table.entries table.next → Rises 1 other_table.entries other_table.next
+        → (answer ≡ Some (Err (open_lacking asked.options)) → ⊥) → SameOf service_of mine table other_table
+        → Rises 1 table.entries table.next → Rises 1 other_table.entries other_table.next
         → OpensNumbered is_node payload user_header types asked attributes steps table one answer after new
-        → GoesSo hash mine (λ t old a h. OpensNumbered is_node payload user_header types asked attributes steps t old answer a h) other_table other after new
+        → GoesSo hash mine (λ t old a h. OpensNumbered is_node payload user_header types asked attributes steps t old answer a h)
+        other_table other after new
     open_numbered false types asked attributes steps answer table after other_table under wanted same rises other_rises
-        (is, unchanged, still) =
-        (other_table, other, (is, refl, refl), subst (λ it. SameOf service_of mine it other_table) (sym unchanged) same, agree_still hash mine one new other agree still)
+        (is, unchanged, still) = (
+          other_table,
+          other,
+          (is, refl, refl),
+          subst (λ it. SameOf service_of mine it other_table) (sym unchanged) same,
+          agree_still hash
+              mine one new other agree still,
+        )
     open_numbered true types asked attributes steps answer table after other_table under wanted same rises other_rises
         (Err lacking, roomier, reply, prepares, (is_reply, unchanged, still), is) =
         absurd (wanted (is ∙ ap (λ r. Some r) is_reply))
     open_numbered true types asked attributes steps answer table after other_table under wanted same rises other_rises
-        (Ok lists, roomier, reply, (numbers, is_lists, room), does, is) =
+        (Ok lists, roomier, reply, (numbers, is_lists, room, forms), does, is) =
         let roomy = roomy_table other_table in
         let (there, hub, done, tables, hubs) =
-        open_as roomier after roomy (roomier_same service_of mine table roomier roomy numbers.0 numbers.1 same) (rises_as table roomier numbers.0 numbers.1 rises) other_rises asked.options types asked.node asked.name attributes lists reply under does in
-        (there, hub, (Ok lists, roomy, reply, ((refl, refl), is_lists, inl (has_room other_table)), done, is), tables, hubs)
+        open_as roomier after roomy (roomier_same service_of mine table roomier roomy numbers.0 numbers.1 same)
+        (rises_as table roomier numbers.0 numbers.1 rises) other_rises asked.options types asked.node asked.name attributes lists
+        reply under does in
+        (there, hub, (Ok lists, roomy, reply, ((refl, refl), is_lists, inl (has_room other_table), forms), done, is), tables, hubs)
 
     either_numbered : (is_node : Bool) (types : MessageTypeDetails) (asked : ServiceAsked) (attributes : Required)
         (steps : List StepBefore) (answer : Option (Result ℕ Refusal)) (table after other_table : FactoryTable)
         → hash_of asked.name asked.options ≡ hash
-        → (answer ≡ Some (Err (either_lacking asked.options)) → ⊥) → SameOf service_of mine table other_table → Rises 1 table.entries table.next → Rises 1 other_table.entries other_table.next
+        → (answer ≡ Some (Err (either_lacking asked.options)) → ⊥) → SameOf service_of mine table other_table
+        → Rises 1 table.entries table.next → Rises 1 other_table.entries other_table.next
         → EitherNumbered is_node payload user_header types asked attributes steps table one answer after new
-        → GoesSo hash mine (λ t old a h. EitherNumbered is_node payload user_header types asked attributes steps t old answer a h) other_table other after new
+        → GoesSo hash mine (λ t old a h. EitherNumbered is_node payload user_header types asked attributes steps t old answer a h)
+        other_table other after new
     either_numbered false types asked attributes steps answer table after other_table under wanted same rises other_rises
-        (is, unchanged, still) =
-        (other_table, other, (is, refl, refl), subst (λ it. SameOf service_of mine it other_table) (sym unchanged) same, agree_still hash mine one new other agree still)
+        (is, unchanged, still) = (
+          other_table,
+          other,
+          (is, refl, refl),
+          subst (λ it. SameOf service_of mine it other_table) (sym unchanged) same,
+          agree_still hash
+              mine one new other agree still,
+        )
     either_numbered true types asked attributes steps answer table after other_table under wanted same rises other_rises
         (Err lacking, roomier, reply, prepares, (is_reply, unchanged, still), is) =
         absurd (wanted (is ∙ ap (λ r. Some r) is_reply))
     either_numbered true types asked attributes steps answer table after other_table under wanted same rises other_rises
-        (Ok lists, roomier, reply, (numbers, is_lists, room), does, is) =
+        (Ok lists, roomier, reply, (numbers, is_lists, room, forms), does, is) =
         let roomy = roomy_table other_table in
         let (there, hub, done, tables, hubs) =
-        either_as roomier after roomy (roomier_same service_of mine table roomier roomy numbers.0 numbers.1 same) (rises_as table roomier numbers.0 numbers.1 rises) other_rises asked.options types asked.node asked.name attributes lists reply under does in
-        (there, hub, (Ok lists, roomy, reply, ((refl, refl), is_lists, inl (has_room other_table)), done, is), tables, hubs)
+        either_as roomier after roomy (roomier_same service_of mine table roomier roomy numbers.0 numbers.1 same)
+        (rises_as table roomier numbers.0 numbers.1 rises) other_rises asked.options types asked.node asked.name attributes lists
+        reply under does in
+        (there, hub, (Ok lists, roomy, reply, ((refl, refl), is_lists, inl (has_room other_table), forms), done, is), tables, hubs)
 
 -- ---- each command
 
@@ -354,7 +455,9 @@ module _ {T U B D : Type 0} (hash : ServiceHash) (mine : ℕ → Bool) where
       (one new other : NumberedHub T U B D) (reply : Reply T) (made : Option (Result ℕ Refusal)) → AgreeOn hash mine one other
       → new.made ≡ one.made → reply ≡ factory_reply made
       → GoesSo hash mine (λ t old a h. numbers t old made a h) other.factories.made other.hub new.factories.made new.hub
-      → Answers (λ old answer after. (told : Option (Result ℕ Refusal)) × numbers old.factories.made old.hub told after.factories.made after.hub × (after.made ≡ old.made) × (answer ≡ factory_reply told)) other new reply
+      → Answers (λ old answer after. (told : Option (Result ℕ Refusal))
+      × numbers old.factories.made old.hub told after.factories.made after.hub × (after.made ≡ old.made)
+      × (answer ≡ factory_reply told)) other new reply
   numbered numbers one new other reply made agree unchanged is (there, hub, done, tables, hubs) = (
     record other { hub = hub; factories = record other.factories { made = there } },
     (made, done, refl, is),
@@ -363,40 +466,56 @@ module _ {T U B D : Type 0} (hash : ServiceHash) (mine : ℕ → Bool) where
 
 module _ {T U B D : Type 0} (payload user_header : Detail) (types : MessageTypeDetails) (is_default : T → Type 0)
     (is_default_header : U → Type 0)
-    (fixed : BackpressureStrategy → Option BackpressureAction → DegradationAction → B) (degrades : B → DegradationCause → DegradationInfo → DegradationAction → Type 0) (decides : B → BackpressureInfo → BackpressureDecision → Type 0)
+    (fixed : BackpressureStrategy → Option BackpressureAction → DegradationAction → B)
+    (degrades : B → DegradationCause → DegradationInfo → DegradationAction → Type 0)
+    (decides : B → BackpressureInfo → BackpressureDecision → Type 0)
     (fixed_reader : DegradationAction → D) (reader_degrades : D → DegradationCause → DegradationInfo → DegradationAction → Type 0) where
   abbrev Steps_of : Command T → NumberedHub T U B D → Result (Reply T) AllocError → NumberedHub T U B D → Type 0
   Steps_of = Step {T = T} {U = U} payload user_header types is_default is_default_header fixed degrades decides fixed_reader reader_degrades
 
-  pub opens_tables_alike : (hash : ServiceHash) (mine : ℕ → Bool) (asked : Command T) (one new other : NumberedHub T U B D)
+  opens_tables_alike : (hash : ServiceHash) (mine : ℕ → Bool) (asked : Command T) (one new other : NumberedHub T U B D)
       (reply : Reply T)
-      → IsOpening asked → IsTable one.hub.table → IsTable other.hub.table → Rises 1 one.factories.made.entries one.factories.made.next → Rises 1 other.factories.made.entries other.factories.made.next → AgreeOn hash mine one other → hash_asked asked one ≡ Some hash
+      → IsOpening asked → IsTable one.hub.table → IsTable other.hub.table → Rises 1 one.factories.made.entries one.factories.made.next
+      → Rises 1 other.factories.made.entries other.factories.made.next → AgreeOn hash mine one other → hash_asked asked one ≡ Some hash
       → LivesAreMine hash mine one.hub.table new.hub.table → (IsMemoryWanted asked reply → ⊥) → Steps_of asked one (Ok reply) new
       → (after : NumberedHub T U B D) × Steps_of asked other (Ok reply) after × AgreeOn hash mine new after
   opens_tables_alike hash mine (command.Create node name options attributes steps) one new other reply kind first second rises
       other_rises agree named lives wanted (made, goes, unchanged, is) =
       let asked : ServiceAsked = record { node = node; name = name; options = options } in
-      numbered hash mine (λ t old a after h. CreatesNumbered (is_node node other.hub.nodes) payload user_header types asked attributes steps t old a after h) one new other reply made agree unchanged is
-      (create_numbered hash mine payload user_header one.hub new.hub other.hub agree.hubs first second lives (is_node node other.hub.nodes) types asked attributes steps made one.factories.made new.factories.made other.factories.made (hash_named (hash_of name options) hash named)
+      numbered hash mine (λ t old a after h. CreatesNumbered (is_node node other.hub.nodes) payload user_header types asked attributes
+      steps t old a after h) one new other reply made agree unchanged is
+      (create_numbered hash mine payload user_header one.hub new.hub other.hub agree.hubs first second lives
+      (is_node node other.hub.nodes) types asked attributes steps made one.factories.made new.factories.made other.factories.made
+      (hash_named (hash_of name options) hash named)
       (not_wanted (create_lacking options) reply made wanted is) agree.factories rises other_rises
-      (subst (λ nodes. CreatesNumbered (is_node node nodes) payload user_header types asked attributes steps one.factories.made one.hub made new.factories.made new.hub) (sym agree.hubs.nodes) goes))
+      (subst (λ nodes. CreatesNumbered (is_node node nodes) payload user_header types asked attributes steps one.factories.made one.hub
+      made new.factories.made new.hub) (sym agree.hubs.nodes) goes))
   opens_tables_alike hash mine (command.Open node name options requirements steps) one new other reply kind first second rises
       other_rises agree named lives wanted (made, goes, unchanged, is) =
       let asked : ServiceAsked = record { node = node; name = name; options = options } in
-      numbered hash mine (λ t old a after h. OpensNumbered (is_node node other.hub.nodes) payload user_header types asked requirements steps t old a after h) one new other reply made agree unchanged is
-      (open_numbered hash mine payload user_header one.hub new.hub other.hub agree.hubs first second lives (is_node node other.hub.nodes) types asked requirements steps made one.factories.made new.factories.made other.factories.made (hash_named (hash_of name options) hash named)
+      numbered hash mine (λ t old a after h. OpensNumbered (is_node node other.hub.nodes) payload user_header types asked requirements
+      steps t old a after h) one new other reply made agree unchanged is
+      (open_numbered hash mine payload user_header one.hub new.hub other.hub agree.hubs first second lives
+      (is_node node other.hub.nodes) types asked requirements steps made one.factories.made new.factories.made other.factories.made
+      (hash_named (hash_of name options) hash named)
       (not_wanted (open_lacking options) reply made wanted is) agree.factories rises other_rises
-      (subst (λ nodes. OpensNumbered (is_node node nodes) payload user_header types asked requirements steps one.factories.made one.hub made new.factories.made new.hub) (sym agree.hubs.nodes) goes))
+      (subst (λ nodes. OpensNumbered (is_node node nodes) payload user_header types asked requirements steps one.factories.made one.hub
+      made new.factories.made new.hub) (sym agree.hubs.nodes) goes))
   opens_tables_alike hash mine (command.OpenOrCreate node name options requirements steps) one new other reply kind first second rises
       other_rises agree named lives wanted (made, goes, unchanged, is) =
       let asked : ServiceAsked = record { node = node; name = name; options = options } in
-      numbered hash mine (λ t old a after h. EitherNumbered (is_node node other.hub.nodes) payload user_header types asked requirements steps t old a after h) one new other reply made agree unchanged is
-      (either_numbered hash mine payload user_header one.hub new.hub other.hub agree.hubs first second lives (is_node node other.hub.nodes) types asked requirements steps made one.factories.made new.factories.made other.factories.made (hash_named (hash_of name options) hash named)
+      numbered hash mine (λ t old a after h. EitherNumbered (is_node node other.hub.nodes) payload user_header types asked requirements
+      steps t old a after h) one new other reply made agree unchanged is
+      (either_numbered hash mine payload user_header one.hub new.hub other.hub agree.hubs first second lives
+      (is_node node other.hub.nodes) types asked requirements steps made one.factories.made new.factories.made other.factories.made
+      (hash_named (hash_of name options) hash named)
       (not_wanted (either_lacking options) reply made wanted is) agree.factories rises other_rises
-      (subst (λ nodes. EitherNumbered (is_node node nodes) payload user_header types asked requirements steps one.factories.made one.hub made new.factories.made new.hub) (sym agree.hubs.nodes) goes))
+      (subst (λ nodes. EitherNumbered (is_node node nodes) payload user_header types asked requirements steps one.factories.made one.hub
+      made new.factories.made new.hub) (sym agree.hubs.nodes) goes))
   opens_tables_alike hash mine asked one new other reply kind first second rises other_rises agree named lives wanted step = absurd kind
 
   pub opens_answer_alike : OpensAnswerAlike
       (Step {T = T} {U = U} payload user_header types is_default is_default_header fixed degrades decides fixed_reader reader_degrades)
   opens_answer_alike hash mine asked one new other reply kind reached_one reached_other rises other_rises agree named lives wanted step =
-      opens_tables_alike hash mine asked one new other reply kind (reached one.hub.table reached_one) (reached other.hub.table reached_other) rises.0 other_rises.0 agree named lives wanted step
+      opens_tables_alike hash mine asked one new other reply kind (reached one.hub.table reached_one)
+      (reached other.hub.table reached_other) rises.0 other_rises.0 agree named lives wanted step

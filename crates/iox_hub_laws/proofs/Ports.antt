@@ -1,5 +1,6 @@
 -- What a command of ports leaves of the services that it doesn't mean.
-use Rattle.std.proofs.Common.{◌≢◌, ◌∙◌, ◌||◌, ◌==◌, if◌then◌else◌, ap, ◌≡◌, ℕ, Bool, true, false, List, Option, None, Some, Result, Ok, Err, refl, length}
+use Rattle.std.proofs.Common.{◌≢◌, ◌∙◌, ◌||◌, ◌==◌, if◌then◌else◌, ap, ◌≡◌, ℕ, Bool, true, false, List, Option, None, Some, Result, Ok}
+use Rattle.std.proofs.Common.{Err, refl, length}
 use Rattle.std.specs.Prelude.{replicate}
 use Rattle.iox_hub_commands.specs.Delivery.Publishing.{AfterLoan}
 use Rattle.iox_hub_commands.specs.Delivery.Subscribing.{ReleasesOne}
@@ -25,7 +26,8 @@ use Rattle.iox_hub_commands.specs.DomainValues.declared.port_error.SendError.{Se
 use Rattle.iox_hub_commands.specs.HubBase.AsHome.{hub_ports, with_hub_ports, without_hub_publisher, without_hub_subscriber}
 use Rattle.iox_hub_commands.specs.HubBase.declared.hub.Hub.{Hub}
 use Rattle.iox_hub_commands.specs.HubBase.ServicesAsHome.{publisher_forgotten, subscriber_forgotten}
-use Rattle.iox_hub_commands.specs.Calls.{AtPort, AtPortIf, Lends, LendsWritten, Puts, Follows, Sends, Retries, GivesUp, PublisherGoes, FollowsPublishers, Tells, Receives, SubscriberGoes, ready}
+use Rattle.iox_hub_commands.specs.Calls.{AtPort, AtPortIf, Lends, LendsWritten, Puts, Follows, Sends, Retries, GivesUp, PublisherGoes}
+use Rattle.iox_hub_commands.specs.Calls.{FollowsPublishers, Tells, Receives, SubscriberGoes, ready}
 use Rattle.iox_hub_commands.specs.Loans.{changed_under, SendsUnder}
 use Rattle.iox_hub_commands.specs.Reading.{ReleasesUnder}
 use Rattle.iox_hub_commands.specs.Tables.{lender, port_under}
@@ -85,7 +87,13 @@ module _ {T U B D : Type 0} (number : ℕ) where
     pub presence : presence_of number new.services.domains ≡ presence_of number old.services.domains
 
   pub same_ports : (old new : Hub T U B D) → new ≡ old → PortsLeft old new
-  same_ports old new is = record { table = ap (λ hub. hub.table) is; counts = ap (λ hub. hub.factory_counts) is; presence = ap (λ hub. presence_of number hub.services.domains) is }
+  same_ports old new is
+      = record {
+        table = ap (λ hub. hub.table) is;
+        counts = ap (λ hub. hub.factory_counts) is;
+        presence
+            = ap (λ hub. presence_of number hub.services.domains) is;
+      }
 
   pub ports_on : (old mid new : Hub T U B D) → PortsLeft old mid → PortsLeft mid new → PortsLeft old new
   ports_on old mid new first second = record
@@ -116,20 +124,24 @@ module _ {T U B D : Type 0} (number : ℕ) where
 
   leaves_left : (id : DomainId) → id.service ≢ number → (without : Hub T U B D → Hub T U B D)
       → ((hub : Hub T U B D) → PortsLeft hub (without hub)) → (step : ServicePorts T U → Bool → ServicePorts T U → Type 0)
-      (found : Option (ServicePorts T U)) (old new : Hub T U B D) (answer : Bool) → LeavesDomain (λ after. with_hub_ports id after old) without step found old answer new → PortsLeft old new
+      (found : Option (ServicePorts T U)) (old new : Hub T U B D) (answer : Bool)
+      → LeavesDomain (λ after. with_hub_ports id after old) without step found old answer new → PortsLeft old new
   leaves_left id apart without spares step None old new answer at = same_ports old new at.1
   leaves_left id apart without spares step (Some ports) old new false (after, does, is) = rw is (put_left id apart after old)
   leaves_left id apart without spares step (Some ports) old new true (after, does, is) =
-      rw is (ports_on old (with_hub_ports id after old) (without (with_hub_ports id after old)) (put_left id apart after old) (spares (with_hub_ports id after old)))
+      rw is (ports_on old (with_hub_ports id after old) (without (with_hub_ports id after old)) (put_left id apart after old)
+      (spares (with_hub_ports id after old)))
 
   pub makes_left : {E : Type 0} (id : DomainId) → id.service ≢ number → (keeping : ℕ → Hub T U B D → Hub T U B D)
       → ((n : ℕ) (hub : Hub T U B D) → PortsLeft hub (keeping n hub)) → (step : ServicePorts T U → ℕ → ServicePorts T U → Type 0)
-      (refusal : ServicePorts T U → E) (found : Option (ServicePorts T U)) (old new : Hub T U B D) (answer : Option (Result ℕ E)) → MakesAt (λ after. with_hub_ports id after old) keeping step refusal found old answer new → PortsLeft old new
+      (refusal : ServicePorts T U → E) (found : Option (ServicePorts T U)) (old new : Hub T U B D) (answer : Option (Result ℕ E))
+      → MakesAt (λ after. with_hub_ports id after old) keeping step refusal found old answer new → PortsLeft old new
   makes_left id apart keeping spares step refusal None old new answer at = same_ports old new at.1
   makes_left id apart keeping spares step refusal (Some ports) old new None at = absurd at
   makes_left id apart keeping spares step refusal (Some ports) old new (Some (Err error)) at = same_ports old new at.1
   makes_left id apart keeping spares step refusal (Some ports) old new (Some (Ok one)) (after, does, is) =
-      rw is (ports_on old (with_hub_ports id after old) (keeping one (with_hub_ports id after old)) (put_left id apart after old) (spares one (with_hub_ports id after old)))
+      rw is (ports_on old (with_hub_ports id after old) (keeping one (with_hub_ports id after old)) (put_left id apart after old)
+      (spares one (with_hub_ports id after old)))
 
   changed_at_left : (id : DomainId) → id.service ≢ number
       → (change : ServicePorts T U → ServicePorts T U) (found : Option (ServicePorts T U)) (old : Hub T U B D)
@@ -140,14 +152,16 @@ module _ {T U B D : Type 0} (number : ℕ) where
   pub at_port_left : {A : Type 0} (does : PortId → Hub T U B D → Option A → Hub T U B D → Type 0)
       → ((port : PortId) → service_at port ≢ number → (old new : Hub T U B D) (answer : Option A) → does port old answer new
       → PortsLeft old new)
-      → (port : Option PortId) → PortApart number port → (old new : Hub T U B D) (answer : Option A) → AtPort does port old answer new → PortsLeft old new
+      → (port : Option PortId) → PortApart number port → (old new : Hub T U B D) (answer : Option A) → AtPort does port old answer new
+      → PortsLeft old new
   at_port_left does leaves None apart old new answer at = same_ports old new at.1
   at_port_left does leaves (Some port) apart old new answer at = leaves port apart old new answer at
 
   pub at_port_if_left : (does : PortId → Hub T U B D → Bool → Hub T U B D → Type 0)
       → ((port : PortId) → service_at port ≢ number → (old new : Hub T U B D) (answer : Bool) → does port old answer new
       → PortsLeft old new)
-      → (port : Option PortId) → PortApart number port → (old new : Hub T U B D) (answer : Bool) → AtPortIf does port old answer new → PortsLeft old new
+      → (port : Option PortId) → PortApart number port → (old new : Hub T U B D) (answer : Bool) → AtPortIf does port old answer new
+      → PortsLeft old new
   at_port_if_left does leaves None apart old new answer at = same_ports old new at.1
   at_port_if_left does leaves (Some port) apart old new answer at = leaves port apart old new answer at
 
@@ -164,13 +178,15 @@ module _ {T U B D : Type 0} (number : ℕ) where
       → AfterLoan Err (FillsLent hub_ports with_hub_ports port elements value) lent old answer new → PortsLeft old new
   filled_left port apart elements value (Err error) answer old new after = same_ports old new after.1
   filled_left port apart elements value (Ok slot) answer old new ((is, more), is_answer) =
-      rw is (changed_at_left port.domain apart (each_written_in port.number slot (replicate elements value)) (hub_ports port.domain old) old)
+      rw is (changed_at_left port.domain apart (each_written_in port.number slot (replicate elements value)) (hub_ports port.domain old)
+      old)
 
   pub lends_written_left : (elements : ℕ) (value : T) (port : PortId) → service_at port ≢ number
       → (old new : Hub T U B D) (answer : Option (Result ℕ LoanError))
       → LendsWritten hub_ports with_hub_ports elements value port old answer new → PortsLeft old new
   lends_written_left elements value port apart old new answer (came, (lent, middle, lends, fills), is_ready, is) =
-      ports_on old middle new (lends_left elements port apart old middle (Some lent) lends) (filled_left port apart elements value lent came middle new fills)
+      ports_on old middle new (lends_left elements port apart old middle (Some lent) lends)
+      (filled_left port apart elements value lent came middle new fills)
 
   changed_left : (change : ℕ → ℕ → ServicePorts T U → ServicePorts T U) (found : Option MadeLoan) → IsApart loan_service number found
       → (old : Hub T U B D) → PortsLeft old (changed_under hub_ports with_hub_ports change found old)
@@ -190,7 +206,8 @@ module _ {T U B D : Type 0} (number : ℕ) where
         → (old new : Hub T U B D) (answer : Option (Result Sent SendError))
         → Sends hub_ports with_hub_ports degrades decides slot port old answer new → PortsLeft old new
     sends_left slot port apart old new answer at =
-        at_domain_left port.domain apart (steps.SendsBy (degrades port.domain port.number old) (decides port.domain port.number old) port.number slot) (hub_ports port.domain old) old new answer at
+        at_domain_left port.domain apart (steps.SendsBy (degrades port.domain port.number old) (decides port.domain port.number old)
+        port.number slot) (hub_ports port.domain old) old new answer at
 
     pub sends_under_left : (found : Option MadeLoan) → IsApart loan_service number found
         → (old new : Hub T U B D) (answer : Option (Result Sent SendError))
@@ -205,20 +222,24 @@ module _ {T U B D : Type 0} (number : ℕ) where
     sent_after_left port apart values refused (Err error) answer old new after = same_ports old new after.1
     sent_after_left port apart values refused (Ok slot) answer old new (middle, writes, is_ready, sends) =
         let written : PortsLeft old middle =
-        rw writes (changed_at_left port.domain apart (written_in port.number (λ publisher. has_length slot (length values) publisher.sender.uses) slot (write_all values)) (hub_ports port.domain old) old) in
+        rw writes (changed_at_left port.domain apart
+        (written_in port.number (λ publisher. has_length slot (length values) publisher.sender.uses) slot (write_all values))
+        (hub_ports port.domain old) old) in
         ports_on old middle new written (sends_left slot port apart middle new (Some answer) sends)
 
     pub puts_left : (values : List T) (port : PortId) → service_at port ≢ number
         → (old new : Hub T U B D) (answer : Option (Result Sent SendError))
         → Puts hub_ports with_hub_ports degrades decides values port old answer new → PortsLeft old new
     puts_left values port apart old new answer (sent, (lent, middle, lends, sends), is) =
-        ports_on old middle new (lends_left (length values) port apart old middle (Some lent) lends) (sent_after_left port apart values _ lent sent middle new sends)
+        ports_on old middle new (lends_left (length values) port apart old middle (Some lent) lends)
+        (sent_after_left port apart values _ lent sent middle new sends)
 
     pub retries_left : (elapsed : ℕ) (port : PortId) → service_at port ≢ number
         → (old new : Hub T U B D) (answer : Option (Result Sent SendError))
         → Retries hub_ports with_hub_ports decides elapsed port old answer new → PortsLeft old new
     retries_left elapsed port apart old new answer at =
-        at_domain_left port.domain apart (steps.RetriesBy (decides port.domain port.number old) port.number elapsed) (hub_ports port.domain old) old new answer at
+        at_domain_left port.domain apart (steps.RetriesBy (decides port.domain port.number old) port.number elapsed)
+        (hub_ports port.domain old) old new answer at
 
   pub gives_up_left : (port : PortId) → service_at port ≢ number → (old new : Hub T U B D) (answer : Option ℕ)
       → GivesUp hub_ports with_hub_ports port old answer new → PortsLeft old new
@@ -268,12 +289,16 @@ module _ {T U B D : Type 0} (number : ℕ) where
   pub publisher_goes_left : (port : PortId) → service_at port ≢ number → (old new : Hub T U B D) (answer : Bool)
       → PublisherGoes hub_ports with_hub_ports without_hub_publisher port old answer new → PortsLeft old new
   publisher_goes_left port apart old new answer at =
-      leaves_left port.domain apart (without_hub_publisher port.domain port.number) (λ hub. stepped_left port.domain (publisher_forgotten port.number) apart hub) (steps.PublisherLeaves port.number) (hub_ports port.domain old) old new answer at
+      leaves_left port.domain apart (without_hub_publisher port.domain port.number)
+      (λ hub. stepped_left port.domain (publisher_forgotten port.number) apart hub) (steps.PublisherLeaves port.number)
+      (hub_ports port.domain old) old new answer at
 
   pub subscriber_goes_left : (port : PortId) → service_at port ≢ number → (old new : Hub T U B D) (answer : Bool)
       → SubscriberGoes hub_ports with_hub_ports without_hub_subscriber port old answer new → PortsLeft old new
   subscriber_goes_left port apart old new answer at =
-      leaves_left port.domain apart (without_hub_subscriber port.domain port.number) (λ hub. stepped_left port.domain (subscriber_forgotten port.number) apart hub) (steps.SubscriberLeaves port.number) (hub_ports port.domain old) old new answer at
+      leaves_left port.domain apart (without_hub_subscriber port.domain port.number)
+      (λ hub. stepped_left port.domain (subscriber_forgotten port.number) apart hub) (steps.SubscriberLeaves port.number)
+      (hub_ports port.domain old) old new answer at
 
 -- ---- what goes by numbers
 
@@ -304,27 +329,51 @@ module _ (number : ℕ) where
       → MadeLeft number made after
   publisher_spent false one made after rises apart is = same_made made after is
   publisher_spent true one made after rises apart is =
-      rw is (record { publishers = removed_left publisher_service number made.publishers one rises apart; subscribers = λ other. refl; loans = λ other. refl; samples = λ other. refl })
+      rw is (record {
+        publishers = removed_left publisher_service number made.publishers one rises apart;
+        subscribers
+            = λ other. refl;
+        loans = λ other. refl;
+        samples = λ other. refl;
+      })
 
   pub subscriber_spent : (done : Bool) (one : ℕ) (made after : Made) → Rises 1 made.subscribers.entries made.subscribers.next
       → IsApart service_at number (value_at made.subscribers one) → after ≡ removed_if done (without_subscriber one) made
       → MadeLeft number made after
   subscriber_spent false one made after rises apart is = same_made made after is
   subscriber_spent true one made after rises apart is =
-      rw is (record { publishers = λ other. refl; subscribers = removed_left service_at number made.subscribers one rises apart; loans = λ other. refl; samples = λ other. refl })
+      rw is (record {
+        publishers = λ other. refl;
+        subscribers = removed_left service_at number made.subscribers one rises apart;
+        loans
+            = λ other. refl;
+        samples = λ other. refl;
+      })
 
   pub loan_spent : (done : Bool) (one : ℕ) (made after : Made) → Rises 1 made.loans.entries made.loans.next
       → IsApart loan_service number (value_at made.loans one) → after ≡ removed_if done (without_loan one) made → MadeLeft number made after
   loan_spent false one made after rises apart is = same_made made after is
   loan_spent true one made after rises apart is =
-      rw is (record { publishers = λ other. refl; subscribers = λ other. refl; loans = removed_left loan_service number made.loans one rises apart; samples = λ other. refl })
+      rw is (record {
+        publishers = λ other. refl;
+        subscribers = λ other. refl;
+        loans
+            = removed_left loan_service number made.loans one rises apart;
+        samples = λ other. refl;
+      })
 
   pub sample_spent : (done : Bool) (one : ℕ) (made after : Made) → Rises 1 made.samples.entries made.samples.next
       → IsApart sample_service number (value_at made.samples one) → after ≡ removed_if done (without_sample one) made
       → MadeLeft number made after
   sample_spent false one made after rises apart is = same_made made after is
   sample_spent true one made after rises apart is =
-      rw is (record { publishers = λ other. refl; subscribers = λ other. refl; loans = λ other. refl; samples = removed_left sample_service number made.samples one rises apart })
+      rw is (record {
+        publishers = λ other. refl;
+        subscribers = λ other. refl;
+        loans = λ other. refl;
+        samples
+            = removed_left sample_service number made.samples one rises apart;
+      })
 
   -- something gets a number
   pub loan_numbered : (port : Option PortId) → PortApart number port → (lent answer : Option (Result ℕ LoanError)) (made after : Made)
@@ -333,7 +382,13 @@ module _ (number : ℕ) where
   loan_numbered port apart (Some (Err error)) answer made after numbers = same_made made after numbers.1
   loan_numbered None apart (Some (Ok slot)) answer made after numbers = absurd numbers
   loan_numbered (Some port) apart (Some (Ok slot)) answer made after numbers =
-      rw numbers.1 (record { publishers = λ other. refl; subscribers = λ other. refl; loans = inserted_left loan_service number made.loans (record { port = port; slot = slot }) apart; samples = λ other. refl })
+      rw numbers.1 (record {
+        publishers = λ other. refl;
+        subscribers = λ other. refl;
+        loans
+            = inserted_left loan_service number made.loans (record { port = port; slot = slot }) apart;
+        samples = λ other. refl;
+      })
 
   pub sample_numbered : (port : Option PortId) → PortApart number port
       → (received : Option (Result (Option Taken) ReceiveError)) (answer : Option (Result (Option ℕ) ReceiveError)) (made after : Made)
@@ -343,7 +398,13 @@ module _ (number : ℕ) where
   sample_numbered port apart (Some (Ok None)) answer made after numbers = same_made made after numbers.1
   sample_numbered None apart (Some (Ok (Some taken))) answer made after numbers = absurd numbers
   sample_numbered (Some port) apart (Some (Ok (Some taken))) answer made after numbers =
-      rw numbers.1 (record { publishers = λ other. refl; subscribers = λ other. refl; loans = λ other. refl; samples = inserted_left sample_service number made.samples (record { port = port; taken = taken }) apart })
+      rw numbers.1 (record {
+        publishers = λ other. refl;
+        subscribers = λ other. refl;
+        loans = λ other. refl;
+        samples
+            = inserted_left sample_service number made.samples (record { port = port; taken = taken }) apart;
+      })
 
   pub publisher_numbered : {E : Type 0} (domain : DomainId) → domain.service ≢ number
       → (next : ℕ) (came answer : Option (Result ℕ E)) (made after : Made)
@@ -351,7 +412,14 @@ module _ (number : ℕ) where
   publisher_numbered domain apart next None answer made after numbers = same_made made after numbers.1
   publisher_numbered domain apart next (Some (Err error)) answer made after numbers = same_made made after numbers.1
   publisher_numbered domain apart next (Some (Ok one)) answer made after numbers =
-      rw numbers.1 (record { publishers = inserted_left publisher_service number made.publishers (record { port = record { domain = domain; number = one }; holds_slices = true }) apart; subscribers = λ other. refl; loans = λ other. refl; samples = λ other. refl })
+      rw numbers.1 (record {
+        publishers
+            = inserted_left publisher_service number made.publishers
+            (record { port = record { domain = domain; number = one }; holds_slices = true }) apart;
+        subscribers = λ other. refl;
+        loans = λ other. refl;
+        samples = λ other. refl;
+      })
 
   pub subscriber_numbered : {E : Type 0} (domain : DomainId) → domain.service ≢ number
       → (next : ℕ) (came answer : Option (Result ℕ E)) (made after : Made)
@@ -359,4 +427,10 @@ module _ (number : ℕ) where
   subscriber_numbered domain apart next None answer made after numbers = same_made made after numbers.1
   subscriber_numbered domain apart next (Some (Err error)) answer made after numbers = same_made made after numbers.1
   subscriber_numbered domain apart next (Some (Ok one)) answer made after numbers =
-      rw numbers.1 (record { publishers = λ other. refl; subscribers = inserted_left service_at number made.subscribers (record { domain = domain; number = one }) apart; loans = λ other. refl; samples = λ other. refl })
+      rw numbers.1 (record {
+        publishers = λ other. refl;
+        subscribers
+            = inserted_left service_at number made.subscribers (record { domain = domain; number = one }) apart;
+        loans = λ other. refl;
+        samples = λ other. refl;
+      })

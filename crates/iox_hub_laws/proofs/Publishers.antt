@@ -1,5 +1,6 @@
 -- What a publisher does under another name of its service and of its owner.
-use Rattle.std.proofs.Common.{◌≡◌, ◌∙◌, ℕ, zero, suc, ◌+◌, ◌-◌, Bool, true, false, cond, List, [], ◌∷◌, length, Option, None, Some, Result, Ok, Err, is_ok, refl, sym, ap, subst, inl, inr, get_or, set}
+use Rattle.std.proofs.Common.{◌≡◌, ◌∙◌, ℕ, zero, suc, ◌+◌, ◌-◌, Bool, true, false, cond, List, [], ◌∷◌, length, Option, None, Some}
+use Rattle.std.proofs.Common.{Result, Ok, Err, is_ok, refl, sym, ap, subst, inl, inr, get_or, set}
 use Rattle.std.specs.Prelude.{slice_get, nat_lt}
 use Rattle.std.specs.declared.alloc.AllocError.{AllocError}
 use Rattle.iox_domain.specs.Lending as lending
@@ -8,7 +9,8 @@ use Rattle.iox_domain.specs.Rolls.{RollState}
 use Rattle.iox_domain.specs.DomainPorts.Leaving.{parted_at, parted_from, departed}
 use Rattle.iox_domain.specs.DomainPorts.Loaning as loaning
 use Rattle.iox_domain.specs.DomainPorts.Places.{is_attached}
-use Rattle.iox_domain.specs.DomainPorts.Ports.{connection_of, is_live, with_connection_of, connection_to, Connects, Joins, Attaches, ended_at, greeted_at, welcomed_at}
+use Rattle.iox_domain.specs.DomainPorts.Ports.{connection_of, is_live, with_connection_of, connection_to, Connects, Joins, Attaches}
+use Rattle.iox_domain.specs.DomainPorts.Ports.{ended_at, greeted_at, welcomed_at}
 use Rattle.iox_domain.specs.DomainPorts.Sending as sending
 use Rattle.iox_domain.specs.DomainPorts.Ties.{tie_put}
 use Rattle.iox_domain.specs.DomainPorts.PublisherUpdating as updating
@@ -101,15 +103,21 @@ module _ {T U : Type 0} (by : Renaming) where
   ties_to : (place : ℕ) (entry : SubscriberEntry) (old new : PublisherPort T U) (answer : Result (Unit {0}) AllocError)
       → updating.Ties place entry old answer new → updating.Ties place entry (named old) answer (named new)
   ties_to place entry old new (Err error) (may, same) = (may, ap named same)
-  ties_to place entry old new (Ok done) (index, joined, does, is) =
-      (index, named joined, joins entry.subscriber _ (connection_to entry.subscriber old) (updating.within_reach place old) joined (Ok index) does, ap named is ∙ sym (tied_as place index joined))
+  ties_to place entry old new (Ok done) (index, joined, does, is) = (
+    index,
+    named joined,
+    joins entry.subscriber _ (connection_to entry.subscriber old) (updating.within_reach place old) joined
+        (Ok index) does,
+    ap named is ∙ sym (tied_as place index joined),
+  )
 
   follows_to : (place : ℕ) (entry : SubscriberEntry) (is_tied : Bool) (old new : PublisherPort T U)
       (answer : Result (Unit {0}) AllocError) → updating.FollowsTo place entry is_tied old answer new
       → updating.FollowsTo place entry is_tied (named old) answer (named new)
   follows_to place entry true old new answer (is, same) = (is, ap named same)
   follows_to place entry false old new answer does =
-      subst (λ port. updating.Ties place entry port answer (named new)) (sym (untied_as place old)) (ties_to place entry (updating.untied place old) new answer does)
+      subst (λ port. updating.Ties place entry port answer (named new)) (sym (untied_as place old))
+      (ties_to place entry (updating.untied place old) new answer does)
 
   tie_as : (subscriber : ℕ) (tie : Option ℕ) (port : PublisherPort T U)
       → updating.is_tie_to subscriber tie (named port) ≡ updating.is_tie_to subscriber tie port
@@ -120,42 +128,55 @@ module _ {T U : Type 0} (by : Renaming) where
       → updating.Follows place listed old answer new → updating.Follows place listed (named old) answer (named new)
   follows place None old new answer (is, same) = (is, ap named same ∙ sym (untied_as place old))
   follows place (Some member) old new answer does =
-      subst (λ is_tied. updating.FollowsTo place member.value is_tied (named old) answer (named new)) (sym (tie_as member.value.subscriber (get_or old.ties.items place None) old))
-      (follows_to place member.value (updating.is_tie_to member.value.subscriber (get_or old.ties.items place None) old) old new answer does)
+      subst (λ is_tied. updating.FollowsTo place member.value is_tied (named old) answer (named new))
+      (sym (tie_as member.value.subscriber (get_or old.ties.items place None) old))
+      (follows_to place member.value (updating.is_tie_to member.value.subscriber (get_or old.ties.items place None) old) old new answer
+      does)
 
-  module _ (may other_may : DegradationInfo → DegradationAction → Type 0) (degrading : (info : DegradationInfo) (action : DegradationAction) → may info action → other_may (renamed_failure by info) action) where
-    asks : (listed : Option (Member SubscriberEntry)) (port : PublisherPort T U) (found after : Option ConnectionFailure) (fine : Bool)
-        → updating.Asks may listed port found fine after → updating.Asks other_may listed (named port) found fine after
-    asks listed port found after true is = is
-    asks None port found after false is = is
-    asks (Some member) port found after false (action, allowed, is)
-        = (action, degrading (updating.told_of member.value port) action allowed, is)
+  module _ (may other_may : DegradationInfo → DegradationAction → Type 0)
+      (degrading : (info : DegradationInfo) (action : DegradationAction) → may info action → other_may (renamed_failure by info) action)
+    where
+      asks : (listed : Option (Member SubscriberEntry)) (port : PublisherPort T U) (found after : Option ConnectionFailure) (fine : Bool)
+          → updating.Asks may listed port found fine after → updating.Asks other_may listed (named port) found fine after
+      asks listed port found after true is = is
+      asks None port found after false is = is
+      asks (Some member) port found after false (action, allowed, is)
+          = (action, degrading (updating.told_of member.value port) action allowed, is)
 
-    follows_all : (place : ℕ) (listed : List (Option (Member SubscriberEntry))) (found : Option ConnectionFailure)
-        (old new : PublisherPort T U) (answer : Result (Unit {0}) ConnectionFailure)
-        → updating.FollowsAll may place listed found old answer new → updating.FollowsAll other_may place listed found (named old) answer (named new)
-    follows_all place [] found old new answer (is, same)
-        = (is, ap named same ∙ sym (untied_from_as (length old.ties.items - place) place old))
-    follows_all place (one ∷ rest) found old new answer (outcome, next, after, does, asked, all) =
-        (outcome, named next, after, follows place one old next outcome does, asks one next found after (is_ok outcome) asked, follows_all (place + 1) rest after next new answer all)
+      follows_all : (place : ℕ) (listed : List (Option (Member SubscriberEntry))) (found : Option ConnectionFailure)
+          (old new : PublisherPort T U) (answer : Result (Unit {0}) ConnectionFailure)
+          → updating.FollowsAll may place listed found old answer new
+          → updating.FollowsAll other_may place listed found (named old) answer (named new)
+      follows_all place [] found old new answer (is, same)
+          = (is, ap named same ∙ sym (untied_from_as (length old.ties.items - place) place old))
+      follows_all place (one ∷ rest) found old new answer (outcome, next, after, does, asked, all) = (
+        outcome,
+        named next,
+        after,
+        follows place one old next outcome does,
+        asks one next found after (is_ok outcome) asked,
+        follows_all (place + 1) rest after next new answer all,
+      )
 
-    updates_if : (same : Bool) (listed : List (Option (Member SubscriberEntry))) (changes : ℕ) (old new : PublisherPort T U)
-        (answer : Result (Unit {0}) ConnectionFailure)
-        → updating.UpdatesIf same may listed changes old answer new → updating.UpdatesIf same other_may listed changes (named old) answer (named new)
-    updates_if true listed changes old new answer (is, same) = (is, ap named same)
-    updates_if false listed changes old new answer does = follows_all 0 listed None (record old { seen = changes }) new answer does
+      updates_if : (same : Bool) (listed : List (Option (Member SubscriberEntry))) (changes : ℕ) (old new : PublisherPort T U)
+          (answer : Result (Unit {0}) ConnectionFailure)
+          → updating.UpdatesIf same may listed changes old answer new
+          → updating.UpdatesIf same other_may listed changes (named old) answer (named new)
+      updates_if true listed changes old new answer (is, same) = (is, ap named same)
+      updates_if false listed changes old new answer does = follows_all 0 listed None (record old { seen = changes }) new answer does
 
-    pub updates : (listed : List (Option (Member SubscriberEntry))) (changes : ℕ) (old new : PublisherPort T U)
-        (answer : Result (Unit {0}) ConnectionFailure)
-        → updating.Updates may listed changes old answer new → updating.Updates other_may listed changes (named old) answer (named new)
-    updates listed changes old new answer does = updates_if _ listed changes old new answer does
+      pub updates : (listed : List (Option (Member SubscriberEntry))) (changes : ℕ) (old new : PublisherPort T U)
+          (answer : Result (Unit {0}) ConnectionFailure)
+          → updating.Updates may listed changes old answer new → updating.Updates other_may listed changes (named old) answer (named new)
+      updates listed changes old new answer does = updates_if _ listed changes old new answer does
 
-    pub updates_one : (free : Bool) (list : RollState SubscriberEntry) (port after : PublisherPort T U)
-        (answer : Option (Result (Unit {0}) ConnectionFailure))
-        → publishing.UpdatesIf free may list port answer after → publishing.UpdatesIf free other_may list (named port) answer (named after)
-    updates_one false list port after answer (is, same) = (is, ap named same)
-    updates_one true list port after answer (listed, is_list, outcome, does, is)
-        = (listed, is_list, outcome, updates listed list.changes port after outcome does, is)
+      pub updates_one : (free : Bool) (list : RollState SubscriberEntry) (port after : PublisherPort T U)
+          (answer : Option (Result (Unit {0}) ConnectionFailure))
+          → publishing.UpdatesIf free may list port answer after
+          → publishing.UpdatesIf free other_may list (named port) answer (named after)
+      updates_one false list port after answer (is, same) = (is, ap named same)
+      updates_one true list port after answer (listed, is_list, outcome, does, is)
+          = (listed, is_list, outcome, updates listed list.changes port after outcome does, is)
 
   -- ---- a send
 
@@ -227,7 +248,8 @@ module _ {T U : Type 0} (by : Renaming) where
       named next,
       subst (λ met. sending.Steps other_decide met (sending.met old.progress.place (named old)) went (named next))
           (sym (meeting_as old.progress.place old))
-          (subst (λ port. sending.Steps other_decide (sending.meeting_at old.progress.place old) port went (named next)) (sym (met_as old.progress.place old))
+          (subst (λ port. sending.Steps other_decide (sending.meeting_at old.progress.place old) port went (named next))
+          (sym (met_as old.progress.place old))
           (steps (sending.meeting_at old.progress.place old) (sending.met old.progress.place old) next went stepped)),
       goes_on went arrived next new _ _ (delivers places next new arrived) further,
     )
@@ -239,13 +261,19 @@ module _ {T U : Type 0} (by : Renaming) where
 
     sends_after : (at : ℕ) (outcome : Result (Unit {0}) ConnectionFailure) (updated new : PublisherPort T U)
         (answer : Option (Result Sent SendError))
-        → sending.SendsAfter decide at outcome updated answer new → sending.SendsAfter other_decide at outcome (named updated) answer (named new)
+        → sending.SendsAfter decide at outcome updated answer new
+        → sending.SendsAfter other_decide at outcome (named updated) answer (named new)
     sends_after at (Err failure) updated new answer (is, same) = (is, ap named same)
-    sends_after at (Ok done) updated new answer (finished, does, is) =
-        (finished, subst (λ port. sending.Finishes other_decide port finished (named new)) (sym (begun_as at updated)) (finishes (sending.begun_at at updated) new finished does), is)
+    sends_after at (Ok done) updated new answer (finished, does, is) = (
+      finished,
+      subst (λ port. sending.Finishes other_decide port finished (named new)) (sym (begun_as at updated))
+          (finishes (sending.begun_at at updated) new finished does),
+      is,
+    )
 
     pub retries_one : (blocked : Bool) (elapsed : ℕ) (port after : PublisherPort T U) (answer : Option (Result Sent SendError))
-        → publishing.RetriesIf blocked decide elapsed port answer after → publishing.RetriesIf blocked other_decide elapsed (named port) answer (named after)
+        → publishing.RetriesIf blocked decide elapsed port answer after
+        → publishing.RetriesIf blocked other_decide elapsed (named port) answer (named after)
     retries_one false elapsed port after answer (is, same) = (is, ap named same)
     retries_one true elapsed port after answer (outcome, does, is) = (outcome, finishes _ after outcome does, is)
 
@@ -254,14 +282,21 @@ module _ {T U : Type 0} (by : Renaming) where
         → other_may (renamed_failure by info) action) where
       sends_if : (stands : Bool) (listed : List (Option (Member SubscriberEntry))) (changes at : ℕ) (old new : PublisherPort T U)
           (answer : Option (Result Sent SendError))
-          → sending.SendsIf stands may decide listed changes at old answer new → sending.SendsIf stands other_may other_decide listed changes at (named old) answer (named new)
+          → sending.SendsIf stands may decide listed changes at old answer new
+          → sending.SendsIf stands other_may other_decide listed changes at (named old) answer (named new)
       sends_if false listed changes at old new answer (is, same) = (is, ap named same)
-      sends_if true listed changes at old new answer (outcome, updated, does, after) =
-          (outcome, named updated, updates may other_may degrading listed changes old updated outcome does, sends_after at outcome updated new answer after)
+      sends_if true listed changes at old new answer (outcome, updated, does, after) = (
+        outcome,
+        named updated,
+        updates may other_may degrading listed changes old updated outcome does,
+        sends_after at outcome updated
+            new answer after,
+      )
 
       sends : (listed : List (Option (Member SubscriberEntry))) (changes : ℕ) (at : Option ℕ) (old new : PublisherPort T U)
           (answer : Option (Result Sent SendError))
-          → sending.Sends may decide listed changes at old answer new → sending.Sends other_may other_decide listed changes at (named old) answer (named new)
+          → sending.Sends may decide listed changes at old answer new
+          → sending.Sends other_may other_decide listed changes at (named old) answer (named new)
       sends listed changes None old new answer (is, same) = (is, ap named same)
       sends listed changes (Some at) old new answer does = sends_if old.stands listed changes at old new answer does
 
@@ -271,7 +306,8 @@ module _ {T U : Type 0} (by : Renaming) where
 
       pub sends_one : (list : RollState SubscriberEntry) (slot : ℕ) (port after : PublisherPort T U)
           (answer : Option (Result Sent SendError))
-          → publishing.SendsOne may decide list slot port answer after → publishing.SendsOne other_may other_decide list slot (named port) answer (named after)
+          → publishing.SendsOne may decide list slot port answer after
+          → publishing.SendsOne other_may other_decide list slot (named port) answer (named after)
       sends_one list slot port after answer (listed, is_list, does) = (
         listed,
         is_list,
@@ -313,7 +349,8 @@ module _ {T U : Type 0} (by : Renaming) where
 
   lends_unless : (refused : Option LoanError) (allocation : AllocationStrategy) (values elements : ℕ) (old new : PublisherPort T U)
       (answer : Result ℕ LoanError)
-      → loaning.LendsUnless refused allocation values elements old answer new → loaning.LendsUnless refused allocation values elements (named old) answer (named new)
+      → loaning.LendsUnless refused allocation values elements old answer new
+      → loaning.LendsUnless refused allocation values elements (named old) answer (named new)
   lends_unless (Some error) allocation values elements old new answer (is, same) = (is, ap named same)
   lends_unless None allocation values elements old new answer does = lends_where _ allocation values elements old new answer does
 
@@ -326,11 +363,14 @@ module _ {T U : Type 0} (by : Renaming) where
   refusal_as : (allocation : AllocationStrategy) (values elements : ℕ) (port : PublisherPort T U)
       → loaning.first_refusal allocation values elements (named port) ≡ loaning.first_refusal allocation values elements port
   refusal_as allocation values elements port =
-      ap (λ is. cond is (Some refusal.ExceedsMaxLoanSize) (cond (nat_lt (length port.sender.uses.loans) port.sender.uses.most_loans) None (Some refusal.ExceedsMaxLoans))) (too_long_as allocation values elements port)
+      ap (λ is. cond is (Some refusal.ExceedsMaxLoanSize)
+      (cond (nat_lt (length port.sender.uses.loans) port.sender.uses.most_loans) None (Some refusal.ExceedsMaxLoans)))
+      (too_long_as allocation values elements port)
 
   loans_if : (waits : Bool) (allocation : AllocationStrategy) (values elements : ℕ) (old new : PublisherPort T U)
       (answer : Option (Result ℕ LoanError))
-      → loaning.LoansIf waits allocation values elements old answer new → loaning.LoansIf waits allocation values elements (named old) answer (named new)
+      → loaning.LoansIf waits allocation values elements old answer new
+      → loaning.LoansIf waits allocation values elements (named old) answer (named new)
   loans_if true allocation values elements old new answer (is, same) = (is, ap named same)
   loans_if false allocation values elements old new answer (lent, is, does) = (
     lent,

@@ -1,5 +1,6 @@
 -- Calls of ports by their numbers, in a hub whose lives go by other numbers.
-use Rattle.std.proofs.Common.{◌≡◌, ◌∙◌, ◌+◌, ◌&&◌, ◌==◌, ℕ, Bool, true, false, not, List, [], ◌∷◌, Option, None, Some, option_map, Result, Ok, Err, IfOk, refl, sym, ap, subst, length, if◌then◌else◌}
+use Rattle.std.proofs.Common.{◌≡◌, ◌∙◌, ◌+◌, ◌&&◌, ◌==◌, ℕ, Bool, true, false, not, List, [], ◌∷◌, Option, None, Some, option_map, Result}
+use Rattle.std.proofs.Common.{Ok, Err, IfOk, refl, sym, ap, subst, length, if◌then◌else◌}
 use Rattle.std.specs.BTreeMap.{is_at}
 use Rattle.std.specs.Ordering.{nat_cmp}
 use Rattle.std.specs.Prelude.{is_some, replicate}
@@ -9,7 +10,8 @@ use Rattle.iox_hub_laws.proofs.AmongPublishers.{found_as, changed_as as among_ch
 use Rattle.iox_hub_laws.proofs.Calls.{happens_as, reads_alike}
 use Rattle.iox_hub_laws.proofs.Lists.{each_found}
 use Rattle.iox_hub_laws.proofs.Publishers.{changed_if_as}
-use Rattle.iox_hub_laws.specs.HubCommands.Delivery.Holding.{publisher_found, publisher_stands, publisher_blocked, loan_found, subscriber_found, message_found, holds_message}
+use Rattle.iox_hub_laws.specs.HubCommands.Delivery.Holding.{publisher_found, publisher_stands, publisher_blocked, loan_found}
+use Rattle.iox_hub_laws.specs.HubCommands.Delivery.Holding.{subscriber_found, message_found, holds_message}
 use Rattle.iox_hub_laws.specs.HubCommands.Delivery.Lent.{IsReady}
 use Rattle.iox_hub_laws.specs.HubCommands.Delivery.Publishing.{AfterLoan, changed_at}
 use Rattle.iox_hub_laws.specs.HubCommands.Delivery.Subscribing.{ReleasesOne}
@@ -40,7 +42,8 @@ use Rattle.iox_hub_laws.specs.HubCommands.DomainValues.declared.degradation.Degr
 use Rattle.iox_hub_laws.specs.HubCommands.DomainValues.declared.port_error.LoanError.{LoanError}
 use Rattle.iox_hub_laws.specs.HubCommands.DomainValues.declared.port_error.ReceiveError.{ReceiveError}
 use Rattle.iox_hub_laws.specs.HubCommands.DomainValues.declared.port_error.SendError.{SendError}
-use Rattle.iox_hub_laws.specs.HubCommands.Calls.{AtPort, AtPortIf, Lends, LendsWritten, Puts, Follows, Sends, Retries, GivesUp, PublisherGoes, FollowsPublishers, Tells, Receives, SubscriberGoes, may_lend, ready}
+use Rattle.iox_hub_laws.specs.HubCommands.Calls.{AtPort, AtPortIf, Lends, LendsWritten, Puts, Follows, Sends, Retries, GivesUp}
+use Rattle.iox_hub_laws.specs.HubCommands.Calls.{PublisherGoes, FollowsPublishers, Tells, Receives, SubscriberGoes, may_lend, ready}
 use Rattle.iox_hub_laws.specs.HubCommands.Loans.{loan_under, changed_under, is_filled, set_in, fits_in, filled_in, SendsUnder}
 use Rattle.iox_hub_laws.specs.HubCommands.Reading.{values_under, is_held, ReleasesUnder}
 use Rattle.iox_hub_laws.specs.HubCommands.declared.ports.made.MadeLoan.{MadeLoan}
@@ -54,7 +57,8 @@ use Rattle.iox_hub_laws.specs.HubCommands.CommandSteps.{publisher_may_degrade, p
 use Rattle.iox_hub_laws.specs.NegotiateRenamedRenaming.{AreInOrder}
 use Rattle.iox_hub_laws.specs.RenamedRenaming.{renamed_port, renamed_made_loan, renamed_made_sample, renamed_hub}
 use Rattle.iox_hub_laws.specs.RenamedRenamingLaws.{HaveNumbers}
-use Rattle.iox_hub_laws.proofs.Homes.{ports_as, at_domain, changed_as, leaves_domain, still_live, publisher_degrading, publisher_deciding, subscriber_degrading, plain}
+use Rattle.iox_hub_laws.proofs.Homes.{ports_as, at_domain, changed_as, leaves_domain, still_live, publisher_degrading, publisher_deciding}
+use Rattle.iox_hub_laws.proofs.Homes.{subscriber_degrading, plain}
 
 -- ---- what is found
 
@@ -134,13 +138,15 @@ module _ {T U : Type 0} (by : Renaming) where
       → each_written slot place values (renamed_publisher by port) ≡ renamed_publisher by (each_written slot place values port)
   each_as slot place [] port = refl
   each_as slot place (value ∷ values) port =
-      ap (each_written slot (place + 1) values) (changed_if_as by (has_place slot place port.sender.uses) slot (write_value place value) port)
+      ap (each_written slot (place + 1) values)
+      (changed_if_as by (has_place slot place port.sender.uses) slot (write_value place value) port)
       ∙ each_as slot (place + 1) values (changed_if (has_place slot place port.sender.uses) slot (write_value place value) port)
 
   each_in_as : (number slot : ℕ) (values : List T) (ports : ServicePorts T U)
       → each_written_in number slot values (renamed_ports by ports) ≡ renamed_ports by (each_written_in number slot values ports)
   each_in_as number slot values ports =
-      ap (λ publishers. record (renamed_ports by ports) { publishers = publishers }) (among_changed by number (each_written slot 0 values) (each_as slot 0 values) ports.publishers)
+      ap (λ publishers. record (renamed_ports by ports) { publishers = publishers })
+      (among_changed by number (each_written slot 0 values) (each_as slot 0 values) ports.publishers)
 
 releases_one : {T U : Type 0} (by : Renaming) (number : ℕ) (taken : Taken) (ports after : ServicePorts T U) (answer : Option (Unit {0}))
     → ReleasesOne number taken ports answer after → ReleasesOne number taken (renamed_ports by ports) answer (renamed_ports by after)
@@ -158,14 +164,16 @@ module _ {T U B D : Type 0} (by : Renaming) (order : AreInOrder by.services) (ne
   pub at_port : {A : Type 0} (does : PortId → Hub T U B D → Option A → Hub T U B D → Type 0)
       → ((port : PortId) (old new : Hub T U B D) (answer : Option A) → Lives old → does port old answer new
       → does (renamed_port by port) (there old) answer (there new))
-      → (port : Option PortId) (old new : Hub T U B D) (answer : Option A) → Lives old → AtPort does port old answer new → AtPort does (option_map (renamed_port by) port) (there old) answer (there new)
+      → (port : Option PortId) (old new : Hub T U B D) (answer : Option A) → Lives old → AtPort does port old answer new
+      → AtPort does (option_map (renamed_port by) port) (there old) answer (there new)
   at_port does each None old new answer live (is, stays) = (is, ap there stays)
   at_port does each (Some port) old new answer live at = each port old new answer live at
 
   pub at_port_if : (does : PortId → Hub T U B D → Bool → Hub T U B D → Type 0)
       → ((port : PortId) (old new : Hub T U B D) (answer : Bool) → Lives old → does port old answer new
       → does (renamed_port by port) (there old) answer (there new))
-      → (port : Option PortId) (old new : Hub T U B D) (answer : Bool) → Lives old → AtPortIf does port old answer new → AtPortIf does (option_map (renamed_port by) port) (there old) answer (there new)
+      → (port : Option PortId) (old new : Hub T U B D) (answer : Bool) → Lives old → AtPortIf does port old answer new
+      → AtPortIf does (option_map (renamed_port by) port) (there old) answer (there new)
   at_port_if does each None old new answer live (is, stays) = (is, ap there stays)
   at_port_if does each (Some port) old new answer live at = each port old new answer live at
 
@@ -174,9 +182,12 @@ module _ {T U B D : Type 0} (by : Renaming) (order : AreInOrder by.services) (ne
   may_lend_as : (port : PortId) (hub : Hub T U B D) → Lives hub
       → may_lend hub_ports (renamed_port by port) (there hub) ≡ may_lend hub_ports port hub
   may_lend_as port hub live =
-      ap (λ found. publisher_stands port.number found && not (publisher_blocked port.number found)) (ports_as by order next count port.domain hub live)
-      ∙ ap (λ stands. stands && not (publisher_blocked port.number (option_map (renamed_ports by) (hub_ports port.domain hub)))) (passes_found by port.number (λ publisher. publisher.stands) (λ publisher. refl) (hub_ports port.domain hub))
-      ∙ ap (λ blocked. publisher_stands port.number (hub_ports port.domain hub) && not blocked) (passes_found by port.number is_blocked (λ publisher. refl) (hub_ports port.domain hub))
+      ap (λ found. publisher_stands port.number found && not (publisher_blocked port.number found))
+      (ports_as by order next count port.domain hub live)
+      ∙ ap (λ stands. stands && not (publisher_blocked port.number (option_map (renamed_ports by) (hub_ports port.domain hub))))
+      (passes_found by port.number (λ publisher. publisher.stands) (λ publisher. refl) (hub_ports port.domain hub))
+      ∙ ap (λ blocked. publisher_stands port.number (hub_ports port.domain hub) && not blocked)
+      (passes_found by port.number is_blocked (λ publisher. refl) (hub_ports port.domain hub))
 
   pub ready_port : (port : Option PortId) (hub : Hub T U B D) → Lives hub
       → ready hub_ports (option_map (renamed_port by) port) (there hub) ≡ option_map (renamed_port by) (ready hub_ports port hub)
@@ -201,23 +212,28 @@ module _ {T U B D : Type 0} (by : Renaming) (order : AreInOrder by.services) (ne
       → values_under hub_ports (option_map (renamed_made_sample by) found) (there hub) ≡ values_under hub_ports found hub
   values_there None hub live = refl
   values_there (Some held) hub live =
-      ap (option_map (λ message. message.values)) (ap (message_found held.taken) (ports_as by order next count held.port.domain hub live) ∙ message_as by held.taken (hub_ports held.port.domain hub))
+      ap (option_map (λ message. message.values))
+      (ap (message_found held.taken) (ports_as by order next count held.port.domain hub live) ∙ message_as by held.taken
+      (hub_ports held.port.domain hub))
 
   pub held_there : (found : Option MadeSample) (hub : Hub T U B D) → Lives hub
       → is_held hub_ports (option_map (renamed_made_sample by) found) (there hub) ≡ is_held hub_ports found hub
   held_there None hub live = refl
   held_there (Some held) hub live =
       ap (holds_message held.port.number held.taken) (ports_as by order next count held.port.domain hub live)
-      ∙ ap (λ is. (is && is_some (message_found held.taken (option_map (renamed_ports by) (hub_ports held.port.domain hub)))) && (held.taken.subscriber == held.port.number))
+      ∙ ap (λ is. (is && is_some (message_found held.taken (option_map (renamed_ports by) (hub_ports held.port.domain hub))))
+      && (held.taken.subscriber == held.port.number))
       (reader_as by held.port.number (hub_ports held.port.domain hub))
-      ∙ ap (λ message. (is_some (subscriber_found held.port.number (hub_ports held.port.domain hub)) && is_some message) && (held.taken.subscriber == held.port.number))
+      ∙ ap (λ message. (is_some (subscriber_found held.port.number (hub_ports held.port.domain hub)) && is_some message)
+      && (held.taken.subscriber == held.port.number))
       (message_as by held.taken (hub_ports held.port.domain hub))
 
   pub changed_there : (change : ℕ → ℕ → ServicePorts T U → ServicePorts T U)
       → ((number slot : ℕ) (ports : ServicePorts T U)
       → change number slot (renamed_ports by ports) ≡ renamed_ports by (change number slot ports))
       → (found : Option MadeLoan) (hub : Hub T U B D) → Lives hub
-      → changed_under hub_ports with_hub_ports change (option_map (renamed_made_loan by) found) (there hub) ≡ there (changed_under hub_ports with_hub_ports change found hub)
+      → changed_under hub_ports with_hub_ports change (option_map (renamed_made_loan by) found) (there hub)
+      ≡ there (changed_under hub_ports with_hub_ports change found hub)
   changed_there change same None hub live = refl
   changed_there change same (Some made) hub live
       = changed_as by order next count made.port.domain (change made.port.number made.slot) (change made.port.number made.slot) hub live
@@ -243,7 +259,8 @@ module _ {T U B D : Type 0} (by : Renaming) (order : AreInOrder by.services) (ne
       → Lends hub_ports with_hub_ports elements port old answer new
       → Lends hub_ports with_hub_ports elements (renamed_port by port) (there old) answer (there new)
   lends_slot port elements old new answer live does =
-      at_domain by order next count port.domain (steps.LoansBy port.number elements elements) (steps.LoansBy port.number elements elements) old new answer live
+      at_domain by order next count port.domain (steps.LoansBy port.number elements elements)
+      (steps.LoansBy port.number elements elements) old new answer live
       (λ ports after lent. plain by (call.Lends port.number elements elements answer) ports after tt lent) does
 
   pub lends : (elements : ℕ) (port : PortId) (old new : Hub T U B D) (answer : Option (Result ℕ LoanError)) → Lives old
@@ -261,9 +278,11 @@ module _ {T U B D : Type 0} (by : Renaming) (order : AreInOrder by.services) (ne
         (
           ap there goes ∙ sym (changed_as by order next count port.domain change change old live (each_in_as by port.number slot values)),
           λ loan found long.
-              ap (loan_found port.number slot) (ports_as by order next count port.domain new (subst Lives (sym goes) (changed_lives port.domain change (hub_ports port.domain old) old live)))
+              ap (loan_found port.number slot) (ports_as by order next count port.domain new
+              (subst Lives (sym goes) (changed_lives port.domain change (hub_ports port.domain old) old live)))
               ∙ loan_as by port.number slot (hub_ports port.domain new)
-              ∙ more loan (sym (ap (loan_found port.number slot) (ports_as by order next count port.domain old live) ∙ loan_as by port.number slot (hub_ports port.domain old)) ∙ found) long,
+              ∙ more loan (sym (ap (loan_found port.number slot) (ports_as by order next count port.domain old live) ∙ loan_as by
+              port.number slot (hub_ports port.domain old)) ∙ found) long,
         ),
         is,
       )
@@ -272,7 +291,8 @@ module _ {T U B D : Type 0} (by : Renaming) (order : AreInOrder by.services) (ne
       → IsReady port.number values elements slot (hub_ports port.domain hub)
       → IsReady port.number values elements slot (hub_ports (renamed_port by port).domain (there hub))
   ready_here port values elements slot hub live is =
-      subst (λ found. IsReady port.number values elements slot found) (sym (ports_as by order next count port.domain hub live)) (ready_as by port.number values elements slot (hub_ports port.domain hub) is)
+      subst (λ found. IsReady port.number values elements slot found) (sym (ports_as by order next count port.domain hub live))
+      (ready_as by port.number values elements slot (hub_ports port.domain hub) is)
 
   ready_if : (port : PortId) (values : List T) (elements : ℕ) (lent : Result ℕ LoanError) (hub : Hub T U B D) → Lives hub
       → IfOk lent (λ slot. IsReady port.number values elements slot (hub_ports port.domain hub))
@@ -284,15 +304,23 @@ module _ {T U B D : Type 0} (by : Renaming) (order : AreInOrder by.services) (ne
       → AfterLoan Err (FillsLent hub_ports with_hub_ports port elements value) lent old answer new → Lives new
   filled_lives port elements value (Err error) answer old new live (is, stays) = subst Lives (sym stays) live
   filled_lives port elements value (Ok slot) answer old new live ((goes, more), is) =
-      subst Lives (sym goes) (changed_lives port.domain (each_written_in port.number slot (replicate elements value)) (hub_ports port.domain old) old live)
+      subst Lives (sym goes) (changed_lives port.domain (each_written_in port.number slot (replicate elements value))
+      (hub_ports port.domain old) old live)
 
   pub lends_written : (elements : ℕ) (value : T) (port : PortId) (old new : Hub T U B D) (answer : Option (Result ℕ LoanError))
       → Lives old → LendsWritten hub_ports with_hub_ports elements value port old answer new
       → LendsWritten hub_ports with_hub_ports elements value (renamed_port by port) (there old) answer (there new)
   lends_written elements value port old new answer live (came, (lent, middle, does, fills), is_ready, is) =
-      let live_middle = at_lives port.domain (steps.LoansBy port.number elements elements) (hub_ports port.domain old) old middle (Some lent) live does in (
+      let live_middle = at_lives port.domain (steps.LoansBy port.number elements elements) (hub_ports port.domain old) old middle
+      (Some lent) live does in (
         came,
-        (lent, there middle, lends_slot port elements old middle (Some lent) live does, filled port elements value lent came middle new live_middle fills),
+        (
+          lent,
+          there middle,
+          lends_slot port elements old middle (Some lent) live does,
+          filled port elements value lent came middle new
+              live_middle fills,
+        ),
         ready_if port (replicate elements value) elements came new
             (filled_lives port elements value lent came middle new live_middle fills) is_ready,
         is,
@@ -302,7 +330,8 @@ module _ {T U B D : Type 0} (by : Renaming) (order : AreInOrder by.services) (ne
       → GivesUp hub_ports with_hub_ports port old answer new
       → GivesUp hub_ports with_hub_ports (renamed_port by port) (there old) answer (there new)
   gives_up port old new answer live does =
-      at_domain by order next count port.domain (steps.GivesUpBy port.number) (steps.GivesUpBy port.number) old new answer live (λ ports after gives. plain by (call.GivesSendUp port.number answer) ports after tt gives) does
+      at_domain by order next count port.domain (steps.GivesUpBy port.number) (steps.GivesUpBy port.number) old new answer live
+      (λ ports after gives. plain by (call.GivesSendUp port.number answer) ports after tt gives) does
 
   pub releases : (found : Option MadeSample) (done : Bool) (old new : Hub T U B D) → Lives old
       → ReleasesUnder hub_ports with_hub_ports found old done new
@@ -311,21 +340,24 @@ module _ {T U B D : Type 0} (by : Renaming) (order : AreInOrder by.services) (ne
   releases (Some held) false old new live stays = ap there stays
   releases None true old new live never = never
   releases (Some held) true old new live does =
-      at_domain by order next count held.port.domain (ReleasesOne held.port.number held.taken) (ReleasesOne held.port.number held.taken) old new (Some tt) live
+      at_domain by order next count held.port.domain (ReleasesOne held.port.number held.taken) (ReleasesOne held.port.number held.taken)
+      old new (Some tt) live
       (λ ports after is. releases_one by held.port.number held.taken ports after (Some tt) is) does
 
   pub publisher_goes : (port : PortId) (old new : Hub T U B D) (answer : Bool) → Lives old
       → PublisherGoes hub_ports with_hub_ports without_hub_publisher port old answer new
       → PublisherGoes hub_ports with_hub_ports without_hub_publisher (renamed_port by port) (there old) answer (there new)
   publisher_goes port old new answer live does =
-      leaves_domain by order next count port.domain (publisher_forgotten port.number) (λ domain. refl) (steps.PublisherLeaves port.number) (steps.PublisherLeaves port.number) old new answer live
+      leaves_domain by order next count port.domain (publisher_forgotten port.number) (λ domain. refl)
+      (steps.PublisherLeaves port.number) (steps.PublisherLeaves port.number) old new answer live
       (λ ports after leaves. plain by (call.PublisherLeaves port.number answer) ports after tt leaves) does
 
   pub subscriber_goes : (port : PortId) (old new : Hub T U B D) (answer : Bool) → Lives old
       → SubscriberGoes hub_ports with_hub_ports without_hub_subscriber port old answer new
       → SubscriberGoes hub_ports with_hub_ports without_hub_subscriber (renamed_port by port) (there old) answer (there new)
   subscriber_goes port old new answer live does =
-      leaves_domain by order next count port.domain (subscriber_forgotten port.number) (λ domain. refl) (steps.SubscriberLeaves port.number) (steps.SubscriberLeaves port.number) old new answer live
+      leaves_domain by order next count port.domain (subscriber_forgotten port.number) (λ domain. refl)
+      (steps.SubscriberLeaves port.number) (steps.SubscriberLeaves port.number) old new answer live
       (λ ports after leaves. plain by (call.SubscriberLeaves port.number answer) ports after tt leaves) does
 
   -- ---- calls that ask who decides
@@ -337,36 +369,49 @@ module _ {T U B D : Type 0} (by : Renaming) (order : AreInOrder by.services) (ne
         → Follows hub_ports with_hub_ports (publisher_may_degrade degrades) (renamed_port by port) (there old) answer (there new)
     follows port old new answer live does =
         let id = port.domain in
-        at_domain by order next count id (steps.UpdatesBy (publisher_may_degrade degrades id port.number old) port.number) (steps.UpdatesBy (publisher_may_degrade degrades (renamed_port by port).domain port.number (there old)) port.number) old new answer live
+        at_domain by order next count id (steps.UpdatesBy (publisher_may_degrade degrades id port.number old) port.number)
+        (steps.UpdatesBy (publisher_may_degrade degrades (renamed_port by port).domain port.number (there old)) port.number) old new
+        answer live
         (λ ports after updates.
-        happens_as by (publisher_may_degrade degrades id port.number old) (publisher_may_degrade degrades (renamed_port by port).domain port.number (there old)) (publisher_degrading by order next count degrades blind id port.number old live)
+        happens_as by (publisher_may_degrade degrades id port.number old)
+        (publisher_may_degrade degrades (renamed_port by port).domain port.number (there old))
+        (publisher_degrading by order next count degrades blind id port.number old live)
         AnySlots AnyDecision AnyDecision (λ info decision any. any) (call.PublisherUpdates port.number answer) ports after tt updates) does
 
     module _ (decides : B → BackpressureInfo → BackpressureDecision → Type 0)
         (blind_sends : (handlers : B) → DecidesWhateverService (decides handlers)) where
       sends_at : (port : PortId) (slot : ℕ) (old new : Hub T U B D) (answer : Option (Result Sent SendError)) → Lives old
           → Sends hub_ports with_hub_ports (publisher_may_degrade degrades) (publisher_may_decide decides) slot port old answer new
-          → Sends hub_ports with_hub_ports (publisher_may_degrade degrades) (publisher_may_decide decides) slot (renamed_port by port) (there old) answer (there new)
+          → Sends hub_ports with_hub_ports (publisher_may_degrade degrades) (publisher_may_decide decides) slot (renamed_port by port)
+          (there old) answer (there new)
       sends_at port slot old new answer live does =
           let id = port.domain in
           let other = (renamed_port by port).domain in
-          at_domain by order next count id (steps.SendsBy (publisher_may_degrade degrades id port.number old) (publisher_may_decide decides id port.number old) port.number slot)
-          (steps.SendsBy (publisher_may_degrade degrades other port.number (there old)) (publisher_may_decide decides other port.number (there old)) port.number slot) old new answer live
+          at_domain by order next count id (steps.SendsBy (publisher_may_degrade degrades id port.number old)
+          (publisher_may_decide decides id port.number old) port.number slot)
+          (steps.SendsBy (publisher_may_degrade degrades other port.number (there old))
+          (publisher_may_decide decides other port.number (there old)) port.number slot) old new answer live
           (λ ports after sends.
-          happens_as by (publisher_may_degrade degrades id port.number old) (publisher_may_degrade degrades other port.number (there old)) (publisher_degrading by order next count degrades blind id port.number old live)
-          AnySlots (publisher_may_decide decides id port.number old) (publisher_may_decide decides other port.number (there old)) (publisher_deciding by order next count decides blind_sends id port.number old live)
+          happens_as by (publisher_may_degrade degrades id port.number old)
+          (publisher_may_degrade degrades other port.number (there old))
+          (publisher_degrading by order next count degrades blind id port.number old live)
+          AnySlots (publisher_may_decide decides id port.number old) (publisher_may_decide decides other port.number (there old))
+          (publisher_deciding by order next count decides blind_sends id port.number old live)
           (call.Sends port.number slot answer) ports after tt sends) does
 
       pub sends_under : (found : Option MadeLoan) (old new : Hub T U B D) (answer : Option (Result Sent SendError)) → Lives old
           → SendsUnder hub_ports with_hub_ports (publisher_may_degrade degrades) (publisher_may_decide decides) found old answer new
-          → SendsUnder hub_ports with_hub_ports (publisher_may_degrade degrades) (publisher_may_decide decides) (option_map (renamed_made_loan by) found) (there old) answer (there new)
+          → SendsUnder hub_ports with_hub_ports (publisher_may_degrade degrades) (publisher_may_decide decides)
+          (option_map (renamed_made_loan by) found) (there old) answer (there new)
       sends_under None old new answer live (is, stays) = (is, ap there stays)
       sends_under (Some made) old new answer live sends = sends_at made.port made.slot old new answer live sends
 
       sent_after : (port : PortId) (values : List T) (refused : LoanError → Result Sent SendError) (lent : Result ℕ LoanError)
           (answer : Result Sent SendError) (old new : Hub T U B D) → Lives old
-          → AfterLoan refused (WritesAndSends hub_ports with_hub_ports (publisher_may_degrade degrades) (publisher_may_decide decides) port values) lent old answer new
-          → AfterLoan refused (WritesAndSends hub_ports with_hub_ports (publisher_may_degrade degrades) (publisher_may_decide decides) (renamed_port by port) values) lent (there old) answer (there new)
+          → AfterLoan refused (WritesAndSends hub_ports with_hub_ports (publisher_may_degrade degrades) (publisher_may_decide decides)
+          port values) lent old answer new
+          → AfterLoan refused (WritesAndSends hub_ports with_hub_ports (publisher_may_degrade degrades) (publisher_may_decide decides)
+          (renamed_port by port) values) lent (there old) answer (there new)
       sent_after port values refused (Err error) answer old new live (is, stays) = (is, ap there stays)
       sent_after port values refused (Ok slot) answer old new live (middle, writes, is_ready, sends) =
           let change = filled_in values port.number slot in
@@ -380,55 +425,80 @@ module _ {T U B D : Type 0} (by : Renaming) (order : AreInOrder by.services) (ne
 
       pub puts : (values : List T) (port : PortId) (old new : Hub T U B D) (answer : Option (Result Sent SendError)) → Lives old
           → Puts hub_ports with_hub_ports (publisher_may_degrade degrades) (publisher_may_decide decides) values port old answer new
-          → Puts hub_ports with_hub_ports (publisher_may_degrade degrades) (publisher_may_decide decides) values (renamed_port by port) (there old) answer (there new)
+          → Puts hub_ports with_hub_ports (publisher_may_degrade degrades) (publisher_may_decide decides) values (renamed_port by port)
+          (there old) answer (there new)
       puts values port old new answer live (sent, (lent, middle, does, sends), is) =
-          let live_middle = at_lives port.domain (steps.LoansBy port.number (length values) (length values)) (hub_ports port.domain old) old middle (Some lent) live does in
-          (sent, (lent, there middle, lends_slot port (length values) old middle (Some lent) live does, sent_after port values _ lent sent middle new live_middle sends), is)
+          let live_middle = at_lives port.domain (steps.LoansBy port.number (length values) (length values)) (hub_ports port.domain old)
+          old middle (Some lent) live does in (
+            sent,
+            (
+              lent,
+              there middle,
+              lends_slot port (length values) old middle (Some lent) live does,
+              sent_after port values _ lent sent
+                  middle new live_middle sends,
+            ),
+            is,
+          )
 
   pub retries : (decides : B → BackpressureInfo → BackpressureDecision → Type 0)
       → ((handlers : B) → DecidesWhateverService (decides handlers))
       → (elapsed : ℕ) (port : PortId) (old new : Hub T U B D) (answer : Option (Result Sent SendError)) → Lives old
-      → Retries hub_ports with_hub_ports (publisher_may_decide decides) elapsed port old answer new → Retries hub_ports with_hub_ports (publisher_may_decide decides) elapsed (renamed_port by port) (there old) answer (there new)
+      → Retries hub_ports with_hub_ports (publisher_may_decide decides) elapsed port old answer new
+      → Retries hub_ports with_hub_ports (publisher_may_decide decides) elapsed (renamed_port by port) (there old) answer (there new)
   retries decides blind elapsed port old new answer live does =
       let id = port.domain in
       let other = (renamed_port by port).domain in
-      at_domain by order next count id (steps.RetriesBy (publisher_may_decide decides id port.number old) port.number elapsed) (steps.RetriesBy (publisher_may_decide decides other port.number (there old)) port.number elapsed) old new answer live
+      at_domain by order next count id (steps.RetriesBy (publisher_may_decide decides id port.number old) port.number elapsed)
+      (steps.RetriesBy (publisher_may_decide decides other port.number (there old)) port.number elapsed) old new answer live
       (λ ports after tries.
-      happens_as by AnyAction AnyAction (λ info action any. any) AnySlots (publisher_may_decide decides id port.number old) (publisher_may_decide decides other port.number (there old))
-      (publisher_deciding by order next count decides blind id port.number old live) (call.Retries port.number elapsed answer) ports after tt tries) does
+      happens_as by AnyAction AnyAction (λ info action any. any) AnySlots (publisher_may_decide decides id port.number old)
+      (publisher_may_decide decides other port.number (there old))
+      (publisher_deciding by order next count decides blind id port.number old live) (call.Retries port.number elapsed answer) ports
+      after tt tries) does
 
   module _ (degrades : D → DegradationCause → DegradationInfo → DegradationAction → Type 0)
       (blind : (handler : D) (cause : DegradationCause) → DegradesWhateverService (degrades handler cause)) where
     -- a call of a subscriber that asks who decides for it
     asked : {A : Type 0} (by_number : (DegradationInfo → DegradationAction → Type 0) → ℕ → ServicePorts T U → Option A
         → ServicePorts T U → Type 0)
-        → ((may other : DegradationInfo → DegradationAction → Type 0) → ((info : DegradationInfo) (action : DegradationAction) → may info action → other (renamed_failure by info) action) → (number : ℕ) (ports after : ServicePorts T U) (answer : Option A)
+        → ((may other : DegradationInfo → DegradationAction → Type 0)
+        → ((info : DegradationInfo) (action : DegradationAction) → may info action → other (renamed_failure by info) action)
+        → (number : ℕ) (ports after : ServicePorts T U) (answer : Option A)
         → by_number may number ports answer after → by_number other number (renamed_ports by ports) answer (renamed_ports by after))
-        → (port : PortId) (old new : Hub T U B D) (answer : Option A) → Lives old → AtDomain (λ after. with_hub_ports port.domain after old) (by_number (subscriber_may_degrade degrades port.domain port.number old) port.number) (hub_ports port.domain old) old answer new
-        → AtDomain (λ after. with_hub_ports (renamed_port by port).domain after (there old)) (by_number (subscriber_may_degrade degrades (renamed_port by port).domain port.number (there old)) port.number) (hub_ports (renamed_port by port).domain (there old)) (there old) answer (there new)
+        → (port : PortId) (old new : Hub T U B D) (answer : Option A) → Lives old
+        → AtDomain (λ after. with_hub_ports port.domain after old)
+        (by_number (subscriber_may_degrade degrades port.domain port.number old) port.number) (hub_ports port.domain old) old answer new
+        → AtDomain (λ after. with_hub_ports (renamed_port by port).domain after (there old))
+        (by_number (subscriber_may_degrade degrades (renamed_port by port).domain port.number (there old)) port.number)
+        (hub_ports (renamed_port by port).domain (there old)) (there old) answer (there new)
     asked by_number each port old new answer live does =
         let may = subscriber_may_degrade degrades port.domain port.number old in
         let other = subscriber_may_degrade degrades (renamed_port by port).domain port.number (there old) in
         at_domain by order next count port.domain (by_number may port.number) (by_number other port.number) old new answer live
-        (λ ports after is. each may other (subscriber_degrading by order next count degrades blind port.domain port.number old live) port.number ports after answer is) does
+        (λ ports after is. each may other (subscriber_degrading by order next count degrades blind port.domain port.number old live)
+        port.number ports after answer is) does
 
     pub follows_publishers : (port : PortId) (old new : Hub T U B D) (answer : Option (Result (Unit {0}) ConnectionFailure)) → Lives old
         → FollowsPublishers hub_ports with_hub_ports (subscriber_may_degrade degrades) port old answer new
         → FollowsPublishers hub_ports with_hub_ports (subscriber_may_degrade degrades) (renamed_port by port) (there old) answer (there new)
     follows_publishers port old new answer live does =
         asked steps.FollowsBy
-        (λ may other degrading number ports after outcome is. happens_as by may other degrading AnySlots AnyDecision AnyDecision (λ info decision any. any) (call.SubscriberUpdates number outcome) ports after tt is) port old new answer live does
+        (λ may other degrading number ports after outcome is. happens_as by may other degrading AnySlots AnyDecision AnyDecision
+        (λ info decision any. any) (call.SubscriberUpdates number outcome) ports after tt is) port old new answer live does
 
     pub tells : (port : PortId) (old new : Hub T U B D) (answer : Option (Result Bool ConnectionFailure)) → Lives old
         → Tells hub_ports with_hub_ports (subscriber_may_degrade degrades) port old answer new
         → Tells hub_ports with_hub_ports (subscriber_may_degrade degrades) (renamed_port by port) (there old) answer (there new)
     tells port old new answer live does =
         asked steps.TellsBy
-        (λ may other degrading number ports after outcome is. happens_as by may other degrading AnySlots AnyDecision AnyDecision (λ info decision any. any) (call.AsksForSamples number outcome) ports after tt is) port old new answer live does
+        (λ may other degrading number ports after outcome is. happens_as by may other degrading AnySlots AnyDecision AnyDecision
+        (λ info decision any. any) (call.AsksForSamples number outcome) ports after tt is) port old new answer live does
 
     pub receives : (port : PortId) (old new : Hub T U B D) (answer : Option (Result (Option Taken) ReceiveError)) → Lives old
         → Receives hub_ports with_hub_ports (subscriber_may_degrade degrades) port old answer new
         → Receives hub_ports with_hub_ports (subscriber_may_degrade degrades) (renamed_port by port) (there old) answer (there new)
     receives port old new answer live does =
         asked steps.ReceivesBy
-        (λ may other degrading number ports after outcome is. happens_as by may other degrading AnySlots AnyDecision AnyDecision (λ info decision any. any) (call.Receives number outcome) ports after tt is) port old new answer live does
+        (λ may other degrading number ports after outcome is. happens_as by may other degrading AnySlots AnyDecision AnyDecision
+        (λ info decision any. any) (call.Receives number outcome) ports after tt is) port old new answer live does

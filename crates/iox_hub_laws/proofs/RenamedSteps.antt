@@ -1,5 +1,6 @@
 -- Commands of ports in a hub whose lives go by other numbers.
-use Rattle.std.proofs.Common.{◌≡◌, ◌∙◌, ℕ, Bool, true, false, List, [], ◌∷◌, Option, None, Some, option_map, Result, Ok, Err, refl, sym, ap, subst, length, if◌then◌else◌}
+use Rattle.std.proofs.Common.{◌≡◌, ◌∙◌, ℕ, Bool, true, false, List, [], ◌∷◌, Option, None, Some, option_map, Result, Ok, Err, refl, sym}
+use Rattle.std.proofs.Common.{ap, subst, length, if◌then◌else◌}
 use Rattle.std.specs.List.{AllByRecursion}
 use Rattle.std.specs.Prelude.{is_some, unwrap_or}
 use Rattle.std.specs.declared.alloc.AllocError.{AllocError}
@@ -29,20 +30,24 @@ use Rattle.iox_hub_laws.specs.HubCommands.DomainValues.declared.degradation.Degr
 use Rattle.iox_hub_laws.specs.HubCommands.DomainValues.declared.degradation.DegradationInfo.{DegradationInfo}
 use Rattle.iox_hub_laws.specs.HubCommands.DomainValues.declared.port_error.ReceiveError.{ReceiveError}
 use Rattle.iox_hub_laws.specs.HubCommands.Following.{UpdateStep, HasStep, LeaveStep}
-use Rattle.iox_hub_laws.specs.HubCommands.Calls.{AtPort, AtPortIf, Lends, LendsWritten, Puts, Follows, Retries, GivesUp, PublisherGoes, FollowsPublishers, Tells, Receives, SubscriberGoes, ready}
+use Rattle.iox_hub_laws.specs.HubCommands.Calls.{AtPort, AtPortIf, Lends, LendsWritten, Puts, Follows, Retries, GivesUp, PublisherGoes}
+use Rattle.iox_hub_laws.specs.HubCommands.Calls.{FollowsPublishers, Tells, Receives, SubscriberGoes, ready}
 use Rattle.iox_hub_laws.specs.HubCommands.Growing.{GrowsFirst}
 use Rattle.iox_hub_laws.specs.HubCommands.Loans.{loan_under, is_set, is_filled, set_in, filled_in, changed_under, SendsUnder}
 use Rattle.iox_hub_laws.specs.HubCommands.Making.{with_publisher, with_subscriber}
 use Rattle.iox_hub_laws.specs.HubCommands.Numbering.{LendsNumbered, LendsWrittenNumbered, ReceivesNumbered}
 use Rattle.iox_hub_laws.specs.HubCommands.Reading.{values_under, is_held, ReleasesUnder}
-use Rattle.iox_hub_laws.specs.HubCommands.Tables.{IsFull, lender, port_under, without_publisher, without_subscriber, without_loan, without_sample}
+use Rattle.iox_hub_laws.specs.HubCommands.Tables.{IsFull, lender, port_under, without_publisher, without_subscriber, without_loan}
+use Rattle.iox_hub_laws.specs.HubCommands.Tables.{without_sample}
 use Rattle.iox_hub_laws.specs.HubCommands.declared.ports.made.Made.{Made}
 use Rattle.iox_hub_laws.specs.HubCommands.Lending.{LoanStep, LoanUninitStep, PutStep}
-use Rattle.iox_hub_laws.specs.HubCommands.Messages.{SetStep, FillStep, DropStep, SendStep, RetryStep, GiveUpStep, IsReadReply, SomeValues, ReadStep, ReleaseStep}
+use Rattle.iox_hub_laws.specs.HubCommands.Messages.{SetStep, FillStep, DropStep, SendStep, RetryStep, GiveUpStep, IsReadReply, SomeValues}
+use Rattle.iox_hub_laws.specs.HubCommands.Messages.{ReadStep, ReleaseStep}
 use Rattle.iox_hub_laws.specs.HubCommands.Naming.{publisher_config, publisher_handlers, subscriber_config, subscriber_handler}
 use Rattle.iox_hub_laws.specs.HubCommands.Receiving.{IsArrival, IsTold, ReceiveStep}
 use Rattle.iox_hub_laws.specs.HubCommands.Domain.declared.domain.Domain.{Domain}
-use Rattle.iox_hub_laws.specs.HubCommands.HubBase.AsHome.{with_services, hub_ports, with_hub_ports, without_hub_publisher, without_hub_subscriber}
+use Rattle.iox_hub_laws.specs.HubCommands.HubBase.AsHome.{with_services, hub_ports, with_hub_ports, without_hub_publisher}
+use Rattle.iox_hub_laws.specs.HubCommands.HubBase.AsHome.{without_hub_subscriber}
 use Rattle.iox_hub_laws.specs.HubCommands.HubBase.Opening.{Made as Opened}
 use Rattle.iox_hub_laws.specs.HubCommands.HubBase.declared.hub.Hub.{Hub}
 use Rattle.iox_hub_laws.specs.HubCommands.HubBase.ServicesAsHome.{stepped, publisher_kept, subscriber_kept}
@@ -52,10 +57,12 @@ use Rattle.iox_hub_laws.specs.HubCommands.declared.services.factories.Factories.
 use Rattle.iox_hub_laws.specs.HubCommands.Grown.{AnySlots, AnyDecision}
 use Rattle.iox_hub_laws.specs.HubCommands.Runs.{Runs}
 use Rattle.iox_hub_laws.specs.HubCommands.Services.{domain_of_factory, owner_of_factory, PublisherComes, SubscriberComes}
-use Rattle.iox_hub_laws.specs.HubCommands.CommandSteps.{IsReplied, Step, publisher_may_degrade, publisher_may_decide, subscriber_may_degrade}
+use Rattle.iox_hub_laws.specs.HubCommands.CommandSteps.{IsReplied, Step, publisher_may_degrade, publisher_may_decide}
+use Rattle.iox_hub_laws.specs.HubCommands.CommandSteps.{subscriber_may_degrade}
 use Rattle.iox_hub_laws.specs.HubCommands.declared.numbered_hub.NumberedHub.{NumberedHub}
 use Rattle.iox_hub_laws.specs.NegotiateRenamedRenaming.{AreInOrder}
-use Rattle.iox_hub_laws.specs.RenamedRenaming.{mapped, renamed_factory, renamed_id, renamed_port, renamed_made_loan, renamed_made_sample, renamed_hub, renamed_numbered}
+use Rattle.iox_hub_laws.specs.RenamedRenaming.{mapped, renamed_factory, renamed_id, renamed_port, renamed_made_loan, renamed_made_sample}
+use Rattle.iox_hub_laws.specs.RenamedRenaming.{renamed_hub, renamed_numbered}
 use Rattle.iox_hub_laws.specs.RenamedRenamingLaws.{LooksAtNoService, HaveNumbers, IsOfPorts, GoesByAnyNumber, RunGoesByAnyNumber}
 use Rattle.iox_hub_laws.proofs.Keeping.{OfServices, step_keeps}
 use Rattle.iox_hub_laws.proofs.Homes.{makes_at, still_live}
@@ -126,8 +133,11 @@ module _ {T U B D : Type 0} (by : Renaming) (order : AreInOrder by.services) (ne
   -- room is made first
   first : {A : Type 0} (is_full is_full_there : Type 0) → (is_full → is_full_there)
       → (does other : Made → Hub T U B D → A → Made → Hub T U B D → Type 0)
-      → ((made after : Made) (old new : Hub T U B D) (answer : A) → Lives old → does made old answer after new → other (own by made) (there old) answer (own by after) (there new))
-      → (made after : Made) (old new : Hub T U B D) (answer : Result A AllocError) → Lives old → GrowsFirst is_full does made old answer after new → GrowsFirst is_full_there other (own by made) (there old) answer (own by after) (there new)
+      → ((made after : Made) (old new : Hub T U B D) (answer : A) → Lives old → does made old answer after new
+      → other (own by made) (there old) answer (own by after) (there new))
+      → (made after : Made) (old new : Hub T U B D) (answer : Result A AllocError) → Lives old
+      → GrowsFirst is_full does made old answer after new
+      → GrowsFirst is_full_there other (own by made) (there old) answer (own by after) (there new)
   first is_full is_full_there fills does other each made after old new (Err lacking) live (full, same, stays)
       = (fills full, ap (own by) same, ap there stays)
   first is_full is_full_there fills does other each made after old new (Ok answer) live (roomier, is_roomier, done) =
@@ -141,7 +151,9 @@ module _ {T U B D : Type 0} (by : Renaming) (order : AreInOrder by.services) (ne
         lent,
         subst (λ found. GrowsFirst (IsFull (own by made).loans) (LendsNumbered hub_ports with_hub_ports elements found) (own by made)
             (there old) lent (own by after) (there new)) (sym (making.lender_as by made elements publisher))
-            (first (IsFull made.loans) (IsFull (own by made).loans) (making.full_as (renamed_made_loan by) made.loans) (LendsNumbered hub_ports with_hub_ports elements port) (LendsNumbered hub_ports with_hub_ports elements (option_map (renamed_port by) port))
+            (first (IsFull made.loans) (IsFull (own by made).loans) (making.full_as (renamed_made_loan by) made.loans)
+            (LendsNumbered hub_ports with_hub_ports elements port)
+            (LendsNumbered hub_ports with_hub_ports elements (option_map (renamed_port by) port))
             (λ before later hub other reply lives (outcome, at, numbers). (
               outcome,
               ports.at_port by order next count (Lends hub_ports with_hub_ports elements) (ports.lends by order next count elements)
@@ -163,8 +175,10 @@ module _ {T U B D : Type 0} (by : Renaming) (order : AreInOrder by.services) (ne
         lent,
         subst (λ found. GrowsFirst (IsFull (own by made).loans) (LendsWrittenNumbered hub_ports with_hub_ports elements value found)
             (own by made) (there old) lent (own by after) (there new))
-            (sym (ap (λ found. ready hub_ports found (there old)) (making.lender_as by made elements publisher) ∙ ports.ready_port by order next count (lender elements (value_at made.publishers publisher)) old live))
-            (first (IsFull made.loans) (IsFull (own by made).loans) (making.full_as (renamed_made_loan by) made.loans) (LendsWrittenNumbered hub_ports with_hub_ports elements value port)
+            (sym (ap (λ found. ready hub_ports found (there old)) (making.lender_as by made elements publisher) ∙ ports.ready_port by
+            order next count (lender elements (value_at made.publishers publisher)) old live))
+            (first (IsFull made.loans) (IsFull (own by made).loans) (making.full_as (renamed_made_loan by) made.loans)
+            (LendsWrittenNumbered hub_ports with_hub_ports elements value port)
             (LendsWrittenNumbered hub_ports with_hub_ports elements value (option_map (renamed_port by) port))
             (λ before later hub other reply lives (outcome, at, numbers). (
               outcome,
@@ -181,15 +195,18 @@ module _ {T U B D : Type 0} (by : Renaming) (order : AreInOrder by.services) (ne
   loan_here : (made : Made) (number : ℕ) (hub : Hub T U B D) → Lives hub
       → loan_under hub_ports (value_at (own by made).loans number) (there hub) ≡ loan_under hub_ports (value_at made.loans number) hub
   loan_here made number hub live =
-      ap (λ found. loan_under hub_ports found (there hub)) (making.under_as (renamed_made_loan by) made.loans number) ∙ ports.loan_there by order next count (value_at made.loans number) hub live
+      ap (λ found. loan_under hub_ports found (there hub)) (making.under_as (renamed_made_loan by) made.loans number) ∙ ports.loan_there
+      by order next count (value_at made.loans number) hub live
 
   changed_here : (change : ℕ → ℕ → ServicePorts T U → ServicePorts T U)
       → ((number slot : ℕ) (ports : ServicePorts T U)
       → change number slot (renamed_ports by ports) ≡ renamed_ports by (change number slot ports))
       → (made : Made) (number : ℕ) (hub : Hub T U B D) → Lives hub
-      → changed_under hub_ports with_hub_ports change (value_at (own by made).loans number) (there hub) ≡ there (changed_under hub_ports with_hub_ports change (value_at made.loans number) hub)
+      → changed_under hub_ports with_hub_ports change (value_at (own by made).loans number) (there hub)
+      ≡ there (changed_under hub_ports with_hub_ports change (value_at made.loans number) hub)
   changed_here change same made number hub live =
-      ap (λ found. changed_under hub_ports with_hub_ports change found (there hub)) (making.under_as (renamed_made_loan by) made.loans number)
+      ap (λ found. changed_under hub_ports with_hub_ports change found (there hub))
+      (making.under_as (renamed_made_loan by) made.loans number)
       ∙ ports.changed_there by order next count change same (value_at made.loans number) hub live
 
   chosen : (done : Bool) (one other : Hub T U B D) (one_there : Hub T U B D) → one_there ≡ there one → (new : Hub T U B D)
@@ -239,7 +256,8 @@ module _ {T U B D : Type 0} (by : Renaming) (order : AreInOrder by.services) (ne
       → values_under hub_ports (value_at (own by made).samples number) (there hub)
       ≡ values_under hub_ports (value_at made.samples number) hub
   values_here made number hub live =
-      ap (λ found. values_under hub_ports found (there hub)) (making.under_as (renamed_made_sample by) made.samples number) ∙ ports.values_there by order next count (value_at made.samples number) hub live
+      ap (λ found. values_under hub_ports found (there hub)) (making.under_as (renamed_made_sample by) made.samples number) ∙
+      ports.values_there by order next count (value_at made.samples number) hub live
 
   read : (sample : ℕ) (made : Made) (old : Hub T U B D) (answer : Result (Reply T) AllocError) → Lives old
       → ReadStep hub_ports sample made old answer → ReadStep hub_ports sample (own by made) (there old) answer
@@ -268,18 +286,21 @@ module _ {T U B D : Type 0} (by : Renaming) (order : AreInOrder by.services) (ne
         outcome,
         subst (λ found. AtPort (GivesUp hub_ports with_hub_ports) found (there old) outcome (there new))
             (sym (making.publisher_as by made publisher))
-            (ports.at_port by order next count (GivesUp hub_ports with_hub_ports) (ports.gives_up by order next count) port old new outcome live at),
+            (ports.at_port by order next count (GivesUp hub_ports with_hub_ports) (ports.gives_up by order next count) port old new
+            outcome live at),
         is,
       )
 
   leave : (number : PortNumber) (made after : Made) (old new : Hub T U B D) (answer : Reply T) → Lives old
       → LeaveStep hub_ports with_hub_ports without_hub_publisher without_hub_subscriber number made old answer after new
-      → LeaveStep hub_ports with_hub_ports without_hub_publisher without_hub_subscriber number (own by made) (there old) answer (own by after) (there new)
+      → LeaveStep hub_ports with_hub_ports without_hub_publisher without_hub_subscriber number (own by made) (there old) answer
+      (own by after) (there new)
   leave (port_number.Publisher number) made after old new answer live (done, at, is_made, is) =
       let goes = PublisherGoes hub_ports with_hub_ports without_hub_publisher in (
         done,
         subst (λ found. AtPortIf goes found (there old) done (there new)) (sym (making.publisher_as by made number))
-            (ports.at_port_if by order next count goes (ports.publisher_goes by order next count) (port_under (value_at made.publishers number)) old new done live at),
+            (ports.at_port_if by order next count goes (ports.publisher_goes by order next count)
+            (port_under (value_at made.publishers number)) old new done live at),
         ap (own by) is_made ∙ sym (making.removed_if_as by done (without_publisher number) (making.publisher_gone by number) made),
         is,
       )
@@ -287,7 +308,8 @@ module _ {T U B D : Type 0} (by : Renaming) (order : AreInOrder by.services) (ne
       let goes = SubscriberGoes hub_ports with_hub_ports without_hub_subscriber in (
         done,
         subst (λ found. AtPortIf goes found (there old) done (there new)) (sym (making.under_as (renamed_port by) made.subscribers number))
-            (ports.at_port_if by order next count goes (ports.subscriber_goes by order next count) (value_at made.subscribers number) old new done live at),
+            (ports.at_port_if by order next count goes (ports.subscriber_goes by order next count) (value_at made.subscribers number)
+            old new done live at),
         ap (own by) is_made ∙ sym (making.removed_if_as by done (without_subscriber number) (making.subscriber_gone by number) made),
         is,
       )
@@ -299,17 +321,20 @@ module _ {T U B D : Type 0} (by : Renaming) (order : AreInOrder by.services) (ne
   module _ (fixed : BackpressureStrategy → Option BackpressureAction → DegradationAction → B)
       (degrades : B → DegradationCause → DegradationInfo → DegradationAction → Type 0)
       (decides : B → BackpressureInfo → BackpressureDecision → Type 0)
-      (fixed_reader : DegradationAction → D) (reader_degrades : D → DegradationCause → DegradationInfo → DegradationAction → Type 0) (blind : LooksAtNoService B D degrades decides reader_degrades) where
+      (fixed_reader : DegradationAction → D) (reader_degrades : D → DegradationCause → DegradationInfo → DegradationAction → Type 0)
+      (blind : LooksAtNoService B D degrades decides reader_degrades) where
     -- ---- calls that ask who decides
 
     send : (number : ℕ) (made after : Made) (old new : Hub T U B D) (answer : Reply T) → Lives old
         → SendStep hub_ports with_hub_ports (publisher_may_degrade degrades) (publisher_may_decide decides) number made old answer after new
-        → SendStep hub_ports with_hub_ports (publisher_may_degrade degrades) (publisher_may_decide decides) number (own by made) (there old) answer (own by after) (there new)
+        → SendStep hub_ports with_hub_ports (publisher_may_degrade degrades) (publisher_may_decide decides) number (own by made)
+        (there old) answer (own by after) (there new)
     send number made after old new answer live (sent, sends, is_made, is) = (
       sent,
       subst (λ found. SendsUnder hub_ports with_hub_ports (publisher_may_degrade degrades) (publisher_may_decide decides) found
           (there old) sent (there new)) (sym (making.under_as (renamed_made_loan by) made.loans number))
-          (ports.sends_under by order next count degrades blind.publishers decides blind.sends (value_at made.loans number) old new sent live sends),
+          (ports.sends_under by order next count degrades blind.publishers decides blind.sends (value_at made.loans number) old new sent
+          live sends),
       ap (own by) is_made ∙ sym (making.removed_if_as by (is_some sent) (without_loan number) (making.loan_gone by number) made),
       is,
     )
@@ -317,7 +342,8 @@ module _ {T U B D : Type 0} (by : Renaming) (order : AreInOrder by.services) (ne
     put : (publisher : ℕ) (values : List T) (made : Made) (old new : Hub T U B D) (answer : Reply T) → Lives old
         → PutStep hub_ports with_hub_ports (publisher_may_degrade degrades) (publisher_may_decide decides) publisher values made old
         answer new
-        → PutStep hub_ports with_hub_ports (publisher_may_degrade degrades) (publisher_may_decide decides) publisher values (own by made) (there old) answer (there new)
+        → PutStep hub_ports with_hub_ports (publisher_may_degrade degrades) (publisher_may_decide decides) publisher values
+        (own by made) (there old) answer (there new)
     put publisher values made old new answer live (sent, at, is) =
         let does = Puts hub_ports with_hub_ports (publisher_may_degrade degrades) (publisher_may_decide decides) values in
         let port = lender (length values) (value_at made.publishers publisher) in (
@@ -325,7 +351,9 @@ module _ {T U B D : Type 0} (by : Renaming) (order : AreInOrder by.services) (ne
           subst (λ found. AtPort does found (there old) sent (there new))
               (sym (ap (λ found. ready hub_ports found (there old)) (making.lender_as by made (length values) publisher) ∙
               ports.ready_port by order next count port old live))
-              (ports.at_port by order next count does (ports.puts by order next count degrades blind.publishers decides blind.sends values) (ready hub_ports port old) old new sent live at),
+              (ports.at_port by order next count does
+              (ports.puts by order next count degrades blind.publishers decides blind.sends values) (ready hub_ports port old) old
+              new sent live at),
           is,
         )
 
@@ -336,20 +364,23 @@ module _ {T U B D : Type 0} (by : Renaming) (order : AreInOrder by.services) (ne
         let does = Retries hub_ports with_hub_ports (publisher_may_decide decides) elapsed in (
           sent,
           subst (λ found. AtPort does found (there old) sent (there new)) (sym (making.publisher_as by made publisher))
-              (ports.at_port by order next count does (ports.retries by order next count decides blind.sends elapsed) (port_under (value_at made.publishers publisher)) old new sent live at),
+              (ports.at_port by order next count does (ports.retries by order next count decides blind.sends elapsed)
+              (port_under (value_at made.publishers publisher)) old new sent live at),
           is,
         )
 
     receive : (subscriber : ℕ) (made after : Made) (old new : Hub T U B D) (answer : Result (Reply T) AllocError) → Lives old
         → Lives new → ReceiveStep hub_ports with_hub_ports (subscriber_may_degrade reader_degrades) subscriber made old answer after new
-        → ReceiveStep hub_ports with_hub_ports (subscriber_may_degrade reader_degrades) subscriber (own by made) (there old) answer (own by after) (there new)
+        → ReceiveStep hub_ports with_hub_ports (subscriber_may_degrade reader_degrades) subscriber (own by made) (there old) answer
+        (own by after) (there new)
     receive subscriber made after old new answer live live_new (received, goes, is) =
         let port = value_at made.subscribers subscriber in
         let does = ReceivesNumbered hub_ports with_hub_ports (subscriber_may_degrade reader_degrades) in (
           received,
           subst (λ found. GrowsFirst (IsFull (own by made).samples) (does found) (own by made) (there old) received (own by after)
               (there new)) (sym (making.under_as (renamed_port by) made.subscribers subscriber))
-              (first (IsFull made.samples) (IsFull (own by made).samples) (making.full_as (renamed_made_sample by) made.samples) (does port) (does (option_map (renamed_port by) port))
+              (first (IsFull made.samples) (IsFull (own by made).samples) (making.full_as (renamed_made_sample by) made.samples)
+              (does port) (does (option_map (renamed_port by) port))
               (λ before later hub other reply lives (outcome, at, numbers). (
                 outcome,
                 ports.at_port by order next count (Receives hub_ports with_hub_ports (subscriber_may_degrade reader_degrades))
@@ -365,12 +396,14 @@ module _ {T U B D : Type 0} (by : Renaming) (order : AreInOrder by.services) (ne
     update : (number : PortNumber) (made : Made) (old new : Hub T U B D) (answer : Reply T) → Lives old
         → UpdateStep hub_ports with_hub_ports (publisher_may_degrade degrades) (subscriber_may_degrade reader_degrades) number made old
         answer new
-        → UpdateStep hub_ports with_hub_ports (publisher_may_degrade degrades) (subscriber_may_degrade reader_degrades) number (own by made) (there old) answer (there new)
+        → UpdateStep hub_ports with_hub_ports (publisher_may_degrade degrades) (subscriber_may_degrade reader_degrades) number
+        (own by made) (there old) answer (there new)
     update (port_number.Publisher number) made old new answer live (outcome, at, is) =
         let does = Follows hub_ports with_hub_ports (publisher_may_degrade degrades) in (
           outcome,
           subst (λ found. AtPort does found (there old) outcome (there new)) (sym (making.publisher_as by made number))
-              (ports.at_port by order next count does (ports.follows by order next count degrades blind.publishers) (port_under (value_at made.publishers number)) old new outcome live at),
+              (ports.at_port by order next count does (ports.follows by order next count degrades blind.publishers)
+              (port_under (value_at made.publishers number)) old new outcome live at),
           is,
         )
     update (port_number.Subscriber number) made old new answer live (outcome, at, is) =
@@ -378,7 +411,8 @@ module _ {T U B D : Type 0} (by : Renaming) (order : AreInOrder by.services) (ne
           outcome,
           subst (λ found. AtPort does found (there old) outcome (there new))
               (sym (making.under_as (renamed_port by) made.subscribers number))
-              (ports.at_port by order next count does (ports.follows_publishers by order next count reader_degrades blind.subscribers) (value_at made.subscribers number) old new outcome live at),
+              (ports.at_port by order next count does (ports.follows_publishers by order next count reader_degrades blind.subscribers)
+              (value_at made.subscribers number) old new outcome live at),
           is,
         )
 
@@ -390,7 +424,8 @@ module _ {T U B D : Type 0} (by : Renaming) (order : AreInOrder by.services) (ne
           outcome,
           subst (λ found. AtPort does found (there old) outcome (there new))
               (sym (making.under_as (renamed_port by) made.subscribers subscriber))
-              (ports.at_port by order next count does (ports.tells by order next count reader_degrades blind.subscribers) (value_at made.subscribers subscriber) old new outcome live at),
+              (ports.at_port by order next count does (ports.tells by order next count reader_degrades blind.subscribers)
+              (value_at made.subscribers subscriber) old new outcome live at),
           is,
         )
 
@@ -422,8 +457,10 @@ module _ {T U B D : Type 0} (by : Renaming) (order : AreInOrder by.services) (ne
                     (steps.PublisherComes overrides may config_there user_header) (steps.why_no_publisher config)
                     (steps.why_no_publisher config_there) (λ ports. refl) old.hub new.hub outcome live
                     (λ ports after number arrives.
-                    happens_as by may may (λ info action allowed. blind.publishers handlers FailedToEstablishConnection info (by.services info.service_id) action allowed)
-                    overrides AnyDecision AnyDecision (λ info decision any. any) (call.PublisherComes config user_header (Ok number)) ports after tt arrives) comes,
+                    happens_as by may may (λ info action allowed. blind.publishers handlers FailedToEstablishConnection info
+                    (by.services info.service_id) action allowed)
+                    overrides AnyDecision AnyDecision (λ info decision any. any) (call.PublisherComes config user_header (Ok number))
+                    ports after tt arrives) comes,
                 making.numbers_port by (with_publisher id true) (with_publisher (renamed_id by id) true)
                     (making.publisher_numbered by id true) old.made.publishers.next outcome roomier new.made came numbers,
               ),
@@ -456,8 +493,10 @@ module _ {T U B D : Type 0} (by : Renaming) (order : AreInOrder by.services) (ne
                     (steps.why_no_subscriber config_there) (λ ports. refl)
                     old.hub new.hub outcome live
                     (λ ports after number arrives.
-                    happens_as by may may (λ info action allowed. blind.subscribers handler FailedToEstablishConnection info (by.services info.service_id) action allowed)
-                    AnySlots AnyDecision AnyDecision (λ info decision any. any) (call.SubscriberComes config.owner config.buffer_size (Ok number)) ports after tt arrives) comes,
+                    happens_as by may may (λ info action allowed. blind.subscribers handler FailedToEstablishConnection info
+                    (by.services info.service_id) action allowed)
+                    AnySlots AnyDecision AnyDecision (λ info decision any. any)
+                    (call.SubscriberComes config.owner config.buffer_size (Ok number)) ports after tt arrives) comes,
                 making.numbers_port by (with_subscriber id) (with_subscriber (renamed_id by id)) (making.subscriber_numbered by id)
                     old.made.subscribers.next outcome roomier new.made came numbers,
               ),
@@ -477,7 +516,9 @@ module _ {T U B D : Type 0} (by : Renaming) (order : AreInOrder by.services) (ne
       lives_still : (asked : Command T) (old new : NumberedHub T U B D) (answer : Result (Reply T) AllocError) → IsOfPorts asked
           → Lives old.hub → each asked old answer new → Lives new.hub
       lives_still asked old new answer of live does =
-          step_keeps (λ one other. Lives one → Lives other) (λ one other same lives. subst Lives (sym same) lives) (λ one mid other goes on lives. on (goes lives)) lives_by payload user_header types is_default is_default_header fixed degrades decides fixed_reader reader_degrades asked old new answer
+          step_keeps (λ one other. Lives one → Lives other) (λ one other same lives. subst Lives (sym same) lives)
+          (λ one mid other goes on lives. on (goes lives)) lives_by payload user_header types is_default is_default_header fixed
+          degrades decides fixed_reader reader_degrades asked old new answer
           (λ services. absurd (apart asked of services)) does live
 
       pub step_as : (asked : Command T) (old new : NumberedHub T U B D) (answer : Result (Reply T) AllocError) → IsOfPorts asked
@@ -490,11 +531,14 @@ module _ {T U B D : Type 0} (by : Renaming) (order : AreInOrder by.services) (ne
       step_as (command.Close factory) old new answer never live live_new step = absurd never
       step_as (command.Publisher factory options) old new answer of live live_new step =
           replied _ _
-          (λ reply does. subst (λ opened. PublisherComes is_default_header fixed degrades opened options (whole old) reply (whole new)) (sym (making.factory_as by old.factories.made factory))
-          (publisher_comes is_default_header (publish_subscribe_in (value_at old.factories.made factory)) options old new reply live does)) answer step
+          (λ reply does. subst (λ opened. PublisherComes is_default_header fixed degrades opened options (whole old) reply (whole new))
+          (sym (making.factory_as by old.factories.made factory))
+          (publisher_comes is_default_header (publish_subscribe_in (value_at old.factories.made factory)) options old new reply live
+          does)) answer step
       step_as (command.Subscriber factory options) old new answer of live live_new step =
           replied _ _
-          (λ reply does. subst (λ opened. SubscriberComes fixed_reader reader_degrades opened options (whole old) reply (whole new)) (sym (making.factory_as by old.factories.made factory))
+          (λ reply does. subst (λ opened. SubscriberComes fixed_reader reader_degrades opened options (whole old) reply (whole new))
+          (sym (making.factory_as by old.factories.made factory))
           (subscriber_comes (publish_subscribe_in (value_at old.factories.made factory)) options old new reply live does)) answer step
       step_as (command.Loan publisher length) old new answer of live live_new step
           = (loan is_default publisher length old.made new.made old.hub new.hub answer live step.0, factories_as old new step.1)
@@ -520,7 +564,9 @@ module _ {T U B D : Type 0} (by : Renaming) (order : AreInOrder by.services) (ne
           = (receive subscriber old.made new.made old.hub new.hub answer live live_new step.0, factories_as old new step.1)
       step_as (command.Read sample) old new answer of live live_new step
           = (read sample old.made old.hub answer live step.0, ap whole step.1)
-      step_as (command.Release sample) old new answer of live live_new step = replied _ _ (λ reply does. (release sample old.made new.made old.hub new.hub reply live does.0, factories_as old new does.1)) answer step
+      step_as (command.Release sample) old new answer of live live_new step
+          = replied _ _ (λ reply does. (release sample old.made new.made old.hub new.hub reply live does.0, factories_as old new does.1))
+          answer step
       step_as (command.Update number) old new answer of live live_new step
           = replied _ _ (λ reply does. (update number old.made old.hub new.hub reply live does.0, ap whole does.1)) answer step
       step_as (command.Leave number) old new answer of live live_new step
@@ -536,23 +582,35 @@ module _ {T U B D : Type 0} (by : Renaming) (order : AreInOrder by.services) (ne
       pub run_as : (commands : List (Command T)) (old new : NumberedHub T U B D) (replies : List (Reply T)) → Lives old.hub
           → AllByRecursion IsOfPorts commands → Runs each commands old replies new → Runs each commands (whole old) replies (whole new)
       run_as [] old new replies live of (is, stays) = (is, ap whole stays)
-      run_as (asked ∷ commands) old new replies live (of, others) (reply, mid, rest, does, later, is) =
-          (reply, whole mid, rest, goes_as asked old mid (Ok reply) live of does, run_as commands mid new rest (lives_still asked old mid (Ok reply) of live does) others later, is)
+      run_as (asked ∷ commands) old new replies live (of, others) (reply, mid, rest, does, later, is) = (
+        reply,
+        whole mid,
+        rest,
+        goes_as asked old mid (Ok reply) live of does,
+        run_as commands mid new rest
+            (lives_still asked old mid (Ok reply) of live does) others later,
+        is,
+      )
 
 -- ---- the laws
 
 module _ {T U B D : Type 0} (payload user_header : Detail) (types : MessageTypeDetails) (is_default : T → Type 0)
     (is_default_header : U → Type 0)
-    (fixed : BackpressureStrategy → Option BackpressureAction → DegradationAction → B) (degrades : B → DegradationCause → DegradationInfo → DegradationAction → Type 0) (decides : B → BackpressureInfo → BackpressureDecision → Type 0)
-    (fixed_reader : DegradationAction → D) (reader_degrades : D → DegradationCause → DegradationInfo → DegradationAction → Type 0) (blind : LooksAtNoService B D degrades decides reader_degrades) where
+    (fixed : BackpressureStrategy → Option BackpressureAction → DegradationAction → B)
+    (degrades : B → DegradationCause → DegradationInfo → DegradationAction → Type 0)
+    (decides : B → BackpressureInfo → BackpressureDecision → Type 0)
+    (fixed_reader : DegradationAction → D) (reader_degrades : D → DegradationCause → DegradationInfo → DegradationAction → Type 0)
+    (blind : LooksAtNoService B D degrades decides reader_degrades) where
   abbrev one : Command T → NumberedHub T U B D → Result (Reply T) AllocError → NumberedHub T U B D → Type 0
   one asked old answer new = Step payload user_header types is_default is_default_header fixed degrades decides fixed_reader
       reader_degrades asked old answer new
 
   pub goes_by_any_number : GoesByAnyNumber one
   goes_by_any_number by next count asked old new answer order live of does =
-      goes_as by order next count fixed degrades decides fixed_reader reader_degrades blind payload user_header types is_default is_default_header asked old new answer live of does
+      goes_as by order next count fixed degrades decides fixed_reader reader_degrades blind payload user_header types is_default
+      is_default_header asked old new answer live of does
 
   pub run_goes_by_any_number : RunGoesByAnyNumber one
   run_goes_by_any_number by next count commands old new replies order live of runs =
-      run_as by order next count fixed degrades decides fixed_reader reader_degrades blind payload user_header types is_default is_default_header commands old new replies live of runs
+      run_as by order next count fixed degrades decides fixed_reader reader_degrades blind payload user_header types is_default
+      is_default_header commands old new replies live of runs

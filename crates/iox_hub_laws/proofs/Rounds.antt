@@ -1,12 +1,15 @@
 -- The rounds of a call under other numbers of lives.
-use Rattle.std.proofs.Common.{◌≡◌, ◌∙◌, ◌<◌, ◌⊎◌, ◌++◌, ℕ, zero, suc, List, [], ◌∷◌, Option, None, Some, option_map, Result, Ok, Err, refl, sym, ap, subst, inl, inr, map}
+use Rattle.std.proofs.Common.{◌≡◌, ◌∙◌, ◌<◌, ◌⊎◌, ◌++◌, ℕ, zero, suc, List, [], ◌∷◌, Option, None, Some, option_map, Result, Ok, Err}
+use Rattle.std.proofs.Common.{refl, sym, ap, subst, inl, inr, map}
 use Rattle.iox_negotiate.specs.Describe.DescribeBase.declared.hash.ServiceHash.{ServiceHash}
 use Rattle.iox_negotiate.specs.Describe.DescribeSettings.Agreement.{Agreement}
 use Rattle.iox_negotiate.specs.Factory.{RemovesSegment, RemovalGoes, Removes, LeaveGoes, Closes}
 use Rattle.iox_negotiate.specs.NegotiateBase.declared.errors.close.CloseError.{CloseError}
-use Rattle.iox_negotiate.specs.NegotiateBase.Access.{Access, Look, Lock, MakeSegment, Publish, Unlock, OpenSegment, Leave, RemoveDescription, RemoveSegment}
+use Rattle.iox_negotiate.specs.NegotiateBase.Access.{Access, Look, Lock, MakeSegment, Publish, Unlock, OpenSegment, Leave}
+use Rattle.iox_negotiate.specs.NegotiateBase.Access.{RemoveDescription, RemoveSegment}
 use Rattle.iox_negotiate.specs.NegotiateBase.Creating as creating
-use Rattle.iox_negotiate.specs.NegotiateBase.Failing.{created, created_or_again, opened_or_again, entered, lock_gives, making_failure, publishing_failure, refusal_seen}
+use Rattle.iox_negotiate.specs.NegotiateBase.Failing.{created, created_or_again, opened_or_again, entered, lock_gives, making_failure}
+use Rattle.iox_negotiate.specs.NegotiateBase.Failing.{publishing_failure, refusal_seen}
 use Rattle.iox_negotiate.specs.NegotiateBase.Opening as opening
 use Rattle.iox_negotiate.specs.NegotiateBase.Runs.{Led, Rounds}
 use Rattle.iox_negotiate.specs.NegotiateBase.Sight.{IsRead, IsSight}
@@ -28,7 +31,8 @@ use Rattle.iox_negotiate.specs.NegotiateBase.declared.failure.OpenOrCreateFailur
 use Rattle.iox_negotiate.specs.NegotiateBase.declared.request.Opened.{Opened}
 use Rattle.iox_negotiate.specs.NegotiateBase.declared.sight.Sight.{Sight}
 use Rattle.iox_negotiate.specs.NegotiateBase.declared.sight.Sight.TheVariants as sight
-use Rattle.iox_negotiate.specs.NegotiateBase.declared.sight.SightFailure.TheVariants.{HangsInCreation, InsufficientPermissions, ServiceInCorruptedState, OutOfMemory}
+use Rattle.iox_negotiate.specs.NegotiateBase.declared.sight.SightFailure.TheVariants.{HangsInCreation, InsufficientPermissions}
+use Rattle.iox_negotiate.specs.NegotiateBase.declared.sight.SightFailure.TheVariants.{ServiceInCorruptedState, OutOfMemory}
 use Rattle.iox_hub_laws.specs.NegotiateRenamedRenaming.{renamed_look, renamed_lock, renamed_access, renamed_opened, renamed_answer}
 
 module _ (lives : ℕ → ℕ) where
@@ -103,8 +107,12 @@ module _ (lives : ℕ → ℕ) where
 
   locks : (hash : ServiceHash) (node : ℕ) (agreed : Agreement) (made : List Access) (attempt : Attempt)
       → creating.Locks hash node agreed made attempt → creating.Locks hash node agreed (all made) (tried attempt)
-  locks hash node agreed (Lock under by answer ∷ rest) attempt (own, of_node, goes) =
-      (own, of_node, subst (λ gives. creating.LockGoes hash node agreed gives (all rest) (tried attempt)) (sym (gives_as answer)) (lock_goes hash node agreed (lock_gives answer) rest attempt goes))
+  locks hash node agreed (Lock under by answer ∷ rest) attempt (own, of_node, goes) = (
+    own,
+    of_node,
+    subst (λ gives. creating.LockGoes hash node agreed gives (all rest) (tried attempt)) (sym (gives_as answer))
+        (lock_goes hash node agreed (lock_gives answer) rest attempt goes),
+  )
   locks hash node agreed made attempt told = absurd told
 
   refusal_as : (shown : Sight) → refusal_seen (seen shown) ≡ refusal_seen shown
@@ -146,7 +154,8 @@ module _ (lives : ℕ → ℕ) where
 
   pub creates_if : (hash : ServiceHash) (node : ℕ) (agreed : Agreement) (refusal : Option CreateFailure) (made : List Access)
       (result : Result Opened CreateFailure)
-      → creating.CreatesIf hash node agreed refusal made result → creating.CreatesIf hash node agreed refusal (all made) (renamed_answer lives result)
+      → creating.CreatesIf hash node agreed refusal made result
+      → creating.CreatesIf hash node agreed refusal (all made) (renamed_answer lives result)
   creates_if hash node agreed (Some failure) made result (none, is) = (ap all none, ap (renamed_answer lives) is)
   creates_if hash node agreed None (Look under answer ∷ rest) result (shown, attempt, own, is, told, came) = (
     seen shown,
@@ -184,7 +193,8 @@ module _ (lives : ℕ → ℕ) where
     }
       where
         ends : ((rounds.count < 5) × round rounds.last (Some result)) ⊎ ((rounds.count ≡ 5) × (rounds.last ≡ []) × (result ≡ exhausted))
-            → ((rounds.count < 5) × other (all rounds.last) (Some (renames result))) ⊎ ((rounds.count ≡ 5) × (all rounds.last ≡ []) × (renames result ≡ exhausted))
+            → ((rounds.count < 5) × other (all rounds.last) (Some (renames result)))
+            ⊎ ((rounds.count ≡ 5) × (all rounds.last ≡ []) × (renames result ≡ exhausted))
         ends (inl (few, ended)) = inl (few, goes rounds.last (Some result) ended)
         ends (inr (five, none, is)) = inr (five, ap all none, ap renames is ∙ same)
 
@@ -211,7 +221,8 @@ module _ (lives : ℕ → ℕ) where
 
     judged : (number : ℕ) (agreed : Agreement) (met : Result (Unit {0}) V) (made : List Access)
         (result : Option (Result Opened (OpenFailure V)))
-        → opening.OpensJudged hash node verdict number agreed met made result → opening.OpensJudged hash node verdict (lives number) agreed met (all made) (came result)
+        → opening.OpensJudged hash node verdict number agreed met made result
+        → opening.OpensJudged hash node verdict (lives number) agreed met (all made) (came result)
     judged number agreed (Ok met) made result told = registers number agreed made result told
     judged number agreed (Err unmet) made result (none, is) = (ap all none, ap came is)
 
@@ -248,7 +259,8 @@ module _ (lives : ℕ → ℕ) where
       opened_as (Some (Err failure)) = refl
 
       either_creates : (refused : Option CreateFailure) (made : List Access) (result : Option (Result Opened (OpenOrCreateFailure V)))
-          → opening.EitherCreates hash node verdict agreed refusal refused made result → opening.EitherCreates hash node verdict agreed refusal refused (all made) (came_either result)
+          → opening.EitherCreates hash node verdict agreed refusal refused made result
+          → opening.EitherCreates hash node verdict agreed refusal refused (all made) (came_either result)
       either_creates (Some failure) made result (none, is) = (ap all none, ap came_either is)
       either_creates None made result (attempt, told, is)
           = (tried attempt, locks hash node agreed made attempt told, ap came_either is ∙ sym (again_as attempt))

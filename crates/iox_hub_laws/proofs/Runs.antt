@@ -31,13 +31,17 @@ module _ {T U B D : Type 0} (mine : ℕ → Bool) where
 
 module _ {T U B D : Type 0} (payload user_header : Detail) (types : MessageTypeDetails) (is_default : T → Type 0)
     (is_default_header : U → Type 0)
-    (fixed : BackpressureStrategy → Option BackpressureAction → DegradationAction → B) (degrades : B → DegradationCause → DegradationInfo → DegradationAction → Type 0) (decides : B → BackpressureInfo → BackpressureDecision → Type 0)
+    (fixed : BackpressureStrategy → Option BackpressureAction → DegradationAction → B)
+    (degrades : B → DegradationCause → DegradationInfo → DegradationAction → Type 0)
+    (decides : B → BackpressureInfo → BackpressureDecision → Type 0)
     (fixed_reader : DegradationAction → D) (reader_degrades : D → DegradationCause → DegradationInfo → DegradationAction → Type 0) where
   rise_after : (asked : Command T) (old new : NumberedHub T U B D) (reply : Reply T)
       → Step {T = T} {U = U} payload user_header types is_default is_default_header fixed degrades decides fixed_reader reader_degrades
       asked old (Ok reply) new → NumbersRise old → NumbersRise new
   rise_after asked old new reply step rises =
-      let (f, p, s, l, m) = numbers_go_on old new (step_changes payload user_header types is_default is_default_header fixed degrades decides fixed_reader reader_degrades asked old new (Ok reply) step) in
+      let (f, p, s, l, m) = numbers_go_on old new
+      (step_changes payload user_header types is_default is_default_header fixed degrades decides fixed_reader reader_degrades asked
+      old new (Ok reply) step) in
       let (rf, rp, rs, rl, rm) = rises in
       ((f rf).0, (p rp).0, (s rs).0, (l rl).0, (m rm).0)
 
@@ -48,6 +52,8 @@ module _ {T U B D : Type 0} (payload user_header : Detail) (types : MessageTypeD
   runs_answer_alike hash mine (asked ∷ commands) one new other replies rises other_rises agree
       (reply, mid, rest, (step, kind, of), runs, is) =
       let (between, there, agree_between) =
-      ports_answer_alike payload user_header types is_default is_default_header fixed degrades decides fixed_reader reader_degrades hash mine asked one mid other reply kind rises other_rises agree (asked_concerns mine asked one other of) step in
-      let (after, later, agree_after) = runs_answer_alike hash mine commands mid new between rest (rise_after asked one mid reply step rises) (rise_after asked other between reply there other_rises) agree_between runs in
+      ports_answer_alike payload user_header types is_default is_default_header fixed degrades decides fixed_reader reader_degrades hash
+      mine asked one mid other reply kind rises other_rises agree (asked_concerns mine asked one other of) step in
+      let (after, later, agree_after) = runs_answer_alike hash mine commands mid new between rest
+      (rise_after asked one mid reply step rises) (rise_after asked other between reply there other_rises) agree_between runs in
       (after, (reply, between, rest, there, later, is), agree_after)

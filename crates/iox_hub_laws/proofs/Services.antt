@@ -1,5 +1,6 @@
 -- What a command on services leaves of the services that it doesn't mean.
-use Rattle.std.proofs.Common.{◌≡◌, ◌≢◌, ◌∙◌, ℕ, Bool, true, false, cond, List, [], ◌∷◌, Option, None, Some, option_map, Result, Ok, Err, refl, sym, ap, subst, inl, inr, if◌then◌else◌}
+use Rattle.std.proofs.Common.{◌≡◌, ◌≢◌, ◌∙◌, ℕ, Bool, true, false, cond, List, [], ◌∷◌, Option, None, Some, option_map, Result, Ok, Err}
+use Rattle.std.proofs.Common.{refl, sym, ap, subst, inl, inr, if◌then◌else◌}
 use Rattle.std.specs.BTreeMap.{is_at}
 use Rattle.std.specs.Map.{remove_entry, lookup}
 use Rattle.std.specs.Ordering.{nat_cmp}
@@ -74,7 +75,8 @@ others_left : {X : Type 0} (number other : ℕ) (entries : List (ℕ × X)) → 
     → lookup (is_at (nat_cmp other)) (remove_entry (is_at (nat_cmp number)) entries) ≡ lookup (is_at (nat_cmp other)) entries
 others_left number other [] apart = refl
 others_left number other (entry ∷ entries) apart =
-    others_left_here number other entry.0 entry.1 entries (remove_entry (is_at (nat_cmp number)) entries) (is_at (nat_cmp number) entry.0) refl apart (others_left number other entries apart)
+    others_left_here number other entry.0 entry.1 entries (remove_entry (is_at (nat_cmp number)) entries)
+    (is_at (nat_cmp number) entry.0) refl apart (others_left number other entries apart)
 
 -- a factory gets a number
 numbers_form : {E : Type 0} (pattern : MessagingPattern) (refusal : E → Refusal) (opened : Result Made E) (table after : FactoryTable)
@@ -86,18 +88,22 @@ numbers_form pattern refusal (Err error) table after answer numbers parts is = a
 
 numbers_left : {E : Type 0} (number : ℕ) (pattern : MessagingPattern) (refusal : E → Refusal) (opened : Result Made E)
     (table after : FactoryTable) (answer : Result ℕ Refusal)
-    → ((parts : Made) → opened ≡ Ok parts → parts.0.service.number ≢ number) → Numbers pattern refusal opened table answer after → AllLeft service_of number table after
+    → ((parts : Made) → opened ≡ Ok parts → parts.0.service.number ≢ number) → Numbers pattern refusal opened table answer after
+    → AllLeft service_of number table after
 numbers_left number pattern refusal (Ok parts) table after answer apart (factory, is_pattern, is_parts, is_new, is_answer, form) =
-    rw is_new (inserted_left service_of number table factory (λ same. apart parts refl (ap (λ p. p.0.service.number) (sym is_parts) ∙ same)))
+    rw is_new (inserted_left service_of number table factory
+    (λ same. apart parts refl (ap (λ p. p.0.service.number) (sym is_parts) ∙ same)))
 numbers_left number pattern refusal (Err error) table after answer apart (is_answer, is_new)
     = same_left service_of number table after (ap (λ t. t.entries) is_new)
 
 -- whoever closes under another hash
 closed_leaves : (hash : ServiceHash) (member : Membership) (old new : Contents) (closed : Result (Unit {0}) CloseError)
     → member.service.description.service_hash ≢ hash
-    → Does Sight old (λ accesses. ClosesBy member.service.description.service_hash member.service.number member.node accesses closed) new → IsUntouched hash old new
+    → Does Sight old (λ accesses. ClosesBy member.service.description.service_hash member.service.number member.node accesses closed)
+    new → IsUntouched hash old new
 closed_leaves hash member old new closed apart does =
-    went_leaves member.service.description.service_hash hash apart does.made old new (closes_under member.service.description.service_hash member.service.number closed member.node does.made does.told) does.went
+    went_leaves member.service.description.service_hash hash apart does.made old new
+    (closes_under member.service.description.service_hash member.service.number closed member.node does.made does.told) does.went
 
 -- the number of the service that a node came into is another one
 number_apart : {E : Type 0} (hash : ServiceHash) (number : ℕ) (under : ServiceHash) → under ≢ hash → (service : Agreement)
@@ -105,11 +111,12 @@ number_apart : {E : Type 0} (hash : ServiceHash) (number : ℕ) (under : Service
     → Comes under old new answer → (member : Membership) → answer ≡ Ok member → HasForm member.service.description
     → member.service.number ≢ number
 number_apart hash number under apart service same_hash old new answer was comes member is form same =
-    apart (sym (comes.is_of member is) ∙ ap (λ a. a.service_hash) (sym (comes.as_before member is form service (subst (λ n. WasAgreed n service old) (sym same) was))) ∙ same_hash)
+    apart (sym (comes.is_of member is) ∙ ap (λ a. a.service_hash)
+    (sym (comes.as_before member is form service (subst (λ n. WasAgreed n service old) (sym same) was))) ∙ same_hash)
 
 prepared_same : (name : List ℕ) (types : MessageTypeDetails) (steps : List StepBefore) (old new : FactoryTable)
     (prepared : Result (List (List ForeignStep)) AllocError) → Prepares name types steps old prepared new → new.entries ≡ old.entries
-prepared_same name types steps old new (Ok lists) (same, is, room) = same.0
+prepared_same name types steps old new (Ok lists) (same, is, room, forms) = same.0
 prepared_same name types steps old new (Err lacking) (same, full) = same.0
 
 module _ {T U B D : Type 0} (hash : ServiceHash) (number : ℕ) where
@@ -155,7 +162,8 @@ module _ {T U B D : Type 0} (hash : ServiceHash) (number : ℕ) where
     settled_left : (answer : Result Membership E) (opened : Result Made E) (old new : Hub T U B D) (mid : Contents)
         → WasAgreed number service old.table → Comes under old.table mid answer
         → ((parts : Made) → opened ≡ Ok parts → HasForm parts.0.service.description)
-        → Settles payload user_header lacking answer (record old { table = mid }) opened new → HubLeft hash number old new × ((parts : Made) → opened ≡ Ok parts → parts.0.service.number ≢ number)
+        → Settles payload user_header lacking answer (record old { table = mid }) opened new → HubLeft hash number old new
+        × ((parts : Made) → opened ≡ Ok parts → parts.0.service.number ≢ number)
     settled_left (Err error) opened old new mid was comes forms (is, same) = (
       record {
         named = subst (λ table. IsUntouched hash old.table table) (sym (ap (λ hub. hub.table) same)) (comes.leaves hash apart);
@@ -166,15 +174,29 @@ module _ {T U B D : Type 0} (hash : ServiceHash) (number : ℕ) where
     )
     settled_left (Ok member) opened old new mid was comes forms (Ok made, enters, is) =
         let is_member : made.0 ≡ member = ap (λ m. m.0) enters.0 in
-        let beside : member.service.number ≢ number = number_apart hash number under apart service same_hash old.table mid (Ok member) was comes member refl (subst (λ m. HasForm m.service.description) is_member (forms made is)) in
-        let left = entered_left member (Ok made) (record old { table = mid }) new (λ same. apart (sym (comes.is_of member refl) ∙ same)) (λ other well. beside) enters in (
-          record { named = untouched_on hash old.table mid new.table (comes.leaves hash apart) left.named; presence = left.presence; count = left.count },
+        let beside : member.service.number ≢ number
+        = number_apart hash number under apart service same_hash old.table mid (Ok member) was comes member refl
+        (subst (λ m. HasForm m.service.description) is_member (forms made is)) in
+        let left = entered_left member (Ok made) (record old { table = mid }) new (λ same. apart (sym (comes.is_of member refl) ∙ same))
+        (λ other well. beside) enters in (
+          record {
+            named = untouched_on hash old.table mid new.table (comes.leaves hash apart) left.named;
+            presence = left.presence;
+            count
+                = left.count;
+          },
           λ parts well same. beside (ap (λ m. m.service.number) (sym is_member) ∙ ap (λ p. p.0.service.number)
               (same-good {E = E} made parts (sym is ∙ well)) ∙ same),
         )
     settled_left (Ok member) opened old new mid was comes forms (Err was_new, enters, is) =
-        let left = entered_left member (Err was_new) (record old { table = mid }) new (λ same. apart (sym (comes.is_of member refl) ∙ same)) (λ made well. absurd (not-bad made was_new (sym well))) enters in (
-          record { named = untouched_on hash old.table mid new.table (comes.leaves hash apart) left.named; presence = left.presence; count = left.count },
+        let left = entered_left member (Err was_new) (record old { table = mid }) new
+        (λ same. apart (sym (comes.is_of member refl) ∙ same)) (λ made well. absurd (not-bad made was_new (sym well))) enters in (
+          record {
+            named = untouched_on hash old.table mid new.table (comes.leaves hash apart) left.named;
+            presence = left.presence;
+            count
+                = left.count;
+          },
           λ parts well. absurd (not-bad parts (lacking was_new) (sym well ∙ is)),
         )
 
@@ -203,11 +225,14 @@ module _ {T U B D : Type 0} (hash : ServiceHash) (number : ℕ) where
         (lists : List (List ForeignStep)) (pattern : MessagingPattern) (refusal : E → Refusal) (table after : FactoryTable)
         (old new : Hub T U B D)
         (answer : Result ℕ Refusal) (under : ServiceHash) → under ≢ hash → IsService hash number old.table
-        → ((came : Result Membership E) (mid : Steps) → negotiates (record { table = old.table; lists = lists }) came mid → Comes under old.table mid.table came)
-        → GetsNumber pattern refusal (λ before opened later. OpensInHub payload user_header lacking negotiates lists before opened later) table old answer after new → BothLeft table after old new
+        → ((came : Result Membership E) (mid : Steps) → negotiates (record { table = old.table; lists = lists }) came mid
+        → Comes under old.table mid.table came)
+        → GetsNumber pattern refusal (λ before opened later. OpensInHub payload user_header lacking negotiates lists before opened
+        later) table old answer after new → BothLeft table after old new
     gets_left lacking negotiates lists pattern refusal table after old new answer under apart (service, was, same_hash) comes
         (opened, opens, numbers) =
-        let (left, beside) = settled_left payload user_header lacking under apart service same_hash opens.answer opened old new opens.mid.table was (comes opens.answer opens.mid opens.negotiated)
+        let (left, beside) = settled_left payload user_header lacking under apart service same_hash opens.answer opened old new
+        opens.mid.table was (comes opens.answer opens.mid opens.negotiated)
         (numbers_form pattern refusal opened table after answer numbers) opens.settled in (
           left,
           numbers_left number pattern refusal opened table after answer beside numbers,
@@ -225,11 +250,14 @@ module _ {T U B D : Type 0} (hash : ServiceHash) (number : ℕ) where
         → IsReached old.table → IsService hash number old.table
         → CreatesAs named payload user_header types node name attributes lists table old answer after new → BothLeft table after old new
     create_as (options.PublishSubscribe named) node name attributes lists table after old new answer apart reached service gets =
-        gets_left _ _ lists _ _ table after old new answer _ apart service (λ came mid negotiates. create_comes _ node lists old.table mid reached _ _ _ came negotiates) gets
+        gets_left _ _ lists _ _ table after old new answer _ apart service
+        (λ came mid negotiates. create_comes _ node lists old.table mid reached _ _ _ came negotiates) gets
     create_as (options.Event named) node name attributes lists table after old new answer apart reached service gets =
-        gets_left _ _ lists _ _ table after old new answer _ apart service (λ came mid negotiates. create_comes _ node lists old.table mid reached _ _ _ came negotiates) gets
+        gets_left _ _ lists _ _ table after old new answer _ apart service
+        (λ came mid negotiates. create_comes _ node lists old.table mid reached _ _ _ came negotiates) gets
     create_as (options.RequestResponse named) node name attributes lists table after old new answer apart reached service gets =
-        gets_left _ _ lists _ _ table after old new answer _ apart service (λ came mid negotiates. create_comes _ node lists old.table mid reached _ _ _ came negotiates) gets
+        gets_left _ _ lists _ _ table after old new answer _ apart service
+        (λ came mid negotiates. create_comes _ node lists old.table mid reached _ _ _ came negotiates) gets
 
     create_prepared : (prepared : Result (List (List ForeignStep)) AllocError) (asked : ServiceAsked) (attributes : List Attribute)
         (table after : FactoryTable) (old new : Hub T U B D) (answer : Result ℕ Refusal) → hash_of asked.name asked.options ≢ hash
@@ -246,20 +274,26 @@ module _ {T U B D : Type 0} (hash : ServiceHash) (number : ℕ) where
         → CreatesNumbered is_node payload user_header types asked attributes steps table old answer after new → BothLeft table after old new
     create_left false asked attributes steps table after old new answer apart reached service does
         = same_both table after old new (ap (λ t. t.entries) does.1) does.2
+    create_left true asked attributes steps table after old new answer apart reached service (Some failure, unfit, (is, unchanged, still))
+        = same_both table after old new (ap (λ t. t.entries) unchanged) still
     create_left true asked attributes steps table after old new answer apart reached service
-        (prepared, roomier, reply, prepares, does, is) =
-        both_after table roomier after old new (prepared_same asked.name types steps table roomier prepared prepares) (create_prepared prepared asked attributes roomier after old new reply apart reached service does)
+        (None, fit, (prepared, roomier, reply, prepares, does, is)) =
+        both_after table roomier after old new (prepared_same asked.name types steps table roomier prepared prepares)
+        (create_prepared prepared asked attributes roomier after old new reply apart reached service does)
 
     open_as : (named : ServiceOptions) (node : ℕ) (name : List ℕ) (attributes : Required) (lists : List (List ForeignStep))
         (table after : FactoryTable) (old new : Hub T U B D) (answer : Result ℕ Refusal) → hash_of name named ≢ hash
         → IsReached old.table → IsService hash number old.table
         → OpensAs named payload user_header types node name attributes lists table old answer after new → BothLeft table after old new
     open_as (options.PublishSubscribe named) node name attributes lists table after old new answer apart reached service gets =
-        gets_left _ _ lists _ _ table after old new answer _ apart service (λ came mid negotiates. open_comes _ node lists old.table mid reached _ _ _ came negotiates) gets
+        gets_left _ _ lists _ _ table after old new answer _ apart service
+        (λ came mid negotiates. open_comes _ node lists old.table mid reached _ _ _ came negotiates) gets
     open_as (options.Event named) node name attributes lists table after old new answer apart reached service gets =
-        gets_left _ _ lists _ _ table after old new answer _ apart service (λ came mid negotiates. open_comes _ node lists old.table mid reached _ _ _ came negotiates) gets
+        gets_left _ _ lists _ _ table after old new answer _ apart service
+        (λ came mid negotiates. open_comes _ node lists old.table mid reached _ _ _ came negotiates) gets
     open_as (options.RequestResponse named) node name attributes lists table after old new answer apart reached service gets =
-        gets_left _ _ lists _ _ table after old new answer _ apart service (λ came mid negotiates. open_comes _ node lists old.table mid reached _ _ _ came negotiates) gets
+        gets_left _ _ lists _ _ table after old new answer _ apart service
+        (λ came mid negotiates. open_comes _ node lists old.table mid reached _ _ _ came negotiates) gets
 
     open_prepared : (prepared : Result (List (List ForeignStep)) AllocError) (asked : ServiceAsked) (attributes : Required)
         (table after : FactoryTable) (old new : Hub T U B D) (answer : Result ℕ Refusal) → hash_of asked.name asked.options ≢ hash
@@ -277,18 +311,22 @@ module _ {T U B D : Type 0} (hash : ServiceHash) (number : ℕ) where
     open_left false asked attributes steps table after old new answer apart reached service does
         = same_both table after old new (ap (λ t. t.entries) does.1) does.2
     open_left true asked attributes steps table after old new answer apart reached service (prepared, roomier, reply, prepares, does, is) =
-        both_after table roomier after old new (prepared_same asked.name types steps table roomier prepared prepares) (open_prepared prepared asked attributes roomier after old new reply apart reached service does)
+        both_after table roomier after old new (prepared_same asked.name types steps table roomier prepared prepares)
+        (open_prepared prepared asked attributes roomier after old new reply apart reached service does)
 
     either_as : (named : ServiceOptions) (node : ℕ) (name : List ℕ) (attributes : Required) (lists : List (List ForeignStep))
         (table after : FactoryTable) (old new : Hub T U B D) (answer : Result ℕ Refusal) → hash_of name named ≢ hash
         → IsReached old.table → IsService hash number old.table
         → EitherAs named payload user_header types node name attributes lists table old answer after new → BothLeft table after old new
     either_as (options.PublishSubscribe named) node name attributes lists table after old new answer apart reached service gets =
-        gets_left _ _ lists _ _ table after old new answer _ apart service (λ came mid negotiates. either_comes _ node lists old.table mid reached _ _ _ _ came negotiates) gets
+        gets_left _ _ lists _ _ table after old new answer _ apart service
+        (λ came mid negotiates. either_comes _ node lists old.table mid reached _ _ _ _ came negotiates) gets
     either_as (options.Event named) node name attributes lists table after old new answer apart reached service gets =
-        gets_left _ _ lists _ _ table after old new answer _ apart service (λ came mid negotiates. either_comes _ node lists old.table mid reached _ _ _ _ came negotiates) gets
+        gets_left _ _ lists _ _ table after old new answer _ apart service
+        (λ came mid negotiates. either_comes _ node lists old.table mid reached _ _ _ _ came negotiates) gets
     either_as (options.RequestResponse named) node name attributes lists table after old new answer apart reached service gets =
-        gets_left _ _ lists _ _ table after old new answer _ apart service (λ came mid negotiates. either_comes _ node lists old.table mid reached _ _ _ _ came negotiates) gets
+        gets_left _ _ lists _ _ table after old new answer _ apart service
+        (λ came mid negotiates. either_comes _ node lists old.table mid reached _ _ _ _ came negotiates) gets
 
     either_prepared : (prepared : Result (List (List ForeignStep)) AllocError) (asked : ServiceAsked) (attributes : Required)
         (table after : FactoryTable) (old new : Hub T U B D) (answer : Result ℕ Refusal) → hash_of asked.name asked.options ≢ hash
@@ -307,7 +345,8 @@ module _ {T U B D : Type 0} (hash : ServiceHash) (number : ℕ) where
         = same_both table after old new (ap (λ t. t.entries) does.1) does.2
     either_left true asked attributes steps table after old new answer apart reached service
         (prepared, roomier, reply, prepares, does, is) =
-        both_after table roomier after old new (prepared_same asked.name types steps table roomier prepared prepares) (either_prepared prepared asked attributes roomier after old new reply apart reached service does)
+        both_after table roomier after old new (prepared_same asked.name types steps table roomier prepared prepares)
+        (either_prepared prepared asked attributes roomier after old new reply apart reached service does)
 
   -- one factory of another service less
   less_presence : (other : ℕ) → other ≢ number → (last : Bool) (hub fewer gone : Hub T U B D)
@@ -339,21 +378,28 @@ module _ {T U B D : Type 0} (hash : ServiceHash) (number : ℕ) where
 
   close_unless : (used : Bool) (one : ℕ) (member : Membership) (table after : FactoryTable) (old new : Hub T U B D)
       (answer : Option (Result (Unit {0}) CloseError)) → member.service.description.service_hash ≢ hash → member.service.number ≢ number
-      → Rises 1 table.entries table.next → IsApart service_of number (value_at table one) → ClosesUnless used one member table old answer after new → BothLeft table after old new
+      → Rises 1 table.entries table.next → IsApart service_of number (value_at table one)
+      → ClosesUnless used one member table old answer after new → BothLeft table after old new
   close_unless true one member table after old new answer elsewhere beside rises apart closes
       = same_both table after old new (ap (λ t. t.entries) closes.1) closes.2
   close_unless false one member table after old new answer elsewhere beside rises apart (closed, (does, is), is_answer, is_after) =
       let left = less_left member.service.number beside (record old { table = new.table }) in
       let after_less : HubLeft hash number (record old { table = new.table }) new =
       subst (λ hub. HubLeft hash number (record old { table = new.table }) hub) (sym is) left in (
-        record { named = untouched_on hash old.table new.table new.table (closed_leaves hash member old.table new.table closed elsewhere does) after_less.named; presence = after_less.presence; count = after_less.count },
+        record {
+          named = untouched_on hash old.table new.table new.table
+              (closed_leaves hash member old.table new.table closed elsewhere does) after_less.named;
+          presence = after_less.presence;
+          count = after_less.count;
+        },
         rw is_after (removed_left service_of number table one rises apart),
         went-past does.made old.table new.table does.went,
       )
 
   close_if : (is_of : Bool) (one : ℕ) (made : MadeFactory) (table after : FactoryTable) (old new : Hub T U B D)
       (answer : Option (Result (Unit {0}) CloseError)) → (carried_by made).service_hash ≢ hash → service_of made ≢ number
-      → Rises 1 table.entries table.next → IsApart service_of number (value_at table one) → ClosesIfOf is_of one made table old answer after new → BothLeft table after old new
+      → Rises 1 table.entries table.next → IsApart service_of number (value_at table one)
+      → ClosesIfOf is_of one made table old answer after new → BothLeft table after old new
   close_if false one made table after old new answer elsewhere beside rises apart closes
       = same_both table after old new (ap (λ t. t.entries) closes.1) closes.2
   close_if true one made table after old new answer elsewhere beside rises apart closes
@@ -361,7 +407,8 @@ module _ {T U B D : Type 0} (hash : ServiceHash) (number : ℕ) where
 
   close_found : (one : ℕ) (found : Option MadeFactory) (table after : FactoryTable) (old new : Hub T U B D)
       (answer : Option (Result (Unit {0}) CloseError))
-      → option_map (λ made. (carried_by made).service_hash) found ≢ Some hash → IsApart service_of number found → Rises 1 table.entries table.next → IsApart service_of number (value_at table one)
+      → option_map (λ made. (carried_by made).service_hash) found ≢ Some hash → IsApart service_of number found
+      → Rises 1 table.entries table.next → IsApart service_of number (value_at table one)
       → ClosesNumbered one found table old answer after new → BothLeft table after old new
   close_found one None table after old new answer elsewhere beside rises apart closes
       = same_both table after old new (ap (λ t. t.entries) closes.1) closes.2
@@ -370,16 +417,21 @@ module _ {T U B D : Type 0} (hash : ServiceHash) (number : ℕ) where
 
   -- a factory of another service is closed
   pub close_left : (one : ℕ) (table after : FactoryTable) (old new : Hub T U B D) (answer : Option (Result (Unit {0}) CloseError))
-      → option_map (λ made. (carried_by made).service_hash) (value_at table one) ≢ Some hash → option_map service_of (value_at table one) ≢ Some number → Rises 1 table.entries table.next
+      → option_map (λ made. (carried_by made).service_hash) (value_at table one) ≢ Some hash
+      → option_map service_of (value_at table one) ≢ Some number → Rises 1 table.entries table.next
       → ClosesNumbered one (value_at table one) table old answer after new → BothLeft table after old new
   close_left one table after old new answer elsewhere beside rises closes =
-      let apart = not_asked service_of number (value_at table one) beside in close_found one (value_at table one) table after old new answer elsewhere apart rises apart closes
+      let apart = not_asked service_of number (value_at table one) beside in close_found one (value_at table one) table after old new
+      answer elsewhere apart rises apart closes
 
   -- nodes of others act under another hash
   pub foreign_left : (pattern : MessagingPattern) (name : List ℕ) (types : MessageTypeDetails) (steps : List Named)
       (old new : Hub T U B D) (answer : Result (Unit {0}) HubError) → service_hash_of pattern name ≢ hash
       → ActsNamed pattern name types steps old answer new → HubLeft hash number old new × Past old.table new.table
-  foreign_left pattern name types steps old new answer apart (inl ((happened, acts, told), is)) =
-      (table_left old new (acts_leave (service_hash_of pattern name) hash apart _ old.table new.table happened acts) is, acts-ran _ _ old.table new.table happened acts)
+  foreign_left pattern name types steps old new answer apart (inl (((happened, acts, told), is), forms)) = (
+    table_left old new (acts_leave (service_hash_of pattern name) hash apart _ old.table new.table happened acts) is,
+    acts-ran _ _
+        old.table new.table happened acts,
+  )
   foreign_left pattern name types steps old new answer apart (inr (some, is_answer, is))
       = (same_hub old new is, no-past old.table new.table (ap (λ hub. hub.table) is))

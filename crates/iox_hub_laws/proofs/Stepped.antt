@@ -3,7 +3,8 @@ use Rattle.std.proofs.Common.{◌≡◌, ◌∙◌, List, [], ◌∷◌, Result,
 use Rattle.std.specs.declared.alloc.AllocError.{AllocError}
 use Rattle.iox_hub_laws.specs.Negotiate.Describe.DescribeBase.declared.hash.ServiceHash.{ServiceHash}
 use Rattle.iox_hub_laws.specs.Negotiate.Histories.{Accesses}
-use Rattle.iox_hub_laws.specs.Negotiate.NegotiateBase.Access.{Access, Look, Lock, MakeSegment, Publish, Unlock, OpenSegment, Leave, RemoveDescription, RemoveSegment}
+use Rattle.iox_hub_laws.specs.Negotiate.NegotiateBase.Access.{Access, Look, Lock, MakeSegment, Publish, Unlock, OpenSegment, Leave}
+use Rattle.iox_hub_laws.specs.Negotiate.NegotiateBase.Access.{RemoveDescription, RemoveSegment}
 use Rattle.iox_hub_laws.specs.Negotiate.NegotiateBase.Runs.{Went}
 use Rattle.iox_hub_laws.specs.Negotiate.NegotiateTable.Contents.{Contents}
 use Rattle.iox_hub_laws.specs.Negotiate.NegotiateTable.Sights.{Sight}
@@ -18,11 +19,13 @@ use Rattle.iox_hub_laws.proofs.LocalityNames.{TablesAgree, still, sight_alike, a
 all-acts : (hash : ServiceHash) (steps : Steps) (mid : Contents) (happened : Result (Unit {0}) AllocError) → IsTable steps.table
     → ActsAll hash (next_list steps.lists) steps.table happened mid → IsTable mid
 all-acts hash steps mid happened table does =
-    acts-keep IsTable (λ under step result old new is happens. acts old new is under step result happens) hash (next_list steps.lists) steps.table mid happened table does
+    acts-keep IsTable (λ under step result old new is happens. acts old new is under step result happens) hash (next_list steps.lists)
+    steps.table mid happened table does
 
 pub stepped-table : (access : Access) (old new : Steps) → IsTable old.table → SteppedSight old access new → IsTable new.table
 stepped-table access old new table does =
-    stepped-keeps IsTable (λ under step result before after is happens. acts before after is under step result happens) (λ kind. Unit {0}) (λ kind before after quiet is sight. sees before after is kind sight) access old new tt table does
+    stepped-keeps IsTable (λ under step result before after is happens. acts before after is under step result happens)
+    (λ kind. Unit {0}) (λ kind before after quiet is sight. sees before after is kind sight) access old new tt table does
 
 -- Two tables with lists of steps: they have the same under the hash, and the same lists are left.
 pub record StepsAgree (hash : ServiceHash) (one other : Steps) : Type 0 where
@@ -37,7 +40,8 @@ module _ (hash : ServiceHash) (access : Access) (own : hash_of (Accesses access)
   sees_alike : (one new other : Contents) → TablesAgree hash one other → IsTable one → IsTable other → Sight one access new
       → (after : Contents) × Sight other access after × TablesAgree hash new after
   sees_alike one new other agree first second sight =
-      let (after, there, later) = sight_alike access one new other (subst (λ h. TablesAgree h one other) (sym own) agree) first second sight in
+      let (after, there, later) = sight_alike access one new other (subst (λ h. TablesAgree h one other) (sym own) agree) first second
+      sight in
       (after, there, subst (λ h. TablesAgree h new after) own later)
 
   on_alike : (happened : Result (Unit {0}) AllocError) (lacking : Type 0) (mid new between : Contents) → TablesAgree hash mid between
@@ -49,11 +53,17 @@ module _ (hash : ServiceHash) (access : Access) (own : hash_of (Accesses access)
   preceded_alike : (lacking : Type 0) (one new other : Steps) → StepsAgree hash one other → IsTable one.table → IsTable other.table
       → Preceded hash access lacking one new → Goes (λ old after. Preceded hash access lacking old after) other new
   preceded_alike lacking one new other agree first second (mid, happened, does, goes, is_left) =
-      let (between, does_there, agree_between) = acts_all_alike hash (next_list one.lists) one.table mid other.table happened agree.tables first second does in
+      let (between, does_there, agree_between)
+      = acts_all_alike hash (next_list one.lists) one.table mid other.table happened agree.tables first second does in
       let there : ActsAll hash (next_list other.lists) other.table happened between =
       subst (λ lists. ActsAll hash (next_list lists) other.table happened between) (sym agree.lists) does_there in
-      let (after, goes_there, later) = on_alike happened lacking mid new.table between agree_between (all-acts hash one mid happened first does) (all-acts hash other between happened second there) goes in
-      (record { table = after; lists = drop 1 other.lists }, (between, happened, there, goes_there, refl), record { tables = later; lists = ap (drop 1) agree.lists ∙ sym is_left })
+      let (after, goes_there, later) = on_alike happened lacking mid new.table between agree_between
+      (all-acts hash one mid happened first does) (all-acts hash other between happened second there) goes in (
+        record { table = after; lists = drop 1 other.lists },
+        (between, happened, there, goes_there, refl),
+        record
+            { tables = later; lists = ap (drop 1) agree.lists ∙ sym is_left },
+      )
 
   alone_alike : (one new other : Steps) → StepsAgree hash one other → IsTable one.table → IsTable other.table → Alone access one new
       → Goes (λ old after. Alone access old after) other new
@@ -91,9 +101,11 @@ pub stepped_went_alike : (hash : ServiceHash) (made : List Access) (one new othe
 stepped_went_alike hash [] one new other under agree first second went
     = (other, refl, subst (λ steps. StepsAgree hash steps other) (sym went) agree)
 stepped_went_alike hash (access ∷ made) one new other (own, under) agree first second (mid, goes, rest) =
-    let (between, goes_there, agree_between) = stepped_own access one mid other (subst (λ h. StepsAgree h one other) (sym own) agree) first second goes in
+    let (between, goes_there, agree_between)
+    = stepped_own access one mid other (subst (λ h. StepsAgree h one other) (sym own) agree) first second goes in
     let (after, there, later) =
-    stepped_went_alike hash made mid new between under (subst (λ h. StepsAgree h mid between) own agree_between) (stepped-table access one mid first goes) (stepped-table access other between second goes_there) rest in
+    stepped_went_alike hash made mid new between under (subst (λ h. StepsAgree h mid between) own agree_between)
+    (stepped-table access one mid first goes) (stepped-table access other between second goes_there) rest in
     (after, (between, goes_there, there), later)
 
 -- a table stays one

@@ -1,5 +1,6 @@
 -- What a subscriber does under another name of its service and of its owner.
-use Rattle.std.proofs.Common.{◌≡◌, ◌∙◌, ◌==◌, ℕ, zero, suc, ◌+◌, Bool, true, false, cond, List, [], ◌∷◌, length, Option, None, Some, Result, Ok, Err, refl, sym, ap, subst, inl, inr, get_or, ◌&&◌, ◌||◌}
+use Rattle.std.proofs.Common.{◌≡◌, ◌∙◌, ◌==◌, ℕ, zero, suc, ◌+◌, Bool, true, false, cond, List, [], ◌∷◌, length, Option, None, Some}
+use Rattle.std.proofs.Common.{Result, Ok, Err, refl, sym, ap, subst, inl, inr, get_or, ◌&&◌, ◌||◌}
 use Rattle.std.specs.Prelude.{nat_lt, nat_le, slice_get, remove}
 use Rattle.std.specs.declared.alloc.AllocError.{AllocError}
 use Rattle.iox_domain.specs.DomainPorts.Ports.{detached_at}
@@ -23,7 +24,8 @@ use Rattle.iox_domain.specs.DomainValues.declared.degradation.DegradationInfo.{D
 use Rattle.iox_domain.specs.DomainValues.declared.port_error.ReceiveError.{ReceiveError}
 use Rattle.iox_domain.specs.Container.declared.container.Member.{Member}
 use Rattle.iox_hub_laws.specs.Renaming.{Renaming, renamed_publishers, renamed_subscriber, renamed_failure}
-use Rattle.iox_hub_laws.proofs.AmongPublishers.{stands_as, lacks_as, connection_by_as, most_by_as, taken_of_as, ended_ports_as, taken_ports_as, detached_as, attaches_to}
+use Rattle.iox_hub_laws.proofs.AmongPublishers.{stands_as, lacks_as, connection_by_as, most_by_as, taken_of_as, ended_ports_as}
+use Rattle.iox_hub_laws.proofs.AmongPublishers.{taken_ports_as, detached_as, attaches_to}
 
 -- ---- tests of keys
 
@@ -87,14 +89,16 @@ module _ (by : Renaming) where
   counted_as (Ok None) port = refl
   counted_as (Err error) port = refl
 
-  module _ (may other_may : DegradationInfo → DegradationAction → Type 0) (degrading : (info : DegradationInfo) (action : DegradationAction) → may info action → other_may (renamed_failure by info) action) where
-    asks_of : (listed : Option (Member PublisherEntry)) (port : SubscriberPort) (found after : Option ConnectionFailure)
-        (outcome : Result (Unit {0}) ZeroCopyCreationError) → updating.AsksOf may listed port found outcome after
-        → updating.AsksOf other_may listed (renamed_subscriber by port) found outcome after
-    asks_of None port found after outcome is = is
-    asks_of (Some member) port found after (Ok done) is = is
-    asks_of (Some member) port found after (Err failure) (action, allowed, is)
-        = (action, degrading (updating.told_of member.value port) action allowed, is)
+  module _ (may other_may : DegradationInfo → DegradationAction → Type 0)
+      (degrading : (info : DegradationInfo) (action : DegradationAction) → may info action → other_may (renamed_failure by info) action)
+    where
+      asks_of : (listed : Option (Member PublisherEntry)) (port : SubscriberPort) (found after : Option ConnectionFailure)
+          (outcome : Result (Unit {0}) ZeroCopyCreationError) → updating.AsksOf may listed port found outcome after
+          → updating.AsksOf other_may listed (renamed_subscriber by port) found outcome after
+      asks_of None port found after outcome is = is
+      asks_of (Some member) port found after (Ok done) is = is
+      asks_of (Some member) port found after (Err failure) (action, allowed, is)
+          = (action, degrading (updating.told_of member.value port) action allowed, is)
 
 module _ {T U : Type 0} (by : Renaming) where
   abbrev all : List (ℕ × PublisherPort T U) → List (ℕ × PublisherPort T U)
@@ -110,13 +114,16 @@ module _ {T U : Type 0} (by : Renaming) where
   is_below_as : (port : SubscriberPort) (ports : List (ℕ × PublisherPort T U)) (key : ℕ)
       → seeing.is_below (renamed_subscriber by port) (all ports) key ≡ seeing.is_below port ports key
   is_below_as port ports key =
-      ap (λ connection. nat_lt (length connection.borrowed) (seeing.most_by (seeing.attached_at key port) (all ports))) (connection_by_as by (seeing.attached_at key port) ports)
-      ∙ ap (λ most. nat_lt (length (seeing.connection_by (seeing.attached_at key port) ports).borrowed) most) (most_by_as by (seeing.attached_at key port) ports)
+      ap (λ connection. nat_lt (length connection.borrowed) (seeing.most_by (seeing.attached_at key port) (all ports)))
+      (connection_by_as by (seeing.attached_at key port) ports)
+      ∙ ap (λ most. nat_lt (length (seeing.connection_by (seeing.attached_at key port) ports).borrowed) most)
+      (most_by_as by (seeing.attached_at key port) ports)
 
   gives_as : (port : SubscriberPort) (ports : List (ℕ × PublisherPort T U)) (key : ℕ)
       → seeing.gives (renamed_subscriber by port) (all ports) key ≡ seeing.gives port ports key
   gives_as port ports key =
-      ap (λ is. is && seeing.has_data (renamed_subscriber by port) (all ports) key) (is_below_as port ports key) ∙ ap (λ has. seeing.is_below port ports key && has) (has_data_as port ports key)
+      ap (λ is. is && seeing.has_data (renamed_subscriber by port) (all ports) key) (is_below_as port ports key) ∙ ap
+      (λ has. seeing.is_below port ports key && has) (has_data_as port ports key)
 
   is_idle_as : (port : SubscriberPort) (ports : List (ℕ × PublisherPort T U)) (key : ℕ)
       → seeing.is_idle (renamed_subscriber by port) (all ports) key ≡ seeing.is_idle port ports key
@@ -178,10 +185,16 @@ module _ {T U : Type 0} (by : Renaming) where
       let at = slice_get port.expired.items place in
       let dropped = receiving.dropped_port place at port in
       let left = receiving.dropped_ports at port ports in
-      ap (λ idle. cond idle (receiving.swept place count (receiving.dropped_port place at (renamed_subscriber by port), receiving.dropped_ports at (renamed_subscriber by port) (all ports))) (receiving.swept (place + 1) count (renamed_subscriber by port, all ports)))
+      ap (λ idle. cond idle
+      (receiving.swept place count
+      (receiving.dropped_port place at (renamed_subscriber by port), receiving.dropped_ports at (renamed_subscriber by port) (all ports)))
+      (receiving.swept (place + 1) count (renamed_subscriber by port, all ports)))
       (idle_at_as at port ports)
-      ∙ swept_if (receiving.is_idle_at at port ports) _ _ (receiving.swept place count (dropped, left)) (receiving.swept (place + 1) count (port, ports))
-      (ap (λ state. receiving.swept place count state) (both_are _ (renamed_subscriber by dropped) _ (all left) (dropped_port_as by place at port) (dropped_ports_as at port ports)) ∙ swept_as count place dropped left)
+      ∙ swept_if (receiving.is_idle_at at port ports) _ _ (receiving.swept place count (dropped, left))
+      (receiving.swept (place + 1) count (port, ports))
+      (ap (λ state. receiving.swept place count state)
+      (both_are _ (renamed_subscriber by dropped) _ (all left) (dropped_port_as by place at port) (dropped_ports_as at port ports))
+      ∙ swept_as count place dropped left)
       (swept_as count (place + 1) port ports)
 
   serves : (port after : SubscriberPort) (ports ports_after : List (ℕ × PublisherPort T U)) (answer : Option Taken)
@@ -189,8 +202,11 @@ module _ {T U : Type 0} (by : Renaming) where
       → receiving.Serves (renamed_subscriber by port) (all ports) answer (renamed_subscriber by after) (all ports_after)
   serves port after ports ports_after answer (met, is_met, giver, is_giver, is_answer, is_after, is_ports, there) =
       let given = receiving.given_ports giver port ports in
-      let swept : receiving.swept 0 met (renamed_subscriber by port, receiving.given_ports giver (renamed_subscriber by port) (all ports)) ≡ both (receiving.swept 0 met (port, given)) =
-      ap (λ state. receiving.swept 0 met state) (both_are (renamed_subscriber by port) (renamed_subscriber by port) _ (all given) refl (given_ports_as giver port ports)) ∙ swept_as met 0 port given in (
+      let swept : receiving.swept 0 met (renamed_subscriber by port, receiving.given_ports giver (renamed_subscriber by port) (all ports))
+      ≡ both (receiving.swept 0 met (port, given)) =
+      ap (λ state. receiving.swept 0 met state)
+      (both_are (renamed_subscriber by port) (renamed_subscriber by port) _ (all given) refl (given_ports_as giver port ports)) ∙
+      swept_as met 0 port given in (
         met,
         met_as (seeing.gives port ports) (seeing.gives (renamed_subscriber by port) (all ports)) port.expired.items met
             (gives_as port ports) is_met,
@@ -206,8 +222,12 @@ module _ {T U : Type 0} (by : Renaming) where
   receives : (port after : SubscriberPort) (ports ports_after : List (ℕ × PublisherPort T U))
       (answer : Result (Option Taken) ReceiveError) → receiving.Receives port ports answer after ports_after
       → receiving.Receives (renamed_subscriber by port) (all ports) answer (renamed_subscriber by after) (all ports_after)
-  receives port after ports ports_after answer (taken, does, is) =
-      (taken, serves port after ports ports_after taken does, answers taken (seeing.has_data after ports_after) (seeing.has_data (renamed_subscriber by after) (all ports_after)) answer (has_data_as after ports_after) is)
+  receives port after ports ports_after answer (taken, does, is) = (
+    taken,
+    serves port after ports ports_after taken does,
+    answers taken (seeing.has_data after ports_after)
+        (seeing.has_data (renamed_subscriber by after) (all ports_after)) answer (has_data_as after ports_after) is,
+  )
 
   -- ---- a place of the list of publishers is followed
 
@@ -215,13 +235,25 @@ module _ {T U : Type 0} (by : Renaming) where
       (is_free : Bool) → following.PartsFor out place key port ports is_free new new_ports
       → following.PartsFor out place key (renamed_subscriber by port) (all ports) is_free (renamed_subscriber by new) (all new_ports)
   parts_for None place key port new ports new_ports is_free (is, same, alike) = (is, ap (renamed_subscriber by) same, ap all alike)
-  parts_for (Some out) place key port new ports new_ports is_free (is, same, alike) =
-      (is, ap (renamed_subscriber by) same ∙ sym (ap (following.expired_port key) (dropped_port_as by place (Some out) port)), ap all alike ∙ sym (dropped_ports_as (Some out) port ports))
+  parts_for (Some out) place key port new ports new_ports is_free (is, same, alike) = (
+    is,
+    ap (renamed_subscriber by) same ∙ sym (ap (following.expired_port key) (dropped_port_as by place (Some out) port)),
+    ap all
+        alike ∙ sym (dropped_ports_as (Some out) port ports),
+  )
 
   parts_borrowed : (unborrowed : Bool) (key : ℕ) (port new : SubscriberPort) (ports new_ports : List (ℕ × PublisherPort T U))
       (is_free : Bool)
-      → following.PartsBorrowed unborrowed key port ports is_free new new_ports → following.PartsBorrowed unborrowed key (renamed_subscriber by port) (all ports) is_free (renamed_subscriber by new) (all new_ports)
-  parts_borrowed true key port new ports new_ports is_free (is, same, alike) = (is, ap (renamed_subscriber by) same ∙ sym (ended_key_as by key port), ap all alike ∙ sym (ended_ports_as by (seeing.attached_at key port) ports))
+      → following.PartsBorrowed unborrowed key port ports is_free new new_ports
+      → following.PartsBorrowed unborrowed key (renamed_subscriber by port) (all ports) is_free (renamed_subscriber by new)
+      (all new_ports)
+  parts_borrowed true key port new ports new_ports is_free (is, same, alike)
+      = (
+        is,
+        ap (renamed_subscriber by) same ∙ sym (ended_key_as by key port),
+        ap all alike ∙ sym
+            (ended_ports_as by (seeing.attached_at key port) ports),
+      )
   parts_borrowed false key port new ports new_ports is_free (place, is_met, parts) = (
     place,
     met_as (following.is_unborrowed port ports) (following.is_unborrowed (renamed_subscriber by port) (all ports)) port.expired.items
@@ -233,15 +265,26 @@ module _ {T U : Type 0} (by : Renaming) where
       (is_free : Bool) → following.PartsOver out place key port ports is_free new new_ports
       → following.PartsOver out place key (renamed_subscriber by port) (all ports) is_free (renamed_subscriber by new) (all new_ports)
   parts_over None place key port new ports new_ports is_free parts =
-      subst (λ unborrowed. following.PartsBorrowed unborrowed key (renamed_subscriber by port) (all ports) is_free (renamed_subscriber by new) (all new_ports)) (sym (unborrowed_as port ports key))
+      subst (λ unborrowed. following.PartsBorrowed unborrowed key (renamed_subscriber by port) (all ports) is_free
+      (renamed_subscriber by new) (all new_ports)) (sym (unborrowed_as port ports key))
       (parts_borrowed (following.is_unborrowed port ports key) key port new ports new_ports is_free parts)
-  parts_over (Some out) place key port new ports new_ports is_free (is, same, alike) =
-      (is, ap (renamed_subscriber by) same ∙ sym (ap (following.expired_port key) (dropped_port_as by place (Some out) port)), ap all alike ∙ sym (dropped_ports_as (Some out) port ports))
+  parts_over (Some out) place key port new ports new_ports is_free (is, same, alike) = (
+    is,
+    ap (renamed_subscriber by) same ∙ sym (ap (following.expired_port key) (dropped_port_as by place (Some out) port)),
+    ap all
+        alike ∙ sym (dropped_ports_as (Some out) port ports),
+  )
 
   parts_if : (idle is_full : Bool) (key : ℕ) (port new : SubscriberPort) (ports new_ports : List (ℕ × PublisherPort T U))
       (is_free : Bool) → following.PartsIf idle is_full key port ports is_free new new_ports
       → following.PartsIf idle is_full key (renamed_subscriber by port) (all ports) is_free (renamed_subscriber by new) (all new_ports)
-  parts_if true is_full key port new ports new_ports is_free (is, same, alike) = (is, ap (renamed_subscriber by) same ∙ sym (ended_key_as by key port), ap all alike ∙ sym (ended_ports_as by (seeing.attached_at key port) ports))
+  parts_if true is_full key port new ports new_ports is_free (is, same, alike)
+      = (
+        is,
+        ap (renamed_subscriber by) same ∙ sym (ended_key_as by key port),
+        ap all alike ∙ sym
+            (ended_ports_as by (seeing.attached_at key port) ports),
+      )
   parts_if false false key port new ports new_ports is_free (is, same, alike) = (is, ap (renamed_subscriber by) same, ap all alike)
   parts_if false true key port new ports new_ports is_free (place, is_met, parts) = (
     place,
@@ -254,7 +297,9 @@ module _ {T U : Type 0} (by : Renaming) where
       → following.Parts key port ports is_free new new_ports
       → following.Parts key (renamed_subscriber by port) (all ports) is_free (renamed_subscriber by new) (all new_ports)
   parts key port new ports new_ports is_free does =
-      subst (λ idle. following.PartsIf idle (nat_le port.expired.room (length port.expired.items)) key (renamed_subscriber by port) (all ports) is_free (renamed_subscriber by new) (all new_ports)) (sym (is_idle_as port ports key)) (parts_if _ _ key port new ports new_ports is_free does)
+      subst (λ idle. following.PartsIf idle (nat_le port.expired.room (length port.expired.items)) key (renamed_subscriber by port)
+      (all ports) is_free (renamed_subscriber by new) (all new_ports)) (sym (is_idle_as port ports key))
+      (parts_if _ _ key port new ports new_ports is_free does)
 
   may_fail_as : (place number : ℕ) (port : SubscriberPort) (ports : List (ℕ × PublisherPort T U))
       → following.may_fail place number (renamed_subscriber by port) (all ports) ≡ following.may_fail place number port ports
@@ -266,25 +311,42 @@ module _ {T U : Type 0} (by : Renaming) where
       → following.Connects place number (renamed_subscriber by port) (all ports) answer (renamed_subscriber by new) (all new_ports)
   connects place number port new ports new_ports (Err failure) (is, may, same, alike)
       = (is, may_fail_as place number port ports ∙ may, ap (renamed_subscriber by) same, ap all alike)
-  connects place number port new ports new_ports (Ok done) (answer, does, keeps) = (answer, attaches_to by number port.number port.buffer_size ports new_ports answer does, connects_by by place number answer port new keeps)
+  connects place number port new ports new_ports (Ok done) (answer, does, keeps)
+      = (
+        answer,
+        attaches_to by number port.number port.buffer_size ports new_ports answer does,
+        connects_by by place number answer port
+            new keeps,
+      )
 
   follows_freed : (is_free : Bool) (place number : ℕ) (port new : SubscriberPort) (ports new_ports : List (ℕ × PublisherPort T U))
       (answer : Result (Unit {0}) ZeroCopyCreationError)
-      → following.FollowsFreed is_free place number port ports answer new new_ports → following.FollowsFreed is_free place number (renamed_subscriber by port) (all ports) answer (renamed_subscriber by new) (all new_ports)
+      → following.FollowsFreed is_free place number port ports answer new new_ports
+      → following.FollowsFreed is_free place number (renamed_subscriber by port) (all ports) answer (renamed_subscriber by new)
+      (all new_ports)
   follows_freed false place number port new ports new_ports answer (is, same, alike) = (is, ap (renamed_subscriber by) same, ap all alike)
   follows_freed true place number port new ports new_ports answer does
       = connects place number (following.unplaced place port) new ports new_ports answer does
 
   follows_key : (is_own : Bool) (key place number : ℕ) (port new : SubscriberPort) (ports new_ports : List (ℕ × PublisherPort T U))
       (answer : Result (Unit {0}) ZeroCopyCreationError)
-      → following.FollowsKey is_own key place number port ports answer new new_ports → following.FollowsKey is_own key place number (renamed_subscriber by port) (all ports) answer (renamed_subscriber by new) (all new_ports)
+      → following.FollowsKey is_own key place number port ports answer new new_ports
+      → following.FollowsKey is_own key place number (renamed_subscriber by port) (all ports) answer (renamed_subscriber by new)
+      (all new_ports)
   follows_key true key place number port new ports new_ports answer (is, same, alike) = (is, ap (renamed_subscriber by) same, ap all alike)
-  follows_key false key place number port new ports new_ports answer (is_free, between, between_ports, does, freed) =
-      (is_free, renamed_subscriber by between, all between_ports, parts key port between ports between_ports is_free does, follows_freed is_free place number between new between_ports new_ports answer freed)
+  follows_key false key place number port new ports new_ports answer (is_free, between, between_ports, does, freed) = (
+    is_free,
+    renamed_subscriber by between,
+    all between_ports,
+    parts key port between ports between_ports is_free does,
+    follows_freed
+        is_free place number between new between_ports new_ports answer freed,
+  )
 
   follows_at : (tie : Option ℕ) (place number : ℕ) (port new : SubscriberPort) (ports new_ports : List (ℕ × PublisherPort T U))
       (answer : Result (Unit {0}) ZeroCopyCreationError)
-      → following.FollowsAt tie place number port ports answer new new_ports → following.FollowsAt tie place number (renamed_subscriber by port) (all ports) answer (renamed_subscriber by new) (all new_ports)
+      → following.FollowsAt tie place number port ports answer new new_ports
+      → following.FollowsAt tie place number (renamed_subscriber by port) (all ports) answer (renamed_subscriber by new) (all new_ports)
   follows_at None place number port new ports new_ports answer does = connects place number port new ports new_ports answer does
   follows_at (Some key) place number port new ports new_ports answer does
       = follows_key (following.is_of number (seeing.attached_at key port)) key place number port new ports new_ports answer does
@@ -293,14 +355,20 @@ module _ {T U : Type 0} (by : Renaming) where
       → following.FollowsNoneAt tie place port ports new new_ports
       → following.FollowsNoneAt tie place (renamed_subscriber by port) (all ports) (renamed_subscriber by new) (all new_ports)
   follows_none None place port new ports new_ports (same, alike) = (ap (renamed_subscriber by) same, ap all alike)
-  follows_none (Some key) place port new ports new_ports (is_free, between, does, same) =
-      (is_free, renamed_subscriber by between, parts key port between ports new_ports is_free does, ap (renamed_subscriber by) same ∙ sym (freed_as by is_free place between))
+  follows_none (Some key) place port new ports new_ports (is_free, between, does, same) = (
+    is_free,
+    renamed_subscriber by between,
+    parts key port between ports new_ports is_free does,
+    ap (renamed_subscriber by) same ∙ sym
+        (freed_as by is_free place between),
+  )
 
   -- ---- the list of publishers is followed
 
   follows_one : (place : ℕ) (listed : Option (Member PublisherEntry)) (port new : SubscriberPort)
       (ports new_ports : List (ℕ × PublisherPort T U)) (outcome : Result (Unit {0}) ZeroCopyCreationError)
-      → updating.FollowsOne place listed port ports outcome new new_ports → updating.FollowsOne place listed (renamed_subscriber by port) (all ports) outcome (renamed_subscriber by new) (all new_ports)
+      → updating.FollowsOne place listed port ports outcome new new_ports
+      → updating.FollowsOne place listed (renamed_subscriber by port) (all ports) outcome (renamed_subscriber by new) (all new_ports)
   follows_one place None port new ports new_ports outcome (is, same, alike) = (is, ap (renamed_subscriber by) same, ap all alike)
   follows_one place (Some member) port new ports new_ports outcome does
       = follows_at (get_or port.places.items place None) place member.value.publisher port new ports new_ports outcome does
@@ -316,8 +384,13 @@ module _ {T U : Type 0} (by : Renaming) where
       (ports new_ports : List (ℕ × PublisherPort T U)) → updating.FollowsNones listed place count port ports new new_ports
       → updating.FollowsNones listed place count (renamed_subscriber by port) (all ports) (renamed_subscriber by new) (all new_ports)
   follows_nones listed place zero port new ports new_ports (same, alike) = (ap (renamed_subscriber by) same, ap all alike)
-  follows_nones listed place (suc count) port new ports new_ports (next, next_ports, does, rest) =
-      (renamed_subscriber by next, all next_ports, follows_none_if _ place port next ports next_ports does, follows_nones listed (place + 1) count next new next_ports new_ports rest)
+  follows_nones listed place (suc count) port new ports new_ports (next, next_ports, does, rest) = (
+    renamed_subscriber by next,
+    all next_ports,
+    follows_none_if _ place port next ports next_ports does,
+    follows_nones listed
+        (place + 1) count next new next_ports new_ports rest,
+  )
 
   -- nobody reads at some connections any longer
   left_if : (stands : Bool) (attached : Attached) (one other : List (ℕ × PublisherPort T U))
@@ -329,79 +402,123 @@ module _ {T U : Type 0} (by : Renaming) where
       → receiving.left_at attached (all ports) ≡ all (receiving.left_at attached ports)
   left_at_as None ports = refl
   left_at_as (Some attached) ports =
-      ap (λ stands. cond stands (among.changed attached.publisher (detached_at attached.index) (all ports)) (seeing.ended_ports (Some attached) (all ports))) (stands_as by attached.publisher ports)
-      ∙ ap (λ one. cond (among.stands_in attached.publisher ports) one (seeing.ended_ports (Some attached) (all ports))) (detached_as by attached.publisher attached.index ports)
-      ∙ ap (λ other. cond (among.stands_in attached.publisher ports) (all (among.changed attached.publisher (detached_at attached.index) ports)) other) (ended_ports_as by (Some attached) ports)
-      ∙ left_if (among.stands_in attached.publisher ports) attached (among.changed attached.publisher (detached_at attached.index) ports) (seeing.ended_ports (Some attached) ports)
+      ap (λ stands. cond stands (among.changed attached.publisher (detached_at attached.index) (all ports))
+      (seeing.ended_ports (Some attached) (all ports))) (stands_as by attached.publisher ports)
+      ∙ ap (λ one. cond (among.stands_in attached.publisher ports) one (seeing.ended_ports (Some attached) (all ports)))
+      (detached_as by attached.publisher attached.index ports)
+      ∙ ap (λ other. cond (among.stands_in attached.publisher ports)
+      (all (among.changed attached.publisher (detached_at attached.index) ports)) other) (ended_ports_as by (Some attached) ports)
+      ∙ left_if (among.stands_in attached.publisher ports) attached
+      (among.changed attached.publisher (detached_at attached.index) ports) (seeing.ended_ports (Some attached) ports)
 
   pub left_all_as : (attached : List (Option Attached)) (ports : List (ℕ × PublisherPort T U))
       → receiving.left_all attached (all ports) ≡ all (receiving.left_all attached ports)
   left_all_as [] ports = refl
   left_all_as (one ∷ rest) ports = ap (receiving.left_all rest) (left_at_as one ports) ∙ left_all_as rest (receiving.left_at one ports)
 
-  module _ (may other_may : DegradationInfo → DegradationAction → Type 0) (degrading : (info : DegradationInfo) (action : DegradationAction) → may info action → other_may (renamed_failure by info) action) where
-    follows_from : (place : ℕ) (listed : List (Option (Member PublisherEntry))) (found after : Option ConnectionFailure)
-        (port new : SubscriberPort) (ports new_ports : List (ℕ × PublisherPort T U))
-        → updating.FollowsFrom may place listed found port ports after new new_ports → updating.FollowsFrom other_may place listed found (renamed_subscriber by port) (all ports) after (renamed_subscriber by new) (all new_ports)
-    follows_from place [] found after port new ports new_ports (is, same, alike) = (is, ap (renamed_subscriber by) same, ap all alike)
-    follows_from place (one ∷ rest) found after port new ports new_ports (outcome, next, next_ports, then_found, does, asked, further) = (
-      outcome,
-      renamed_subscriber by next,
-      all next_ports,
-      then_found,
-      follows_one place one port next ports next_ports outcome does,
-      asks_of by may other_may degrading one next found then_found outcome asked,
-      follows_from (place + 1) rest then_found after next new next_ports new_ports further,
-    )
+  module _ (may other_may : DegradationInfo → DegradationAction → Type 0)
+      (degrading : (info : DegradationInfo) (action : DegradationAction) → may info action → other_may (renamed_failure by info) action)
+    where
+      follows_from : (place : ℕ) (listed : List (Option (Member PublisherEntry))) (found after : Option ConnectionFailure)
+          (port new : SubscriberPort) (ports new_ports : List (ℕ × PublisherPort T U))
+          → updating.FollowsFrom may place listed found port ports after new new_ports
+          → updating.FollowsFrom other_may place listed found (renamed_subscriber by port) (all ports) after
+          (renamed_subscriber by new) (all new_ports)
+      follows_from place [] found after port new ports new_ports (is, same, alike) = (is, ap (renamed_subscriber by) same, ap all alike)
+      follows_from place (one ∷ rest) found after port new ports new_ports (outcome, next, next_ports, then_found, does, asked, further) = (
+        outcome,
+        renamed_subscriber by next,
+        all next_ports,
+        then_found,
+        follows_one place one port next ports next_ports outcome does,
+        asks_of by may other_may degrading one next found then_found outcome asked,
+        follows_from (place + 1) rest then_found after next new next_ports new_ports further,
+      )
 
-    updates_if : (same : Bool) (listed : List (Option (Member PublisherEntry))) (changes : ℕ) (port new : SubscriberPort)
-        (ports new_ports : List (ℕ × PublisherPort T U)) (answer : Result (Unit {0}) ConnectionFailure)
-        → updating.UpdatesIf same may listed changes port ports answer new new_ports → updating.UpdatesIf same other_may listed changes (renamed_subscriber by port) (all ports) answer (renamed_subscriber by new) (all new_ports)
-    updates_if true listed changes port new ports new_ports answer (is, same, alike) = (is, ap (renamed_subscriber by) same, ap all alike)
-    updates_if false listed changes port new ports new_ports answer (found, between, between_ports, does, nones, is) =
-        (found, renamed_subscriber by between, all between_ports, follows_from 0 listed None found _ between ports between_ports does, follows_nones listed 0 (length between.places.items) between new between_ports new_ports nones, is)
+      updates_if : (same : Bool) (listed : List (Option (Member PublisherEntry))) (changes : ℕ) (port new : SubscriberPort)
+          (ports new_ports : List (ℕ × PublisherPort T U)) (answer : Result (Unit {0}) ConnectionFailure)
+          → updating.UpdatesIf same may listed changes port ports answer new new_ports
+          → updating.UpdatesIf same other_may listed changes (renamed_subscriber by port) (all ports) answer
+          (renamed_subscriber by new) (all new_ports)
+      updates_if true listed changes port new ports new_ports answer (is, same, alike) = (is, ap (renamed_subscriber by) same, ap all alike)
+      updates_if false listed changes port new ports new_ports answer (found, between, between_ports, does, nones, is) = (
+        found,
+        renamed_subscriber by between,
+        all between_ports,
+        follows_from 0 listed None found _ between ports between_ports does,
+        follows_nones listed 0 (length between.places.items) between new between_ports new_ports nones,
+        is,
+      )
 
-    pub updates : (listed : List (Option (Member PublisherEntry))) (changes : ℕ) (port new : SubscriberPort)
-        (ports new_ports : List (ℕ × PublisherPort T U)) (answer : Result (Unit {0}) ConnectionFailure)
-        → updating.Updates may listed changes port ports answer new new_ports → updating.Updates other_may listed changes (renamed_subscriber by port) (all ports) answer (renamed_subscriber by new) (all new_ports)
-    updates listed changes port new ports new_ports answer does = updates_if _ listed changes port new ports new_ports answer does
+      pub updates : (listed : List (Option (Member PublisherEntry))) (changes : ℕ) (port new : SubscriberPort)
+          (ports new_ports : List (ℕ × PublisherPort T U)) (answer : Result (Unit {0}) ConnectionFailure)
+          → updating.Updates may listed changes port ports answer new new_ports
+          → updating.Updates other_may listed changes (renamed_subscriber by port) (all ports) answer (renamed_subscriber by new)
+          (all new_ports)
+      updates listed changes port new ports new_ports answer does = updates_if _ listed changes port new ports new_ports answer does
 
-    pub updates_one : (stands : Bool) (list : RollState PublisherEntry) (port after : SubscriberPort)
-        (ports ports_after : List (ℕ × PublisherPort T U)) (answer : Option (Result (Unit {0}) ConnectionFailure))
-        → subscribing.UpdatesIf stands may list port ports answer after ports_after → subscribing.UpdatesIf stands other_may list (renamed_subscriber by port) (all ports) answer (renamed_subscriber by after) (all ports_after)
-    updates_one false list port after ports ports_after answer (is, same, alike) = (is, ap (renamed_subscriber by) same, ap all alike)
-    updates_one true list port after ports ports_after answer (listed, is_list, outcome, does, is)
-        = (listed, is_list, outcome, updates listed list.changes port after ports ports_after outcome does, is)
+      pub updates_one : (stands : Bool) (list : RollState PublisherEntry) (port after : SubscriberPort)
+          (ports ports_after : List (ℕ × PublisherPort T U)) (answer : Option (Result (Unit {0}) ConnectionFailure))
+          → subscribing.UpdatesIf stands may list port ports answer after ports_after
+          → subscribing.UpdatesIf stands other_may list (renamed_subscriber by port) (all ports) answer (renamed_subscriber by after)
+          (all ports_after)
+      updates_one false list port after ports ports_after answer (is, same, alike) = (is, ap (renamed_subscriber by) same, ap all alike)
+      updates_one true list port after ports ports_after answer (listed, is_list, outcome, does, is)
+          = (listed, is_list, outcome, updates listed list.changes port after ports ports_after outcome does, is)
 
-    told : (updated : Result (Unit {0}) ConnectionFailure) (port : SubscriberPort) (ports : List (ℕ × PublisherPort T U))
-        (answer : Result Bool ConnectionFailure) → updating.HasSamplesAfter updated port ports answer
-        → updating.HasSamplesAfter updated (renamed_subscriber by port) (all ports) answer
-    told (Err failure) port ports answer is = is
-    told (Ok done) port ports answer (unread, first, is) = (unread, first_as (seeing.has_data port ports) (seeing.has_data (renamed_subscriber by port) (all ports)) unread (has_data_as port ports) first, is)
+      told : (updated : Result (Unit {0}) ConnectionFailure) (port : SubscriberPort) (ports : List (ℕ × PublisherPort T U))
+          (answer : Result Bool ConnectionFailure) → updating.HasSamplesAfter updated port ports answer
+          → updating.HasSamplesAfter updated (renamed_subscriber by port) (all ports) answer
+      told (Err failure) port ports answer is = is
+      told (Ok done) port ports answer (unread, first, is)
+          = (
+            unread,
+            first_as (seeing.has_data port ports) (seeing.has_data (renamed_subscriber by port) (all ports)) unread
+                (has_data_as port ports) first,
+            is,
+          )
 
-    pub has_one : (stands : Bool) (list : RollState PublisherEntry) (port after : SubscriberPort)
-        (ports ports_after : List (ℕ × PublisherPort T U)) (answer : Option (Result Bool ConnectionFailure))
-        → subscribing.HasSamplesIf stands may list port ports answer after ports_after → subscribing.HasSamplesIf stands other_may list (renamed_subscriber by port) (all ports) answer (renamed_subscriber by after) (all ports_after)
-    has_one false list port after ports ports_after answer (is, same, alike) = (is, ap (renamed_subscriber by) same, ap all alike)
-    has_one true list port after ports ports_after answer (listed, is_list, outcome, (updated, does, asked), is) =
-        (listed, is_list, outcome, (updated, updates listed list.changes port after ports ports_after updated does, told updated after ports_after outcome asked), is)
+      pub has_one : (stands : Bool) (list : RollState PublisherEntry) (port after : SubscriberPort)
+          (ports ports_after : List (ℕ × PublisherPort T U)) (answer : Option (Result Bool ConnectionFailure))
+          → subscribing.HasSamplesIf stands may list port ports answer after ports_after
+          → subscribing.HasSamplesIf stands other_may list (renamed_subscriber by port) (all ports) answer
+          (renamed_subscriber by after) (all ports_after)
+      has_one false list port after ports ports_after answer (is, same, alike) = (is, ap (renamed_subscriber by) same, ap all alike)
+      has_one true list port after ports ports_after answer (listed, is_list, outcome, (updated, does, asked), is) = (
+        listed,
+        is_list,
+        outcome,
+        (updated, updates listed list.changes port after ports ports_after updated does, told updated after ports_after outcome asked),
+        is,
+      )
 
-    received_after : (updated : Result (Unit {0}) ConnectionFailure) (port new : SubscriberPort)
-        (ports new_ports : List (ℕ × PublisherPort T U)) (answer : Result (Option Taken) ReceiveError)
-        → updating.ReceivesAfter updated port ports answer new new_ports → updating.ReceivesAfter updated (renamed_subscriber by port) (all ports) answer (renamed_subscriber by new) (all new_ports)
-    received_after (Err failure) port new ports new_ports answer (is, same, alike) = (is, ap (renamed_subscriber by) same, ap all alike)
-    received_after (Ok done) port new ports new_ports answer does = receives port new ports new_ports answer does
+      received_after : (updated : Result (Unit {0}) ConnectionFailure) (port new : SubscriberPort)
+          (ports new_ports : List (ℕ × PublisherPort T U)) (answer : Result (Option Taken) ReceiveError)
+          → updating.ReceivesAfter updated port ports answer new new_ports
+          → updating.ReceivesAfter updated (renamed_subscriber by port) (all ports) answer (renamed_subscriber by new) (all new_ports)
+      received_after (Err failure) port new ports new_ports answer (is, same, alike) = (is, ap (renamed_subscriber by) same, ap all alike)
+      received_after (Ok done) port new ports new_ports answer does = receives port new ports new_ports answer does
 
-    pub receives_one : (stands : Bool) (list : RollState PublisherEntry) (port after : SubscriberPort)
-        (ports ports_after : List (ℕ × PublisherPort T U)) (answer : Option (Result (Option Taken) ReceiveError))
-        → subscribing.ReceivesIf stands may list port ports answer after ports_after → subscribing.ReceivesIf stands other_may list (renamed_subscriber by port) (all ports) answer (renamed_subscriber by after) (all ports_after)
-    receives_one false list port after ports ports_after answer (is, same, alike) = (is, ap (renamed_subscriber by) same, ap all alike)
-    receives_one true list port after ports ports_after answer (listed, is_list, outcome, received, (updated, between, between_ports, does, then_received), counts, is) = (
-      listed,
-      is_list,
-      outcome,
-      renamed_subscriber by received,
-      (updated, renamed_subscriber by between, all between_ports, updates listed list.changes port between ports between_ports updated does, received_after updated between received between_ports ports_after outcome then_received),
-      ap (renamed_subscriber by) counts ∙ sym (counted_as by outcome received),
-      is,
-    )
+      pub receives_one : (stands : Bool) (list : RollState PublisherEntry) (port after : SubscriberPort)
+          (ports ports_after : List (ℕ × PublisherPort T U)) (answer : Option (Result (Option Taken) ReceiveError))
+          → subscribing.ReceivesIf stands may list port ports answer after ports_after
+          → subscribing.ReceivesIf stands other_may list (renamed_subscriber by port) (all ports) answer (renamed_subscriber by after)
+          (all ports_after)
+      receives_one false list port after ports ports_after answer (is, same, alike) = (is, ap (renamed_subscriber by) same, ap all alike)
+      receives_one true list port after ports ports_after answer
+          (listed, is_list, outcome, received, (updated, between, between_ports, does, then_received), counts, is) = (
+            listed,
+            is_list,
+            outcome,
+            renamed_subscriber by received,
+            (
+              updated,
+              renamed_subscriber by between,
+              all between_ports,
+              updates listed list.changes port between ports between_ports
+                  updated does,
+              received_after updated between received between_ports ports_after outcome then_received,
+            ),
+            ap (renamed_subscriber by) counts ∙ sym (counted_as by outcome received),
+            is,
+          )

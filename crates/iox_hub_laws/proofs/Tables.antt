@@ -1,5 +1,6 @@
 -- What an access finds and leaves in a table whose lives go by other numbers.
-use Rattle.std.proofs.Common.{◌≡◌, ◌∙◌, ◌<◌, ◌≤◌, ◌+◌, ◌-◌, ◌^◌, ℕ, Bool, true, false, List, [], ◌∷◌, Option, None, Some, option_map, nat_eq, refl, sym, ap, subst, inl, inr, arith, ◌&&◌, not}
+use Rattle.std.proofs.Common.{◌≡◌, ◌∙◌, ◌<◌, ◌≤◌, ◌+◌, ◌-◌, ◌^◌, ℕ, Bool, true, false, List, [], ◌∷◌, Option, None, Some, option_map}
+use Rattle.std.proofs.Common.{nat_eq, refl, sym, ap, subst, inl, inr, arith, ◌&&◌, not}
 use Rattle.std.proofs.lemmas.Bool.{eqb-true}
 use Rattle.std.specs.BTreeMap.{insert_entry, is_at}
 use Rattle.std.specs.Cmp.Lexicographic.{slice_cmp}
@@ -10,7 +11,8 @@ use Rattle.std.specs.declared.cmp.Ordering.{Ordering}
 use Rattle.std.specs.declared.cmp.Ordering.TheVariants.{Less, Equal, Greater}
 use Rattle.iox_negotiate.specs.Describe.DescribeBase.declared.hash.ServiceHash.{ServiceHash}
 use Rattle.iox_negotiate.specs.Lives.{number_of}
-use Rattle.iox_negotiate.specs.NegotiateBase.Access.{Access, Look, Lock, MakeSegment, Publish, Unlock, OpenSegment, Leave, RemoveDescription, RemoveSegment}
+use Rattle.iox_negotiate.specs.NegotiateBase.Access.{Access, Look, Lock, MakeSegment, Publish, Unlock, OpenSegment, Leave}
+use Rattle.iox_negotiate.specs.NegotiateBase.Access.{RemoveDescription, RemoveSegment}
 use Rattle.iox_negotiate.specs.NegotiateBase.declared.answer.LeaveAnswer.{LeaveAnswer}
 use Rattle.iox_negotiate.specs.NegotiateBase.declared.answer.LockAnswer.{LockAnswer}
 use Rattle.iox_negotiate.specs.NegotiateBase.declared.answer.LockAnswer.TheVariants.{Taken}
@@ -19,9 +21,13 @@ use Rattle.iox_negotiate.specs.NegotiateBase.declared.answer.MakeSegmentAnswer.{
 use Rattle.iox_negotiate.specs.NegotiateBase.declared.answer.OpenSegmentAnswer.{OpenSegmentAnswer}
 use Rattle.iox_negotiate.specs.NegotiateBase.declared.answer.PublishAnswer.{PublishAnswer}
 use Rattle.iox_negotiate.specs.NegotiateBase.declared.answer.RemoveAnswer.{RemoveAnswer}
-use Rattle.iox_negotiate.specs.NegotiateTable.Contents.{Contents, entry_at, segment_at, digest_cmp, place_cmp, with_entry, without_entry, with_new_segment, with_segment, without_segment, with_lock, is_own_lock, is_lock_of, is_description_of, is_left, may_make, may_publish, may_unlock, is_published, may_remove_description, may_remove_segment}
+use Rattle.iox_negotiate.specs.NegotiateTable.Contents.{Contents, entry_at, segment_at, digest_cmp, place_cmp, with_entry, without_entry}
+use Rattle.iox_negotiate.specs.NegotiateTable.Contents.{with_new_segment, with_segment, without_segment, with_lock, is_own_lock}
+use Rattle.iox_negotiate.specs.NegotiateTable.Contents.{is_lock_of, is_description_of, is_left, may_make, may_publish, may_unlock}
+use Rattle.iox_negotiate.specs.NegotiateTable.Contents.{is_published, may_remove_description, may_remove_segment}
 use Rattle.iox_negotiate.specs.NegotiateTable.Nodes.{first_node}
-use Rattle.iox_negotiate.specs.NegotiateTable.Sights.{Sight, Looks, LocksFree, LocksAt, Makes, Publishes, Unlocks, OpensPublished, OpensAt, LeavesPublished, LeavesAt, Removes}
+use Rattle.iox_negotiate.specs.NegotiateTable.Sights.{Sight, Looks, LocksFree, LocksAt, Makes, Publishes, Unlocks, OpensPublished}
+use Rattle.iox_negotiate.specs.NegotiateTable.Sights.{OpensAt, LeavesPublished, LeavesAt, Removes}
 use Rattle.iox_negotiate.specs.NegotiateTable.declared.entry.Entry.{Entry}
 use Rattle.iox_negotiate.specs.NegotiateTable.declared.entry.Entry.TheVariants.{Locked, Described}
 use Rattle.iox_negotiate.specs.NegotiateTable.declared.node.Node.{Node}
@@ -30,7 +36,8 @@ use Rattle.iox_negotiate.specs.NegotiateTable.declared.segment.Segment.{Segment}
 use Rattle.iox_negotiate.specs.NegotiateTable.declared.segment.Segment.TheVariants.{Open}
 use Rattle.iox_negotiate.proofs.Maps.{insert-all, remove-all, set-all, set-found, found-all}
 use Rattle.iox_negotiate.proofs.Tables.{digest-exact, place-exact}
-use Rattle.iox_hub_laws.specs.NegotiateRenamedRenaming.{AreInOrder, GoBy, renamed_entry, renamed_place, renamed_table, renamed_look, renamed_lock, renamed_access}
+use Rattle.iox_hub_laws.specs.NegotiateRenamedRenaming.{AreInOrder, GoBy, renamed_entry, renamed_place, renamed_table, renamed_look}
+use Rattle.iox_hub_laws.specs.NegotiateRenamedRenaming.{renamed_lock, renamed_access}
 use Rattle.iox_hub_laws.specs.NegotiateRenamedRenamingLaws.{LeadsOn}
 use Rattle.iox_hub_laws.proofs.Numbers.{moved, eq_back, cmp_as, at_as, moved_found, moved_set, moved_gone, moved_come, weaker}
 
@@ -110,17 +117,25 @@ module _ (lives : ℕ → ℕ) (order : AreInOrder lives) where
 
   places_at : (digest : List ℕ) (number : ℕ) (segments : List ((List ℕ × ℕ) × Segment))
       → AllByRecursion (λ segment. 0 < lives segment.0.1) segments
-      → AllByRecursion (λ segment. is_at (place_cmp (digest, lives number)) (renamed_place lives segment.0) ≡ is_at (place_cmp (digest, number)) segment.0) segments
+      → AllByRecursion (λ segment. is_at (place_cmp (digest, lives number)) (renamed_place lives segment.0)
+      ≡ is_at (place_cmp (digest, number)) segment.0) segments
   places_at digest number segments all =
-      weaker (λ (segment : (List ℕ × ℕ) × Segment). 0 < lives segment.0.1) (λ (segment : (List ℕ × ℕ) × Segment). is_at (place_cmp (digest, lives number)) (renamed_place lives segment.0) ≡ is_at (place_cmp (digest, number)) segment.0)
-      (λ segment live. then_as (slice_cmp nat_cmp digest segment.0.0) (nat_cmp (lives number) (lives segment.0.1)) (nat_cmp number segment.0.1) (at_as lives order number segment.0.1 live)) segments all
+      weaker (λ (segment : (List ℕ × ℕ) × Segment). 0 < lives segment.0.1)
+      (λ (segment : (List ℕ × ℕ) × Segment). is_at (place_cmp (digest, lives number)) (renamed_place lives segment.0)
+      ≡ is_at (place_cmp (digest, number)) segment.0)
+      (λ segment live. then_as (slice_cmp nat_cmp digest segment.0.0) (nat_cmp (lives number) (lives segment.0.1))
+      (nat_cmp number segment.0.1) (at_as lives order number segment.0.1 live)) segments all
 
   places_cmp : (digest : List ℕ) (number : ℕ) (segments : List ((List ℕ × ℕ) × Segment)) → 0 < lives number
       → AllByRecursion (λ segment. 0 < lives segment.0.1) segments
-      → AllByRecursion (λ segment. place_cmp (digest, lives number) (renamed_place lives segment.0) ≡ place_cmp (digest, number) segment.0) segments
+      → AllByRecursion (λ segment. place_cmp (digest, lives number) (renamed_place lives segment.0)
+      ≡ place_cmp (digest, number) segment.0) segments
   places_cmp digest number segments here all =
-      weaker (λ (segment : (List ℕ × ℕ) × Segment). 0 < lives segment.0.1) (λ (segment : (List ℕ × ℕ) × Segment). place_cmp (digest, lives number) (renamed_place lives segment.0) ≡ place_cmp (digest, number) segment.0)
-      (λ segment live. ap (λ second. ordering_then (slice_cmp nat_cmp digest segment.0.0) second) (cmp_as lives order number segment.0.1 here live)) segments all
+      weaker (λ (segment : (List ℕ × ℕ) × Segment). 0 < lives segment.0.1)
+      (λ (segment : (List ℕ × ℕ) × Segment). place_cmp (digest, lives number) (renamed_place lives segment.0)
+      ≡ place_cmp (digest, number) segment.0)
+      (λ segment live. ap (λ second. ordering_then (slice_cmp nat_cmp digest segment.0.0) second)
+      (cmp_as lives order number segment.0.1 here live)) segments all
 
   module _ (end fewer next : ℕ) (table : Contents) (go : GoBy lives end fewer next table) where
     abbrev there : Contents
@@ -128,7 +143,8 @@ module _ (lives : ℕ → ℕ) (order : AreInOrder lives) where
 
     pub segment_there : (hash : ServiceHash) (number : ℕ) → segment_at hash (lives number) there ≡ segment_at hash number table
     segment_there hash number =
-        moved_found (renamed_place lives) (λ segment. segment) (is_at (place_cmp (hash.digest, number))) (is_at (place_cmp (hash.digest, lives number))) table.segments (places_at hash.digest number table.segments go.segments)
+        moved_found (renamed_place lives) (λ segment. segment) (is_at (place_cmp (hash.digest, number)))
+        (is_at (place_cmp (hash.digest, lives number))) table.segments (places_at hash.digest number table.segments go.segments)
         ∙ same (segment_at hash number table)
       where
         same : (found : Option Segment) → option_map (λ segment. segment) found ≡ found
@@ -146,16 +162,21 @@ module _ (lives : ℕ → ℕ) (order : AreInOrder lives) where
     make_there : (hash : ServiceHash) (number node max_nodes : ℕ)
         → may_make hash (lives number) node max_nodes there ≡ may_make hash number node max_nodes table
     make_there hash number node max_nodes =
-        ap (λ is. is && not (is_some (segment_at hash (lives number) there)) && nat_lt 0 max_nodes) (ap (is_lock_of node (lives number)) (entry_there hash next table) ∙ lock_of_as node number (entry_at hash table) (live_at hash))
-        ∙ ap (λ found. is_lock_of node number (entry_at hash table) && not (is_some found) && nat_lt 0 max_nodes) (segment_there hash number)
+        ap (λ is. is && not (is_some (segment_at hash (lives number) there)) && nat_lt 0 max_nodes)
+        (ap (is_lock_of node (lives number)) (entry_there hash next table) ∙ lock_of_as node number (entry_at hash table)
+        (live_at hash))
+        ∙ ap (λ found. is_lock_of node number (entry_at hash table) && not (is_some found) && nat_lt 0 max_nodes)
+        (segment_there hash number)
 
     publish_there : (hash : ServiceHash) (number : ℕ) → may_publish hash (lives number) there ≡ may_publish hash number table
     publish_there hash number =
-        ap (λ is. is && is_some (segment_at hash (lives number) there)) (own_lock_there hash number) ∙ ap (λ found. is_own_lock number (entry_at hash table) && is_some found) (segment_there hash number)
+        ap (λ is. is && is_some (segment_at hash (lives number) there)) (own_lock_there hash number) ∙ ap
+        (λ found. is_own_lock number (entry_at hash table) && is_some found) (segment_there hash number)
 
     unlock_there : (hash : ServiceHash) (number : ℕ) → may_unlock hash (lives number) there ≡ may_unlock hash number table
     unlock_there hash number =
-        ap (λ is. is && not (is_some (segment_at hash (lives number) there))) (own_lock_there hash number) ∙ ap (λ found. is_own_lock number (entry_at hash table) && not (is_some found)) (segment_there hash number)
+        ap (λ is. is && not (is_some (segment_at hash (lives number) there))) (own_lock_there hash number) ∙ ap
+        (λ found. is_own_lock number (entry_at hash table) && not (is_some found)) (segment_there hash number)
 
     published_there : (hash : ServiceHash) (number : ℕ) → is_published hash (lives number) there ≡ is_published hash number table
     published_there hash number = ap (is_description_of (lives number)) (entry_there hash next table) ∙ description_as number
@@ -164,57 +185,73 @@ module _ (lives : ℕ → ℕ) (order : AreInOrder lives) where
     remove_description_there : (hash : ServiceHash) (number : ℕ)
         → may_remove_description hash (lives number) there ≡ may_remove_description hash number table
     remove_description_there hash number =
-        ap (λ is. is && is_left (segment_at hash (lives number) there)) (published_there hash number) ∙ ap (λ found. is_published hash number table && is_left found) (segment_there hash number)
+        ap (λ is. is && is_left (segment_at hash (lives number) there)) (published_there hash number) ∙ ap
+        (λ found. is_published hash number table && is_left found) (segment_there hash number)
 
     remove_segment_there : (hash : ServiceHash) (number : ℕ)
         → may_remove_segment hash (lives number) there ≡ may_remove_segment hash number table
     remove_segment_there hash number =
-        ap (λ is. not is && is_some (segment_at hash (lives number) there)) (published_there hash number) ∙ ap (λ found. not (is_published hash number table) && is_some found) (segment_there hash number)
+        ap (λ is. not is && is_some (segment_at hash (lives number) there)) (published_there hash number) ∙ ap
+        (λ found. not (is_published hash number table) && is_some found) (segment_there hash number)
 
     -- ---- what is left there
 
     pub entry_put : (hash : ServiceHash) (entry : Entry)
         → with_entry hash (renamed_entry lives entry) there ≡ renamed_table lives next (with_entry hash entry table)
     entry_put hash entry =
-        ap (λ entries. record there { entries = entries }) (moved_set (λ digest. digest) (renamed_entry lives) (is_at (digest_cmp hash.digest)) (is_at (digest_cmp hash.digest)) table.entries entry (always _ (λ e. refl) table.entries))
+        ap (λ entries. record there { entries = entries })
+        (moved_set (λ digest. digest) (renamed_entry lives) (is_at (digest_cmp hash.digest)) (is_at (digest_cmp hash.digest))
+        table.entries entry (always _ (λ e. refl) table.entries))
 
     pub entry_gone : (hash : ServiceHash) → without_entry hash there ≡ renamed_table lives next (without_entry hash table)
     entry_gone hash =
-        ap (λ entries. record there { entries = entries }) (moved_gone (λ digest. digest) (renamed_entry lives) (is_at (digest_cmp hash.digest)) (is_at (digest_cmp hash.digest)) table.entries (always _ (λ e. refl) table.entries))
+        ap (λ entries. record there { entries = entries })
+        (moved_gone (λ digest. digest) (renamed_entry lives) (is_at (digest_cmp hash.digest)) (is_at (digest_cmp hash.digest))
+        table.entries (always _ (λ e. refl) table.entries))
 
     pub segment_come : (hash : ServiceHash) (number : ℕ) (segment : Segment) → 0 < lives number
         → with_new_segment hash (lives number) segment there ≡ renamed_table lives next (with_new_segment hash number segment table)
     segment_come hash number segment here =
-        ap (λ segments. record there { segments = segments }) (moved_come (renamed_place lives) (λ s. s) place_cmp table.segments (hash.digest, number) segment (places_cmp hash.digest number table.segments here go.segments))
+        ap (λ segments. record there { segments = segments })
+        (moved_come (renamed_place lives) (λ s. s) place_cmp table.segments (hash.digest, number) segment
+        (places_cmp hash.digest number table.segments here go.segments))
 
     pub segment_put : (hash : ServiceHash) (number : ℕ) (segment : Segment)
         → with_segment hash (lives number) segment there ≡ renamed_table lives next (with_segment hash number segment table)
     segment_put hash number segment =
         ap (λ segments. record there { segments = segments })
-        (moved_set (renamed_place lives) (λ s. s) (is_at (place_cmp (hash.digest, number))) (is_at (place_cmp (hash.digest, lives number))) table.segments segment (places_at hash.digest number table.segments go.segments))
+        (moved_set (renamed_place lives) (λ s. s) (is_at (place_cmp (hash.digest, number)))
+        (is_at (place_cmp (hash.digest, lives number))) table.segments segment
+        (places_at hash.digest number table.segments go.segments))
 
     pub segment_gone : (hash : ServiceHash) (number : ℕ)
         → without_segment hash (lives number) there ≡ renamed_table lives next (without_segment hash number table)
     segment_gone hash number =
         ap (λ segments. record there { segments = segments })
-        (moved_gone (renamed_place lives) (λ s. s) (is_at (place_cmp (hash.digest, number))) (is_at (place_cmp (hash.digest, lives number))) table.segments (places_at hash.digest number table.segments go.segments))
+        (moved_gone (renamed_place lives) (λ s. s) (is_at (place_cmp (hash.digest, number)))
+        (is_at (place_cmp (hash.digest, lives number))) table.segments (places_at hash.digest number table.segments go.segments))
 
     -- a lock comes, of the next life
     pub lock_come : (hash : ServiceHash) (node : Node) → lives table.next ≡ next
         → with_lock hash node there ≡ renamed_table lives (next + 1) (with_lock hash node table)
     lock_come hash node is =
-        ap (λ number. record there { entries = insert_entry digest_cmp there.entries hash.digest (Locked node number); next = next + 1 }) (sym is)
-        ∙ ap (λ entries. record there { entries = entries; next = next + 1 }) (moved_come (λ digest. digest) (renamed_entry lives) digest_cmp table.entries hash.digest (Locked node table.next) (always _ (λ e. refl) table.entries))
+        ap (λ number. record there { entries = insert_entry digest_cmp there.entries hash.digest (Locked node number); next = next + 1 })
+        (sym is)
+        ∙ ap (λ entries. record there { entries = entries; next = next + 1 })
+        (moved_come (λ digest. digest) (renamed_entry lives) digest_cmp table.entries hash.digest (Locked node table.next)
+        (always _ (λ e. refl) table.entries))
 
     -- ---- the lives go by their numbers after it, too
 
     pub go_entries : (entries : List (List ℕ × Entry)) → AllByRecursion (λ entry. 0 < lives (number_of entry.1)) entries
         → GoBy lives end fewer next (record table { entries = entries })
-    go_entries entries all = record { entries = all; segments = go.segments; ahead = go.ahead; positive = go.positive; earlier = go.earlier; few = go.few }
+    go_entries entries all
+        = record { entries = all; segments = go.segments; ahead = go.ahead; positive = go.positive; earlier = go.earlier; few = go.few }
 
     pub go_segments : (segments : List ((List ℕ × ℕ) × Segment)) → AllByRecursion (λ segment. 0 < lives segment.0.1) segments
         → GoBy lives end fewer next (record table { segments = segments })
-    go_segments segments all = record { entries = go.entries; segments = all; ahead = go.ahead; positive = go.positive; earlier = go.earlier; few = go.few }
+    go_segments segments all
+        = record { entries = go.entries; segments = all; ahead = go.ahead; positive = go.positive; earlier = go.earlier; few = go.few }
 
     pub go_put : (hash : ServiceHash) (entry : Entry) → 0 < lives (number_of entry)
         → GoBy lives end fewer next (with_entry hash entry table)
@@ -233,7 +270,8 @@ module _ (lives : ℕ → ℕ) (order : AreInOrder lives) where
     pub go_segment_put : (hash : ServiceHash) (number : ℕ) (segment : Segment)
         → GoBy lives end fewer next (with_segment hash number segment table)
     go_segment_put hash number segment =
-        go_segments _ (set-found (λ (e : (List ℕ × ℕ) × Segment). 0 < lives e.0.1) (is_at (place_cmp (hash.digest, number))) segment table.segments (λ x v found live. live) go.segments)
+        go_segments _ (set-found (λ (e : (List ℕ × ℕ) × Segment). 0 < lives e.0.1) (is_at (place_cmp (hash.digest, number))) segment
+        table.segments (λ x v found live. live) go.segments)
 
     pub go_segment_gone : (hash : ServiceHash) (number : ℕ) → GoBy lives end fewer next (without_segment hash number table)
     go_segment_gone hash number = go_segments _
@@ -287,7 +325,11 @@ module _ (lives : ℕ → ℕ) (order : AreInOrder lives) where
         let later : new.next ≡ table.next + 1 = ap (λ t. t.next) same in
         let below : table.next < end = omega (arith, later, within) in (
           next + 1,
-          inl (ap (renamed_lock lives) is ∙ ap (λ n. Taken n) (next_is below), ap (renamed_table lives (next + 1)) same ∙ sym (lock_come hash node (next_is below))),
+          inl (
+            ap (renamed_lock lives) is ∙ ap (λ n. Taken n) (next_is below),
+            ap (renamed_table lives (next + 1)) same ∙ sym
+                (lock_come hash node (next_is below)),
+          ),
           subst (λ t. GoBy lives end fewer (next + 1) t) (sym same) (go_lock hash node below),
         )
     locks_free hash node answer new within false full (inr (is, same))
@@ -295,10 +337,16 @@ module _ (lives : ℕ → ℕ) (order : AreInOrder lives) where
 
     locks_at : (found : Option Entry) (hash : ServiceHash) (node : Node) (answer : LockAnswer) (new : Contents) → table.next ≤ end
         → new.next ≤ end → LocksAt found hash node table answer new
-        → On new (λ later. LocksAt (option_map (renamed_entry lives) found) hash node there (renamed_lock lives answer) (renamed_table lives later new))
+        → On new (λ later. LocksAt (option_map (renamed_entry lives) found) hash node there (renamed_lock lives answer)
+        (renamed_table lives later new))
     locks_at None hash node answer new before within locks =
-        let (later, does, go_on) = locks_free hash node answer new within (nat_eq table.next (2 ^ 64 - 1)) (here_few before (nat_eq table.next (2 ^ 64 - 1)) refl) locks in
-        (later, subst (λ full. LocksFree full hash node there (renamed_lock lives answer) (renamed_table lives later new)) (sym (there_few before (nat_eq next (2 ^ 64 - 1)) refl)) does, go_on)
+        let (later, does, go_on) = locks_free hash node answer new within (nat_eq table.next (2 ^ 64 - 1))
+        (here_few before (nat_eq table.next (2 ^ 64 - 1)) refl) locks in (
+          later,
+          subst (λ full. LocksFree full hash node there (renamed_lock lives answer) (renamed_table lives later new))
+              (sym (there_few before (nat_eq next (2 ^ 64 - 1)) refl)) does,
+          go_on,
+        )
     locks_at (Some (Locked by number)) hash node answer new before within (is, same)
         = still new _ same (ap (renamed_lock lives) is, ap (renamed_table lives next) same)
     locks_at (Some (Described number bytes)) hash node answer new before within (is, same)
@@ -328,14 +376,24 @@ module _ (lives : ℕ → ℕ) (order : AreInOrder lives) where
 
     unlocks : (may : Bool) (hash : ServiceHash) (new : Contents) → Unlocks may hash table new
         → On new (λ later. Unlocks may hash there (renamed_table lives later new))
-    unlocks true hash new same = (next, ap (renamed_table lives next) same ∙ sym (entry_gone hash), subst (λ t. GoBy lives end fewer next t) (sym same) (go_gone hash))
+    unlocks true hash new same
+        = (
+          next,
+          ap (renamed_table lives next) same ∙ sym (entry_gone hash),
+          subst (λ t. GoBy lives end fewer next t) (sym same)
+              (go_gone hash),
+        )
     unlocks false hash new same = still new _ same (ap (renamed_table lives next) same)
 
     opens_published : (segment : Option Segment) (hash : ServiceHash) (number node : ℕ) (answer : OpenSegmentAnswer) (new : Contents)
         → OpensPublished segment hash number node table answer new
         → On new (λ later. OpensPublished segment hash (lives number) node there answer (renamed_table lives later new))
-    opens_published (Some segment) hash number node answer new (after, opens, same) =
-        (next, (after, opens, ap (renamed_table lives next) same ∙ sym (segment_put hash number after)), subst (λ t. GoBy lives end fewer next t) (sym same) (go_segment_put hash number after))
+    opens_published (Some segment) hash number node answer new (after, opens, same) = (
+      next,
+      (after, opens, ap (renamed_table lives next) same ∙ sym (segment_put hash number after)),
+      subst
+          (λ t. GoBy lives end fewer next t) (sym same) (go_segment_put hash number after),
+    )
     opens_published None hash number node answer new (is, same) = still new _ same (is, ap (renamed_table lives next) same)
 
     opens_at : (published : Bool) (segment : Option Segment) (hash : ServiceHash) (number node : ℕ) (answer : OpenSegmentAnswer)
@@ -347,8 +405,12 @@ module _ (lives : ℕ → ℕ) (order : AreInOrder lives) where
     leaves_published : (segment : Option Segment) (hash : ServiceHash) (number node : ℕ) (answer : LeaveAnswer) (new : Contents)
         → LeavesPublished segment hash number node table answer new
         → On new (λ later. LeavesPublished segment hash (lives number) node there answer (renamed_table lives later new))
-    leaves_published (Some segment) hash number node answer new (is, same) =
-        (next, (is, ap (renamed_table lives next) same ∙ sym (segment_put hash number _)), subst (λ t. GoBy lives end fewer next t) (sym same) (go_segment_put hash number _))
+    leaves_published (Some segment) hash number node answer new (is, same) = (
+      next,
+      (is, ap (renamed_table lives next) same ∙ sym (segment_put hash number _)),
+      subst (λ t. GoBy lives end fewer next t)
+          (sym same) (go_segment_put hash number _),
+    )
     leaves_published None hash number node answer new (is, same) = still new _ same (is, ap (renamed_table lives next) same)
 
     leaves_at : (published : Bool) (segment : Option Segment) (hash : ServiceHash) (number node : ℕ) (answer : LeaveAnswer)
@@ -372,30 +434,54 @@ module _ (lives : ℕ → ℕ) (order : AreInOrder lives) where
     pub sight_as : (access : Access) (new : Contents) → table.next ≤ end → new.next ≤ end → Sight table access new
         → On new (λ later. Sight there (renamed_access lives access) (renamed_table lives later new))
     sight_as (Look hash answer) new before within (looks, same) =
-        still new _ same (subst (λ found. Looks found (renamed_look lives answer)) (sym (entry_there hash next table)) (looks_as (entry_at hash table) answer looks), ap (renamed_table lives next) same)
+        still new _ same (
+          subst (λ found. Looks found (renamed_look lives answer)) (sym (entry_there hash next table))
+              (looks_as (entry_at hash table) answer looks),
+          ap (renamed_table lives next) same,
+        )
     sight_as (Lock hash node answer) new before within locks =
-        moved_test new (λ found later. LocksAt found hash (Own node) there (renamed_lock lives answer) (renamed_table lives later new)) (option_map (renamed_entry lives) (entry_at hash table)) (entry_at hash there) (entry_there hash next table)
+        moved_test new (λ found later. LocksAt found hash (Own node) there (renamed_lock lives answer) (renamed_table lives later new))
+        (option_map (renamed_entry lives) (entry_at hash table)) (entry_at hash there) (entry_there hash next table)
         (locks_at (entry_at hash table) hash (Own node) answer new before within locks)
     sight_as (MakeSegment hash number node max_nodes answer) new before within does =
-        moved_test new (λ may later. Makes may hash (lives number) node max_nodes there answer (renamed_table lives later new)) (may_make hash number node max_nodes table) (may_make hash (lives number) node max_nodes there) (make_there hash number node max_nodes)
+        moved_test new (λ may later. Makes may hash (lives number) node max_nodes there answer (renamed_table lives later new))
+        (may_make hash number node max_nodes table) (may_make hash (lives number) node max_nodes there)
+        (make_there hash number node max_nodes)
         (makes (may_make hash number node max_nodes table) hash number node max_nodes answer new
         (λ is. lock_live node number (entry_at hash table) (live_at hash) (split_true _ _ (split_true _ _ is).0).0) does)
     sight_as (Publish hash number bytes answer) new before within does =
-        moved_test new (λ may later. Publishes may hash (lives number) bytes there answer (renamed_table lives later new)) (may_publish hash number table) (may_publish hash (lives number) there) (publish_there hash number)
-        (publishes (may_publish hash number table) hash number bytes answer new (λ is. own_live number (entry_at hash table) (live_at hash) (split_true _ _ is).0) does)
+        moved_test new (λ may later. Publishes may hash (lives number) bytes there answer (renamed_table lives later new))
+        (may_publish hash number table) (may_publish hash (lives number) there) (publish_there hash number)
+        (publishes (may_publish hash number table) hash number bytes answer new
+        (λ is. own_live number (entry_at hash table) (live_at hash) (split_true _ _ is).0) does)
     sight_as (Unlock hash number) new before within does =
-        moved_test new (λ may later. Unlocks may hash there (renamed_table lives later new)) (may_unlock hash number table) (may_unlock hash (lives number) there) (unlock_there hash number) (unlocks (may_unlock hash number table) hash new does)
+        moved_test new (λ may later. Unlocks may hash there (renamed_table lives later new)) (may_unlock hash number table)
+        (may_unlock hash (lives number) there) (unlock_there hash number) (unlocks (may_unlock hash number table) hash new does)
     sight_as (OpenSegment hash number node answer) new before within does =
-        moved_test new (λ published later. OpensAt published (segment_at hash (lives number) there) hash (lives number) node there answer (renamed_table lives later new)) (is_published hash number table) (is_published hash (lives number) there) (published_there hash number)
-        (moved_test new (λ segment later. OpensAt (is_published hash number table) segment hash (lives number) node there answer (renamed_table lives later new)) (segment_at hash number table) (segment_at hash (lives number) there) (segment_there hash number)
+        moved_test new (λ published later. OpensAt published (segment_at hash (lives number) there) hash (lives number) node there
+        answer (renamed_table lives later new)) (is_published hash number table) (is_published hash (lives number) there)
+        (published_there hash number)
+        (moved_test new (λ segment later. OpensAt (is_published hash number table) segment hash (lives number) node there answer
+        (renamed_table lives later new)) (segment_at hash number table) (segment_at hash (lives number) there)
+        (segment_there hash number)
         (opens_at (is_published hash number table) (segment_at hash number table) hash number node answer new does))
     sight_as (Leave hash number node answer) new before within does =
-        moved_test new (λ published later. LeavesAt published (segment_at hash (lives number) there) hash (lives number) node there answer (renamed_table lives later new)) (is_published hash number table) (is_published hash (lives number) there) (published_there hash number)
-        (moved_test new (λ segment later. LeavesAt (is_published hash number table) segment hash (lives number) node there answer (renamed_table lives later new)) (segment_at hash number table) (segment_at hash (lives number) there) (segment_there hash number)
+        moved_test new (λ published later. LeavesAt published (segment_at hash (lives number) there) hash (lives number) node there
+        answer (renamed_table lives later new)) (is_published hash number table) (is_published hash (lives number) there)
+        (published_there hash number)
+        (moved_test new (λ segment later. LeavesAt (is_published hash number table) segment hash (lives number) node there answer
+        (renamed_table lives later new)) (segment_at hash number table) (segment_at hash (lives number) there)
+        (segment_there hash number)
         (leaves_at (is_published hash number table) (segment_at hash number table) hash number node answer new does))
     sight_as (RemoveDescription hash number answer) new before within does =
-        moved_test new (λ may later. Removes may (without_entry hash there) there answer (renamed_table lives later new)) (may_remove_description hash number table) (may_remove_description hash (lives number) there) (remove_description_there hash number)
-        (removes (may_remove_description hash number table) (without_entry hash table) (without_entry hash there) answer new (entry_gone hash) (go_gone hash) does)
+        moved_test new (λ may later. Removes may (without_entry hash there) there answer (renamed_table lives later new))
+        (may_remove_description hash number table) (may_remove_description hash (lives number) there)
+        (remove_description_there hash number)
+        (removes (may_remove_description hash number table) (without_entry hash table) (without_entry hash there) answer new
+        (entry_gone hash) (go_gone hash) does)
     sight_as (RemoveSegment hash number answer) new before within does =
-        moved_test new (λ may later. Removes may (without_segment hash (lives number) there) there answer (renamed_table lives later new)) (may_remove_segment hash number table) (may_remove_segment hash (lives number) there) (remove_segment_there hash number)
-        (removes (may_remove_segment hash number table) (without_segment hash number table) (without_segment hash (lives number) there) answer new (segment_gone hash number) (go_segment_gone hash number) does)
+        moved_test new (λ may later. Removes may (without_segment hash (lives number) there) there answer
+        (renamed_table lives later new)) (may_remove_segment hash number table) (may_remove_segment hash (lives number) there)
+        (remove_segment_there hash number)
+        (removes (may_remove_segment hash number table) (without_segment hash number table) (without_segment hash (lives number) there)
+        answer new (segment_gone hash number) (go_segment_gone hash number) does)

@@ -57,5 +57,7 @@ FoundAsBefore {V} service number old new = (one : ℕ) (value : V) → service v
 abbrev pub LeftIsFound : Type 0 → Type 0 → Type 0 → Type 0 → Type 0
 LeftIsFound T U B D = (hash : ServiceHash) (number : ℕ) (old new : NumberedHub T U B D) → IsLeft hash number old new
     → FoundAsBefore service_of number old.factories.made new.factories.made
-    × FoundAsBefore publisher_service number old.made.publishers new.made.publishers × FoundAsBefore service_at number old.made.subscribers new.made.subscribers
-    × FoundAsBefore loan_service number old.made.loans new.made.loans × FoundAsBefore sample_service number old.made.samples new.made.samples
+    × FoundAsBefore publisher_service number old.made.publishers new.made.publishers
+    × FoundAsBefore service_at number old.made.subscribers new.made.subscribers
+    × FoundAsBefore loan_service number old.made.loans new.made.loans
+    × FoundAsBefore sample_service number old.made.samples new.made.samples

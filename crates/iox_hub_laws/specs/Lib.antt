@@ -1,4 +1,4 @@
--- The definitions that the contract about ports under other names cites.
+-- The definitions that laws of hubs cite: of services beside one another, and of lives, ports and hubs under other numbers.
 pub mod Renaming
 pub mod RenamingLaws
 pub mod NegotiateRenamedRenaming
@@ -9,14 +9,7 @@ pub mod Laws
 pub mod Agreeing
 pub mod Locality
 pub mod Order
-pub mod Passing
-pub mod Alone
-pub mod Telling
-pub mod Beginning
-pub mod RenumberedRenaming
-pub mod Anew
 pub mod RenamedRenaming
 pub mod RenamedRenamingLaws
-pub mod RenamedAnew
 pub use Rattle.iox_hub_commands.specs as HubCommands
 pub use Rattle.iox_negotiate.specs as Negotiate

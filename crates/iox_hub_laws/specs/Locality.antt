@@ -31,11 +31,6 @@ IsOfPorts (command.Foreign pattern name steps) = ⊥
 IsOfPorts (command.Close factory) = ⊥
 IsOfPorts asked = Unit {0}
 
--- A command that makes a node.
-abbrev pub IsNode : {T : Type 0} → Command T → Type 0
-IsNode command.Node = Unit {0}
-IsNode asked = ⊥
-
 -- A command that creates a service, or opens one.
 abbrev pub IsOpening : {T : Type 0} → Command T → Type 0
 IsOpening (command.Create node name options attributes steps) = Unit {0}
@@ -139,7 +134,8 @@ module _ {T U B D : Type 0} where
     -- they agree on it again. The tables of both came about by accesses and foreign steps, and neither has a number twice.
     abbrev pub CloseAnswersAlike : Type 0
     CloseAnswersAlike = (hash : ServiceHash) (mine : ℕ → Bool) (asked : Command T) (one new other : NumberedHub T U B D) (reply : Reply T)
-        → IsClose asked → IsReached one.hub.table → IsReached other.hub.table → NumbersRise one → NumbersRise other → NumbersOnce one.hub → NumbersOnce other.hub
+        → IsClose asked → IsReached one.hub.table → IsReached other.hub.table → NumbersRise one → NumbersRise other
+        → NumbersOnce one.hub → NumbersOnce other.hub
         → AgreeOn hash mine one other → Concerns mine asked one other → HashFound hash (hash_asked asked one)
         → step asked one (Ok reply) new
         → (after : NumberedHub T U B D) × step asked other (Ok reply) after × AgreeOn hash mine new after

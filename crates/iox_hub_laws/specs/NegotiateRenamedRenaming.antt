@@ -3,7 +3,8 @@ use Rattle.std.specs.Prelude.{ℕ, ◌≡◌, ◌+◌, ◌-◌, ◌^◌, ◌<◌
 use Rattle.std.specs.List.{AllByRecursion}
 use Rattle.iox_negotiate.specs.Lives.{number_of}
 use Rattle.iox_negotiate.specs.declared.factory.Membership.{Membership}
-use Rattle.iox_negotiate.specs.NegotiateBase.Access.{Access, Look, Lock, MakeSegment, Publish, Unlock, OpenSegment, Leave, RemoveDescription, RemoveSegment}
+use Rattle.iox_negotiate.specs.NegotiateBase.Access.{Access, Look, Lock, MakeSegment, Publish, Unlock, OpenSegment, Leave}
+use Rattle.iox_negotiate.specs.NegotiateBase.Access.{RemoveDescription, RemoveSegment}
 use Rattle.iox_negotiate.specs.NegotiateBase.declared.answer.LockAnswer.{LockAnswer}
 use Rattle.iox_negotiate.specs.NegotiateBase.declared.answer.LockAnswer.TheVariants.{Taken}
 use Rattle.iox_negotiate.specs.NegotiateBase.declared.answer.LookAnswer.{LookAnswer}

@@ -54,11 +54,24 @@ renamed_made by made = record {
 -- a factory of a service, under its other number, of a life under its other number
 abbrev pub renamed_factory : Renaming → MadeFactory → MadeFactory
 renamed_factory by (made.PublishSubscribe factory) =
-    made.PublishSubscribe (record factory { service = record factory.service { membership = renamed_member by.services factory.service.membership }; owner = by.owners factory.owner })
+    made.PublishSubscribe
+    (record factory {
+      service = record factory.service { membership = renamed_member by.services factory.service.membership };
+      owner
+          = by.owners factory.owner;
+    })
 renamed_factory by (made.Event factory) =
-    made.Event (record factory { service = record factory.service { membership = renamed_member by.services factory.service.membership }; owner = by.owners factory.owner })
+    made.Event (record factory {
+      service = record factory.service { membership = renamed_member by.services factory.service.membership };
+      owner
+          = by.owners factory.owner;
+    })
 renamed_factory by (made.RequestResponse factory) =
-    made.RequestResponse (record factory { service = record factory.service { membership = renamed_member by.services factory.service.membership }; owner = by.owners factory.owner })
+    made.RequestResponse (record factory {
+      service = record factory.service { membership = renamed_member by.services factory.service.membership };
+      owner
+          = by.owners factory.owner;
+    })
 
 module _ {T U B D : Type 0} where
   -- the domain of a life under its other number; who decides in it is the same

@@ -80,12 +80,15 @@ module _ {T U B D : Type 0} (step : Command T → NumberedHub T U B D → Result
   abbrev pub EachGoesByOtherNumbers : Type 0
   EachGoesByOtherNumbers = (by : Renaming) (end fewer next last without count : ℕ) (asked : Command T) (old new : NumberedHub T U B D)
       (answer : Result (Reply T) AllocError)
-      → AreInOrder by.services → AreInOrder by.owners → IsReached old.hub.table → GoesBy by end fewer next last without count old → new.hub.table.next ≤ end → new.hub.factories ≤ last → step asked old answer new
-      → (later counted : ℕ) × step asked (renamed_numbered by next count old) answer (renamed_numbered by later counted new) × GoesBy by end fewer later last without counted new
+      → AreInOrder by.services → AreInOrder by.owners → IsReached old.hub.table → GoesBy by end fewer next last without count old
+      → new.hub.table.next ≤ end → new.hub.factories ≤ last → step asked old answer new
+      → (later counted : ℕ) × step asked (renamed_numbered by next count old) answer (renamed_numbered by later counted new)
+      × GoesBy by end fewer later last without counted new
 
   -- So it is with commands of ports, one after the other.
   abbrev pub RunGoesByAnyNumber : Type 0
   RunGoesByAnyNumber = (by : Renaming) (next count : ℕ) (commands : List (Command T)) (old new : NumberedHub T U B D)
       (replies : List (Reply T))
-      → AreInOrder by.services → HaveNumbers by old.hub.services.domains → AllByRecursion IsOfPorts commands → Runs step commands old replies new
+      → AreInOrder by.services → HaveNumbers by old.hub.services.domains → AllByRecursion IsOfPorts commands
+      → Runs step commands old replies new
       → Runs step commands (renamed_numbered by next count old) replies (renamed_numbered by next count new)

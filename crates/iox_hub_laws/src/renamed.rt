@@ -1,19 +1,18 @@
-//! What commands do depends on no number of a life, and on none of a factory that the hub counts; so a service alone has all of
-//! its numbers counted anew: laws of every hub. A law is the contract of a function that does nothing. A proof cites a law by a
-//! call of its function; what it states is then among the facts of the caller:
+//! What commands do depends on no number of a life, and on none of a factory that the hub counts: a law of every hub. The law is
+//! the contract of a function that does nothing. A proof cites a law by a call of its function; what it states is then among the
+//! facts of the caller:
 //!
 //! ```
-//! all_numbers_are_counted_anew::<u64, (), FixedHandlers, FixedDegradation>();
+//! commands_go_by_any_number::<u64, (), FixedHandlers, FixedDegradation>();
 //! ```
 
 ghost use Rattle.iox_hub_laws.specs.HubCommands.DescribeBase.Detail.{detail};
 ghost use Rattle.iox_hub_laws.specs.HubCommands.DescribeBase.declared.type_detail.TypeVariant.TheVariants.{FixedSize};
 ghost use Rattle.iox_hub_laws.specs.HubCommands.Asked.{types_of};
-ghost use Rattle.iox_hub_laws.specs.RenamedAnew.{EachServiceIsAlone, FixedStep};
 ghost use Rattle.iox_hub_laws.specs.RenamedRenamingLaws.{EachGoesByOtherNumbers, GoesByAnyNumber, LooksAtNoService, RunGoesByAnyNumber};
 ghost use Rattle.iox_hub_laws.specs.HubCommands.CommandSteps.{Step};
 
-use crate::renumbered::{PublisherHandlers, SubscriberHandler, Words, ZeroCopySend};
+use crate::locality::{PublisherHandlers, SubscriberHandler, Words, ZeroCopySend};
 
 /// Where who decides doesn't look at the number of the service: a command that makes a port, or names one, a loan or a sample,
 /// does in a hub whose lives and counted factories go by other numbers what it does in the hub, and is replied to in the same
@@ -37,30 +36,4 @@ pub fn commands_go_by_any_number<
         → EachGoesByOtherNumbers (Step (detail FixedSize T.name T.size T.alignment) (detail FixedSize U.name U.size U.alignment)
         (types_of T.name T.size T.alignment U.name U.size U.alignment) T.is_default U.is_default B.fixed
         (λ handlers. B.degrades handlers) (λ handlers. B.decides handlers) D.fixed (λ handler. D.degrades handler)) }
-{}
-
-/// In any run of a new hub, the commands of a service, with those that make nodes, are a run of a new hub by themselves, with the
-/// same replies, by the service's own numbers: of factories, ports, loans and samples, of lives, and of the factories that a hub
-/// counts. None is passed over. So it is where who decides doesn't look at the number of the service, no memory was wanted to
-/// create or open a service, and no number ran out. It is the contract of a function that does nothing.
-pub fn all_numbers_are_counted_anew<
-    T: Words + ZeroCopySend + Default,
-    U: Copy + ZeroCopySend + Default,
-    B: PublisherHandlers,
-    D: SubscriberHandler,
->()
-    ensures { LooksAtNoService B D B.degrades B.decides D.degrades
-        → EachServiceIsAlone (Step (detail FixedSize T.name T.size T.alignment) (detail FixedSize U.name U.size U.alignment)
-        (types_of T.name T.size T.alignment U.name U.size U.alignment) T.is_default U.is_default B.fixed
-        (λ handlers. B.degrades handlers) (λ handlers. B.decides handlers) D.fixed (λ handler. D.degrades handler)) }
-{}
-
-/// So it is in the program's hub, whose ports are decided for by fixed actions: these look at no number of a service. It is the
-/// contract of a function that does nothing.
-pub fn fixed_actions_look_at_no_service<
-    T: Words + ZeroCopySend + Default,
-    U: Copy + ZeroCopySend + Default,
->()
-    ensures { EachServiceIsAlone (FixedStep (detail FixedSize T.name T.size T.alignment) (detail FixedSize U.name U.size U.alignment)
-        (types_of T.name T.size T.alignment U.name U.size U.alignment) T.is_default U.is_default) }
 {}

@@ -74,14 +74,14 @@ module _ {T V : Type 0} (table : Service T → List (ℕ × V)) (number : ℕ) w
     replaced_alike has after one (service ∷ services) found same =
         replaced_by (has service) has service after services one found same (λ later. replaced_alike has after one services later same)
 
--- A command does to the services of a machine what keeps this of all tables: where the service that has what it names keeps it.
-pub at_one_alike : {T V W X : Type 0} (found : Service T → Option X) (Does : X → Service T → Reply T → Service T → Type 0)
-    (table : Service T → List (ℕ × V)) (f : V → W) (old new : State T) (answer : Reply T)
-    → ((it : X) (service after : Service T) → found service ≡ Some it → Does it service answer after → (number : ℕ)
+-- A command does to the services of a machine what keeps this of what goes by a number: where the service that has what it names keeps it.
+pub at_one_keeps : {T V W X : Type 0} (found : Service T → Option X) (Does : X → Service T → Reply T → Service T → Type 0)
+    (table : Service T → List (ℕ × V)) (f : V → W) (old new : State T) (answer : Reply T) (number : ℕ)
+    → ((it : X) (service after : Service T) → found service ≡ Some it → Does it service answer after
     → option_map f (at number (table after)) ≡ option_map f (at number (table service)))
-    → AtOne found Does old answer new → (number : ℕ)
+    → AtOne found Does old answer new
     → option_map f (among table number new.services) ≡ option_map f (among table number old.services)
-at_one_alike {T} {V} {W} {X} found Does table f old new answer keeps did number =
+at_one_keeps {T} {V} {W} {X} found Does table f old new answer number keeps did =
     elim (by_option (find has old.services) (IsSkipped old answer new) Did did) [
       | inl none ↦ ap (λ (state : State T). option_map f (among table number state.services)) none.1.1
       | inr one ↦ ap (λ (state : State T). option_map f (among table number state.services)) one.2.2
@@ -100,7 +100,17 @@ at_one_alike {T} {V} {W} {X} found Does table f old new answer keeps did number 
         → ((found service ≡ None) × ⊥) ⊎ ((it : X) × (found service ≡ Some it) × Does it service answer after)
         → option_map f (at number (table after)) ≡ option_map f (at number (table service))
     alike service after (inl none) = absurd none.1
-    alike service after (inr one) = keeps one.0 service after one.1 one.2 number
+    alike service after (inr one) = keeps one.0 service after one.1 one.2
+
+-- So it is with all tables.
+pub at_one_alike : {T V W X : Type 0} (found : Service T → Option X) (Does : X → Service T → Reply T → Service T → Type 0)
+    (table : Service T → List (ℕ × V)) (f : V → W) (old new : State T) (answer : Reply T)
+    → ((it : X) (service after : Service T) → found service ≡ Some it → Does it service answer after → (number : ℕ)
+    → option_map f (at number (table after)) ≡ option_map f (at number (table service)))
+    → AtOne found Does old answer new → (number : ℕ)
+    → option_map f (among table number new.services) ≡ option_map f (among table number old.services)
+at_one_alike found Does table f old new answer keeps did number =
+    at_one_keeps found Does table f old new answer number (λ it service after is does. keeps it service after is does number) did
 
 -- a command is skipped that names what no service has
 pub at_one_skips : {T X : Type 0} (found : Service T → Option X) (Does : X → Service T → Reply T → Service T → Type 0) (state : State T)

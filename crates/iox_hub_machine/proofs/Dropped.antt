@@ -61,11 +61,13 @@ module _ {T U B D : Type 0} (is_default : T → Type 0) (is_default_header : U �
     (degrades : B → DegradationCause → DegradationInfo → DegradationAction → Type 0)
     (decides : B → BackpressureInfo → BackpressureDecision → Type 0)
     (reader_degrades : D → DegradationCause → DegradationInfo → DegradationAction → Type 0) where
-  module _ (types : MessageTypeDetails) (naming : ℕ → Naming) (old new : NumberedHub T U B D) (state : State T)
-      (stands : PortsStandFor degrades decides reader_degrades naming old state) (loan : ℕ)
+  module _ (types : MessageTypeDetails) (naming : ℕ → Naming) (order : List (ℕ × ServicePorts T U)) (old new : NumberedHub T U B D)
+      (state : State T)
+      (stands : PortsStandFor degrades decides reader_degrades naming order old state) (loan : ℕ)
       (grown : HaveGrown old.hub.services.domains) where
     abbrev Result : Reply T → NumberedHub T U B D → Type 0
-    Result answer later = IsMatched degrades decides reader_degrades types is_default naming old state (command.Drop loan) answer stands
+    Result answer later = IsMatched degrades decides reader_degrades types is_default naming order old state (command.Drop loan) answer
+        stands
         later
 
     abbrev later : DomainId → ServicePorts T U → NumberedHub T U B D
@@ -87,7 +89,8 @@ module _ {T U B D : Type 0} (is_default : T → Type 0) (is_default_header : U �
           → Result reply.Done (later id (gave_up_in made.port.number made.slot ports))
       drop_there ports found goes mine =
           let after : ServicePorts T U = gave_up_in made.port.number made.slot ports in
-          let (services, does, stands_then) = machine_does degrades decides reader_degrades types is_default naming old (later id after)
+          let (order_then, services, keys, does, stands_then)
+          = machine_does degrades decides reader_degrades types is_default naming order old (later id after)
           state
           (command.Drop loan) reply.Done id ports after (naming id.service) stands found refl refl refl (out, goes)
           (subst (λ (it : List (ℕ × (ℕ × LentSlot))). ChangesAt id.service (lent_in old.made) it) (sym one_less)
@@ -117,13 +120,13 @@ module _ {T U B D : Type 0} (is_default : T → Type 0) (is_default_header : U �
           })
           (λ number one was. stands.loans number one (went_so lent_slot loan number one old.made.loans (stands.domains.loans loan) was))
           stands.samples in
-          (with_name id.service (naming id.service) naming, services, does, stands_then)
+          (with_name id.service (naming id.service) naming, order_then, services, keys, does, stands_then)
 
       -- the loan is there
       is_out : (ports : ServicePorts T U) → hub_ports id old.hub ≡ Some ports → at loan (those_of id.service (lent_in old.made)) ≡ Some out
           → is_some (loan_under hub_ports (Some made) old.hub) ≡ true
       is_out ports found mine =
-          let (service, its) = some_service degrades decides reader_degrades naming old state stands id ports found in
+          let (service, its) = some_service degrades decides reader_degrades naming order old state stands id ports found in
           ap (λ (it : Option (ServicePorts T U)). is_some (loan_there made.port.number made.slot it)) found
           ∙ ap is_some (loan_found (naming id.service) (those_of id.service (lent_in old.made)) (those_of id.service (held_in old.made))
           old.hub.expired_connection_buffer ports service loan out its mine)
@@ -135,16 +138,18 @@ module _ {T U B D : Type 0} (is_default : T → Type 0) (is_default_header : U �
     drop_by true None none is changes less = absurd (true≢false is)
     drop_by false None none is changes less = (
       naming,
+      order,
       state.services,
+      refl,
       at_one_skips (λ (service : Service T). at loan service.loans) (GivesUp loan) state
-          (no_loan_goes degrades decides reader_degrades naming old state stands loan none),
-      same_stands degrades decides reader_degrades naming old state stands loan new changes less,
+          (no_loan_goes degrades decides reader_degrades naming order old state stands loan none),
+      same_stands degrades decides reader_degrades naming order old state stands loan new changes less,
     )
     drop_by false (Some made) there is changes less =
-        let goes = loan_goes degrades decides reader_degrades naming old state stands loan made there in
+        let goes = loan_goes degrades decides reader_degrades naming order old state stands loan made there in
         absurd (true≢false (sym (is ∙ is_out made there goes.ports goes.found goes.mine)))
     drop_by true (Some made) there is changes less =
-        let goes = loan_goes degrades decides reader_degrades naming old state stands loan made there in
+        let goes = loan_goes degrades decides reader_degrades naming order old state stands loan made there in
         subst (λ (it : Hub T U B D). Result reply.Done (record new { hub = it }))
         (sym (changes ∙ changed_so gave_up_in made old.hub goes.ports goes.found true))
         (subst (λ (it : Made). Result reply.Done (record new {
@@ -153,8 +158,9 @@ module _ {T U B D : Type 0} (is_default : T → Type 0) (is_default_header : U �
         })) (sym less) (drop_there made there goes.ports goes.found goes.goes goes.mine))
 
   pub drop_simulated : DropIsSimulated is_default is_default_header degrades decides reader_degrades
-  drop_simulated loan old grown payload user_header types fixed fixed_reader naming new state answer stands
+  drop_simulated loan old grown payload user_header types fixed fixed_reader naming order new state answer stands
       ((done, is, changes, less, told), same) =
-      subst (λ (it : Reply T). IsMatched degrades decides reader_degrades types is_default naming old state (command.Drop loan) it stands
+      subst (λ (it : Reply T). IsMatched degrades decides reader_degrades types is_default naming order old state (command.Drop loan) it
+      stands
       new)
-      (sym told) (drop_by types naming old new state stands loan grown done (value_at old.made.loans loan) refl is changes less)
+      (sym told) (drop_by types naming order old new state stands loan grown done (value_at old.made.loans loan) refl is changes less)

@@ -1,5 +1,6 @@
 -- Nodes outside the hub do steps: what the hub has stands.
-use Rattle.std.proofs.Common.{◌≡◌, ℕ, ◌+◌, ◌^◌, ◌<◌, Bool, true, false, cond, ◌&&◌, nat_lt, List, [], ◌∷◌, length, map, fold, take, Option, Result, Ok, Err, refl, sym, ap, subst, ◌∙◌, inl, inr, arith}
+use Rattle.std.proofs.Common.{◌≡◌, ℕ, ◌+◌, ◌^◌, ◌<◌, Bool, true, false, cond, ◌&&◌, nat_lt, List, [], ◌∷◌, length, map, fold, take}
+use Rattle.std.proofs.Common.{Option, Result, Ok, Err, refl, sym, ap, subst, ◌∙◌, inl, inr, arith}
 use Rattle.std.proofs.lemmas.Bool.{lt-ltb}
 use Rattle.std.specs.List.{AllByRecursion, IsAmong}
 use Rattle.std.specs.declared.alloc.AllocError.{AllocError}
@@ -21,6 +22,7 @@ use Rattle.iox_command.specs.declared.refusal.Refusal.TheVariants as refusal
 use Rattle.iox_command.specs.declared.reply.Reply.{Reply}
 use Rattle.iox_command.specs.declared.reply.Reply.TheVariants as reply
 use Rattle.iox_command.specs.declared.step.ForeignStep.{ForeignStep}
+use Rattle.iox_domain.specs.declared.ports.service_ports.ServicePorts.{ServicePorts}
 use Rattle.iox_domain_machine.specs.Naming.{Naming}
 use Rattle.iox_hub_base.specs.Foreign.{told}
 use Rattle.iox_hub_base.specs.declared.hub.Hub.{Hub}
@@ -32,6 +34,8 @@ use Rattle.iox_hub_commands.specs.declared.numbered_hub.NumberedHub.{NumberedHub
 use Rattle.iox_hub_commands.specs.declared.services.made.MadeFactory.{MadeFactory}
 use Rattle.iox_hub_machine.proofs.Meantime.{same_numbers, seats_stay, service_stays}
 use Rattle.iox_hub_machine.proofs.PortsStay.{ports_stay}
+use Rattle.iox_hub_commands.specs.Steps.{PublishesInForm}
+use Rattle.iox_hub_machine.proofs.Formed.{all_formed}
 use Rattle.iox_hub_machine.proofs.SameSteps.{same_list}
 use Rattle.iox_hub_base.proofs.SameTable.{acts-keep}
 use Rattle.iox_hub_machine.specs.Seats.{seats_in}
@@ -95,8 +99,8 @@ module _ {T : Type 0} (names : List (List ℕ)) (own : HaveOwnHashes names) (typ
   module _ {U B D : Type 0} (degrades : B → DegradationCause → DegradationInfo → DegradationAction → Type 0)
       (decides : B → BackpressureInfo → BackpressureDecision → Type 0)
       (reader_degrades : D → DegradationCause → DegradationInfo → DegradationAction → Type 0)
-      (naming : ℕ → Naming) (hub : NumberedHub T U B D) (table : Contents)
-      (stands : HubStandsFor degrades decides reader_degrades names taken naming hub state) (id : table.id ≡ hub.hub.table.id)
+      (naming : ℕ → Naming) (order : List (ℕ × ServicePorts T U)) (hub : NumberedHub T U B D) (table : Contents)
+      (stands : HubStandsFor degrades decides reader_degrades names taken naming order hub state) (id : table.id ≡ hub.hub.table.id)
       (since : MessagingPattern → List ℕ → List ℕ) (goes_on : GoOn taken since)
       (stands_then : TableStands names since table after_steps) where
     factory_then : (number : ℕ) (made : MadeFactory) → FactoryStands names taken hub.hub.table state number made
@@ -117,7 +121,7 @@ module _ {T : Type 0} (names : List (List ℕ)) (own : HaveOwnHashes names) (typ
               is.1;
         }
 
-    pub hub_then : HubStandsFor degrades decides reader_degrades names since naming
+    pub hub_then : HubStandsFor degrades decides reader_degrades names since naming order
         (record hub { hub = record hub.hub { table = table } }) after_steps
     hub_then = record {
       nodes = stands.nodes;
@@ -133,7 +137,8 @@ module _ {T : Type 0} (names : List (List ℕ)) (own : HaveOwnHashes names) (typ
         opened = stands.factories.opened;
       };
       served = stands.served;
-      ports = ports_stay degrades decides reader_degrades naming hub state table hub.hub.nodes state.made.nodes hub.factories hub.pledged
+      ports = ports_stay degrades decides reader_degrades naming order hub state table hub.hub.nodes state.made.nodes hub.factories
+          hub.pledged
           after_steps.phases stands.ports;
     }
 
@@ -147,10 +152,10 @@ module _ {T U B D : Type 0} (payload user_header : Detail) (types : MessageTypeD
     (decides : B → BackpressureInfo → BackpressureDecision → Type 0) (fixed_reader : DegradationAction → D)
     (reader_degrades : D → DegradationCause → DegradationInfo → DegradationAction → Type 0) where
   module _ (names : List (List ℕ)) (pattern : MessagingPattern) (name : List ℕ) (steps : List ForeignStep) (asked : IsAmong names name)
-      (form : AllByRecursion (HasStepForm types name) steps) (taken : MessagingPattern → List ℕ → List ℕ) (naming : ℕ → Naming)
-      (old new : NumberedHub T U B D) (state : State T) (answer : Reply T) (own : HaveOwnHashes names)
+      (taken : MessagingPattern → List ℕ → List ℕ) (naming : ℕ → Naming)
+      (order : List (ℕ × ServicePorts T U)) (old new : NumberedHub T U B D) (state : State T) (answer : Reply T) (own : HaveOwnHashes names)
       (room : old.hub.table.next + length steps < 2 ^ 64)
-      (stands : HubStandsFor degrades decides reader_degrades names taken naming old state) where
+      (stands : HubStandsFor degrades decides reader_degrades names taken naming order old state) where
     -- the machine after some of the steps
     abbrev after : List ForeignStep → State T
     after some = after_steps names own types pattern name asked taken some state
@@ -165,24 +170,28 @@ module _ {T U B D : Type 0} (payload user_header : Detail) (types : MessageTypeD
     settled table some is id since goes_on stands_then step = record {
       taken = since;
       naming = naming;
+      order = order;
       after = after some;
       step = step;
-      stands = subst (λ (hub : NumberedHub T U B D). HubStandsFor degrades decides reader_degrades names since naming hub (after some))
+      stands = subst (λ (hub : NumberedHub T U B D). HubStandsFor degrades decides reader_degrades names since naming order hub
+          (after some))
           (sym is)
-          (hub_then names own types pattern name asked taken some state degrades decides reader_degrades naming old table stands id since
+          (hub_then names own types pattern name asked taken some state degrades decides reader_degrades naming order old table stands id
+          since
           goes_on stands_then);
     }
 
     acted_then : (happened : Result (Unit {0}) AllocError) → answer ≡ foreign_reply (told happened)
+        → AllByRecursion (HasStepForm types name) steps
         → ActsAll (service_hash_of pattern name) (map (table_step_of types name) steps) old.hub.table happened new.hub.table
         → new ≡ record old { hub = record old.hub { table = new.hub.table } }
         → IsFollowed payload user_header types is_default is_default_header fixed degrades decides fixed_reader reader_degrades names
         (command.Foreign pattern name steps) old new state answer
-    acted_then (Ok done) replied did is =
+    acted_then (Ok done) replied form did is =
         let all = steps-match T names types pattern name steps taken old.hub.table new.hub.table (Ok done) state own asked form room
         stands.table did in
         settled new.hub.table steps is (acts-keep _ _ old.hub.table new.hub.table (Ok done) did) all.0 all.1 all.2 (inl (replied, refl))
-    acted_then (Err lacking) replied did is =
+    acted_then (Err lacking) replied form did is =
         let all = steps-match T names types pattern name steps taken old.hub.table new.hub.table (Err lacking) state own asked form room
         stands.table did in
         settled new.hub.table (take all.2.0 steps) is (acts-keep _ _ old.hub.table new.hub.table (Err lacking) did) all.0 all.1 all.2.2
@@ -203,8 +212,9 @@ module _ {T U B D : Type 0} (payload user_header : Detail) (types : MessageTypeD
         (command.Foreign pattern name steps) old (Ok answer) new
         → IsFollowed payload user_header types is_default is_default_header fixed degrades decides fixed_reader reader_degrades names
         (command.Foreign pattern name steps) old new state answer
-    followed (acted, inl ((happened, did, is), same), other, replied) =
+    followed (acted, inl (((happened, did, is), same), forms), other, replied) =
         acted_then happened (replied ∙ ap foreign_reply is)
+        (all_formed types name steps (subst (AllByRecursion PublishesInForm) (same_list name types steps) forms))
         (subst (λ (list : List TableStep). ActsAll (service_hash_of pattern name) list old.hub.table happened new.hub.table)
         (same_list name types steps) did)
         (other ∙ ap (λ (h : Hub T U B D). record old { hub = h }) same)
@@ -213,5 +223,5 @@ module _ {T U B D : Type 0} (payload user_header : Detail) (types : MessageTypeD
 
   pub foreign_matches : ForeignMatches payload user_header types is_default is_default_header fixed degrades decides fixed_reader
       reader_degrades
-  foreign_matches names pattern name steps asked form taken naming old new state answer own room stands does =
-      followed names pattern name steps asked form taken naming old new state answer own room stands does
+  foreign_matches names pattern name steps asked own taken naming order old new state answer room stands does =
+      followed names pattern name steps asked taken naming order old new state answer own room stands does

@@ -1,6 +1,6 @@
 -- Sends of a hub that wait are given up.
 use Rattle.std.proofs.Common.{◌≡◌, ◌≢◌, ℕ, Bool, true, false, cond, Option, None, Some, refl, sym, ap, subst, inl, inr, ◌∙◌, true≢false}
-use Rattle.std.specs.Prelude.{is_some, option_and_then, MatchOption}
+use Rattle.std.specs.Prelude.{is_some, option_and_then, List, MatchOption}
 use Rattle.iox_command.specs.DomainValues.declared.backpressure.BackpressureDecision.{BackpressureDecision}
 use Rattle.iox_command.specs.DomainValues.declared.backpressure.BackpressureInfo.{BackpressureInfo}
 use Rattle.iox_command.specs.DomainValues.declared.degradation.DegradationAction.{DegradationAction}
@@ -51,7 +51,7 @@ abbrev GivesAt : {T : Type 0} → ℕ → Publisher T → Service T → Reply T 
 GivesAt number one service answered after =
     MatchOption one.blocked (IsSkipped service answered after) (λ send. Gives number one send service answered after)
 
-standing : {T : Type 0} (found : Option (Publisher T)) (one : Publisher T)
+pub standing : {T : Type 0} (found : Option (Publisher T)) (one : Publisher T)
     → option_and_then (λ (publisher : Publisher T). cond publisher.stands (Some publisher) None) found ≡ Some one → found ≡ Some one
 standing None one is = never_some one is
 standing (Some publisher) one is = by publisher.stands is
@@ -80,12 +80,12 @@ gave_counts : (T : Type 0) (count : Option ℕ) (made : Made) → counted {T = T
 gave_counts T None made = refl
 gave_counts T (Some count) made = refl
 
-some_found : {T U : Type 0} (number : ℕ) (found : Option (ServicePorts T U)) → publisher_stands number found ≡ true
+pub some_found : {T U : Type 0} (number : ℕ) (found : Option (ServicePorts T U)) → publisher_stands number found ≡ true
     → (ports : ServicePorts T U) × (found ≡ Some ports)
 some_found number None up = absurd (true≢false (sym up))
 some_found number (Some ports) up = (ports, refl)
 
-is_found : {T : Type 0} (found : Option (Publisher T)) → publisher_up found ≡ true → is_some found ≡ true
+pub is_found : {T : Type 0} (found : Option (Publisher T)) → publisher_up found ≡ true → is_some found ≡ true
 is_found None up = absurd (true≢false (sym up))
 is_found (Some publisher) up = refl
 
@@ -93,22 +93,28 @@ module _ {T U B D : Type 0} (is_default : T → Type 0) (is_default_header : U �
     (degrades : B → DegradationCause → DegradationInfo → DegradationAction → Type 0)
     (decides : B → BackpressureInfo → BackpressureDecision → Type 0)
     (reader_degrades : D → DegradationCause → DegradationInfo → DegradationAction → Type 0) where
-  module _ (types : MessageTypeDetails) (naming : ℕ → Naming) (old new : NumberedHub T U B D) (state : State T)
-      (stands : PortsStandFor degrades decides reader_degrades naming old state) (number : ℕ) (same : new ≡ record old { hub = new.hub })
+  module _ (types : MessageTypeDetails) (naming : ℕ → Naming) (order : List (ℕ × ServicePorts T U)) (old new : NumberedHub T U B D)
+      (state : State T)
+      (stands : PortsStandFor degrades decides reader_degrades naming order old state) (number : ℕ)
+      (same : new ≡ record old { hub = new.hub })
     where
       give_up_by : (count : Option ℕ) (found : Option PortId) → port_under (value_at old.made.publishers number) ≡ found
           → AtPort (GivesUp hub_ports with_hub_ports) found old.hub count new.hub
-          → IsMatched degrades decides reader_degrades types is_default naming old state (command.GiveUp number) (given_up_reply count)
+          → IsMatched degrades decides reader_degrades types is_default naming order old state (command.GiveUp number)
+          (given_up_reply count)
           stands
           new
       give_up_by count None none (nothing, changes) =
-          subst (λ (it : Option ℕ). IsMatched degrades decides reader_degrades types is_default naming old state (command.GiveUp number)
+          subst (λ (it : Option ℕ). IsMatched degrades decides reader_degrades types is_default naming order old state
+          (command.GiveUp number)
           (given_up_reply it) stands new) (sym nothing) (
             naming,
+            order,
             state.services,
+            refl,
             at_one_skips (publisher_in number) (GivesAt number) state
-                (no_publisher_goes degrades decides reader_degrades naming old state stands number none),
-            same_stands degrades decides reader_degrades naming old state stands number new changes
+                (no_publisher_goes degrades decides reader_degrades naming order old state stands number none),
+            same_stands degrades decides reader_degrades naming order old state stands number new changes
                 (ap (λ (it : NumberedHub T U B D). it.made) same),
           )
       give_up_by count (Some port) there gives =
@@ -120,13 +126,14 @@ module _ {T U B D : Type 0} (is_default : T → Type 0) (is_default_header : U �
           let buffer = old.hub.expired_connection_buffer in
           let (after, does, changes) = subst (λ (it : Option (ServicePorts T U)). AtDomain
           (λ (one : ServicePorts T U). with_hub_ports id one old.hub) (GivesUpBy port.number) it old.hub count new.hub) found gives in
-          let (one, its) = some_service degrades decides reader_degrades naming old state stands id ports found in
+          let (one, its) = some_service degrades decides reader_degrades naming order old state stands id ports found in
           let up = sym (publisher_as (naming id.service) lent held buffer ports one its port.number)
           ∙ sym (ap (publisher_stands port.number) found) ∙ known.1 in
           let some : (naming id.service).publisher port.number ≢ 0 =
           (its.named_publishers.each ((naming id.service).publisher port.number)
           (is_found (at ((naming id.service).publisher port.number) one.publishers) up)).2 in
-          ports_alone degrades decides reader_degrades types is_default naming old state (command.GiveUp number) (given_up_reply count)
+          ports_alone degrades decides reader_degrades types is_default naming order old state (command.GiveUp number)
+          (given_up_reply count)
           stands
           new id ports after found (same ∙ ap (λ (hub : Hub T U B D). record old { hub = hub }) changes) (gave_counts T count state.made)
           (port.number, known.0, λ zero. some (known.0 ∙ zero))
@@ -141,7 +148,8 @@ module _ {T U B D : Type 0} (is_default : T → Type 0) (is_default_header : U �
           (λ services did. giving_alike number state (answered_with (given_up_reply count) services state) (given_up_reply count) did)
 
   pub give_up_simulated : GiveUpIsSimulated is_default is_default_header degrades decides reader_degrades
-  give_up_simulated number old payload user_header types fixed fixed_reader naming new state answer stands ((count, gives, told), same) =
-      subst (λ (it : Reply T). IsMatched degrades decides reader_degrades types is_default naming old state (command.GiveUp number) it
+  give_up_simulated number old payload user_header types fixed fixed_reader naming order new state answer stands
+      ((count, gives, told), same) =
+      subst (λ (it : Reply T). IsMatched degrades decides reader_degrades types is_default naming order old state (command.GiveUp number) it
       stands new) (sym told)
-      (give_up_by types naming old new state stands number same count (port_under (value_at old.made.publishers number)) refl gives)
+      (give_up_by types naming order old new state stands number same count (port_under (value_at old.made.publishers number)) refl gives)

@@ -1,5 +1,5 @@
 -- Loans and samples of a hub that go by numbers, or by none.
-use Rattle.std.proofs.Common.{◌≡◌, ℕ, true, List, ◌∷◌, ◌++◌, None, Some, sym, ap, subst, ◌∙◌}
+use Rattle.std.proofs.Common.{◌≡◌, ℕ, true, List, None, Some, sym, ap, subst, ◌∙◌}
 use Rattle.std.specs.Option.{option_map}
 use Rattle.std.specs.Prelude.{find, is_some}
 use Rattle.iox_command.specs.DomainValues.declared.backpressure.BackpressureDecision.{BackpressureDecision}
@@ -20,11 +20,10 @@ use Rattle.iox_hub_commands.specs.declared.numbered_hub.NumberedHub.{NumberedHub
 use Rattle.iox_hub_commands.specs.declared.ports.made.Made.{Made}
 use Rattle.iox_hub_commands.specs.declared.ports.made.MadeLoan.{MadeLoan}
 use Rattle.iox_hub_commands.specs.declared.ports.made.MadeSample.{MadeSample}
-use Rattle.iox_hub_machine.specs.Ports.{ports_here}
 use Rattle.iox_hub_machine.specs.Standing.{PortsStandFor, lent_slot, held_sample, lent_in, held_in}
 use Rattle.iox_hub_machine.proofs.Housed.{some_here, some_ports, stands_here}
 use Rattle.iox_hub_machine.proofs.Numbered.{goes_so, is_its_own, no_loan, no_sample}
-use Rattle.iox_hub_machine.proofs.Parting.{is_parted}
+use Rattle.iox_hub_machine.proofs.Parting.{is_parted, order_has}
 use Rattle.iox_hub_machine.proofs.Placed.{is_placed}
 use Rattle.iox_machine.specs.Service.{Service}
 use Rattle.iox_machine.specs.State.{State}
@@ -52,7 +51,8 @@ module _ {T U B D : Type 0} where
   module _ (degrades : B → DegradationCause → DegradationInfo → DegradationAction → Type 0)
       (decides : B → BackpressureInfo → BackpressureDecision → Type 0)
       (reader_degrades : D → DegradationCause → DegradationInfo → DegradationAction → Type 0) (naming : ℕ → Naming)
-      (old : NumberedHub T U B D) (state : State T) (stands : PortsStandFor degrades decides reader_degrades naming old state)
+      (order : List (ℕ × ServicePorts T U)) (old : NumberedHub T U B D) (state : State T)
+      (stands : PortsStandFor degrades decides reader_degrades naming order old state)
       (number : ℕ) where
     pub loan_goes : (made : MadeLoan) → value_at old.made.loans number ≡ Some made
         → GoesThere old made.port.domain number (lent_slot made).1 (lent_in old.made)
@@ -71,29 +71,31 @@ module _ {T U B D : Type 0} where
     no_loan_goes none =
         no_loan naming (lent_in old.made) (held_in old.made) old.hub.expired_connection_buffer number
         (goes_so number lent_slot old.made.loans ∙ ap (option_map lent_slot) none)
-        (ports_here old.hub.services.domains) state.services stands.domains.each
+        order state.services stands.domains.each
 
     pub no_sample_goes : value_at old.made.samples number ≡ None
         → find (λ (service : Service T). is_some (at number service.samples)) state.services ≡ None
     no_sample_goes none =
         no_sample naming (lent_in old.made) (held_in old.made) old.hub.expired_connection_buffer number
         (goes_so number held_sample old.made.samples ∙ ap (option_map held_sample) none)
-        (ports_here old.hub.services.domains) state.services stands.domains.each
+        order state.services stands.domains.each
 
     -- a hub that has the same services and numbers
     pub same_stands : (new : NumberedHub T U B D) → new.hub ≡ old.hub → new.made ≡ old.made
-        → PortsStandFor degrades decides reader_degrades naming new state
+        → PortsStandFor degrades decides reader_degrades naming order new state
     same_stands new same made =
-        subst (λ (it : Hub T U B D). PortsStandFor degrades decides reader_degrades naming (record new { hub = it }) state) (sym same)
-        (subst (λ (it : Made). PortsStandFor degrades decides reader_degrades naming (record new { hub = old.hub; made = it }) state)
+        subst (λ (it : Hub T U B D). PortsStandFor degrades decides reader_degrades naming order (record new { hub = it }) state) (sym same)
+        (subst (λ (it : Made). PortsStandFor degrades decides reader_degrades naming order (record new { hub = old.hub; made = it }) state)
         (sym made) record {
           here = stands.here;
+          same = stands.same;
           domains = stands.domains;
           numbers = stands.numbers;
           loans = stands.loans;
           samples = stands.samples;
           publishers = stands.publishers;
           subscribers = stands.subscribers;
+          named = stands.named;
           slices = stands.slices;
           publishers_handled = stands.publishers_handled;
           subscribers_handled = stands.subscribers_handled;
@@ -102,17 +104,19 @@ module _ {T U B D : Type 0} where
   module _ (degrades : B → DegradationCause → DegradationInfo → DegradationAction → Type 0)
       (decides : B → BackpressureInfo → BackpressureDecision → Type 0)
       (reader_degrades : D → DegradationCause → DegradationInfo → DegradationAction → Type 0) (naming : ℕ → Naming)
-      (old : NumberedHub T U B D) (state : State T) (stands : PortsStandFor degrades decides reader_degrades naming old state) where
+      (order : List (ℕ × ServicePorts T U)) (old : NumberedHub T U B D) (state : State T)
+      (stands : PortsStandFor degrades decides reader_degrades naming order old state) where
     -- the ports of a domain stand for some service of the machine
     pub some_service : (id : DomainId) (ports : ServicePorts T U) → hub_ports id old.hub ≡ Some ports
         → (service : Service T) × StandsFor (naming id.service) (those_of id.service (lent_in old.made))
         (those_of id.service (held_in old.made)) old.hub.expired_connection_buffer ports service
     some_service id ports found =
         let (domain, is, same) = some_ports (domain_at id old.hub.services) ports found in
-        let between = is_parted id.service old.hub.services.domains domain (stands_here id ports old.hub domain is) in
-        let placed = is_placed naming (lent_in old.made) (held_in old.made) old.hub.expired_connection_buffer between.before between.behind
+        let parts = is_parted id.service ports order
+        (order_has order old.hub.services.domains stands.here stands.same id.service domain (stands_here id ports old.hub domain is)
+        ∙ ap (λ (it : ServicePorts T U). Some it) same) in
+        let placed = is_placed naming (lent_in old.made) (held_in old.made) old.hub.expired_connection_buffer parts.before parts.behind
         (id.service, ports) state.services
         (subst (λ (domains : List (ℕ × ServicePorts T U)). DomainsStandFor naming (lent_in old.made) (held_in old.made)
-        old.hub.expired_connection_buffer domains state.services)
-        (between.now ∙ ap (λ (it : ServicePorts T U). between.before ++ (id.service, it) ∷ between.behind) same) stands.domains) in
+        old.hub.expired_connection_buffer domains state.services) parts.now stands.domains) in
         (placed.service, placed.stands)

@@ -25,7 +25,7 @@ counts_itself number key same = ap (λ (b : Bool). cond b 1 0) (eq-eqb number ke
 
 module _ {V : Type 0} (number : ℕ) where
   -- where it doesn't come nothing is removed
-  none_removed : (table : List (ℕ × V)) → how_often number (keys_of table) ≡ 0 → removed number table ≡ table
+  pub none_removed : (table : List (ℕ × V)) → how_often number (keys_of table) ≡ 0 → removed number table ≡ table
   none_removed [] none = refl
   none_removed (entry ∷ table) none = ⊎_elim
       (λ same. absurd (omega (arith, none, counts_itself number entry.0 same.1)))

@@ -1,5 +1,6 @@
 -- Loans of a hub are written.
-use Rattle.std.proofs.Common.{◌≡◌, ◌&&◌, ℕ, zero, suc, Bool, true, false, List, [], ◌∷◌, length, get_or, map, set, Option, None, Some, refl, sym, ap, subst, inl, inr, ◌∙◌, arith}
+use Rattle.std.proofs.Common.{◌≡◌, ◌&&◌, ℕ, zero, suc, Bool, true, false, List, [], ◌∷◌, length, get_or, map, set, Option, None, Some}
+use Rattle.std.proofs.Common.{refl, sym, ap, subst, inl, inr, ◌∙◌, arith}
 use Rattle.std.proofs.lemmas.Bool.Decides.{nat_tests}
 use Rattle.std.specs.List.{list_all}
 use Rattle.std.specs.Prelude.{is_some, nat_lt, ◌==◌, if◌then◌else◌}
@@ -166,8 +167,10 @@ module _ {T U B D : Type 0} (is_default : T → Type 0) (is_default_header : U �
     (degrades : B → DegradationCause → DegradationInfo → DegradationAction → Type 0)
     (decides : B → BackpressureInfo → BackpressureDecision → Type 0)
     (reader_degrades : D → DegradationCause → DegradationInfo → DegradationAction → Type 0) where
-  module _ (types : MessageTypeDetails) (naming : ℕ → Naming) (old new : NumberedHub T U B D) (state : State T)
-      (stands : PortsStandFor degrades decides reader_degrades naming old state) (loan : ℕ) (same : new ≡ record old { hub = new.hub })
+  module _ (types : MessageTypeDetails) (naming : ℕ → Naming) (order : List (ℕ × ServicePorts T U)) (old new : NumberedHub T U B D)
+      (state : State T)
+      (stands : PortsStandFor degrades decides reader_degrades naming order old state) (loan : ℕ)
+      (same : new ≡ record old { hub = new.hub })
     where
       abbrev moved : Hub T U B D → NumberedHub T U B D
       moved hub = record old { hub = hub }
@@ -175,7 +178,8 @@ module _ {T U B D : Type 0} (is_default : T → Type 0) (is_default_header : U �
       set_by : (place : ℕ) (value : T) (done : Bool) (found : Option MadeLoan) → value_at old.made.loans loan ≡ found
           → done ≡ is_set place (loan_under hub_ports found old.hub)
           → new.hub ≡ (if done then changed_under hub_ports with_hub_ports (set_in place value) found old.hub else old.hub)
-          → IsMatched degrades decides reader_degrades types is_default naming old state (command.Set loan place value) (done_reply done)
+          → IsMatched degrades decides reader_degrades types is_default naming order old state (command.Set loan place value)
+          (done_reply done)
           stands
           new
       set_by place value true None none is changes = absurd (never is)
@@ -184,22 +188,25 @@ module _ {T U B D : Type 0} (is_default : T → Type 0) (is_default_header : U �
           never e = cc
       set_by place value false None none is changes = (
         naming,
+        order,
         state.services,
+        refl,
         at_one_skips (λ (service : Service T). at loan service.loans)
             (WritesSo (λ one. list_all is_some one.values && nat_lt place (length one.values)) (λ one. set one.values place (Some value))
             loan)
-            state (no_loan_goes degrades decides reader_degrades naming old state stands loan none),
-        same_stands degrades decides reader_degrades naming old state stands loan new changes
+            state (no_loan_goes degrades decides reader_degrades naming order old state stands loan none),
+        same_stands degrades decides reader_degrades naming order old state stands loan new changes
             (ap (λ (it : NumberedHub T U B D). it.made) same),
       )
       set_by place value done (Some made) there is changes =
-          let goes = loan_goes degrades decides reader_degrades naming old state stands loan made there in
+          let goes = loan_goes degrades decides reader_degrades naming order old state stands loan made there in
           let id = made.port.domain in
           let out = (lent_slot made).1 in
           let ports = goes.ports in
           let written : ServicePorts T U = set_in place value made.port.number made.slot ports in
           let after : ServicePorts T U = if done then written else ports in
-          ports_alone degrades decides reader_degrades types is_default naming old state (command.Set loan place value) (done_reply done)
+          ports_alone degrades decides reader_degrades types is_default naming order old state (command.Set loan place value)
+          (done_reply done)
           stands
           new id ports after goes.found
           (same ∙ ap moved (changes ∙ changed_so (set_in place value) made old.hub ports goes.found done))
@@ -227,7 +234,7 @@ module _ {T U B D : Type 0} (is_default : T → Type 0) (is_default_header : U �
       fill_by : (values : List T) (done : Bool) (found : Option MadeLoan) → value_at old.made.loans loan ≡ found
           → done ≡ is_filled hub_ports values found old.hub
           → new.hub ≡ changed_under hub_ports with_hub_ports (filled_in values) found old.hub
-          → IsMatched degrades decides reader_degrades types is_default naming old state (command.Fill loan values) (done_reply done)
+          → IsMatched degrades decides reader_degrades types is_default naming order old state (command.Fill loan values) (done_reply done)
           stands new
       fill_by values true None none is changes = absurd (never is)
         where
@@ -235,20 +242,23 @@ module _ {T U B D : Type 0} (is_default : T → Type 0) (is_default_header : U �
           never e = cc
       fill_by values false None none is changes = (
         naming,
+        order,
         state.services,
+        refl,
         at_one_skips (λ (service : Service T). at loan service.loans)
             (WritesSo (λ one. length values == length one.values) (λ one. map Some values) loan)
-            state (no_loan_goes degrades decides reader_degrades naming old state stands loan none),
-        same_stands degrades decides reader_degrades naming old state stands loan new changes
+            state (no_loan_goes degrades decides reader_degrades naming order old state stands loan none),
+        same_stands degrades decides reader_degrades naming order old state stands loan new changes
             (ap (λ (it : NumberedHub T U B D). it.made) same),
       )
       fill_by values done (Some made) there is changes =
-          let goes = loan_goes degrades decides reader_degrades naming old state stands loan made there in
+          let goes = loan_goes degrades decides reader_degrades naming order old state stands loan made there in
           let id = made.port.domain in
           let out = (lent_slot made).1 in
           let ports = goes.ports in
           let written : ServicePorts T U = filled_in values made.port.number made.slot ports in
-          ports_alone degrades decides reader_degrades types is_default naming old state (command.Fill loan values) (done_reply done) stands
+          ports_alone degrades decides reader_degrades types is_default naming order old state (command.Fill loan values)
+          (done_reply done) stands
           new id ports written goes.found
           (same ∙ ap moved (changes ∙ changed_so (filled_in values) made old.hub ports goes.found true))
           (done_counts T done state.made) (out, goes.goes)
@@ -264,16 +274,17 @@ module _ {T U B D : Type 0} (is_default : T → Type 0) (is_default_header : U �
           (answered_with (done_reply done) services state) (done_reply done) did)
 
   pub set_simulated : SetIsSimulated is_default is_default_header degrades decides reader_degrades
-  set_simulated loan place value old payload user_header types fixed fixed_reader naming new state answer stands
+  set_simulated loan place value old payload user_header types fixed fixed_reader naming order new state answer stands
       ((done, is, changes, told), same) =
-      subst (λ (it : Reply T). IsMatched degrades decides reader_degrades types is_default naming old state (command.Set loan place
+      subst (λ (it : Reply T). IsMatched degrades decides reader_degrades types is_default naming order old state (command.Set loan place
       value) it
       stands new) (sym told)
-      (set_by types naming old new state stands loan same place value done (value_at old.made.loans loan) refl is changes)
+      (set_by types naming order old new state stands loan same place value done (value_at old.made.loans loan) refl is changes)
 
   pub fill_simulated : FillIsSimulated is_default is_default_header degrades decides reader_degrades
-  fill_simulated loan values old payload user_header types fixed fixed_reader naming new state answer stands
+  fill_simulated loan values old payload user_header types fixed fixed_reader naming order new state answer stands
       ((done, is, changes, told), same) =
-      subst (λ (it : Reply T). IsMatched degrades decides reader_degrades types is_default naming old state (command.Fill loan values) it
+      subst (λ (it : Reply T). IsMatched degrades decides reader_degrades types is_default naming order old state
+      (command.Fill loan values) it
       stands new) (sym told)
-      (fill_by types naming old new state stands loan same values done (value_at old.made.loans loan) refl is changes)
+      (fill_by types naming order old new state stands loan same values done (value_at old.made.loans loan) refl is changes)

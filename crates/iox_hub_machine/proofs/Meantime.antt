@@ -1,5 +1,6 @@
 -- What steps of nodes outside the hub leave of what the hub has in a phase: its nodes keep their factories, and what they opened stands.
-use Rattle.std.proofs.Common.{◌≡◌, ℕ, suc, ◌+◌, true, not, ◌&&◌, List, [], ◌∷◌, ◌++◌, length, fold, nat_lt, refl, sym, ap, ◌∙◌, arith, length-append}
+use Rattle.std.proofs.Common.{◌≡◌, ℕ, suc, ◌+◌, true, not, ◌&&◌, List, [], ◌∷◌, ◌++◌, length, fold, nat_lt, refl, sym, ap, ◌∙◌, arith}
+use Rattle.std.proofs.Common.{length-append}
 use Rattle.iox_command.specs.NegotiateBase.DescribeBase.declared.message_type.MessageTypeDetails.{MessageTypeDetails}
 use Rattle.iox_command.specs.NegotiateBase.DescribeBase.declared.pattern.MessagingPattern.{MessagingPattern}
 use Rattle.iox_command.specs.NegotiateBase.DescribeSettings.Agreement.{max_nodes_of}
@@ -11,7 +12,8 @@ use Rattle.iox_hub_machine.specs.Seats.{seats_in}
 use Rattle.iox_machine.specs.Agreement.{Agreement, are_within_limits}
 use Rattle.iox_machine.specs.AgreementLaws.{life_of}
 use Rattle.iox_machine.specs.Asked.{settings_of}
-use Rattle.iox_machine.specs.Phase.{Node, Own, Foreign, Phase, Absent, BeingMade, Published, Emptied, acted, entered, is_in, left, left_by, same_node, same_pattern}
+use Rattle.iox_machine.specs.Phase.{Node, Own, Foreign, Phase, Absent, BeingMade, Published, Emptied, acted, entered, is_in, left}
+use Rattle.iox_machine.specs.Phase.{left_by, same_node, same_pattern}
 use Rattle.iox_negotiate.proofs.Maps.{on}
 use Rattle.iox_negotiate_machine.proofs.Meanwhile.{by-choice, left-others, out-of}
 use Rattle.iox_negotiate_machine.proofs.Seats.{Entry, come, in-counted, is_some_of}

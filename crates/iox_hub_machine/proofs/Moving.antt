@@ -3,7 +3,7 @@ use Rattle.std.proofs.Common.{◌≡◌, ℕ, Bool, true, false, cond, List, ◌
 use Rattle.std.proofs.Math.Logic.{⊎_elim}
 use Rattle.std.proofs.lemmas.Bool.Decides.{eqb_tells}
 use Rattle.std.specs.Option.{option_map, option_map_or}
-use Rattle.std.specs.Map.{lookup}
+use Rattle.std.specs.Map.{lookup, keys_of}
 use Rattle.std.specs.Prelude.{is_some, nat_eq}
 use Rattle.iox_command.specs.DomainValues.Actions.{decision_of}
 use Rattle.iox_command.specs.DomainValues.declared.backpressure.BackpressureDecision.{BackpressureDecision}
@@ -28,7 +28,7 @@ use Rattle.iox_domain_machine.specs.Standing.{StandsFor}
 use Rattle.iox_domain_machine.proofs.Found.{same_some, never_some}
 use Rattle.iox_domain_machine.proofs.Services.{among_others}
 use Rattle.iox_hub_base.specs.AsHome.{hub_ports, with_hub_ports}
-use Rattle.iox_hub_base.specs.Open.{OpenServices}
+use Rattle.iox_hub_base.specs.Open.{OpenServices, with_domain}
 use Rattle.iox_hub_base.specs.ServicesAsHome.{domain_at, ports_if}
 use Rattle.iox_hub_base.specs.declared.hub.Hub.{Hub}
 use Rattle.iox_hub_commands.specs.declared.numbered_hub.NumberedHub.{NumberedHub}
@@ -37,15 +37,19 @@ use Rattle.iox_hub_commands.specs.declared.ports.made.MadeSample.{MadeSample}
 use Rattle.iox_hub_commands.specs.Tables.{port_under}
 use Rattle.iox_hub_machine.specs.Laws.{answered_with}
 use Rattle.iox_hub_machine.specs.Ports.{ports_here, AreHere, among}
-use Rattle.iox_hub_machine.specs.Standing.{PortsStandFor, AreAsMany, PublisherIsHandled, SubscriberIsHandled, publisher_is_up, subscriber_is_up, lent_in, held_in}
+use Rattle.iox_hub_machine.specs.Standing.{PortsStandFor, AreAsMany, PublisherIsHandled, SubscriberIsHandled, publisher_is_up}
+use Rattle.iox_hub_machine.specs.Standing.{subscriber_is_up, lent_in, held_in}
 use Rattle.iox_hub_machine.proofs.Deciding.{Deciding, deciding, Acting, acting, DecideAlike}
-use Rattle.iox_hub_machine.proofs.Housed.{one_or_other, some_ports, became, stands_here, put_there, found_there, found_elsewhere, still_here, same_publisher_handlers, same_subscriber_handler}
-use Rattle.iox_hub_machine.proofs.Parting.{IsParted, is_parted, stay_here}
+use Rattle.iox_hub_machine.proofs.Housed.{one_or_other, some_ports, became, stands_here, put_there, found_there, found_elsewhere}
+use Rattle.iox_hub_machine.proofs.Housed.{still_here, same_publisher_handlers, same_subscriber_handler}
+use Rattle.iox_hub_machine.proofs.Parting.{OrderChanges, order_changes, stay_here}
 use Rattle.iox_hub_machine.proofs.Placed.{is_placed, publisher_up, subscriber_up, publisher_as, subscriber_as}
+use Rattle.iox_hub_machine.proofs.Within.{stay_within}
 use Rattle.iox_machine.proofs.Among.{steps-among}
 use Rattle.iox_machine.specs.Run.{Step}
 use Rattle.iox_machine.specs.Service.{Service, Publisher, Subscriber}
 use Rattle.iox_machine.specs.State.{State, counted}
+use Rattle.iox_machine.specs.Table.{at}
 
 up_by : {T : Type 0} (found : Option (Publisher T))
     → publisher_up found ≡ option_map_or (λ (it : Deciding). it.stands) (option_map deciding found) false
@@ -57,7 +61,8 @@ reader_up_by : (found : Option Subscriber)
 reader_up_by None = refl
 reader_up_by (Some subscriber) = refl
 
-mapped_some : {V W : Type 0} (f : V → W) (found : Option V) (w : W) → option_map f found ≡ Some w
+-- what a value that was changed was
+pub mapped_some : {V W : Type 0} (f : V → W) (found : Option V) (w : W) → option_map f found ≡ Some w
     → (v : V) × (found ≡ Some v) × (f v ≡ w)
 mapped_some f None w is = never_some w is
 mapped_some f (Some v) w is = (v, refl, same_some (f v) w is)
@@ -65,9 +70,10 @@ mapped_some f (Some v) w is = (v, refl, same_some (f v) w is)
 module _ {T U B D : Type 0} (degrades : B → DegradationCause → DegradationInfo → DegradationAction → Type 0)
     (decides : B → BackpressureInfo → BackpressureDecision → Type 0)
     (reader_degrades : D → DegradationCause → DegradationInfo → DegradationAction → Type 0) (types : MessageTypeDetails)
-    (is_default : T → Type 0) (naming : ℕ → Naming) (old new : NumberedHub T U B D) (state : State T) (asked : Command T)
+    (is_default : T → Type 0) (naming : ℕ → Naming) (order : List (ℕ × ServicePorts T U)) (old new : NumberedHub T U B D)
+    (state : State T) (asked : Command T)
     (answer : Reply T) (id : DomainId) (ports after : ServicePorts T U) (names_then : Naming)
-    (stands : PortsStandFor degrades decides reader_degrades naming old state)
+    (stands : PortsStandFor degrades decides reader_degrades naming order old state)
     (found : hub_ports id old.hub ≡ Some ports)
     (changes : new.hub ≡ with_hub_ports id after old.hub)
     (same_publishers : names_then.publisher ≡ (naming id.service).publisher)
@@ -81,19 +87,25 @@ module _ {T U B D : Type 0} (degrades : B → DegradationCause → DegradationIn
   abbrev pub naming_then : ℕ → Naming
   naming_then = with_name id.service names_then naming
 
-  its : (domain : Domain T U B D) × (domain_at id old.hub.services ≡ Some domain) × (domain.state.ports ≡ ports)
+  abbrev its : (domain : Domain T U B D) × (domain_at id old.hub.services ≡ Some domain) × (domain.state.ports ≡ ports)
   its = some_ports (domain_at id old.hub.services) ports found
 
-  between : IsParted id.service old.hub.services.domains its.0
-  between = is_parted id.service old.hub.services.domains its.0 (stands_here id after old.hub its.0 its.1)
+  abbrev pub between : OrderChanges order id.service its.0.state.ports after (with_domain id.service old.hub.services.domains
+      (became id after old.hub its.0 its.1))
+  between = order_changes order old.hub.services.domains stands.here stands.same id.service its.0
+      (stands_here id after old.hub its.0 its.1) (became id after old.hub its.0 its.1)
 
-  ports_before : ports_here old.hub.services.domains ≡ between.before ++ (id.service, ports) ∷ between.behind
-  ports_before = between.now
-      ∙ ap (λ (it : ServicePorts T U). between.before ++ (id.service, it) ∷ between.behind) its.2
+  pub ports_before : order ≡ between.before ++ (id.service, ports) ∷ between.behind
+  ports_before = between.now ∙ ap (λ (it : ServicePorts T U). between.before ++ (id.service, it) ∷ between.behind) its.2
 
-  ports_then : ports_here changed.services.domains ≡ between.before ++ (id.service, after) ∷ between.behind
-  ports_then = ap (λ (services : OpenServices T U B D). ports_here services.domains) (put_there id after old.hub its.0 its.1)
-      ∙ between.then (became id after old.hub its.0 its.1)
+  -- the ports of all services then
+  abbrev pub order_then : List (ℕ × ServicePorts T U)
+  order_then = between.before ++ (id.service, after) ∷ between.behind
+
+  same_then : (number : ℕ) → at number order_then ≡ at number (ports_here changed.services.domains)
+  same_then number =
+      between.same number
+      ∙ sym (ap (λ (services : OpenServices T U B D). at number (ports_here services.domains)) (put_there id after old.hub its.0 its.1))
 
   -- each domain names its ports as it did
   same_name : (other : ℕ) → (naming_then other).publisher ≡ (naming other).publisher
@@ -109,8 +121,7 @@ module _ {T U B D : Type 0} (degrades : B → DegradationCause → DegradationIn
       (λ off. ap (λ (b : Bool). (cond b names_then (naming other)).subscriber) off.0) (eqb_tells other id.service)
 
   module _ (services : List (Service T)) (alike : DecideAlike state.services services)
-      (all : DomainsStandFor naming_then (lent_in new.made) (held_in new.made) buffer
-      (between.before ++ (id.service, after) ∷ between.behind) services) where
+      (all : DomainsStandFor naming_then (lent_in new.made) (held_in new.made) buffer order_then services) where
     all_before : DomainsStandFor naming (lent_in old.made) (held_in old.made) buffer
         (between.before ++ (id.service, ports) ∷ between.behind) state.services
     all_before = subst (λ (domains : List (ℕ × ServicePorts T U)). DomainsStandFor naming (lent_in old.made) (held_in old.made) buffer
@@ -213,13 +224,13 @@ module _ {T U B D : Type 0} (degrades : B → DegradationCause → DegradationIn
         → is_some (domain_at made.port.domain old.hub.services) ≡ true)
         (samples : (number : ℕ) (made : MadeSample) → value_at new.made.samples number ≡ Some made
         → (is_some (domain_at made.port.domain old.hub.services) ≡ true) × (made.taken.subscriber ≡ made.port.number)) where
-      stands_changed : PortsStandFor degrades decides reader_degrades naming_then (record new { hub = changed })
+      stands_changed : PortsStandFor degrades decides reader_degrades naming_then order_then (record new { hub = changed })
           (answered_with answer services state)
       stands_changed = record {
         here = subst (λ (these : OpenServices T U B D). AreHere these.domains) (sym (put_there id after old.hub its.0 its.1))
             (stay_here id.service old.hub.services.domains (became id after old.hub its.0 its.1) stands.here);
-        domains = subst (λ (domains : List (ℕ × ServicePorts T U)). DomainsStandFor naming_then (lent_in new.made) (held_in new.made) buffer
-            domains services) (sym ports_then) all;
+        same = same_then;
+        domains = all;
         numbers = numbers;
         loans = λ number made there. still_here id after old.hub its.0 its.1 made.port.domain (loans number made there);
         samples = λ number made there.
@@ -247,13 +258,15 @@ module _ {T U B D : Type 0} (degrades : B → DegradationCause → DegradationIn
               ∙ ap (lookup (nat_eq ((naming domain.service).subscriber number))) subscribers
               ∙ stands.subscribers.each domain number (sym (reader_up_still domain number) ∙ up);
         };
+        named = stay_within naming naming_then answer state.made same_name same_reader_name stands.named;
         slices = λ number made there. stands.slices number made (ap (lookup (nat_eq number)) (sym publishers) ∙ there);
         publishers_handled = handled;
         subscribers_handled = reader_handled;
       }
 
-      stands_then : PortsStandFor degrades decides reader_degrades naming_then new (answered_with answer services state)
-      stands_then = subst (λ (hub : Hub T U B D). PortsStandFor degrades decides reader_degrades naming_then (record new { hub = hub })
+      pub stands_then : PortsStandFor degrades decides reader_degrades naming_then order_then new (answered_with answer services state)
+      stands_then = subst (λ (hub : Hub T U B D). PortsStandFor degrades decides reader_degrades naming_then order_then
+          (record new { hub = hub })
           (answered_with answer services state)) (sym changes) stands_changed
 
   -- what the machine does, where the domain's own ports match
@@ -272,27 +285,36 @@ module _ {T U B D : Type 0} (degrades : B → DegradationCause → DegradationIn
       → is_some (domain_at made.port.domain old.hub.services) ≡ true)
       → ((number : ℕ) (made : MadeSample) → value_at new.made.samples number ≡ Some made
       → (is_some (domain_at made.port.domain old.hub.services) ≡ true) × (made.taken.subscriber ≡ made.port.number))
-      → (services : List (Service T)) × Step types is_default buffer asked state answer (answered_with answer services state)
-      × PortsStandFor degrades decides reader_degrades naming_then new (answered_with answer services state)
+      → (order_after : List (ℕ × ServicePorts T U)) × (services : List (Service T)) × (keys_of order_after ≡ keys_of order)
+      × Step types is_default buffer asked state answer (answered_with answer services state)
+      × PortsStandFor degrades decides reader_degrades naming_then order_after new (answered_with answer services state)
   machine_does named lent held matches alike publishers subscribers numbers loans samples =
       let (services, does, all) = among_others T U is_default (steps-among is_default) types buffer naming (lent_in old.made)
       (lent_in new.made) (held_in old.made) (held_in new.made) between.before between.behind id.service ports after state asked answer
       names_then
       (subst (λ (domains : List (ℕ × ServicePorts T U)). DomainsStandFor naming (lent_in old.made) (held_in old.made) buffer domains
       state.services) ports_before stands.domains)
-      named same_publishers same_subscribers lent held matches in
-      (services, does, stands_then services (alike services does) all publishers subscribers numbers loans samples)
+      named same_publishers same_subscribers lent held matches in (
+        order_then,
+        services,
+        between.keys,
+        does,
+        stands_then services (alike services does) all publishers subscribers numbers loans
+            samples,
+      )
 
 module _ {T U B D : Type 0} (degrades : B → DegradationCause → DegradationInfo → DegradationAction → Type 0)
     (decides : B → BackpressureInfo → BackpressureDecision → Type 0)
     (reader_degrades : D → DegradationCause → DegradationInfo → DegradationAction → Type 0) (types : MessageTypeDetails)
-    (is_default : T → Type 0) (naming : ℕ → Naming) (old : NumberedHub T U B D) (state : State T) (asked : Command T)
-    (answer : Reply T) (stands : PortsStandFor degrades decides reader_degrades naming old state) where
+    (is_default : T → Type 0) (naming : ℕ → Naming) (order : List (ℕ × ServicePorts T U)) (old : NumberedHub T U B D) (state : State T)
+    (asked : Command T)
+    (answer : Reply T) (stands : PortsStandFor degrades decides reader_degrades naming order old state) where
   -- the machine replies so, and the ports of a hub stand for what it has then
   abbrev pub IsMatched : NumberedHub T U B D → Type 0
-  IsMatched new = (naming_then : ℕ → Naming) × (services : List (Service T))
+  IsMatched new = (naming_then : ℕ → Naming) × (order_then : List (ℕ × ServicePorts T U)) × (services : List (Service T))
+      × (keys_of order_then ≡ keys_of order)
       × Step types is_default old.hub.expired_connection_buffer asked state answer (answered_with answer services state)
-      × PortsStandFor degrades decides reader_degrades naming_then new (answered_with answer services state)
+      × PortsStandFor degrades decides reader_degrades naming_then order_then new (answered_with answer services state)
 
   -- the ports of one domain change, and nothing else of the hub
   pub ports_alone : (new : NumberedHub T U B D) (id : DomainId) (ports after : ServicePorts T U) → hub_ports id old.hub ≡ Some ports
@@ -308,9 +330,9 @@ module _ {T U B D : Type 0} (degrades : B → DegradationCause → DegradationIn
       → DecideAlike state.services services)
       → IsMatched new
   ports_alone new id ports after found same count named matches alike =
-      let (services, does, then) = machine_does degrades decides reader_degrades types is_default naming old
+      let (order_then, services, keys, does, then) = machine_does degrades decides reader_degrades types is_default naming order old
       (record old { hub = with_hub_ports id after old.hub }) state asked answer id ports after (naming id.service) stands found refl refl
       refl
       named (λ other off. refl, stands.domains.loans) (λ other off. refl, stands.domains.samples) matches alike refl refl
       (subst (AreAsMany old.made) (sym count) stands.numbers) stands.loans stands.samples in
-      subst IsMatched (sym same) (with_name id.service (naming id.service) naming, services, does, then)
+      subst IsMatched (sym same) (with_name id.service (naming id.service) naming, order_then, services, keys, does, then)

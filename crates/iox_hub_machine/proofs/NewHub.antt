@@ -61,9 +61,10 @@ module _ (T U B D : Type 0) (buffer id publishers subscribers loans samples : �
   module _ (degrades : B → DegradationCause → DegradationInfo → DegradationAction → Type 0)
       (decides : B → BackpressureInfo → BackpressureDecision → Type 0)
       (reader_degrades : D → DegradationCause → DegradationInfo → DegradationAction → Type 0) where
-    no_ports_stand : PortsStandFor degrades decides reader_degrades (λ service. nameless) new_hub new_state
+    no_ports_stand : PortsStandFor degrades decides reader_degrades (λ service. nameless) [] new_hub new_state
     no_ports_stand = record {
       here = tt;
+      same = λ number. refl;
       domains = record {
         each = refl;
         once = λ number. omega arith;
@@ -83,6 +84,7 @@ module _ (T U B D : Type 0) (buffer id publishers subscribers loans samples : �
         known = λ number port found. never_some port found;
         each = λ domain number up. never_true (sym (no_subscriber domain number) ∙ up);
       };
+      named = record { publishers = λ service number. omega arith; subscribers = λ service number. omega arith };
       slices = λ number made found. never_some made found;
       publishers_handled = λ domain number publisher up found. never_true (sym (no_publisher domain number) ∙ up);
       subscribers_handled = λ domain number subscriber up found. never_true (sym (no_subscriber domain number) ∙ up);
@@ -100,7 +102,7 @@ module _ (T U B D : Type 0) (buffer id publishers subscribers loans samples : �
     }
 
     new_one_stands : (names : List (List ℕ))
-        → HubStandsFor degrades decides reader_degrades names (λ pattern name. []) (λ service. nameless) new_hub new_state
+        → HubStandsFor degrades decides reader_degrades names (λ pattern name. []) (λ service. nameless) [] new_hub new_state
     new_one_stands names = record {
       nodes = refl;
       table = new-stands T names id;
@@ -115,7 +117,8 @@ pub new_hub_stands : (T U : Type 0) {B D : Type 0} (degrades : B → Degradation
     (reader_degrades : D → DegradationCause → DegradationInfo → DegradationAction → Type 0)
     → NewHubStands T U degrades decides reader_degrades
 new_hub_stands T U {B} {D} degrades decides reader_degrades names config hub new =
-    subst (λ (one : NumberedHub T U B D). HubStandsFor degrades decides reader_degrades names (λ pattern name. []) (λ service. nameless) one
+    subst (λ (one : NumberedHub T U B D). HubStandsFor degrades decides reader_degrades names (λ pattern name. []) (λ service. nameless)
+    [] one
     new_state)
     (sym (λ i. record {
       hub = record {

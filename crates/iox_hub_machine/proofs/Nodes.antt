@@ -12,6 +12,7 @@ use Rattle.iox_command.specs.NegotiateBase.DescribeBase.declared.message_type.Me
 use Rattle.iox_command.specs.NegotiateBase.DescribeBase.declared.pattern.MessagingPattern.{MessagingPattern}
 use Rattle.iox_command.specs.declared.reply.Reply.{Reply}
 use Rattle.iox_command.specs.declared.reply.Reply.TheVariants as reply
+use Rattle.iox_domain.specs.declared.ports.service_ports.ServicePorts.{ServicePorts}
 use Rattle.iox_domain_machine.specs.Naming.{Naming}
 use Rattle.iox_hub_base.specs.Hubs.{one_more}
 use Rattle.iox_hub_commands.specs.declared.numbered_hub.NumberedHub.{NumberedHub}
@@ -26,12 +27,13 @@ one_node_more nodes few = omega (arith, few)
 module _ {T U B D : Type 0} (degrades : B → DegradationCause → DegradationInfo → DegradationAction → Type 0)
     (decides : B → BackpressureInfo → BackpressureDecision → Type 0)
     (reader_degrades : D → DegradationCause → DegradationInfo → DegradationAction → Type 0) where
-  node_stands : (names : List (List ℕ)) (taken : MessagingPattern → List ℕ → List ℕ) (naming : ℕ → Naming) (hub : NumberedHub T U B D)
+  node_stands : (names : List (List ℕ)) (taken : MessagingPattern → List ℕ → List ℕ) (naming : ℕ → Naming)
+      (order : List (ℕ × ServicePorts T U)) (hub : NumberedHub T U B D)
       (state : State T) (nodes nodes_made : ℕ) → nodes ≡ nodes_made
-      → HubStandsFor degrades decides reader_degrades names taken naming hub state
-      → HubStandsFor degrades decides reader_degrades names taken naming (record hub { hub = record hub.hub { nodes = nodes } })
+      → HubStandsFor degrades decides reader_degrades names taken naming order hub state
+      → HubStandsFor degrades decides reader_degrades names taken naming order (record hub { hub = record hub.hub { nodes = nodes } })
       (record state { made = record state.made { nodes = nodes_made } })
-  node_stands names taken naming hub state nodes nodes_made same stands = record {
+  node_stands names taken naming order hub state nodes nodes_made same stands = record {
     nodes = same;
     table = record { reached = stands.table.reached; phases = stands.table.phases };
     id = stands.id;
@@ -47,7 +49,7 @@ module _ {T U B D : Type 0} (degrades : B → DegradationCause → DegradationIn
       opened = stands.factories.opened;
     };
     served = stands.served;
-    ports = ports_stay degrades decides reader_degrades naming hub state hub.hub.table nodes nodes_made hub.factories hub.pledged
+    ports = ports_stay degrades decides reader_degrades naming order hub state hub.hub.table nodes nodes_made hub.factories hub.pledged
         state.phases stands.ports;
   }
 
@@ -58,17 +60,19 @@ pub node_matches : {T U B D : Type 0} (payload user_header : Detail) (types : Me
     (reader_degrades : D → DegradationCause → DegradationInfo → DegradationAction → Type 0)
     → NodeMatches payload user_header types is_default is_default_header fixed degrades decides fixed_reader reader_degrades
 node_matches {T} {U} {B} {D} payload user_header types is_default is_default_header fixed degrades decides fixed_reader reader_degrades
-    names taken naming old new state answer own few stands does =
+    names taken naming order old new state answer few stands does =
     let one : one_more old.hub.nodes ≡ state.made.nodes + 1 =
     one_node_more old.hub.nodes few ∙ ap (λ (n : ℕ). n + 1) stands.nodes in
     let told : answer ≡ reply.NodeMade (state.made.nodes + 1) = does.0 ∙ ap (λ (n : ℕ). reply.NodeMade n) one in
     record {
       taken = taken;
       naming = naming;
+      order = order;
       after = record state { made = record state.made { nodes = state.made.nodes + 1 } };
       step = inl (told, ap (λ (a : Reply T). record state { made = counted a state.made }) (sym told));
-      stands = subst (λ (hub : NumberedHub T U B D). HubStandsFor degrades decides reader_degrades names taken naming hub
+      stands = subst (λ (hub : NumberedHub T U B D). HubStandsFor degrades decides reader_degrades names taken naming order hub
           (record state { made = record state.made { nodes = state.made.nodes + 1 } })) (sym does.1)
-          (node_stands degrades decides reader_degrades names taken naming old state (one_more old.hub.nodes) (state.made.nodes + 1) one
+          (node_stands degrades decides reader_degrades names taken naming order old state (one_more old.hub.nodes) (state.made.nodes + 1)
+          one
           stands);
     }

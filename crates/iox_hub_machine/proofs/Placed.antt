@@ -51,7 +51,7 @@ comes_alone number v (entry ∷ before) behind once =
 module _ {T U : Type 0} (names : ℕ → Naming) (lent : List (ℕ × (ℕ × LentSlot))) (held : List (ℕ × (ℕ × Taken))) (buffer : ℕ) where
   module _ (domain number : ℕ) where
     -- services of others have no publisher that has a name of this one
-    no_publisher : AreNamedApart (λ one. (names one).publisher) → (domains : List (ℕ × ServicePorts T U)) (services : List (Service T))
+    pub no_publisher : AreNamedApart (λ one. (names one).publisher) → (domains : List (ℕ × ServicePorts T U)) (services : List (Service T))
         → how_often domain (keys_of domains) ≡ 0 → StandInTurn names lent held buffer domains services
         → among (λ service. service.publishers) ((names domain).publisher number) services ≡ None
     no_publisher apart [] services none stands = ap (among (λ service. service.publishers) ((names domain).publisher number)) stands
@@ -65,7 +65,8 @@ module _ {T U : Type 0} (names : ℕ → Naming) (lent : List (ℕ × (ℕ × Le
         omega (arith, none, ap (tick domain) (sym same), ticks_itself domain)))
         ∙ no_publisher apart domains services (omega (arith, none)) rest
 
-    no_subscriber : AreNamedApart (λ one. (names one).subscriber) → (domains : List (ℕ × ServicePorts T U)) (services : List (Service T))
+    pub no_subscriber : AreNamedApart (λ one. (names one).subscriber)
+        → (domains : List (ℕ × ServicePorts T U)) (services : List (Service T))
         → how_often domain (keys_of domains) ≡ 0 → StandInTurn names lent held buffer domains services
         → among (λ service. service.subscribers) ((names domain).subscriber number) services ≡ None
     no_subscriber apart [] services none stands = ap (among (λ service. service.subscribers) ((names domain).subscriber number)) stands

@@ -69,12 +69,13 @@ module _ {T U B D : Type 0} (is_default : T → Type 0) (is_default_header : U �
     (degrades : B → DegradationCause → DegradationInfo → DegradationAction → Type 0)
     (decides : B → BackpressureInfo → BackpressureDecision → Type 0)
     (reader_degrades : D → DegradationCause → DegradationInfo → DegradationAction → Type 0) where
-  module _ (types : MessageTypeDetails) (naming : ℕ → Naming) (old new : NumberedHub T U B D) (state : State T)
-      (stands : PortsStandFor degrades decides reader_degrades naming old state) (sample : ℕ)
+  module _ (types : MessageTypeDetails) (naming : ℕ → Naming) (order : List (ℕ × ServicePorts T U)) (old new : NumberedHub T U B D)
+      (state : State T)
+      (stands : PortsStandFor degrades decides reader_degrades naming order old state) (sample : ℕ)
       (grown : HaveGrown old.hub.services.domains) where
     abbrev Result : Reply T → NumberedHub T U B D → Type 0
     Result answer later =
-        IsMatched degrades decides reader_degrades types is_default naming old state (command.Release sample) answer stands later
+        IsMatched degrades decides reader_degrades types is_default naming order old state (command.Release sample) answer stands later
 
     abbrev later : DomainId → ServicePorts T U → NumberedHub T U B D
     later id after = record new { hub = with_hub_ports id after old.hub; made = without_sample sample old.made }
@@ -96,7 +97,8 @@ module _ {T U B D : Type 0} (is_default : T → Type 0) (is_default_header : U �
       released : (after : ServicePorts T U) → domain.Releases made.port.number made.taken ports true after
           → Result reply.Done (later id after)
       released after releases =
-          let (services, does, stands_then) = machine_does degrades decides reader_degrades types is_default naming old (later id after)
+          let (order_then, services, keys, does, stands_then)
+          = machine_does degrades decides reader_degrades types is_default naming order old (later id after)
           state
           (command.Release sample) reply.Done id ports after (naming id.service) stands found refl refl refl (made.taken, goes)
           (λ other off. refl, stands.domains.loans)
@@ -124,12 +126,12 @@ module _ {T U B D : Type 0} (is_default : T → Type 0) (is_default_header : U �
           stands.loans
           (λ number one was. stands.samples number one
           (went_so held_sample sample number one old.made.samples (stands.domains.samples sample) was)) in
-          (with_name id.service (naming id.service) naming, services, does, stands_then)
+          (with_name id.service (naming id.service) naming, order_then, services, keys, does, stands_then)
 
       -- the sample is held
       is_there : is_held hub_ports (Some made) old.hub ≡ true
       is_there =
-          let (service, its) = some_service degrades decides reader_degrades naming old state stands id ports found in
+          let (service, its) = some_service degrades decides reader_degrades naming order old state stands id ports found in
           let held = those_of id.service (held_in old.made) in
           let read = read_matches T U is_default types old.hub.expired_connection_buffer (naming id.service) (those_of id.service
           (lent_in old.made)) held ports service state sample made.taken its mine in
@@ -153,16 +155,18 @@ module _ {T U B D : Type 0} (is_default : T → Type 0) (is_default_header : U �
     release_by true None none is changes less = absurd changes
     release_by false None none is changes less = (
       naming,
+      order,
       state.services,
+      refl,
       at_one_skips (λ (service : Service T). at sample service.samples) (machine_ports.Releases sample) state
-          (no_sample_goes degrades decides reader_degrades naming old state stands sample none),
-      same_stands degrades decides reader_degrades naming old state stands sample new changes less,
+          (no_sample_goes degrades decides reader_degrades naming order old state stands sample none),
+      same_stands degrades decides reader_degrades naming order old state stands sample new changes less,
     )
     release_by false (Some made) there is changes less =
-        let goes = sample_goes degrades decides reader_degrades naming old state stands sample made there in
+        let goes = sample_goes degrades decides reader_degrades naming order old state stands sample made there in
         absurd (true≢false (sym (is ∙ is_there made there goes.ports goes.found goes.goes goes.mine)))
     release_by true (Some made) there is changes less =
-        let goes = sample_goes degrades decides reader_degrades naming old state stands sample made there in
+        let goes = sample_goes degrades decides reader_degrades naming order old state stands sample made there in
         let (after, releases, same) = subst (λ (it : Option (ServicePorts T U)). AtDomain
         (λ (one : ServicePorts T U). with_hub_ports made.port.domain one old.hub) (ReleasesOne made.port.number made.taken) it old.hub
         (Some tt)
@@ -172,9 +176,10 @@ module _ {T U B D : Type 0} (is_default : T → Type 0) (is_default_header : U �
         (released made there goes.ports goes.found goes.goes goes.mine after releases))
 
   pub release_simulated : ReleaseIsSimulated is_default is_default_header degrades decides reader_degrades
-  release_simulated sample old grown payload user_header types fixed fixed_reader naming new state answer stands
+  release_simulated sample old grown payload user_header types fixed fixed_reader naming order new state answer stands
       ((done, is, changes, less, told), same) =
-      subst (λ (it : Reply T). IsMatched degrades decides reader_degrades types is_default naming old state (command.Release sample) it
+      subst (λ (it : Reply T). IsMatched degrades decides reader_degrades types is_default naming order old state (command.Release sample)
+      it
       stands
       new) (sym told)
-      (release_by types naming old new state stands sample grown done (value_at old.made.samples sample) refl is changes less)
+      (release_by types naming order old new state stands sample grown done (value_at old.made.samples sample) refl is changes less)

@@ -30,7 +30,7 @@ use Rattle.iox_negotiate_table.specs.declared.step.ForeignStep.{ForeignStep as T
 use Rattle.iox_negotiate_table.specs.declared.step.ForeignStep.TheVariants as table_step
 
 -- what a setting that may be off is to be
-same_set : (named : NumberOrOff) → commands.set_to named ≡ machine.set_to named
+pub same_set : (named : NumberOrOff) → commands.set_to named ≡ machine.set_to named
 same_set (Number number) = refl
 same_set Off = refl
 

@@ -26,6 +26,7 @@ use Rattle.iox_command.specs.declared.service.ServiceOptions.{ServiceOptions}
 use Rattle.iox_command.specs.declared.service.ServiceOptions.TheVariants as options
 use Rattle.iox_command.specs.declared.step.StepBefore.{StepBefore}
 use Rattle.iox_container.specs.NumberTable.{value_at}
+use Rattle.iox_domain.specs.declared.ports.service_ports.ServicePorts.{ServicePorts}
 use Rattle.iox_domain_machine.specs.Naming.{Naming}
 use Rattle.iox_hub_base.specs.Hubs.{is_node}
 use Rattle.iox_hub_commands.specs.CommandSteps as hub
@@ -33,6 +34,7 @@ use Rattle.iox_hub_commands.specs.Closing.{ClosesIfOf, ClosesNumbered, ClosesUnl
 use Rattle.iox_hub_commands.specs.Creating.{CreatesNumbered}
 use Rattle.iox_hub_commands.specs.Either.{EitherNumbered}
 use Rattle.iox_hub_commands.specs.Opening.{OpensNumbered}
+use Rattle.iox_hub_commands.specs.Refusing.{create_refused}
 use Rattle.iox_hub_commands.specs.Replies.{closed_reply, factory_reply}
 use Rattle.iox_hub_commands.specs.ServicesTables.{parts_of}
 use Rattle.iox_hub_commands.specs.declared.numbered_hub.NumberedHub.{NumberedHub}
@@ -42,7 +44,9 @@ use Rattle.iox_hub_machine.proofs.Numbered.{goes_so}
 use Rattle.iox_hub_machine.proofs.PortsStay.{ports_stay}
 use Rattle.iox_hub_machine.specs.ServiceLaws.{IsOnServices, SkippedMatches}
 use Rattle.iox_hub_machine.specs.Services.{HubStandsFor, factory_as}
-use Rattle.iox_machine.specs.Factories.{OpensOrCreatesService, OpensService}
+use Rattle.iox_machine.specs.Agreement.{unfit}
+use Rattle.iox_machine.specs.Asked.{settings_of}
+use Rattle.iox_machine.specs.Factories.{OpensOrCreatesService, OpensService, RefusesNode, create_refusal}
 use Rattle.iox_machine.specs.Run.{factory_of}
 use Rattle.iox_machine.specs.Run as machine
 use Rattle.iox_machine.specs.State.{State}
@@ -72,7 +76,7 @@ closed_something {T} {X} (Err error) is = absurd (differ is)
     differ e = cc
 
 -- what is done where a test fails
-by_false : (P Q : Type 0) (b : Bool) → b ≡ false → Q → MatchBool b P Q
+pub by_false : (P Q : Type 0) (b : Bool) → b ≡ false → Q → MatchBool b P Q
 by_false P Q true is q = absurd (differ is)
   where
     differ : true ≡ false → ⊥
@@ -80,25 +84,31 @@ by_false P Q true is q = absurd (differ is)
 by_false P Q false is q = q
 
 -- what is done where nothing is found
-by_none : {V : Type 0} {P : Type 0} (Q : V → Type 0) (found : Option V) → found ≡ None → P → MatchOption found P Q
+pub by_none : {V : Type 0} {P : Type 0} (Q : V → Type 0) (found : Option V) → found ≡ None → P → MatchOption found P Q
 by_none Q None is p = p
 by_none Q (Some v) is p = absurd (differ is)
   where
     differ : Some v ≡ None → ⊥
     differ e = cc
 
+-- what is done whatever is found
+by_each : {V : Type 0} {P : Type 0} (Q : V → Type 0) (found : Option V) → P → ((v : V) → Q v) → MatchOption found P Q
+by_each Q None p q = p
+by_each Q (Some v) p q = q v
+
 module _ {T U B D : Type 0} (payload user_header : Detail) (types : MessageTypeDetails) (is_default : T → Type 0)
     (is_default_header : U → Type 0) (fixed : BackpressureStrategy → Option BackpressureAction → DegradationAction → B)
     (degrades : B → DegradationCause → DegradationInfo → DegradationAction → Type 0)
     (decides : B → BackpressureInfo → BackpressureDecision → Type 0) (fixed_reader : DegradationAction → D)
     (reader_degrades : D → DegradationCause → DegradationInfo → DegradationAction → Type 0) where
-  module _ (names : List (List ℕ)) (taken : MessagingPattern → List ℕ → List ℕ) (naming : ℕ → Naming) (old new : NumberedHub T U B D)
-      (state : State T) (stands : HubStandsFor degrades decides reader_degrades names taken naming old state) where
+  module _ (names : List (List ℕ)) (taken : MessagingPattern → List ℕ → List ℕ) (naming : ℕ → Naming)
+      (order : List (ℕ × ServicePorts T U)) (old new : NumberedHub T U B D)
+      (state : State T) (stands : HubStandsFor degrades decides reader_degrades names taken naming order old state) where
     -- a hub stands still where others may be pledged
-    stands_still : new.hub ≡ old.hub → new.factories.made ≡ old.factories.made → new.made ≡ old.made
-        → HubStandsFor degrades decides reader_degrades names taken naming new state
+    pub stands_still : new.hub ≡ old.hub → new.factories.made ≡ old.factories.made → new.made ≡ old.made
+        → HubStandsFor degrades decides reader_degrades names taken naming order new state
     stands_still same_hub same_factories same_made =
-        subst (λ (hub : NumberedHub T U B D). HubStandsFor degrades decides reader_degrades names taken naming hub state)
+        subst (λ (hub : NumberedHub T U B D). HubStandsFor degrades decides reader_degrades names taken naming order hub state)
         (sym (λ i. record {
           hub = same_hub i;
           factories = record { made = same_factories i };
@@ -119,7 +129,8 @@ module _ {T U B D : Type 0} (payload user_header : Detail) (types : MessageTypeD
             opened = stands.factories.opened;
           };
           served = stands.served;
-          ports = ports_stay degrades decides reader_degrades naming old state old.hub.table old.hub.nodes state.made.nodes old.factories
+          ports = ports_stay degrades decides reader_degrades naming order old state old.hub.table old.hub.nodes state.made.nodes
+              old.factories
               new.pledged state.phases stands.ports;
         })
 
@@ -139,7 +150,9 @@ module _ {T U B D : Type 0} (payload user_header : Detail) (types : MessageTypeD
         → ◌≡◌ {A = Reply T} reply.Skipped (factory_reply made)
         → (b ≡ false) × (new.factories.made ≡ old.factories.made) × (new.hub ≡ old.hub)
     create_skipped false asked attributes steps made does is = (refl, does.1, does.2)
-    create_skipped true asked attributes steps made (prepared, roomier, told, prepares, creates, answers) is =
+    create_skipped true asked attributes steps made (Some failure, unfit_so, (answers, same, still)) is =
+        made_something (Err (create_refused asked.options failure)) (is ∙ ap factory_reply answers)
+    create_skipped true asked attributes steps made (None, fit, (prepared, roomier, told, prepares, creates, answers)) is =
         made_something told (is ∙ ap factory_reply answers)
 
     open_skipped : (b : Bool) (asked : ServiceAsked) (required : Required) (steps : List StepBefore) (made : Option (Result ℕ Refusal))
@@ -199,15 +212,18 @@ module _ {T U B D : Type 0} (payload user_header : Detail) (types : MessageTypeD
 
     abbrev Followed : Command T → Type 0
     Followed asked = machine.Step types is_default old.hub.expired_connection_buffer asked state reply.Skipped state
-        × HubStandsFor degrades decides reader_degrades names taken naming new state
+        × HubStandsFor degrades decides reader_degrades names taken naming order new state
 
     pub skips : (asked : Command T) → IsOnServices asked
         → hub.Step payload user_header types is_default is_default_header fixed degrades decides fixed_reader reader_degrades asked old
         (Ok reply.Skipped) new
         → Followed asked
     skips (command.Create node name named attributes steps) is (made, does, same, told) =
-        let so = create_skipped _ _ attributes steps made does told in
-        (by_false _ _ _ (no_node node so.0) (refl, refl), stands_still so.2 so.1 same)
+        let so = create_skipped _ _ attributes steps made does told in (
+          by_each (λ failure. RefusesNode node (create_refusal named failure) state reply.Skipped state) (unfit (settings_of types named))
+              (by_false _ _ _ (no_node node so.0) (refl, refl)) (λ failure. by_false _ _ _ (no_node node so.0) (refl, refl)),
+          stands_still so.2 so.1 same,
+        )
     skips (command.Open node name named required steps) is (made, does, same, told) =
         let so = open_skipped _ _ required steps made does told in
         (opens_so named node name required steps so.0, stands_still so.2 so.1 same)
@@ -221,4 +237,5 @@ module _ {T U B D : Type 0} (payload user_header : Detail) (types : MessageTypeD
 
   pub skipped_matches : SkippedMatches payload user_header types is_default is_default_header fixed degrades decides fixed_reader
       reader_degrades
-  skipped_matches names asked taken naming old new state is stands does = skips names taken naming old new state stands asked is does
+  skipped_matches names asked taken naming order old new state is stands does
+      = skips names taken naming order old new state stands asked is does

@@ -1,5 +1,6 @@
 -- What a hub does at a command on its ports is what the machine does.
-use Rattle.std.specs.Prelude.{ℕ, List, Option, Ok}
+use Rattle.std.specs.Prelude.{ℕ, ◌≡◌, List, Option, Ok}
+use Rattle.std.specs.Map.{keys_of}
 use Rattle.iox_command.specs.DomainValues.declared.backpressure.BackpressureAction.{BackpressureAction}
 use Rattle.iox_command.specs.DomainValues.declared.backpressure.BackpressureDecision.{BackpressureDecision}
 use Rattle.iox_command.specs.DomainValues.declared.backpressure.BackpressureInfo.{BackpressureInfo}
@@ -12,6 +13,7 @@ use Rattle.iox_command.specs.NegotiateBase.DescribeBase.declared.message_type.Me
 use Rattle.iox_command.specs.declared.command.Command.{Command}
 use Rattle.iox_command.specs.declared.command.Command.TheVariants as command
 use Rattle.iox_command.specs.declared.reply.Reply.{Reply}
+use Rattle.iox_domain.specs.declared.ports.service_ports.ServicePorts.{ServicePorts}
 use Rattle.iox_domain_machine.specs.Naming.{Naming}
 use Rattle.iox_hub_commands.specs.CommandSteps as hub
 use Rattle.iox_hub_commands.specs.Grown.{HaveGrown}
@@ -32,18 +34,19 @@ module _ {T U B D : Type 0} (is_default : T → Type 0) (is_default_header : U �
     (decides : B → BackpressureInfo → BackpressureDecision → Type 0)
     (reader_degrades : D → DegradationCause → DegradationInfo → DegradationAction → Type 0) where
   -- Where the ports of a hub stand for those of a machine, and it replies to this command, the machine may reply so, too, and the ports
-  -- stand for those that it has then. All else of the machine is as it was. So it is whatever the types of messages and user headers are,
-  -- and whoever decides by fixed actions: that is looked at where services and ports come.
+  -- stand for those that it has then. All else of the machine is as it was, and so is the order of its services. So it is whatever the
+  -- types of messages and user headers are, and whoever decides by fixed actions: that is looked at where services and ports come.
   abbrev pub IsSimulatedFrom : NumberedHub T U B D → Command T → Type 0
   IsSimulatedFrom old asked = (payload user_header : Detail) (types : MessageTypeDetails)
       (fixed : BackpressureStrategy → Option BackpressureAction → DegradationAction → B) (fixed_reader : DegradationAction → D)
-      (naming : ℕ → Naming) (new : NumberedHub T U B D) (state : State T) (answer : Reply T)
-      → PortsStandFor degrades decides reader_degrades naming old state
+      (naming : ℕ → Naming) (order : List (ℕ × ServicePorts T U)) (new : NumberedHub T U B D) (state : State T) (answer : Reply T)
+      → PortsStandFor degrades decides reader_degrades naming order old state
       → hub.Step payload user_header types is_default is_default_header fixed degrades decides fixed_reader reader_degrades asked old
       (Ok answer) new
-      → (naming_then : ℕ → Naming) × (services : List (Service T))
+      → (naming_then : ℕ → Naming) × (order_then : List (ℕ × ServicePorts T U)) × (services : List (Service T))
+      × (keys_of order_then ≡ keys_of order)
       × machine.Step types is_default old.hub.expired_connection_buffer asked state answer (answered_with answer services state)
-      × PortsStandFor degrades decides reader_degrades naming_then new (answered_with answer services state)
+      × PortsStandFor degrades decides reader_degrades naming_then order_then new (answered_with answer services state)
 
   -- So it is from any hub.
   abbrev pub IsSimulated : Command T → Type 0

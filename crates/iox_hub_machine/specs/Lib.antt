@@ -4,3 +4,14 @@ pub mod Laws
 pub mod Seats
 pub mod Services
 pub mod ServiceLaws
+pub mod ArrivalLaws
+pub mod SendLaws
+pub mod ClosingLaws
+pub mod CreateLaws
+pub mod OpenLaws
+pub mod ReceiveLaws
+pub mod LoanLaws
+pub mod LeavingLaws
+pub mod Ran
+pub mod RunLaws
+pub mod GoingOnLaws

@@ -1,6 +1,6 @@
 -- What a hub does at a command on nodes and services is what the machine does.
 use Rattle.std.specs.Prelude.{ℕ, ◌+◌, ◌^◌, ◌<◌, List, [], length, Option, Ok}
-use Rattle.std.specs.List.{AllByRecursion, IsAmong}
+use Rattle.std.specs.List.{IsAmong}
 use Rattle.iox_command.specs.DomainValues.declared.backpressure.BackpressureAction.{BackpressureAction}
 use Rattle.iox_command.specs.DomainValues.declared.backpressure.BackpressureDecision.{BackpressureDecision}
 use Rattle.iox_command.specs.DomainValues.declared.backpressure.BackpressureInfo.{BackpressureInfo}
@@ -17,6 +17,7 @@ use Rattle.iox_command.specs.declared.reply.Reply.{Reply}
 use Rattle.iox_command.specs.declared.reply.Reply.TheVariants as reply
 use Rattle.iox_command.specs.declared.step.ForeignStep.{ForeignStep}
 use Rattle.iox_command.specs.declared.step.StepBefore.{StepBefore}
+use Rattle.iox_domain.specs.declared.ports.service_ports.ServicePorts.{ServicePorts}
 use Rattle.iox_domain_machine.specs.Naming.{Naming, nameless}
 use Rattle.iox_hub_base.specs.declared.hub.HubConfig.{HubConfig}
 use Rattle.iox_hub_commands.specs.CommandSteps as hub
@@ -27,7 +28,7 @@ use Rattle.iox_hub_machine.specs.Services.{HubStandsFor}
 use Rattle.iox_machine.specs.Run as machine
 use Rattle.iox_machine.specs.State.{State, new_state}
 use Rattle.iox_negotiate_machine.specs.CallLaws.{AreListed}
-use Rattle.iox_negotiate_machine.specs.Laws.{HaveOwnHashes, HasStepForm}
+use Rattle.iox_negotiate_machine.specs.Laws.{HaveOwnHashes}
 
 -- The lists of steps that a hub makes of those that a command names are those that the laws of calls over a table ask for.
 abbrev pub ListsAreNamed : Type 0
@@ -48,7 +49,7 @@ abbrev pub NewHubStands : (T U : Type 0) → {B D : Type 0} → (B → Degradati
     → Type 0
 NewHubStands T U {B} {D} degrades decides reader_degrades = (names : List (List ℕ)) (config : HubConfig) (hub : NumberedHub T U B D)
     → IsNew config hub
-    → HubStandsFor degrades decides reader_degrades names (λ pattern name. []) (λ service. nameless) hub new_state
+    → HubStandsFor degrades decides reader_degrades names (λ pattern name. []) (λ service. nameless) [] hub new_state
 
 -- The two details are those of values and user headers, the types those of the messages; then what is a default value, and a default user
 -- header; who decides by fixed actions, and what anybody who decides may answer.
@@ -64,16 +65,18 @@ module _ {T U B D : Type 0} (payload user_header : Detail) (types : MessageTypeD
       : Type 0 where
     pub taken : MessagingPattern → List ℕ → List ℕ
     pub naming : ℕ → Naming
+    pub order : List (ℕ × ServicePorts T U)
     pub after : State T
     pub step : machine.Step types is_default old.hub.expired_connection_buffer asked state answer after
-    pub stands : HubStandsFor degrades decides reader_degrades names taken naming new after
+    pub stands : HubStandsFor degrades decides reader_degrades names taken naming order new after
 
   -- Where a hub stands for a machine, is as is needed, and replies to this command, the machine may reply so, too, and the hub stands for
-  -- what it is then. No two services of the names that are asked for share a hash.
+  -- what it is then.
   abbrev pub Follows : List (List ℕ) → Command T → (NumberedHub T U B D → Type 0) → Type 0
-  Follows names asked IsFit = (taken : MessagingPattern → List ℕ → List ℕ) (naming : ℕ → Naming) (old new : NumberedHub T U B D)
-      (state : State T) (answer : Reply T) → HaveOwnHashes names → IsFit old
-      → HubStandsFor degrades decides reader_degrades names taken naming old state
+  Follows names asked IsFit = (taken : MessagingPattern → List ℕ → List ℕ) (naming : ℕ → Naming)
+      (order : List (ℕ × ServicePorts T U)) (old new : NumberedHub T U B D) (state : State T) (answer : Reply T)
+      → IsFit old
+      → HubStandsFor degrades decides reader_degrades names taken naming order old state
       → hub.Step payload user_header types is_default is_default_header fixed degrades decides fixed_reader reader_degrades asked old
       (Ok answer) new
       → IsFollowed names asked old new state answer
@@ -82,19 +85,19 @@ module _ {T U B D : Type 0} (payload user_header : Detail) (types : MessageTypeD
   abbrev pub NodeMatches : Type 0
   NodeMatches = (names : List (List ℕ)) → Follows names command.Node (λ old. old.hub.nodes + 1 < 2 ^ 64)
 
-  -- Nodes outside the hub do steps under a name that is asked for. What they publish has the form of a description, and there are numbers
-  -- left for as many locks.
+  -- Nodes outside the hub do steps under a name that is asked for. No two services of the names that are asked for share a hash, and there
+  -- are numbers left for as many locks.
   abbrev pub ForeignMatches : Type 0
   ForeignMatches = (names : List (List ℕ)) (pattern : MessagingPattern) (name : List ℕ) (steps : List ForeignStep) → IsAmong names name
-      → AllByRecursion (HasStepForm types name) steps
+      → HaveOwnHashes names
       → Follows names (command.Foreign pattern name steps) (λ old. old.hub.table.next + length steps < 2 ^ 64)
 
   -- Where such a command is skipped the machine skips it, too, and the hub stands for what it stood for.
   abbrev pub SkippedMatches : Type 0
   SkippedMatches = (names : List (List ℕ)) (asked : Command T) (taken : MessagingPattern → List ℕ → List ℕ) (naming : ℕ → Naming)
-      (old new : NumberedHub T U B D) (state : State T) → IsOnServices asked
-      → HubStandsFor degrades decides reader_degrades names taken naming old state
+      (order : List (ℕ × ServicePorts T U)) (old new : NumberedHub T U B D) (state : State T) → IsOnServices asked
+      → HubStandsFor degrades decides reader_degrades names taken naming order old state
       → hub.Step payload user_header types is_default is_default_header fixed degrades decides fixed_reader reader_degrades asked old
       (Ok reply.Skipped) new
       → machine.Step types is_default old.hub.expired_connection_buffer asked state reply.Skipped state
-      × HubStandsFor degrades decides reader_degrades names taken naming new state
+      × HubStandsFor degrades decides reader_degrades names taken naming order new state

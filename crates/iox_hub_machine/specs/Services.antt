@@ -21,7 +21,6 @@ use Rattle.iox_hub_commands.specs.AgreementLaws.{service_of, carried_by}
 use Rattle.iox_hub_commands.specs.ServicesTables.{FactoryTable, parts_of, pattern_in}
 use Rattle.iox_hub_commands.specs.declared.numbered_hub.NumberedHub.{NumberedHub}
 use Rattle.iox_hub_commands.specs.declared.services.made.MadeFactory.{MadeFactory}
-use Rattle.iox_hub_machine.specs.Ports.{ports_here}
 use Rattle.iox_hub_machine.specs.Seats.{seats_in, seats_for, factories_of_node}
 use Rattle.iox_hub_machine.specs.Standing.{PortsStandFor}
 use Rattle.iox_machine.specs.Service.{Service}
@@ -94,15 +93,16 @@ module _ {T U B D : Type 0} where
 
   -- A hub stands for a machine, for the names that are asked for: the nodes, the phases of all services by these names, the factories, and
   -- the open publish-subscribe services with their ports are the same. These numbers were taken for the services of each name; what anybody
-  -- may answer who decides for a port is given, and under which names the machine has the ports of each service.
+  -- may answer who decides for a port is given, under which names the machine has the ports of each service, and in which order it has the
+  -- services.
   pub record HubStandsFor (degrades : B → DegradationCause → DegradationInfo → DegradationAction → Type 0)
       (decides : B → BackpressureInfo → BackpressureDecision → Type 0)
       (reader_degrades : D → DegradationCause → DegradationInfo → DegradationAction → Type 0)
-      (names : List (List ℕ)) (taken : MessagingPattern → List ℕ → List ℕ) (naming : ℕ → Naming) (hub : NumberedHub T U B D)
-      (state : State T) : Type 0 where
+      (names : List (List ℕ)) (taken : MessagingPattern → List ℕ → List ℕ) (naming : ℕ → Naming)
+      (order : List (ℕ × ServicePorts T U)) (hub : NumberedHub T U B D) (state : State T) : Type 0 where
     pub nodes : hub.hub.nodes ≡ state.made.nodes
     pub table : TableStands names taken hub.hub.table state
     pub id : hub.hub.services.hub ≡ hub.hub.table.id
     pub factories : FactoriesStandFor names taken hub state
-    pub served : AreServedInTurn hub.factories.made hub.hub.services (ports_here hub.hub.services.domains) state.services
-    pub ports : PortsStandFor degrades decides reader_degrades naming hub state
+    pub served : AreServedInTurn hub.factories.made hub.hub.services order state.services
+    pub ports : PortsStandFor degrades decides reader_degrades naming order hub state

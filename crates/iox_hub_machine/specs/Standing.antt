@@ -1,5 +1,5 @@
 -- Which ports, loans and samples of a machine those of a hub are.
-use Rattle.std.specs.Prelude.{ℕ, ◌+◌, ◌≡◌, Bool, true, List, map, is_some, Option, Some}
+use Rattle.std.specs.Prelude.{ℕ, ◌+◌, ◌≡◌, ◌≤◌, Bool, true, List, map, is_some, Option, Some}
 use Rattle.iox_command.specs.DomainValues.declared.backpressure.BackpressureDecision.{BackpressureDecision}
 use Rattle.iox_command.specs.DomainValues.declared.backpressure.BackpressureInfo.{BackpressureInfo}
 use Rattle.iox_command.specs.DomainValues.declared.degradation.DegradationAction.{DegradationAction}
@@ -10,6 +10,7 @@ use Rattle.iox_delivery.specs.Holding.{publisher_stands, subscriber_stands}
 use Rattle.iox_delivery.specs.declared.port_id.PortId.{PortId}
 use Rattle.iox_domain.specs.DomainPorts.declared.attached.Taken.{Taken}
 use Rattle.iox_domain.specs.declared.domain_id.DomainId.{DomainId}
+use Rattle.iox_domain.specs.declared.ports.service_ports.ServicePorts.{ServicePorts}
 use Rattle.iox_domain_machine.specs.Naming.{Naming}
 use Rattle.iox_domain_machine.specs.SendLaws.{DecidesAs}
 use Rattle.iox_domain_machine.specs.Services.{DomainsStandFor}
@@ -28,6 +29,7 @@ use Rattle.iox_hub_machine.specs.Ports.{ports_here, AreHere, among}
 use Rattle.iox_machine.specs.Service.{Publisher, Subscriber}
 use Rattle.iox_machine.specs.State as machine
 use Rattle.iox_machine.specs.State.{State}
+use Rattle.iox_machine.specs.Table.{at}
 
 -- a loan of a hub, with the number of its service
 abbrev pub lent_slot : MadeLoan → ℕ × LentSlot
@@ -51,6 +53,11 @@ pub record AreAsMany (made : Made) (count : machine.Made) : Type 0 where
   pub subscribers : made.subscribers.next ≡ count.subscribers + 1
   pub loans : made.loans.next ≡ count.loans + 1
   pub samples : made.samples.next ≡ count.samples + 1
+
+-- No name of a port is above the number of those that were made.
+pub record AreNamedWithin (naming : ℕ → Naming) (count : machine.Made) : Type 0 where
+  pub publishers : (service number : ℕ) → (naming service).publisher number ≤ count.publishers
+  pub subscribers : (service number : ℕ) → (naming service).subscriber number ≤ count.subscribers
 
 -- What goes by a number is the port that has it for its name, and it stands; and each port that stands goes by its name.
 pub record GoByNames (name : ℕ → ℕ → ℕ) (stands : DomainId → ℕ → Bool) (under : ℕ → Option PortId) : Type 0 where
@@ -84,18 +91,22 @@ module _ {T U B D : Type 0} where
       → action ≡ subscriber.degradation
 
   -- The ports of a hub, with its loans and samples, are those of a machine, by the names that each of its services gives them. What anybody
-  -- may answer who decides for a port is given.
+  -- may answer who decides for a port is given, and the ports of all open services of the hub, in the order in which the machine has their
+  -- services: that in which they were opened.
   pub record PortsStandFor (degrades : B → DegradationCause → DegradationInfo → DegradationAction → Type 0)
       (decides : B → BackpressureInfo → BackpressureDecision → Type 0)
       (reader_degrades : D → DegradationCause → DegradationInfo → DegradationAction → Type 0)
-      (naming : ℕ → Naming) (hub : NumberedHub T U B D) (state : State T) : Type 0 where
+      (naming : ℕ → Naming) (order : List (ℕ × ServicePorts T U)) (hub : NumberedHub T U B D) (state : State T) : Type 0 where
     -- each open service is here
     pub here : AreHere hub.hub.services.domains
-    -- the ports of these, with the loans and samples that go by numbers, stand for the services of the machine
-    pub domains : DomainsStandFor naming (lent_in hub.made) (held_in hub.made) hub.hub.expired_connection_buffer
-        (ports_here hub.hub.services.domains) state.services
+    -- these have the ports that are given, in whatever order
+    pub same : (number : ℕ) → at number order ≡ at number (ports_here hub.hub.services.domains)
+    -- those, with the loans and samples that go by numbers, stand for the services of the machine
+    pub domains : DomainsStandFor naming (lent_in hub.made) (held_in hub.made) hub.hub.expired_connection_buffer order state.services
     -- as many numbers were given
     pub numbers : AreAsMany hub.made state.made
+    -- no name of a port is above the number that the last one got
+    pub named : AreNamedWithin naming state.made
     -- each loan is one of an open service of this hub
     pub loans : (number : ℕ) (made : MadeLoan) → value_at hub.made.loans number ≡ Some made
         → is_some (domain_at made.port.domain hub.hub.services) ≡ true

@@ -212,16 +212,32 @@ fn are_left(given: &Given, left: &[bool]) -> bool {
     given.places.len() == left.len()
 }
 
-// On a new hub, with six objects handed in, each line must be replied to as its row says, and of the objects these must be left.
-fn go(rt: &impl Abort, alloc: Global, case: &Case) -> Result<(), AllocError> {
-    let rows = case.rows;
+// On a new hub each line must be replied to as its row says.
+fn go_anew(
+    rt: &impl Abort,
+    alloc: Global,
+    given: &mut Given,
+    rows: &[Row],
+) -> Result<(), AllocError> {
     assert!(rt; rows.len() < 1000);
-    let mut given = Given::new(alloc);
-    hand_in(alloc, &mut given)?;
-    let mut hub = Numbers::new(alloc, CONFIG);
-    go_on(rt, alloc, &mut hub, &mut given, rows)?;
-    assert!(rt; are_left(&given, case.left));
+    go_on(rt, alloc, &mut Numbers::new(alloc, CONFIG), given, rows)
+}
+
+// With six objects handed in each line must, and of the objects these must be left.
+fn go_with(
+    rt: &impl Abort,
+    alloc: Global,
+    given: &mut Given,
+    case: &Case,
+) -> Result<(), AllocError> {
+    hand_in(alloc, given)?;
+    go_anew(rt, alloc, given, case.rows)?;
+    assert!(rt; are_left(given, case.left));
     Ok(())
+}
+
+fn go(rt: &impl Abort, alloc: Global, case: &Case) -> Result<(), AllocError> {
+    go_with(rt, alloc, &mut Given::new(alloc), case)
 }
 
 // A full mailbox of a service without overflow is asked of the object that the publisher took, and of no action that the command names:
@@ -437,19 +453,35 @@ fn objects(alloc: Global, len: usize) -> Result<Given, AllocError> {
     Ok(given)
 }
 
-// Whether as many commands are replied to, and as many objects are left.
-fn runs(alloc: Global, len: usize) -> Result<bool, AllocError> {
-    let mut given = objects(alloc, len)?;
-    let mut hub = Numbers::new(alloc, CONFIG);
-    let report = run(&mut hub, alloc, nodes(alloc, len)?, &mut given);
-    Ok(!report.stopped && report.replies.len() / 2 == len && given.places.len() == len)
+// Whether all these are replied to on a new hub, which are two for each of so many objects, and all of those are left.
+fn is_run(
+    alloc: Global,
+    given: &mut Given,
+    commands: Vec<HandledCommand<'static, u64>>,
+    len: usize,
+) -> bool {
+    let report = run(&mut Numbers::new(alloc, CONFIG), alloc, commands, given);
+    !report.stopped && report.replies.len() / 2 == len && given.places.len() == len
 }
 
-// Whether as many loans are replied to in a run without handlers.
+// Whether as many commands are replied to, and as many objects are left.
+fn runs(alloc: Global, len: usize) -> Result<bool, AllocError> {
+    let commands = nodes(alloc, len)?;
+    match objects(alloc, len) {
+        Ok(mut given) => Ok(is_run(alloc, &mut given, commands, len)),
+        Err(error) => Err(error),
+    }
+}
+
+// Whether so many loans are replied to in a run without handlers.
+fn is_run_alone(alloc: Global, commands: Vec<Command<'static, u64>>, len: usize) -> bool {
+    let report = NumberedHub::<u64, u64>::new(alloc, CONFIG).run(alloc, commands);
+    !report.stopped && report.replies.len() == len
+}
+
+// Whether as many are.
 fn runs_alone(alloc: Global, len: usize) -> Result<bool, AllocError> {
-    let mut hub = NumberedHub::<u64, u64>::new(alloc, CONFIG);
-    let report = hub.run(alloc, loans(alloc, len)?);
-    Ok(!report.stopped && report.replies.len() == len)
+    Ok(is_run_alone(alloc, loans(alloc, len)?, len))
 }
 
 #[test]

@@ -5,7 +5,9 @@ ghost use Rattle.std.specs.Bool.{OnFalse};
 ghost use Rattle.std.specs.List.{FoldsTo};
 ghost use Rattle.iox_container.specs.CountedPlaces.{padded};
 ghost use Rattle.iox_container.specs.Release.{state_of};
-ghost use Rattle.iox_container.specs.Container.{Contents, Copied, empty_container, count_members, lowest_free, handle_of, with_member, without_member, settled, owns, HasRoom, copy_of, may_update, IsCopyOf, member_of, handle_at, first_handle, members_of, Recovered};
+ghost use Rattle.iox_container.specs.Container.{Contents, Copied, empty_container, count_members, lowest_free, handle_of, with_member};
+ghost use Rattle.iox_container.specs.Container.{without_member, settled, owns, HasRoom, copy_of, may_update, IsCopyOf, member_of};
+ghost use Rattle.iox_container.specs.Container.{handle_at, first_handle, members_of, Recovered};
 
 use iox_container::{
     Container, ContainerAddFailure, ContainerHandle, ContainerRemoveError, ContainerState, Member,

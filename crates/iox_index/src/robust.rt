@@ -2,7 +2,8 @@
 ghost use Rattle.std.specs.Prelude.{◌≡◌, ◌≤◌, ℕ, List, Option, Some, length, slice_set, true, false, IfOk, OnErr};
 ghost use Rattle.std.specs.List.{FoldsTo};
 ghost use Rattle.iox_container.specs.Release.{state_of};
-ghost use Rattle.iox_container.specs.Robust.{RobustSetState, new_robust_set, is_held, lowest_free, borrowed, answer_of, freed, settled, held_by, Recovered};
+ghost use Rattle.iox_container.specs.Robust.{RobustSetState, new_robust_set, is_held, lowest_free, borrowed, answer_of, freed, settled};
+ghost use Rattle.iox_container.specs.Robust.{held_by, Recovered};
 
 use iox_container::{
     OwnerId, ReleaseMode, ReleaseState, RobustUniqueIndexSet, UniqueIndexSetAcquireFailure,

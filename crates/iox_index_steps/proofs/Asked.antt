@@ -1,14 +1,14 @@
 -- The steps of each call are those that its value asked for, after one more step.
-use Rattle.std.proofs.Common.{◌≡◌, ℕ, ◌<◌, ◌≤◌, Bool, true, false, if◌then◌else◌, ◌==◌, nat_le, Ok, Err, ⊎_elim, List, [], ◌∷◌, ◌++◌, length, set, drop, refl, sym, ◌∙◌, ap, subst, arith}
+use Rattle.std.proofs.Common.{◌≡◌, ℕ, ◌<◌, ◌≤◌, Bool, true, false, if◌then◌else◌, ◌==◌, nat_le, Ok, Err, ⊎_elim, List, [], ◌∷◌, ◌++◌}
+use Rattle.std.proofs.Common.{length, set, drop, sym, ◌∙◌, subst, arith}
 use Rattle.std.proofs.Math.Seq.{take-append_seam}
 use Rattle.std.proofs.lemmas.Bool.{cases_eq}
 use Rattle.std.proofs.lemmas.List.{take-append-le}
-use Rattle.iox_queues_steps.specs.Access.{RingWords, answer_of, after_access}
 use Rattle.iox_container.specs.declared.error.UniqueIndexSetAcquireFailure.TheVariants.{OutOfIndices, IsLocked}
 use Rattle.iox_queues.specs.Told.{own}
 use Rattle.iox_queues.specs.declared.bits.machine.Event.{Event}
 use Rattle.iox_index_steps.specs.Steps.{borrowed_count, call_begun, call_next, call_take, lock_mark, next_free, seen_by_acquire}
-use Rattle.iox_index_steps.specs.Told.{Answered, AreAsked, Goes, IsAsked, IsAskedSoFar, LieWithin}
+use Rattle.iox_index_steps.specs.Told.{AreAsked, IsAsked, IsAskedSoFar, LieWithin}
 use Rattle.iox_index_steps.specs.Machine.{call_ended, seat_at, stage_at}
 use Rattle.iox_index_steps.specs.declared.call.Answer.TheVariants.{Acquired}
 use Rattle.iox_index_steps.specs.declared.call.Call.{Call}
@@ -17,34 +17,21 @@ use Rattle.iox_index_steps.specs.declared.call.IndexCall.{IndexCall}
 use Rattle.iox_index_steps.specs.declared.call.IndexCall.TheVariants.{Idle, Acquire, Follow, Take, Release, Link, Give, Done}
 use Rattle.iox_index_steps.specs.declared.machine.Finished.{Finished}
 use Rattle.iox_index_steps.specs.declared.state.Seat.{Seat}
-use Rattle.iox_index_steps.proofs.Counts.{own_else_since}
+use Rattle.iox_queues.proofs.OwnSteps.{own_else_since}
+use Rattle.iox_queues.proofs.Recorded.{asked_on}
 use Rattle.iox_index_steps.proofs.Seats.{seat_else, seat_here}
 
-pub answered_on : (words now : RingWords) (events : List Event) (e : Event) → e.answer ≡ answer_of now e.access
-    → Answered words events now → Answered words (events ++ e ∷ []) (after_access now e.access)
-answered_on words now [] e is h = subst
-    (λ (w : RingWords). (e.answer ≡ answer_of w e.access) × (after_access now e.access ≡ after_access w e.access)) h (is, refl)
-answered_on words now (x ∷ events) e is h = (h.0, answered_on (after_access words x.access) now events e is h.1)
-
-goes_on_from : (begun : IndexCall) (between : List Event) (stage : IndexCall) (e : Event) → e.access ≡ call_next stage
-    → Goes begun between stage → Goes begun (between ++ e ∷ []) (call_take stage e.answer)
-goes_on_from begun [] stage e is h = subst
-    (λ (s : IndexCall). (e.access ≡ call_next s) × (call_take stage e.answer ≡ call_take s e.answer)) h (is, refl)
-goes_on_from begun (x ∷ between) stage e is h = (h.0, goes_on_from (call_take begun x.answer) between stage e is h.1)
-
 module _ (n party : ℕ) (events : List Event) (e : Event) where
-  asked_on : (c : Call) (stage : IndexCall) → e.access ≡ call_next stage → IsAsked n party c stage events
+  asked_by : (c : Call) (stage : IndexCall) → e.access ≡ call_next stage → IsAsked n party c stage events
       → IsAsked n party c (call_take stage e.answer) (events ++ e ∷ [])
-  asked_on c stage is a = record {
-    between = a.between ++ e ∷ [];
-    whole = ap (λ (es : List Event). es ++ e ∷ []) a.whole;
-    goes = goes_on_from (call_begun n c) a.between stage e is a.goes;
-  }
+  asked_by c stage is a = asked_on IndexCall call_next call_take party events e (call_begun n c) stage is a
 
   -- an acquire that saw the head, and calls that won their exchange or lost it
   seen_asked : (capacity word : ℕ) (full marked : Bool) (es : List Event)
-      → IsAsked n party call.Acquire (if full then Done call.Acquire (Acquired (Err OutOfIndices)) else if marked then Done call.Acquire (Acquired (Err IsLocked)) else Follow capacity word) es
-      → IsAskedSoFar n party (if full then Done call.Acquire (Acquired (Err OutOfIndices)) else if marked then Done call.Acquire (Acquired (Err IsLocked)) else Follow capacity word) es
+      → IsAsked n party call.Acquire (if full then Done call.Acquire (Acquired (Err OutOfIndices)) else if marked then Done call.Acquire
+      (Acquired (Err IsLocked)) else Follow capacity word) es
+      → IsAskedSoFar n party (if full then Done call.Acquire (Acquired (Err OutOfIndices)) else if marked then Done call.Acquire
+      (Acquired (Err IsLocked)) else Follow capacity word) es
   seen_asked capacity word true marked es a = a
   seen_asked capacity word false true es a = a
   seen_asked capacity word false false es a = a
@@ -62,15 +49,17 @@ module _ (n party : ℕ) (events : List Event) (e : Event) where
   pub asked_next : (stage : IndexCall) → e.access ≡ call_next stage → IsAskedSoFar n party stage events
       → IsAskedSoFar n party (call_take stage e.answer) (events ++ e ∷ [])
   asked_next Idle is a = tt
-  asked_next (Acquire capacity) is a = seen_by capacity e.answer (events ++ e ∷ []) (asked_on call.Acquire (Acquire capacity) is a)
-  asked_next (Follow capacity word) is a = asked_on call.Acquire (Follow capacity word) is a
+  asked_next (Acquire capacity) is a = seen_by capacity e.answer (events ++ e ∷ []) (asked_by call.Acquire (Acquire capacity) is a)
+  asked_next (Follow capacity word) is a = asked_by call.Acquire (Follow capacity word) is a
   asked_next (Take capacity word next) is a =
-      won_or_lost call.Acquire (Done call.Acquire (Acquired (Ok (next_free word)))) (seen_by_acquire capacity e.answer) (e.answer == word) (events ++ e ∷ []) (λ done. done) (seen_by capacity e.answer (events ++ e ∷ []))
-      (asked_on call.Acquire (Take capacity word next) is a)
-  asked_next (Release index mode) is a = asked_on (call.Release index mode) (Release index mode) is a
-  asked_next (Link index mode word) is a = asked_on (call.Release index mode) (Link index mode word) is a
+      won_or_lost call.Acquire (Done call.Acquire (Acquired (Ok (next_free word)))) (seen_by_acquire capacity e.answer)
+      (e.answer == word) (events ++ e ∷ []) (λ done. done) (seen_by capacity e.answer (events ++ e ∷ []))
+      (asked_by call.Acquire (Take capacity word next) is a)
+  asked_next (Release index mode) is a = asked_by (call.Release index mode) (Release index mode) is a
+  asked_next (Link index mode word) is a = asked_by (call.Release index mode) (Link index mode word) is a
   asked_next (Give index mode word) is a =
-      won_or_lost (call.Release index mode) (Done (call.Release index mode) _) (Link index mode e.answer) (e.answer == word) (events ++ e ∷ []) (λ done. done) (λ again. again) (asked_on (call.Release index mode) (Give index mode word) is a)
+      won_or_lost (call.Release index mode) (Done (call.Release index mode) _) (Link index mode e.answer) (e.answer == word)
+      (events ++ e ∷ []) (λ done. done) (λ again. again) (asked_by (call.Release index mode) (Give index mode word) is a)
   asked_next (Done c answer) is a = tt
 
 -- the calls that ended
@@ -98,19 +87,29 @@ call_asked n party first events e (Take capacity word next) a = tt
 call_asked n party first events e (Release index mode) a = tt
 call_asked n party first events e (Link index mode word) a = tt
 call_asked n party first events e (Give index mode word) a = tt
-call_asked n party first events e (Done c answer) a = (subst (λ (es : List Event). IsAsked n party c (Done c answer) (own party (drop first es))) (sym (take-append_seam events (e ∷ []))) a, tt)
+call_asked n party first events e (Done c answer) a
+    = (
+      subst (λ (es : List Event). IsAsked n party c (Done c answer) (own party (drop first es))) (sym (take-append_seam events (e ∷ [])))
+          a,
+      tt,
+    )
 
 -- each party's call in hand, after a step of one of them
 module _ (n : ℕ) (seats : List Seat) (events : List Event) (e : Event) (party : ℕ) (seat : Seat) (within : party < length seats)
     (its : party ≡ e.party)
-    (began : (q : ℕ) → (seat_at seats q).first ≤ length events) (going : (q : ℕ) → IsAskedSoFar n q (stage_at seats q) (own q (drop (seat_at seats q).first events)))
+    (began : (q : ℕ) → (seat_at seats q).first ≤ length events)
+    (going : (q : ℕ) → IsAskedSoFar n q (stage_at seats q) (own q (drop (seat_at seats q).first events)))
     (here : IsAskedSoFar n party seat.stage (own party (drop seat.first (events ++ e ∷ [])))) where
   pub asked_all : (q : ℕ) → IsAskedSoFar n q (stage_at (set seats party seat) q)
       (own q (drop (seat_at (set seats party seat) q).first (events ++ e ∷ [])))
   asked_all q =
       ⊎_elim
-      (λ (same : party ≡ q). subst (λ (q : ℕ). IsAskedSoFar n q (stage_at (set seats party seat) q) (own q (drop (seat_at (set seats party seat) q).first (events ++ e ∷ [])))) same
-      (subst (λ (s : Seat). IsAskedSoFar n party s.stage (own party (drop s.first (events ++ e ∷ [])))) (sym (seat_here seats party seat within)) here))
-      (λ (differs : party ≡ q → ⊥). subst (λ (s : Seat). IsAskedSoFar n q s.stage (own q (drop s.first (events ++ e ∷ [])))) (sym (seat_else seats party q seat (λ same. differs (sym same))))
-      (subst (λ (es : List Event). IsAskedSoFar n q (stage_at seats q) es) (sym (own_else_since q (seat_at seats q).first events e (began q) (λ is. differs (its ∙ is)))) (going q)))
+      (λ (same : party ≡ q). subst (λ (q : ℕ). IsAskedSoFar n q (stage_at (set seats party seat) q)
+      (own q (drop (seat_at (set seats party seat) q).first (events ++ e ∷ [])))) same
+      (subst (λ (s : Seat). IsAskedSoFar n party s.stage (own party (drop s.first (events ++ e ∷ []))))
+      (sym (seat_here seats party seat within)) here))
+      (λ (differs : party ≡ q → ⊥). subst (λ (s : Seat). IsAskedSoFar n q s.stage (own q (drop s.first (events ++ e ∷ []))))
+      (sym (seat_else seats party q seat (λ same. differs (sym same))))
+      (subst (λ (es : List Event). IsAskedSoFar n q (stage_at seats q) es)
+      (sym (own_else_since q (seat_at seats q).first events e (began q) (λ is. differs (its ∙ is)))) (going q)))
       (cases_eq party q)

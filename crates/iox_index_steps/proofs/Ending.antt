@@ -1,12 +1,14 @@
 -- What a step leaves of each call, of those that ended, and of the sizes.
-use Rattle.std.proofs.Common.{◌≡◌, ℕ, ◌<◌, ◌≤◌, ⊎_elim, Bool, true, false, if◌then◌else◌, ◌==◌, nat_le, Option, Some, None, Ok, Err, List, [], ◌∷◌, ◌++◌, length, set, take, refl, sym, ◌∙◌, subst, arith, length-append, length-set}
+use Rattle.std.proofs.Common.{◌≡◌, ℕ, ◌<◌, ◌≤◌, ⊎_elim, Bool, true, false, if◌then◌else◌, ◌==◌, nat_le, Option, Some, None, Ok, Err, List}
+use Rattle.std.proofs.Common.{[], ◌∷◌, ◌++◌, length, set, take, refl, sym, ◌∙◌, subst, arith, length-append, length-set}
 use Rattle.std.proofs.Math.Seq.{take-append_seam}
 use Rattle.std.proofs.lemmas.Bool.{cases_eq, leb-false}
 use Rattle.std.proofs.lemmas.List.{take-append-le}
 use Rattle.iox_queues_steps.specs.Access.{RingWords, after_access}
 use Rattle.iox_container.specs.declared.error.UniqueIndexSetAcquireFailure.TheVariants.{OutOfIndices, IsLocked}
 use Rattle.iox_queues.specs.declared.bits.machine.Event.{Event}
-use Rattle.iox_index_steps.specs.Steps.{call_next, call_take, next_free, head_given, head_taken, borrowed_count, is_locked_by, lock_mark, saw_index, seen_by_acquire}
+use Rattle.iox_index_steps.specs.Steps.{call_next, call_take, next_free, head_given, head_taken, borrowed_count, is_locked_by, lock_mark}
+use Rattle.iox_index_steps.specs.Steps.{saw_index, seen_by_acquire}
 use Rattle.iox_index_steps.specs.Told.{LieWithin, AreTold, Tells}
 use Rattle.iox_index_steps.specs.Machine.{call_ended, holders_after, seat_at, stage_at}
 use Rattle.iox_index_steps.specs.Kept.{HasCells, Knows}
@@ -59,7 +61,8 @@ ended_among events e party first (Done c answer) h = ((record { begun = h; ended
 
 pub ended_told : (words : RingWords) (holders : List (Option ℕ)) (n : ℕ) (locked : Bool) (events : List Event) (e : Event)
     (party first : ℕ) (stage : IndexCall)
-    → n ≡ length words.cells → (is_locked_by (length words.cells) words.read ≡ true → locked ≡ true) → Knows words holders events party first stage
+    → n ≡ length words.cells → (is_locked_by (length words.cells) words.read ≡ true → locked ≡ true)
+    → Knows words holders events party first stage
     → AreTold n locked (events ++ e ∷ []) (call_ended party first (length events) stage)
 ended_told words holders n locked events e party first Idle same keeps k = tt
 ended_told words holders n locked events e party first (Acquire capacity) same keeps k = tt
@@ -85,10 +88,13 @@ module _ (words words' : RingWords) (holders holders' : List (Option ℕ)) (seat
       (stage_at (set seats party seat) q)
   knows_all q =
       ⊎_elim
-      (λ (same : party ≡ q). subst (λ (q : ℕ). Knows words' holders' (events ++ e ∷ []) q (seat_at (set seats party seat) q).first (stage_at (set seats party seat) q)) same
+      (λ (same : party ≡ q). subst (λ (q : ℕ). Knows words' holders' (events ++ e ∷ []) q (seat_at (set seats party seat) q).first
+      (stage_at (set seats party seat) q)) same
       (subst (λ (s : Seat). Knows words' holders' (events ++ e ∷ []) party s.first s.stage) (sym (seat_here seats party seat within)) here))
-      (λ (differs : party ≡ q → ⊥). subst (λ (s : Seat). Knows words' holders' (events ++ e ∷ []) q s.first s.stage) (sym (seat_else seats party q seat (λ same. differs (sym same))))
-      (knows_else q (seat_at seats q).first words words' holders holders' events e (λ is. differs (its ∙ is)) (began q) (leaves q differs) (stage_at seats q) (knows q)))
+      (λ (differs : party ≡ q → ⊥). subst (λ (s : Seat). Knows words' holders' (events ++ e ∷ []) q s.first s.stage)
+      (sym (seat_else seats party q seat (λ same. differs (sym same))))
+      (knows_else q (seat_at seats q).first words words' holders holders' events e (λ is. differs (its ∙ is)) (began q)
+      (leaves q differs) (stage_at seats q) (knows q)))
       (cases_eq party q)
 
 -- what holds of each seat holds after one was set
@@ -97,8 +103,10 @@ pub each_seat : (P : Seat → Type 0) (P' : Seat → Type 0) (seats : List Seat)
     → (q : ℕ) → P' (seat_at (set seats party seat) q)
 each_seat P P' seats party seat within before keeps here q =
     ⊎_elim
-    (λ (same : party ≡ q). subst (λ (q : ℕ). P' (seat_at (set seats party seat) q)) same (subst P' (sym (seat_here seats party seat within)) here))
-    (λ (differs : party ≡ q → ⊥). subst P' (sym (seat_else seats party q seat (λ same. differs (sym same)))) (keeps (seat_at seats q) (before q)))
+    (λ (same : party ≡ q). subst (λ (q : ℕ). P' (seat_at (set seats party seat) q)) same
+    (subst P' (sym (seat_here seats party seat within)) here))
+    (λ (differs : party ≡ q → ⊥). subst P' (sym (seat_else seats party q seat (λ same. differs (sym same))))
+    (keeps (seat_at seats q) (before q)))
     (cases_eq party q)
 
 -- no step changes how many cells and holders there are
@@ -134,7 +142,8 @@ same_holders holders party answer (Done c answer') = refl
 
 -- a call has its cells at its next stage
 seen_cells : (n capacity word : ℕ) → capacity ≡ n → (full marked : Bool) → nat_le capacity (next_free word) ≡ full
-    → HasCells n (if full then Done call.Acquire (Acquired (Err OutOfIndices)) else if marked then Done call.Acquire (Acquired (Err IsLocked)) else Follow capacity word)
+    → HasCells n (if full then Done call.Acquire (Acquired (Err OutOfIndices)) else if marked then Done call.Acquire
+    (Acquired (Err IsLocked)) else Follow capacity word)
 seen_cells n capacity word same true marked f = tt
 seen_cells n capacity word same false true f = tt
 seen_cells n capacity word same false false f = (same, omega (arith, same, leb-false capacity (next_free word) f))

@@ -1,5 +1,6 @@
 -- What a call knows, after a step of another party and after its own.
-use Rattle.std.proofs.Common.{◌≡◌, ℕ, ◌+◌, ◌<◌, ◌≤◌, Bool, true, Option, Ok, Err, List, [], ◌∷◌, ◌++◌, length, slice_index, drop, sym, ◌∙◌, ap, subst, arith, append_assoc}
+use Rattle.std.proofs.Common.{◌≡◌, ℕ, ◌+◌, ◌<◌, ◌≤◌, Bool, true, Option, Ok, Err, List, [], ◌∷◌, ◌++◌, length, slice_index, drop, sym}
+use Rattle.std.proofs.Common.{◌∙◌, ap, subst, arith, append_assoc}
 use Rattle.iox_queues_steps.specs.Access.{RingWords}
 use Rattle.iox_container.specs.declared.error.UniqueIndexSetAcquireFailure.TheVariants.{OutOfIndices, IsLocked}
 use Rattle.iox_container.specs.declared.release.ReleaseMode.TheVariants.{LockIfLastIndex, Default}
@@ -16,7 +17,8 @@ use Rattle.iox_index_steps.specs.declared.call.Call.{Call}
 use Rattle.iox_index_steps.specs.declared.call.Call.TheVariants as call
 use Rattle.iox_index_steps.specs.declared.call.IndexCall.{IndexCall}
 use Rattle.iox_index_steps.specs.declared.call.IndexCall.TheVariants.{Idle, Acquire, Follow, Take, Release, Link, Give, Done}
-use Rattle.iox_index_steps.proofs.Counts.{more_changes, own_else, own_else_since, changes_since}
+use Rattle.iox_queues.proofs.OwnSteps.{own_else, own_else_since}
+use Rattle.iox_index_steps.proofs.Counts.{more_changes, changes_since}
 
 -- what a step of another party leaves to party q: what q holds, with the cells behind, and the head with its cell, unless the head was changed; a locked set
 pub record LeavesToOthers (q : ℕ) (words words' : RingWords) (holders holders' : List (Option ℕ)) (e : Event) : Type 0 where
@@ -75,7 +77,8 @@ tells_same n n' locked locked' q first events (call.Release i Default) (Released
 
 -- an answer tells the same of more steps, none of them the party's own
 tells_on : (n : ℕ) (locked : Bool) (q first : ℕ) (events : List Event) (e : Event) (c : Call) (answer : Answer)
-    → (e.party ≡ q → ⊥) → first ≤ length events → Tells n locked q first events c answer → Tells n locked q first (events ++ e ∷ []) c answer
+    → (e.party ≡ q → ⊥) → first ≤ length events → Tells n locked q first events c answer
+    → Tells n locked q first (events ++ e ∷ []) c answer
 tells_on n locked q first events e call.Acquire (Acquired (Ok i)) differs began t
     = (t.0, subst (TakeOnly i) (sym (own_else_since q first events e began differs)) t.1)
 tells_on n locked q first events e call.Acquire (Acquired (Err OutOfIndices)) differs began t =
@@ -114,7 +117,8 @@ module _ (q first : ℕ) (words words' : RingWords) (holders holders' : List (Op
       → k.since + changed_by e.access e.answer ≡ 0 → slice_index words'.cells (next_free word) ≡ next
   linked_on word next k linked none =
       let is : words.read ≡ word = k.still (omega (arith, none)) in
-      subst (λ (w : ℕ). next_free w < length words.cells → slice_index words.cells (next_free w) ≡ next → slice_index words'.cells (next_free w) ≡ next) is
+      subst (λ (w : ℕ). next_free w < length words.cells → slice_index words.cells (next_free w) ≡ next
+      → slice_index words'.cells (next_free w) ≡ next) is
       (λ there same. l.behind (omega (arith, none)) there ∙ same) k.there (linked (omega (arith, none)))
 
   pub knows_else : (stage : IndexCall) → Knows words holders events q first stage → Knows words' holders' (events ++ e ∷ []) q first stage
@@ -126,5 +130,6 @@ module _ (q first : ℕ) (words words' : RingWords) (holders holders' : List (Op
   knows_else (Link index mode word) k = (none_on k.0, l.held index k.1)
   knows_else (Give index mode word) k = (none_on k.0, l.held index k.1, l.cells index k.1 ∙ k.2)
   knows_else (Done c answer) k =
-      tells_same (length words.cells) (length words'.cells) (is_locked_by (length words.cells) words.read) (is_locked_by (length words'.cells) words'.read) q first (events ++ e ∷ []) c answer l.size l.locked
+      tells_same (length words.cells) (length words'.cells) (is_locked_by (length words.cells) words.read)
+      (is_locked_by (length words'.cells) words'.read) q first (events ++ e ∷ []) c answer l.size l.locked
       (tells_on (length words.cells) (is_locked_by (length words.cells) words.read) q first events e c answer differs began k)

@@ -11,3 +11,10 @@ pub mod Ending
 pub mod Asked
 pub mod Runs
 pub mod Starts
+pub mod AtomicSums
+pub mod AtomicWords
+pub mod AtomicKnowing
+pub mod AtomicMade
+pub mod AtomicSeats
+pub mod AtomicRuns
+pub mod AtomicStarts

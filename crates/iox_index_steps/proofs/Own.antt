@@ -1,5 +1,6 @@
 -- What a party's own step leaves.
-use Rattle.std.proofs.Common.{◌≡◌, ℕ, ◌+◌, ◌-◌, ◌^◌, ◌<◌, ◌≤◌, Bool, true, false, if◌then◌else◌, ◌==◌, nat_le, nat_lt, Option, Some, None, Ok, Err, List, [], ◌∷◌, ◌++◌, length, set, slice_index, drop, refl, sym, ◌∙◌, ap, subst, arith, length-set}
+use Rattle.std.proofs.Common.{◌≡◌, ℕ, ◌+◌, ◌-◌, ◌^◌, ◌<◌, ◌≤◌, Bool, true, false, if◌then◌else◌, ◌==◌, nat_le, nat_lt, Option, Some, None}
+use Rattle.std.proofs.Common.{Ok, Err, List, [], ◌∷◌, ◌++◌, length, set, slice_index, drop, refl, sym, ◌∙◌, ap, subst, arith, length-set}
 use Rattle.std.proofs.Math.Seq.{get_or-set_same, get_or-set_other}
 use Rattle.std.proofs.lemmas.Bool.{and_from, and_parts, eqb-true, eqb-false, eq-eqb, lt-ltb, leb-true, leb-false}
 use Rattle.iox_queues_steps.specs.Access.{RingWords}
@@ -11,20 +12,25 @@ use Rattle.iox_container.specs.declared.release.ReleaseMode.{ReleaseMode}
 use Rattle.iox_container.specs.declared.release.ReleaseMode.TheVariants.{LockIfLastIndex, Default}
 use Rattle.iox_queues.specs.Told.{own}
 use Rattle.iox_queues.specs.declared.bits.machine.Event.{Event}
-use Rattle.iox_index_steps.specs.Steps.{next_free, borrowed_count, lock_mark, is_locked_by, head_taken, head_given, locks_last, seen_by_acquire}
+use Rattle.iox_index_steps.specs.Steps.{next_free, borrowed_count, lock_mark, is_locked_by, head_taken, head_given, locks_last}
+use Rattle.iox_index_steps.specs.Steps.{seen_by_acquire}
 use Rattle.iox_index_steps.specs.Changes.{changed_by, took_by, gave_by, head_changes, holds_more, sees_head, times_given}
-use Rattle.iox_index_steps.specs.Told.{GaveBeside, GiveOnly, MoveNone, TakeOnly, Tells}
+use Rattle.iox_index_steps.specs.Told.{GaveBeside, GiveOnly, MoveNone, TakeOnly, Tells, has_locked, is_locking}
 use Rattle.iox_index_steps.specs.Machine.{holder_of}
 use Rattle.iox_index_steps.specs.Kept.{count_taken, HoldsIndex, WordsFit, Knows, LeadsThrough, one_if_taken, times_among}
 use Rattle.iox_index_steps.specs.declared.call.Answer.TheVariants.{Acquired, Released}
 use Rattle.iox_index_steps.specs.declared.call.Call.TheVariants as call
 use Rattle.iox_index_steps.specs.declared.call.IndexCall.{IndexCall}
 use Rattle.iox_index_steps.specs.declared.call.IndexCall.TheVariants.{Follow, Give, Done}
-use Rattle.iox_index_steps.proofs.Counts.{more_changes, more_taken, more_given, own_more_since, moves_none_on}
+use Rattle.iox_queues.proofs.OwnSteps.{own_more_since}
+use Rattle.iox_index_steps.proofs.Counts.{more_changes, more_taken, more_given, moves_none_on}
 use Rattle.iox_index_steps.proofs.Heads.{given_free, given_held}
-use Rattle.iox_index_steps.proofs.Places.{held_within, holder_else, holder_here, one_fewer, some_taken}
-use Rattle.iox_index_steps.proofs.Whole.{counted, fewer, fewer_held, gave_less, gave_more, head_free, index_small, locked_free, more, some, took_less, took_more, whole_given, whole_kept, whole_stored, whole_taken, within_holders, won}
+use Rattle.iox_index_steps.proofs.Places.{held_within, holder_else, holder_here, at_most_all, one_fewer, one_more, some_taken}
+use Rattle.iox_index_steps.proofs.Whole.{counted, fewer, fewer_held, gave_less, gave_more, head_free, index_small, locked_free, more}
+use Rattle.iox_index_steps.proofs.Whole.{some, took_less, took_more, whole_given, whole_kept, whole_stored, whole_taken, within_holders}
+use Rattle.iox_index_steps.proofs.Whole.{won}
 use Rattle.iox_index_steps.proofs.Knowing.{LeavesToOthers}
+use Rattle.std.proofs.Common.{◌⊎◌, inl, inr}
 
 -- the words stay whole, no other party loses what it knows, and this one knows its new stage
 pub record MadeStep (p first : ℕ) (words words' : RingWords) (holders holders' : List (Option ℕ)) (events : List Event) (e : Event)
@@ -32,6 +38,8 @@ pub record MadeStep (p first : ℕ) (words words' : RingWords) (holders holders'
   pub whole : WordsFit words' holders' (events ++ e ∷ [])
   pub leaves : (q : ℕ) → (p ≡ q → ⊥) → LeavesToOthers q words words' holders holders' e
   pub knows : Knows words' holders' (events ++ e ∷ []) p first stage
+  pub locks : is_locked_by (length words'.cells) words'.read ≡ true
+      → (is_locked_by (length words.cells) words.read ≡ true) ⊎ (is_locking stage ≡ true)
 
 -- a step that changes no word leaves all
 pub leaves_all : (q : ℕ) (words : RingWords) (holders : List (Option ℕ)) (e : Event) → LeavesToOthers q words words holders holders e
@@ -58,7 +66,8 @@ module _ (p first : ℕ) (words : RingWords) (holders : List (Option ℕ)) (even
     seen_if : (full marked : Bool) → nat_le (length words.cells) (next_free words.read) ≡ full
         → (borrowed_count words.read == lock_mark) ≡ marked
         → Knows words holders (events ++ e ∷ []) p first
-        (if full then Done call.Acquire (Acquired (Err OutOfIndices)) else if marked then Done call.Acquire (Acquired (Err IsLocked)) else Follow (length words.cells) words.read)
+        (if full then Done call.Acquire (Acquired (Err OutOfIndices)) else if marked then Done call.Acquire (Acquired (Err IsLocked))
+        else Follow (length words.cells) words.read)
     seen_if true marked f m =
         let past : length words.cells ≤ next_free words.read = leb-true (length words.cells) (next_free words.read) f in (
           none_more e its took gave,
@@ -71,12 +80,21 @@ module _ (p first : ℕ) (words : RingWords) (holders : List (Option ℕ)) (even
             its = its;
             looks = looks;
             last = refl;
-            out = λ i within. omega (arith, w.taken i, w.once i within, empty_free (length words.cells) words.cells (next_free words.read) w.free i past w.leads);
+            out = λ i within. omega (
+              arith,
+              w.taken i,
+              w.once i within,
+              empty_free (length words.cells) words.cells (next_free words.read) w.free i past
+                  w.leads,
+            );
           }),
         )
     seen_if false true f m =
-        let there : next_free words.read < length words.cells = leb-false (length words.cells) (next_free words.read) f in
-        (none_more e its took gave, and_from (nat_lt (next_free words.read) (length words.cells)) (borrowed_count words.read == lock_mark) (lt-ltb (next_free words.read) (length words.cells) there) m)
+        let there : next_free words.read < length words.cells = leb-false (length words.cells) (next_free words.read) f in (
+          none_more e its took gave,
+          and_from (nat_lt (next_free words.read) (length words.cells)) (borrowed_count words.read == lock_mark)
+              (lt-ltb (next_free words.read) (length words.cells) there) m,
+        )
     seen_if false false f m = (
       none_more e its took gave,
       (record {
@@ -96,6 +114,7 @@ module _ (p first : ℕ) (words : RingWords) (holders : List (Option ℕ)) (even
       whole = whole_kept holders events e unchanged took gave words w;
       leaves = λ q differs. leaves_all q words holders e;
       knows = seen_if (nat_le (length words.cells) (next_free words.read)) (borrowed_count words.read == lock_mark) refl refl;
+      locks = λ h. inl h;
     }
 
   -- an acquire that won its exchange
@@ -134,25 +153,41 @@ module _ (p first : ℕ) (words : RingWords) (holders : List (Option ℕ)) (even
             (and_parts (nat_lt (next_free words.read) (length words.cells)) (borrowed_count words.read == lock_mark) h).1));
       };
       knows = (there, take_only);
+      locks = λ h. absurd (omega (
+        arith,
+        locked_free (record words { read = taken }) (set holders (next_free words.read) (Some p)) (events ++ taking ∷ [])
+            (whole_taken words holders events p w small size there unmarked) small
+            (length-set holders (next_free words.read) (Some p) ∙ size) h,
+        one_more holders (next_free words.read) p (omega (arith, there, size)) (head_free words holders events w there),
+      ));
     }
 
   -- a release that stored its link
   module _ (index : ℕ) (holds : HoldsIndex holders p index) (e : Event) (its : e.party ≡ p) (unchanged : changed_by e.access e.answer ≡ 0)
       (took : (j : ℕ) → took_by j e.access e.answer ≡ 0) (gave : (j : ℕ) → gave_by j e.access e.answer ≡ 0) where
     pub linked_made : (mode : ReleaseMode) (word place : ℕ) → place ≡ index
-        → MadeStep p first words (record words { cells = set words.cells place (next_free word) }) holders holders events e (Give index mode word)
-    linked_made mode word place same = subst (λ (k : ℕ). MadeStep p first words (record words { cells = set words.cells k (next_free word) }) holders holders events e (Give index mode word)) (sym same) (record {
-      whole = whole_stored holders events e unchanged took gave words p index (next_free word) size holds w;
-      leaves = λ q differs. record {
-        size = length-set words.cells index (next_free word);
-        held = λ i h. h;
-        cells = λ i h. get_or-set_other words.cells index i (next_free word) 0 (λ is. differs (one_holder q i h is));
-        head = λ none. refl;
-        behind = λ none there. get_or-set_other words.cells index (next_free words.read) (next_free word) 0 (λ is. free_held there is);
-        locked = λ h. subst (λ (n : ℕ). is_locked_by n words.read ≡ true) (sym (length-set words.cells index (next_free word))) h;
-      };
-      knows = (none_more e its took gave, holds, get_or-set_same words.cells index (next_free word) 0 (omega (arith, held_within holders index p holds, size)));
-    })
+        → MadeStep p first words (record words { cells = set words.cells place (next_free word) }) holders holders events e
+        (Give index mode word)
+    linked_made mode word place same = subst
+        (λ (k : ℕ). MadeStep p first words (record words { cells = set words.cells k (next_free word) }) holders holders events e
+        (Give index mode word)) (sym same) (record {
+          whole = whole_stored holders events e unchanged took gave words p index (next_free word) size holds w;
+          leaves = λ q differs. record {
+            size = length-set words.cells index (next_free word);
+            held = λ i h. h;
+            cells = λ i h. get_or-set_other words.cells index i (next_free word) 0 (λ is. differs (one_holder q i h is));
+            head = λ none. refl;
+            behind = λ none there. get_or-set_other words.cells index (next_free words.read) (next_free word) 0 (λ is. free_held there is);
+            locked = λ h. subst (λ (n : ℕ). is_locked_by n words.read ≡ true) (sym (length-set words.cells index (next_free word))) h;
+          };
+          knows = (
+            none_more e its took gave,
+            holds,
+            get_or-set_same words.cells index (next_free word) 0
+                (omega (arith, held_within holders index p holds, size)),
+          );
+          locks = λ h. inl (subst (λ (n : ℕ). is_locked_by n words.read ≡ true) (length-set words.cells index (next_free word)) h);
+        })
       where
         one_holder : (q i : ℕ) → HoldsIndex holders q i → i ≡ index → p ≡ q
         one_holder q i h is = let same : Some p ≡ Some q = sym holds ∙ ap (holder_of holders) (sym is) ∙ h in cc
@@ -184,14 +219,28 @@ module _ (p first : ℕ) (words : RingWords) (holders : List (Option ℕ)) (even
     give_only : GiveOnly index (own p (drop first (events ++ giving ∷ [])))
     give_only = subst (GiveOnly index) (sym (own_more_since p first events giving began refl)) (
       λ j. omega (arith, more_taken j (own p (drop first events)) (giving ∷ []), none.0 j, took_less j words.read given one_fewer_held),
-      λ j. omega (arith, more_given j (own p (drop first events)) (giving ∷ []), none.1 j, gave_less j words.read given one_fewer_held, ap (λ (k : ℕ). ◌+◌ (if k == j then 1 else 0) 0) free_given),
+      λ j. omega (
+        arith,
+        more_given j (own p (drop first events)) (giving ∷ []),
+        none.1 j,
+        gave_less j words.read given one_fewer_held,
+        ap
+            (λ (k : ℕ). ◌+◌ (if k == j then 1 else 0) 0) free_given,
+      ),
     )
 
     -- where it wasn't the last index
     beside : (borrowed_count words.read ≡ 1 → ⊥) → GaveBeside index p first (events ++ giving ∷ [])
     beside many =
         let left : 0 < count_taken (set holders index None) =
-        omega (arith, many, counted words holders events p index mode w small size holds linked, fewer words holders events p index mode w small size holds linked, some words holders events p index mode w small size holds linked) in
+        omega (
+          arith,
+          many,
+          counted words holders events p index mode w small size holds linked,
+          fewer words holders events p index mode w
+              small size holds linked,
+          some words holders events p index mode w small size holds linked,
+        ) in
         let one : (j : ℕ) × (one_if_taken (holder_of (set holders index None) j) ≡ 1) = some_taken (set holders index None) left in
         let other : one.0 ≡ index → ⊥ = not_given one.0 one.1 in
         record {
@@ -211,20 +260,46 @@ module _ (p first : ℕ) (words : RingWords) (holders : List (Option ℕ)) (even
       where
         not_given : (j : ℕ) → one_if_taken (holder_of (set holders index None) j) ≡ 1 → j ≡ index → ⊥
         not_given j taken is =
-            let none : holder_of (set holders index None) j ≡ None = ap (holder_of (set holders index None)) is ∙ holder_here holders index None (within_holders words holders events p index mode w small size holds linked) in
+            let none : holder_of (set holders index None) j ≡ None
+            = ap (holder_of (set holders index None)) is ∙ holder_here holders index None
+            (within_holders words holders events p index mode w small size holds linked) in
             let no : one_if_taken (holder_of (set holders index None) j) ≡ 0 = ap one_if_taken none in omega (arith, taken, no)
 
     locked_now : locks_last mode (borrowed_count words.read) ≡ true → is_locked_by (length words.cells) given ≡ true
     locked_now e = and_from (nat_lt (next_free given) (length words.cells)) (borrowed_count given == lock_mark)
-        (lt-ltb (next_free given) (length words.cells) (omega (arith, free_given, within_holders words holders events p index mode w small size holds linked, size)))
+        (lt-ltb (next_free given) (length words.cells)
+        (omega (arith, free_given, within_holders words holders events p index mode w small size holds linked, size)))
         (eq-eqb (borrowed_count given) lock_mark (held_given ∙ ap (λ (b : Bool). if b then lock_mark else borrowed_count words.read - 1) e))
 
     told : (m : ReleaseMode) (b : Bool) → m ≡ mode → locks_last m (borrowed_count words.read) ≡ b
-        → Tells (length words.cells) (is_locked_by (length words.cells) given) p first (events ++ giving ∷ []) (call.Release index m) (Released (state_of b))
-    told LockIfLastIndex true is e = (give_only, locked_now (ap (λ (m : ReleaseMode). locks_last m (borrowed_count words.read)) (sym is) ∙ e))
+        → Tells (length words.cells) (is_locked_by (length words.cells) given) p first (events ++ giving ∷ []) (call.Release index m)
+        (Released (state_of b))
+    told LockIfLastIndex true is e
+        = (give_only, locked_now (ap (λ (m : ReleaseMode). locks_last m (borrowed_count words.read)) (sym is) ∙ e))
     told LockIfLastIndex false is e = (give_only, beside (eqb-false (borrowed_count words.read) 1 e))
     told Default true is e = absurd (cc)
     told Default false is e = give_only
+
+    -- the set is locked then only where this release was to lock it
+    locking : (m : ReleaseMode) (b : Bool) → m ≡ mode → locks_last m (borrowed_count words.read) ≡ b
+        → is_locked_by (length words.cells) given ≡ true
+        → has_locked (call.Release index m) (Released (state_of b)) ≡ true
+    locking LockIfLastIndex true is e h = refl
+    locking Default true is e h = absurd (cc)
+    locking m false is e h =
+        let last : locks_last mode (borrowed_count words.read) ≡ false
+        = ap (λ (m : ReleaseMode). locks_last m (borrowed_count words.read)) (sym is) ∙ e in
+        let marked : borrowed_count given ≡ lock_mark = eqb-true (borrowed_count given) lock_mark
+        (and_parts (nat_lt (next_free given) (length words.cells)) (borrowed_count given == lock_mark) h).1 in
+        absurd (omega (
+          arith,
+          marked,
+          held_given ∙ ap (λ (b : Bool). if b then lock_mark else borrowed_count words.read - 1) last,
+          counted words holders events p index mode w small size holds linked,
+          at_most_all holders,
+          small,
+          size,
+        ))
 
     pub given_made : MadeStep p first words (record words { read = given }) holders (set holders index None) events giving
         (Done (call.Release index mode) (Released (state_of (locks_last mode (borrowed_count words.read)))))
@@ -239,6 +314,7 @@ module _ (p first : ℕ) (words : RingWords) (holders : List (Option ℕ)) (even
         locked = λ h. absurd (omega (arith, locked_free words holders events w small size h, one_fewer holders index p holds));
       };
       knows = told mode (locks_last mode (borrowed_count words.read)) refl refl;
+      locks = λ h. inr (locking mode (locks_last mode (borrowed_count words.read)) refl refl h);
     }
       where
         one_holder : (q i : ℕ) → HoldsIndex holders q i → i ≡ index → p ≡ q

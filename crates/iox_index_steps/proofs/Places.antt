@@ -1,9 +1,11 @@
 -- Holders of indices, and the free indices behind one another.
-use Rattle.std.proofs.Common.{◌≡◌, ℕ, zero, suc, ◌+◌, ◌<◌, ◌≤◌, Bool, true, false, if◌then◌else◌, ◌==◌, Option, Some, None, List, [], ◌∷◌, length, set, slice_index, refl, sym, ◌∙◌, ap, subst, arith, length-set}
+use Rattle.std.proofs.Common.{◌≡◌, ℕ, zero, suc, ◌+◌, ◌<◌, ◌≤◌, Bool, true, false, if◌then◌else◌, ◌==◌, Option, Some, None, List, [], ◌∷◌}
+use Rattle.std.proofs.Common.{length, set, slice_index, refl, sym, ◌∙◌, ap, subst, arith, length-set}
 use Rattle.std.proofs.Math.Seq.{get_or-set_same, get_or-set_other}
 use Rattle.std.proofs.lemmas.Bool.{eqb-true, eqb-false, ne_eqb}
 use Rattle.iox_index_steps.specs.Machine.{holder_of, is_holder}
-use Rattle.iox_index_steps.specs.Kept.{LeadsThrough, count_taken, one_if_taken, one_if_holder, times_among}
+use Rattle.iox_index_steps.specs.Kept.{LeadsThrough, count_taken, one_if_taken, times_among}
+use Rattle.iox_index_steps.specs.Machine.{one_if_holder}
 
 pub holder_here : (holders : List (Option ℕ)) (i : ℕ) (holder : Option ℕ) → i < length holders → holder_of (set holders i holder) i ≡ holder
 holder_here holders i holder within = get_or-set_same holders i holder None within
@@ -43,7 +45,8 @@ at_most_all [] = omega arith
 at_most_all (holder ∷ holders) = omega (arith, at_most_one holder, at_most_all holders)
 
 pub not_all : (holders : List (Option ℕ)) (i : ℕ) → i < length holders → holder_of holders i ≡ None → count_taken holders < length holders
-not_all holders i within h = omega (arith, one_more holders i 0 within h, at_most_all (set holders i (Some 0)), length-set holders i (Some 0))
+not_all holders i within h
+    = omega (arith, one_more holders i 0 within h, at_most_all (set holders i (Some 0)), length-set holders i (Some 0))
 
 pub none_left : (holders : List (Option ℕ)) (i : ℕ) → count_taken holders ≡ 0 → one_if_taken (holder_of holders i) ≡ 0
 none_left [] i h = refl
@@ -79,7 +82,8 @@ leads_on n cells from [] j v none h = h
 leads_on n cells from (i ∷ free) j v none h = test (i == j) refl none (λ fewer. leads_on n cells (slice_index cells i) free j v fewer h.2)
   where
     test : (b : Bool) → (i == j) ≡ b → (if b then 1 else 0) + times_among j free ≡ 0
-        → (times_among j free ≡ 0 → LeadsThrough n (set cells j v) (slice_index cells i) free) → LeadsThrough n (set cells j v) from (i ∷ free)
+        → (times_among j free ≡ 0 → LeadsThrough n (set cells j v) (slice_index cells i) free)
+        → LeadsThrough n (set cells j v) from (i ∷ free)
     test true e none rest = absurd (omega arith)
     test false e none rest = (
       h.0,

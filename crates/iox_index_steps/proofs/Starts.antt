@@ -1,13 +1,17 @@
 -- A new set keeps what every machine keeps.
-use Rattle.std.proofs.Common.{◌≡◌, ℕ, zero, suc, ◌+◌, ◌^◌, ◌<◌, ◌≤◌, inl, Bool, true, false, if◌then◌else◌, ◌==◌, nat_lt, Option, None, List, [], ◌∷◌, ◌++◌, length, slice_index, slice_index_or, take, drop, replicate, refl, sym, ◌∙◌, ap, subst, arith}
+use Rattle.std.proofs.Common.{◌≡◌, ℕ, zero, suc, ◌+◌, ◌^◌, ◌<◌, ◌≤◌, inl, Bool, true, false, if◌then◌else◌, ◌==◌, nat_lt, Option, None}
+use Rattle.std.proofs.Common.{List, [], ◌∷◌, ◌++◌, length, slice_index, slice_index_or, take, drop, replicate, refl, sym, ◌∙◌, ap, subst}
+use Rattle.std.proofs.Common.{arith}
 use Rattle.std.specs.List.{range_with_len}
-use Rattle.std.proofs.lemmas.Bool.{eqb-true, eqb-false, ltb-true, ltb-false}
+use Rattle.std.proofs.lemmas.Bool.{and_parts, eqb-true, eqb-false, ltb-true, ltb-false}
 use Rattle.std.proofs.lemmas.List.{length-replicate, get_or-replicate, get_or_past}
 use Rattle.std.proofs.lemmas.List.FromFn.{length-range_with_len, get_or-range_with_len}
 use Rattle.iox_queues.specs.Told.{own}
+use Rattle.iox_index_steps.specs.Steps.{borrowed_count, lock_mark, next_free}
 use Rattle.iox_index_steps.specs.Told.{IsAskedSoFar, TakesTurns}
 use Rattle.iox_index_steps.specs.Machine.{holder_of, idle_seat, seat_at, start, start_words}
-use Rattle.iox_index_steps.specs.Kept.{HasCells, IsKept, Knows, LeadsThrough, count_taken, one_if_holder, one_if_taken, times_among}
+use Rattle.iox_index_steps.specs.Kept.{HasCells, IsKept, Knows, LeadsThrough, count_taken, one_if_taken, times_among}
+use Rattle.iox_index_steps.specs.Machine.{one_if_holder}
 use Rattle.iox_index_steps.specs.declared.state.Seat.{Seat}
 use Rattle.iox_index_steps.proofs.Seats.{seat_is}
 
@@ -78,15 +82,16 @@ no_turns i (suc k) = (omega arith, omega arith)
 pub start_kept : (capacity parties : ℕ) → capacity < 2 ^ 24 → IsKept (start capacity parties)
 start_kept capacity parties small =
     let long : length (range_with_len 1 capacity) ≡ capacity = length-range_with_len 1 capacity in
-    let next : (i : ℕ) → i < capacity → slice_index (range_with_len 1 capacity) i ≡ i + 1 = λ i within. omega (arith, get_or-range_with_len 1 capacity i 0 within) in
+    let next : (i : ℕ) → i < capacity → slice_index (range_with_len 1 capacity) i ≡ i + 1
+    = λ i within. omega (arith, get_or-range_with_len 1 capacity i 0 within) in
     record {
       few = omega (arith, long, small);
       size = length-replicate {A = Option ℕ} capacity None ∙ sym long;
       began = λ q. omega (arith, ap (λ (s : Seat). s.first) (all_idle parties q));
       cells = λ q. subst (λ (s : Seat). HasCells (length (range_with_len 1 capacity)) s.stage) (sym (all_idle parties q)) tt;
-      among = tt;
       recorded = record {
         answered = ap start_words (sym long);
+        among = tt;
         ended = tt;
         going = λ q. subst (λ (s : Seat). IsAskedSoFar (length (range_with_len 1 capacity)) q s.stage (own q (drop s.first [])))
             (sym (all_idle parties q)) tt;
@@ -96,7 +101,8 @@ start_kept capacity parties small =
           free = range_with_len 0 capacity;
           leads = subst (λ (n : ℕ). LeadsThrough n (range_with_len 1 capacity) 0 (range_with_len 0 capacity)) (sym long)
               (leads_up capacity (range_with_len 1 capacity) next 0 capacity (omega arith));
-          once = λ i within. omega (arith, inside_range i 0 capacity (omega arith) (omega (arith, within, long)), ap one_if_taken (no_holder capacity i));
+          once = λ i within. omega
+              (arith, inside_range i 0 capacity (omega arith) (omega (arith, within, long)), ap one_if_taken (no_holder capacity i));
           changes = refl;
           counts = inl (sym (none_taken_yet capacity));
           taken = λ i. omega (arith, ap one_if_taken (no_holder capacity i));
@@ -106,5 +112,8 @@ start_kept capacity parties small =
         knows = λ q. subst (λ (s : Seat). Knows (start capacity parties).words (start capacity parties).holders [] q s.first s.stage)
             (sym (all_idle parties q)) tt;
         told = tt;
+        locked_by = λ locked.
+            let marked : ◌≡◌ {A = Bool} false true = (and_parts (nat_lt (next_free (start_words capacity).read) (length (range_with_len 1 capacity)))
+            (borrowed_count (start_words capacity).read == lock_mark) locked).1 in absurd (cc);
       };
     }

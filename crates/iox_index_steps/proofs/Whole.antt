@@ -1,5 +1,7 @@
 -- What each kind of step leaves of the words, the holders and the counts.
-use Rattle.std.proofs.Common.{◌≡◌, ℕ, ◌+◌, ◌-◌, ◌%◌, ◌^◌, ◌<◌, ◌⊎◌, inl, inr, ⊎_elim, Bool, true, false, if◌then◌else◌, ◌==◌, ◌&&◌, not, nat_lt, Option, Some, None, List, [], ◌∷◌, ◌++◌, length, set, slice_index, refl, sym, ◌∙◌, ap, subst, arith, length-set}
+use Rattle.std.proofs.Common.{◌≡◌, ℕ, ◌+◌, ◌-◌, ◌%◌, ◌^◌, ◌<◌, ◌⊎◌, inl, inr, ⊎_elim, Bool, true, false, if◌then◌else◌, ◌==◌, ◌&&◌, not}
+use Rattle.std.proofs.Common.{nat_lt, Option, Some, None, List, [], ◌∷◌, ◌++◌, length, set, slice_index, refl, sym, ◌∙◌, ap, subst, arith}
+use Rattle.std.proofs.Common.{length-set}
 use Rattle.std.proofs.lemmas.Bool.{eqb-true, eq-eqb, ne_eqb, ltb-true, and_parts, cases_eq}
 use Rattle.iox_queues_steps.specs.Access.{RingWords}
 use Rattle.iox_queues_steps.specs.declared.access.Access.TheVariants.{Exchange}
@@ -11,10 +13,13 @@ use Rattle.iox_queues.specs.declared.bits.machine.Event.{Event}
 use Rattle.iox_index_steps.specs.Steps.{next_free, borrowed_count, lock_mark, head_taken, head_given, is_locked_by, locks_last}
 use Rattle.iox_index_steps.specs.Changes.{holds_more, changed_by, took_by, gave_by, head_changes, times_taken, times_given}
 use Rattle.iox_index_steps.specs.Machine.{holder_of}
-use Rattle.iox_index_steps.specs.Kept.{HoldsIndex, WordsFit, LeadsThrough, count_taken, one_if_taken, one_if_holder, times_among}
-use Rattle.iox_index_steps.proofs.Counts.{more_changes, more_taken, more_given, own_more, own_else, turns_on}
+use Rattle.iox_index_steps.specs.Kept.{HoldsIndex, WordsFit, LeadsThrough, count_taken, one_if_taken, times_among}
+use Rattle.iox_index_steps.specs.Machine.{one_if_holder}
+use Rattle.iox_queues.proofs.OwnSteps.{own_more, own_else}
+use Rattle.iox_index_steps.proofs.Counts.{more_changes, more_taken, more_given, turns_on}
 use Rattle.iox_index_steps.proofs.Heads.{taken_free, taken_aba, taken_held, given_free, given_aba, given_held, one_locks}
-use Rattle.iox_index_steps.proofs.Places.{at_most_one, held_within, is_holder_of, leads_on, leads_within, moves_one, none_taken, not_all, not_holder, one_fewer, one_more, zero_if}
+use Rattle.iox_index_steps.proofs.Places.{at_most_one, held_within, is_holder_of, leads_on, leads_within, moves_one, none_taken, not_all}
+use Rattle.iox_index_steps.proofs.Places.{not_holder, one_fewer, one_more, zero_if}
 
 -- the head counts its changes, the taken indices or none behind the mark
 abbrev pub Counts : ℕ → List (Option ℕ) → Type 0
@@ -33,16 +38,22 @@ module _ (words words' : RingWords) (holders holders' : List (Option ℕ)) (even
   own_on : Adds (one_if_holder e.party) → (i : ℕ)
       → times_taken i (own e.party events ++ e ∷ [])
       ≡ times_given i (own e.party events ++ e ∷ []) + one_if_holder e.party (holder_of holders' i)
-  own_on adds i = omega (arith, more_taken i (own e.party events) (e ∷ []), more_given i (own e.party events) (e ∷ []), w.each e.party i, adds i)
+  own_on adds i = omega
+      (arith, more_taken i (own e.party events) (e ∷ []), more_given i (own e.party events) (e ∷ []), w.each e.party i, adds i)
 
   each_on : Adds (one_if_holder e.party)
       → ((q i : ℕ) → (e.party ≡ q → ⊥) → one_if_holder q (holder_of holders i) ≡ one_if_holder q (holder_of holders' i))
-      → (q i : ℕ) → times_taken i (own q (events ++ e ∷ [])) ≡ times_given i (own q (events ++ e ∷ [])) + one_if_holder q (holder_of holders' i)
+      → (q i : ℕ) → times_taken i (own q (events ++ e ∷ []))
+      ≡ times_given i (own q (events ++ e ∷ [])) + one_if_holder q (holder_of holders' i)
   each_on adds others q i =
       ⊎_elim
-      (λ (same : e.party ≡ q). subst (λ (q : ℕ). times_taken i (own q (events ++ e ∷ [])) ≡ times_given i (own q (events ++ e ∷ [])) + one_if_holder q (holder_of holders' i)) same
-      (subst (λ (es : List Event). times_taken i es ≡ times_given i es + one_if_holder e.party (holder_of holders' i)) (sym (own_more e.party events e refl)) (own_on adds i)))
-      (λ (differs : e.party ≡ q → ⊥). subst (λ (es : List Event). times_taken i es ≡ times_given i es + one_if_holder q (holder_of holders' i)) (sym (own_else q events e differs))
+      (λ (same : e.party ≡ q). subst (λ (q : ℕ). times_taken i (own q (events ++ e ∷ []))
+      ≡ times_given i (own q (events ++ e ∷ [])) + one_if_holder q (holder_of holders' i)) same
+      (subst (λ (es : List Event). times_taken i es ≡ times_given i es + one_if_holder e.party (holder_of holders' i))
+      (sym (own_more e.party events e refl)) (own_on adds i)))
+      (λ (differs : e.party ≡ q → ⊥). subst
+      (λ (es : List Event). times_taken i es ≡ times_given i es + one_if_holder q (holder_of holders' i))
+      (sym (own_else q events e differs))
       (w.each q i ∙ ap (λ (k : ℕ). times_given i (own q events) + k) (others q i differs)))
       (cases_eq e.party q)
 
@@ -60,7 +71,11 @@ module _ (words words' : RingWords) (holders holders' : List (Option ℕ)) (even
     counts = counts;
     taken = taken_on adds;
     each = each_on own_adds others;
-    turns = λ i k. turns_on i k events e (λ k. w.turns i k) (omega (arith, taken_on adds i, at_most_one (holder_of holders' i)), omega (arith, taken_on adds i, at_most_one (holder_of holders' i)));
+    turns = λ i k. turns_on i k events e (λ k. w.turns i k) (
+      omega (arith, taken_on adds i, at_most_one (holder_of holders' i)),
+      omega
+          (arith, taken_on adds i, at_most_one (holder_of holders' i)),
+    );
   }
 
 -- a step that does nothing to the head
@@ -81,7 +96,8 @@ module _ (holders : List (Option ℕ)) (events : List Event) (e : Event) (unchan
       let taken : one_if_taken (holder_of holders j) ≡ 1 = ap one_if_taken holds in
       let apart : times_among j w.free ≡ 0 = omega (arith, w.once j (omega (arith, held_within holders j p holds, size)), taken) in
       whole_on words (record words { cells = set words.cells j v }) holders holders events e w w.free
-      (subst (λ (n : ℕ). LeadsThrough n (set words.cells j v) (next_free words.read) w.free) (sym long) (leads_on (length words.cells) words.cells (next_free words.read) w.free j v apart w.leads))
+      (subst (λ (n : ℕ). LeadsThrough n (set words.cells j v) (next_free words.read) w.free) (sym long)
+      (leads_on (length words.cells) words.cells (next_free words.read) w.free j v apart w.leads))
       (λ i within. w.once i (omega (arith, within, long)))
       (w.changes ∙ ap (λ (k : ℕ). k % 2 ^ 16) (omega arith)) w.counts
       (λ i. omega (arith, took i, gave i)) (λ i. omega (arith, took i, gave i)) (λ q i differs. refl)
@@ -129,11 +145,20 @@ pub head_free : (words : RingWords) (holders : List (Option ℕ)) (events : List
     → next_free words.read < length words.cells
     → holder_of holders (next_free words.read) ≡ None
 head_free words holders events w there =
-    let rests : (rest : List ℕ) × (w.free ≡ next_free words.read ∷ rest) × LeadsThrough (length words.cells) words.cells (slice_index words.cells (next_free words.read)) rest =
+    let rests : (rest : List ℕ) × (w.free ≡ next_free words.read ∷ rest)
+    × LeadsThrough (length words.cells) words.cells (slice_index words.cells (next_free words.read)) rest =
     free_first (length words.cells) words.cells (next_free words.read) w.free there w.leads in
-    let among : times_among (next_free words.read) w.free ≡ (if next_free words.read == next_free words.read then 1 else 0) + times_among (next_free words.read) rests.0 = ap (times_among (next_free words.read)) rests.1 in
+    let among : times_among (next_free words.read) w.free
+    ≡ (if next_free words.read == next_free words.read then 1 else 0) + times_among (next_free words.read) rests.0
+    = ap (times_among (next_free words.read)) rests.1 in
     none_taken (holder_of holders (next_free words.read))
-    (omega (arith, w.once (next_free words.read) there, among, ap (λ (b : Bool). ◌+◌ (if b then 1 else 0) 0) (eq-eqb (next_free words.read) (next_free words.read) refl)))
+    (omega (
+      arith,
+      w.once (next_free words.read) there,
+      among,
+      ap (λ (b : Bool). ◌+◌ (if b then 1 else 0) 0)
+          (eq-eqb (next_free words.read) (next_free words.read) refl),
+    ))
 
 -- an index is taken out
 module _ (words : RingWords) (holders : List (Option ℕ)) (events : List Event) (p : ℕ) (w : WordsFit words holders events)
@@ -174,19 +199,30 @@ module _ (words : RingWords) (holders : List (Option ℕ)) (events : List Event)
   moves f x a b i fit = moves_one f holders head i x a b (omega (arith, there, size)) (ap (λ (y : Option ℕ). a + f y) was_free ∙ fit)
 
   adds : (f : Option ℕ → ℕ) (x : Option ℕ) → f None ≡ 0 → f x ≡ 1 → (i : ℕ)
-      → took_by i (Exchange Read words.read new) words.read + f (holder_of holders i) ≡ gave_by i (Exchange Read words.read new) words.read + f (holder_of (set holders head x) i)
+      → took_by i (Exchange Read words.read new) words.read + f (holder_of holders i)
+      ≡ gave_by i (Exchange Read words.read new) words.read + f (holder_of (set holders head x) i)
   adds f x none some i =
-      omega (arith, took_more i words.read new more, gave_more i words.read new more, moves f x 1 0 i (omega (arith, none, some)), zero_if (head == i))
+      omega (
+        arith,
+        took_more i words.read new more,
+        gave_more i words.read new more,
+        moves f x 1 0 i (omega (arith, none, some)),
+        zero_if
+            (head == i),
+      )
 
   pub whole_taken : WordsFit (record words { read = new }) (set holders head (Some p))
       (events ++ record { party = p; access = Exchange Read words.read new; answer = words.read } ∷ [])
   whole_taken =
-      whole_on words (record words { read = new }) holders (set holders head (Some p)) events (record { party = p; access = Exchange Read words.read new; answer = words.read }) w
+      whole_on words (record words { read = new }) holders (set holders head (Some p)) events
+      (record { party = p; access = Exchange Read words.read new; answer = words.read }) w
       rests.0
-      (subst (λ (from : ℕ). LeadsThrough (length words.cells) words.cells from rests.0) (sym (taken_free words.read next next_small room)) rests.2)
+      (subst (λ (from : ℕ). LeadsThrough (length words.cells) words.cells from rests.0)
+      (sym (taken_free words.read next next_small room)) rests.2)
       (λ i within. omega (arith, w.once i within, among i, moves one_if_taken (Some p) 1 0 i refl, zero_if (head == i)))
       (taken_aba words.read next next_small room ∙ (omega (arith, w.changes, won words.read new)))
-      (inl (taken_held words.read next next_small room ∙ omega (arith, held, one_more holders head p (omega (arith, there, size)) was_free)))
+      (inl (taken_held words.read next next_small room ∙ omega
+      (arith, held, one_more holders head p (omega (arith, there, size)) was_free)))
       (adds one_if_taken (Some p) refl refl)
       (adds (one_if_holder p) (Some p) refl (is_holder_of p (Some p) refl))
       (λ q i differs. omega (arith, moves (one_if_holder q) (Some p) 0 0 i (omega (arith, not_holder q p differs)), zero_if (head == i)))
@@ -207,7 +243,14 @@ locked_free words holders events w small size locked = of w.counts
     mark = eqb-true (borrowed_count words.read) lock_mark parts.1
 
     of : Counts words.read holders → count_taken holders ≡ 0
-    of (inl h) = absurd (omega (arith, h, mark, not_all holders (next_free words.read) (omega (arith, there, size)) (head_free words holders events w there), size, small))
+    of (inl h) = absurd (omega (
+      arith,
+      h,
+      mark,
+      not_all holders (next_free words.read) (omega (arith, there, size)) (head_free words holders events w there),
+      size,
+      small,
+    ))
     of (inr h) = h.1
 
 -- an index is given back
@@ -266,15 +309,22 @@ module _ (words : RingWords) (holders : List (Option ℕ)) (events : List Event)
       (given_free index words.read index_small some mode)
 
   less_by : (f : Option ℕ → ℕ) → f None ≡ 0 → f (Some p) ≡ 1 → (i : ℕ)
-      → took_by i (Exchange Read words.read given) words.read + f (holder_of holders i) ≡ gave_by i (Exchange Read words.read given) words.read + f (holder_of (set holders index None) i)
-  less_by f none one i = omega (arith, took_less i words.read given fewer_held, gave_index i, gone f 0 1 i (omega (arith, none, one)), zero_if (index == i))
+      → took_by i (Exchange Read words.read given) words.read + f (holder_of holders i)
+      ≡ gave_by i (Exchange Read words.read given) words.read + f (holder_of (set holders index None) i)
+  less_by f none one i = omega
+      (arith, took_less i words.read given fewer_held, gave_index i, gone f 0 1 i (omega (arith, none, one)), zero_if (index == i))
 
   pub whole_given : WordsFit (record words { read = given }) (set holders index None)
       (events ++ record { party = p; access = Exchange Read words.read given; answer = words.read } ∷ [])
   whole_given =
-      whole_on words (record words { read = given }) holders (set holders index None) events (record { party = p; access = Exchange Read words.read given; answer = words.read }) w
-      (index ∷ w.free)
-      (given_free index words.read index_small some mode, omega (arith, within_holders, size), subst (λ (from : ℕ). LeadsThrough (length words.cells) words.cells from w.free) (sym linked) w.leads)
+      whole_on words (record words { read = given }) holders (set holders index None) events
+      (record { party = p; access = Exchange Read words.read given; answer = words.read }) w
+      (index ∷ w.free) (
+        given_free index words.read index_small some mode,
+        omega (arith, within_holders, size),
+        subst
+            (λ (from : ℕ). LeadsThrough (length words.cells) words.cells from w.free) (sym linked) w.leads,
+      )
       (λ i within. omega (arith, w.once i within, gone one_if_taken 0 1 i refl, zero_if (index == i)))
       (given_aba index words.read index_small some mode ∙ (omega (arith, w.changes, won words.read given)))
       given_counts

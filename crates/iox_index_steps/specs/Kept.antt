@@ -1,13 +1,14 @@
 -- What every step of an index set's machine keeps.
-use Rattle.std.specs.Prelude.{ℕ, ◌≡◌, ◌+◌, ◌%◌, ◌^◌, ◌<◌, ◌≤◌, ◌⊎◌, if◌then◌else◌, ◌==◌, Option, Some, None, List, [], ◌∷◌, length, slice_index, take, drop}
+use Rattle.std.specs.Prelude.{ℕ, ◌≡◌, ◌+◌, ◌%◌, ◌^◌, ◌<◌, ◌≤◌, ◌⊎◌, if◌then◌else◌, ◌==◌, Option, Some, None, List, [], ◌∷◌, length}
+use Rattle.std.specs.Prelude.{true, slice_index, take, drop}
 use Rattle.iox_queues_steps.specs.Access.{RingWords}
 use Rattle.iox_container.specs.Head.{head_of_word}
 use Rattle.iox_queues.specs.Told.{own}
 use Rattle.iox_queues.specs.declared.bits.machine.Event.{Event}
 use Rattle.iox_index_steps.specs.Steps.{next_free, borrowed_count, lock_mark, is_locked_by}
 use Rattle.iox_index_steps.specs.Changes.{head_changes, times_taken, times_given}
-use Rattle.iox_index_steps.specs.Told.{LieWithin, AreTold, MoveNone, TakesTurns, Tells}
-use Rattle.iox_index_steps.specs.Machine.{IndexSetState, HasFewChanges, IsRecorded, seat_at, stage_at, holder_of, is_holder}
+use Rattle.iox_index_steps.specs.Told.{AreTold, MoveNone, TakesTurns, Tells}
+use Rattle.iox_index_steps.specs.Machine.{IndexSetState, HasFewChanges, IsLockedByRelease, IsRecorded, is_locked, one_if_holder, seat_at, stage_at, holder_of}
 use Rattle.iox_index_steps.specs.declared.call.IndexCall.{IndexCall}
 use Rattle.iox_index_steps.specs.declared.call.IndexCall.TheVariants.{Idle, Acquire, Follow, Take, Release, Link, Give, Done}
 
@@ -30,10 +31,6 @@ one_if_taken (Some party) = 1
 abbrev pub count_taken : List (Option ℕ) → ℕ
 count_taken [] = 0
 count_taken (holder ∷ holders) = one_if_taken holder + count_taken holders
-
--- 1 for an index that this party took
-abbrev pub one_if_holder : ℕ → Option ℕ → ℕ
-one_if_holder party holder = if is_holder party holder then 1 else 0
 
 -- the words, the holders and the steps fit together: from the head the cells lead through the free indices, each of them once; an
 -- index is free or taken; the head counts its changes, and the indices that are taken, or is marked and none is taken; the
@@ -98,6 +95,7 @@ pub record IsConsistent (m : IndexSetState) : Type 0 where
   pub whole : WordsFit m.words m.holders m.events
   pub knows : (party : ℕ) → Knows m.words m.holders m.events party (seat_at m.seats party).first (stage_at m.seats party)
   pub told : AreTold (length m.words.cells) (is_locked_by (length m.words.cells) m.words.read) m.events m.finished
+  pub locked_by : is_locked m ≡ true → IsLockedByRelease m
 
 -- what stands whatever was changed, and what stands where the premise holds
 pub record IsKept (m : IndexSetState) : Type 0 where
@@ -105,6 +103,5 @@ pub record IsKept (m : IndexSetState) : Type 0 where
   pub size : length m.holders ≡ length m.words.cells
   pub began : (party : ℕ) → (seat_at m.seats party).first ≤ length m.events
   pub cells : (party : ℕ) → HasCells (length m.words.cells) (stage_at m.seats party)
-  pub among : LieWithin m.events m.finished
   pub recorded : IsRecorded m
   pub sound : HasFewChanges m → IsConsistent m

@@ -5,3 +5,8 @@ pub mod Told
 pub mod Machine
 pub mod Kept
 pub mod State
+pub mod AtomicSteps
+pub mod AtomicTold
+pub mod AtomicMachine
+pub mod AtomicKept
+pub mod AtomicView

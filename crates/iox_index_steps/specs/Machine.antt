@@ -6,11 +6,13 @@ use Rattle.iox_queues_steps.specs.declared.access.Access.TheVariants.{Local}
 use Rattle.iox_queues_steps.specs.declared.schedule.Stepped.{Stepped}
 use Rattle.iox_queues_steps.specs.declared.schedule.Stepped.TheVariants as stepped
 use Rattle.iox_container.specs.Head.{word_of_head}
+use Rattle.iox_queues.specs.Recorded.{Answered}
 use Rattle.iox_queues.specs.Told.{own}
 use Rattle.iox_queues.specs.declared.bits.machine.Event.{Event}
 use Rattle.iox_index_steps.specs.Steps.{call_begun, call_next, call_take, call_is_idle, call_is_over, next_free, is_locked_by}
 use Rattle.iox_index_steps.specs.Changes.{times_taken, times_given}
-use Rattle.iox_index_steps.specs.Told.{Answered, AreAsked, AreBrief, AreTold, IsAskedSoFar, IsBrief, TakesTurns}
+use Rattle.iox_index_steps.specs.Told.{AreAsked, AreBrief, AreTold, IsAskedSoFar, IsBrief, LieWithin, TakesTurns, is_locking}
+use Rattle.iox_index_steps.specs.Told.{some_has_locked}
 use Rattle.iox_index_steps.specs.declared.call.Call.{Call}
 use Rattle.iox_index_steps.specs.declared.call.Call.TheVariants as call
 use Rattle.iox_index_steps.specs.declared.call.IndexCall.{IndexCall}
@@ -54,6 +56,10 @@ holder_of holders index = slice_index_or holders index None
 abbrev pub is_holder : ℕ → Option ℕ → Bool
 is_holder party None = false
 is_holder party (Some holder) = holder == party
+
+-- 1 for an index that this party took
+abbrev pub one_if_holder : ℕ → Option ℕ → ℕ
+one_if_holder party holder = if is_holder party holder then 1 else 0
 
 -- a party may give back what it holds, once
 abbrev pub may_begin : List (Option ℕ) → ℕ → Call → Bool
@@ -159,16 +165,25 @@ pub record HasFewChanges (m : IndexSetState) : Type 0 where
   pub ended : AreBrief m.events m.finished
   pub going : (party : ℕ) → IsBriefSoFar (stage_at m.seats party) (drop (seat_at m.seats party).first m.events)
 
+-- a release that was to lock the set did: one that ended, or one in hand that has its answer
+abbrev pub IsLockedByRelease : IndexSetState → Type 0
+IsLockedByRelease m =
+    (some_has_locked m.finished ≡ true) ⊎ ((party : ℕ) × (is_locking (stage_at m.seats party) ≡ true))
+
 -- these steps took the index out once more than they gave it back
 abbrev pub IsOut : ℕ → List Event → Type 0
 IsOut i events = times_given i events < times_taken i events
 
 -- what every list of steps keeps: no index has two holders, since just one party has it out by its own steps; an index is
--- taken and given back by turns, so that between two takings lies its giving back; of a locked set no index is out; each call
--- that ended did what it answered
+-- taken and given back by turns, so that between two takings lies its giving back; a party's own steps took out once more than
+-- they gave back what it holds, and nothing else; of a locked set no index is out, and only a release that was to lock it locked
+-- it; each call that ended did what it answered
 pub record IsOrderly (m : IndexSetState) : Type 0 where
   pub one_holder : (i p q : ℕ) → IsOut i (own p m.events) → IsOut i (own q m.events) → p ≡ q
   pub turns : (i k : ℕ) → TakesTurns i (take k m.events)
+  pub holds : (party i : ℕ)
+      → times_taken i (own party m.events) ≡ times_given i (own party m.events) + one_if_holder party (holder_of m.holders i)
+  pub locked_by : is_locked m ≡ true → IsLockedByRelease m
   pub none_out : is_locked m ≡ true → (i : ℕ) → times_taken i m.events ≡ times_given i m.events
   pub told : AreTold (length m.words.cells) (is_locked m) m.events m.finished
 
@@ -195,9 +210,10 @@ start capacity parties = record {
 }
 
 -- what the steps that were made say, whatever was changed: each got what its word held, and they left the words as they are;
--- the steps of each call, ended or in hand, are those that its value asked for
+-- each call that ended lies among them; the steps of each call, ended or in hand, are those that its value asked for
 pub record IsRecorded (m : IndexSetState) : Type 0 where
   pub answered : Answered (start_words (length m.words.cells)) m.events m.words
+  pub among : LieWithin m.events m.finished
   pub ended : AreAsked (length m.words.cells) m.events m.finished
   pub going : (party : ℕ)
       → IsAskedSoFar (length m.words.cells) party (stage_at m.seats party) (own party (drop (seat_at m.seats party).first m.events))

@@ -1,10 +1,10 @@
 -- What the answer of a call says of the steps that were made.
-use Rattle.std.specs.Prelude.{ℕ, ◌≡◌, ◌+◌, ◌<◌, ◌≤◌, ◌^◌, Bool, true, if◌then◌else◌, ◌==◌, Ok, Err, List, [], ◌∷◌, ◌++◌, length, take, drop}
+use Rattle.std.specs.Prelude.{ℕ, ◌≡◌, ◌+◌, ◌<◌, ◌≤◌, ◌^◌, Bool, true, false, if◌then◌else◌, ◌==◌, ◌||◌, Ok, Err, List, []}
+use Rattle.std.specs.Prelude.{◌∷◌, ◌++◌, length, take, drop}
 use Rattle.iox_container.specs.declared.error.UniqueIndexSetAcquireFailure.TheVariants.{OutOfIndices, IsLocked}
 use Rattle.iox_container.specs.declared.release.ReleaseMode.TheVariants.{LockIfLastIndex, Default}
 use Rattle.iox_container.specs.declared.release.ReleaseState.TheVariants.{Locked, Unlocked}
-use Rattle.iox_queues_steps.specs.Access.{RingWords, answer_of, after_access}
-use Rattle.iox_queues_steps.specs.declared.access.Access.TheVariants.{Local}
+use Rattle.iox_queues.specs.Recorded.{IsAskedFrom, LiesWithin}
 use Rattle.iox_queues.specs.Told.{own}
 use Rattle.iox_queues.specs.declared.bits.machine.Event.{Event}
 use Rattle.iox_index_steps.specs.Steps.{call_begun, call_next, call_take}
@@ -17,22 +17,9 @@ use Rattle.iox_index_steps.specs.declared.call.IndexCall.{IndexCall}
 use Rattle.iox_index_steps.specs.declared.call.IndexCall.TheVariants.{Idle, Acquire, Follow, Take, Release, Link, Give, Done}
 use Rattle.iox_index_steps.specs.declared.machine.Finished.{Finished}
 
--- each step got what its word held then, and its access left the words for the next one
-abbrev pub Answered : RingWords → List Event → RingWords → Type 0
-Answered words [] after = after ≡ words
-Answered words (event ∷ events) after =
-    (event.answer ≡ answer_of words event.access) × Answered (after_access words event.access) events after
-
--- a party's value asked for each access, and took its answer, from one stage to another
-abbrev pub Goes : IndexCall → List Event → IndexCall → Type 0
-Goes stage [] end = end ≡ stage
-Goes stage (event ∷ events) end = (event.access ≡ call_next stage) × Goes (call_take stage event.answer) events end
-
 -- the steps of a call up to a stage: a local one that begins it, and the accesses that its value asked for
-pub record IsAsked (n party : ℕ) (c : Call) (stage : IndexCall) (events : List Event) : Type 0 where
-  pub between : List Event
-  pub whole : events ≡ record { party = party; access = Local; answer = 0 } ∷ between
-  pub goes : Goes (call_begun n c) between stage
+abbrev pub IsAsked : ℕ → ℕ → Call → IndexCall → List Event → Type 0
+IsAsked n party c stage events = IsAskedFrom IndexCall call_next call_take party (call_begun n c) stage events
 
 -- the steps of a call in hand
 abbrev pub IsAskedSoFar : ℕ → ℕ → IndexCall → List Event → Type 0
@@ -115,15 +102,31 @@ Tells n locked party first events (call.Release i Default) (Released Locked) = �
 Tells n locked party first events (call.Release i Default) (Released Unlocked) =
     GiveOnly i (own party (drop first events))
 
--- a call that ended lies among the steps made
-pub record LiesWithin (events : List Event) (f : Finished) : Type 0 where
-  pub begun : f.first ≤ f.last
-  pub ended : f.last < length events
+-- a release that was to lock the set, and was answered that it did
+abbrev pub has_locked : Call → Answer → Bool
+has_locked (call.Release index LockIfLastIndex) (Released Locked) = true
+has_locked other answer = false
 
--- each of these calls does
+-- one of these calls is such a release
+abbrev pub some_has_locked : List Finished → Bool
+some_has_locked [] = false
+some_has_locked (f ∷ finished) = has_locked f.call f.answer || some_has_locked finished
+
+-- a call in hand is such a release, which has its answer
+abbrev pub is_locking : IndexCall → Bool
+is_locking Idle = false
+is_locking (Acquire capacity) = false
+is_locking (Follow capacity word) = false
+is_locking (Take capacity word next) = false
+is_locking (Release index mode) = false
+is_locking (Link index mode word) = false
+is_locking (Give index mode word) = false
+is_locking (Done c answer) = has_locked c answer
+
+-- each of these calls lies among the steps made
 abbrev pub LieWithin : List Event → List Finished → Type 0
 LieWithin events [] = Unit {0}
-LieWithin events (f ∷ finished) = LiesWithin events f × LieWithin events finished
+LieWithin events (f ∷ finished) = LiesWithin events f.first f.last × LieWithin events finished
 
 -- each call that ended did what it answered
 abbrev pub AreTold : ℕ → Bool → List Event → List Finished → Type 0

@@ -1,7 +1,8 @@
 //! A call on a set of indices, one access at a time.
 ghost use Rattle.std.specs.Prelude.{◌≡◌};
 ghost use Rattle.iox_container.specs.Release.{state_of};
-ghost use Rattle.iox_index_steps.specs.Steps.{call_begun, call_is_idle, call_is_over, call_next, call_take, next_free, head_given, head_taken, borrowed_count, is_locked_by, locks_last, seen_by_acquire};
+ghost use Rattle.iox_index_steps.specs.Steps.{call_begun, call_is_idle, call_is_over, call_next, call_take, next_free, head_given};
+ghost use Rattle.iox_index_steps.specs.Steps.{head_taken, borrowed_count, is_locked_by, locks_last, seen_by_acquire};
 
 use iox_container::{HeadDetails, ReleaseMode, ReleaseState, UniqueIndexSetAcquireFailure};
 use iox_queues_steps::{Access, Word};

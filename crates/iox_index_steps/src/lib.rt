@@ -1,4 +1,4 @@
-//! Sets of indices one word at a time.
+//! Sets of indices, and a single value, one word at a time.
 //!
 //! The head of a set is a word: the next free index, a count of its changes, and how many indices are held (`HeadDetails`). Each
 //! index has a cell that names the index which is free behind it. Any number of parties acquire and release, each access by
@@ -6,6 +6,7 @@
 //!
 //! - [`call`]: what each party does next, free of any set.
 //! - [`machine`]: a set with its parties, which go in any order.
+//! - [`atomic`]: a single value that one party stores and any may load, with its parties.
 //!
 //! A first call:
 //!
@@ -27,6 +28,7 @@
 //! ```
 #![tactic(auto)]
 
+pub mod atomic;
 pub mod call;
 pub mod machine;
 mod state;

@@ -29,7 +29,8 @@ pub struct Finished {
 ///
 /// Any party may stop anywhere. A party may give back only what it holds, and only once: another release is skipped. Where fewer
 /// than 2^16 changes of the head lie inside each acquire, no index has two holders, an index is taken and given back by turns, of
-/// a locked set no index is out, it stays locked, and each call that ended did what it answered.
+/// a locked set no index is out, only a release that was to lock it locked it, it stays locked, and each call that ended did what
+/// it answered.
 #[derive(Debug, Drop)]
 pub struct IndexSetMachine {
     state: State,
@@ -50,7 +51,8 @@ impl Model for IndexSetMachine {
 }
 
 impl IndexSetMachine {
-    ghost use Rattle.iox_index_steps.specs.Machine.{HasFewChanges, IsOrderly, IsRecorded, StaysLocked, StepsTo, RunsTo, start, stage_at, is_locked};
+    ghost use Rattle.iox_index_steps.specs.Machine.{HasFewChanges, IsOrderly, IsRecorded, StaysLocked, StepsTo, RunsTo, start, stage_at};
+    ghost use Rattle.iox_index_steps.specs.Machine.{is_locked};
 
     /// A set of this many indices, of which none is held, with this many parties. There are fewer than 2^24 indices, since a head
     /// has no room for more.
@@ -88,6 +90,7 @@ impl IndexSetMachine {
         ensures recorded { IsRecorded self.new }
         ensures orderly { HasFewChanges self.new → IsOrderly self.new }
         ensures locked { HasFewChanges self.new → StaysLocked self.old self.new }
+        ensures few { HasFewChanges self.new → HasFewChanges self.old }
         ensures short { length self.new.events < 2 ^ 16 → HasFewChanges self.new }
     {
         self.keeps();

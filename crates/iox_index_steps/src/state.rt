@@ -1,7 +1,8 @@
 //! The state of an index set's machine, and its steps.
 ghost use Rattle.std.specs.Prelude.{◌≡◌, ℕ, false, ◌+◌, ◌≤◌, ◌<◌, ◌++◌, ◌^◌, IfOk, OnOk, length, set, true, vec_len, vec_capacity};
 ghost use Rattle.std.specs.List.{range_with_len};
-ghost use Rattle.iox_index_steps.specs.Machine.{StepsTo, begun, call_ended, ends, fits, happens, holders_after, idle_seat, is_locked, may_begin, seat_at, start, stage_at, went};
+ghost use Rattle.iox_index_steps.specs.Machine.{StepsTo, begun, call_ended, ends, fits, happens, holders_after, idle_seat, is_locked};
+ghost use Rattle.iox_index_steps.specs.Machine.{may_begin, seat_at, start, stage_at, went};
 ghost use Rattle.iox_index_steps.specs.Steps.{call_is_over, call_next, saw_index};
 ghost use Rattle.iox_queues_steps.specs.Access.{after_access, answer_of};
 

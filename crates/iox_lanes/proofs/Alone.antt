@@ -23,33 +23,47 @@ same_message message slot elements user_header values at many own said =
 
 -- the messages in a slot whose elements, user header and values these are, are one
 pub has_one : {T U : Type 0} (port : PublisherPort T U) (slot elements : ℕ) (user_header : U) (values : List T)
-    → ((at : ℕ) (message : Message T U) → slice_get port.sender.uses.history at ≡ Some message → message.slot ≡ slot → elements ≡ message.elements)
-    → ((index at : ℕ) (message : Message T U) → slice_get (connection_of index port).waiting at ≡ Some message → message.slot ≡ slot → elements ≡ message.elements)
-    → ((at : ℕ) (message : Message T U) → slice_get port.sender.uses.history at ≡ Some message → message.slot ≡ slot → user_header ≡ message.user_header)
-    → ((index at : ℕ) (message : Message T U) → slice_get (connection_of index port).waiting at ≡ Some message → message.slot ≡ slot → user_header ≡ message.user_header)
-    → ((at : ℕ) (message : Message T U) → slice_get port.sender.uses.history at ≡ Some message → message.slot ≡ slot → values ≡ message.values)
-    → ((index at : ℕ) (message : Message T U) → slice_get (connection_of index port).waiting at ≡ Some message → message.slot ≡ slot → values ≡ message.values) → HasOne port slot
+    → ((at : ℕ) (message : Message T U) → slice_get port.sender.uses.history at ≡ Some message → message.slot ≡ slot
+    → elements ≡ message.elements)
+    → ((index at : ℕ) (message : Message T U) → slice_get (connection_of index port).waiting at ≡ Some message → message.slot ≡ slot
+    → elements ≡ message.elements)
+    → ((at : ℕ) (message : Message T U) → slice_get port.sender.uses.history at ≡ Some message → message.slot ≡ slot
+    → user_header ≡ message.user_header)
+    → ((index at : ℕ) (message : Message T U) → slice_get (connection_of index port).waiting at ≡ Some message → message.slot ≡ slot
+    → user_header ≡ message.user_header)
+    → ((at : ℕ) (message : Message T U) → slice_get port.sender.uses.history at ≡ Some message → message.slot ≡ slot
+    → values ≡ message.values)
+    → ((index at : ℕ) (message : Message T U) → slice_get (connection_of index port).waiting at ≡ Some message → message.slot ≡ slot
+    → values ≡ message.values) → HasOne port slot
 has_one {T} {U} port slot elements user_header values kept_many many kept_own own kept_said said one other of_one of_other same equal
     = is one of_one same ∙ sym (is other of_other equal)
   where
     is : (message : Message T U) → IsMessageOf port message → message.slot ≡ slot → message ≡ message_in slot elements user_header values
     is message (inl (at, there)) here =
-        same_message message slot elements user_header values here (kept_many at message there here) (kept_own at message there here) (kept_said at message there here)
+        same_message message slot elements user_header values here (kept_many at message there here) (kept_own at message there here)
+        (kept_said at message there here)
     is message (inr (index, at, there)) here =
-        same_message message slot elements user_header values here (many index at message there here) (own index at message there here) (said index at message there here)
+        same_message message slot elements user_header values here (many index at message there here) (own index at message there here)
+        (said index at message there here)
 
 -- so the message that has it is alone
 pub alone_at : {T U : Type 0} (port : PublisherPort T U) (messages : List (Message T U)) (at slot : ℕ) (message : Message T U)
     → slice_get (map (λ message. message.slot) messages) at ≡ Some slot
     → slot < port.sender.uses.first + port.sender.uses.size → HasOne port slot → slice_get messages at ≡ Some message → IsAlone port message
 alone_at port messages at slot message is inside one there =
-    let same : message.slot ≡ slot = some_is message.slot slot (sym (slice_get-map (λ message. message.slot) messages at ∙ ap (option_map (λ message. message.slot)) there) ∙ is) in
-    record { inside = subst (λ n. n < port.sender.uses.first + port.sender.uses.size) (sym same) inside; only = subst (HasOne port) (sym same) one }
+    let same : message.slot ≡ slot = some_is message.slot slot
+    (sym (slice_get-map (λ message. message.slot) messages at ∙ ap (option_map (λ message. message.slot)) there) ∙ is) in
+    record {
+      inside = subst (λ n. n < port.sender.uses.first + port.sender.uses.size) (sym same) inside;
+      only
+          = subst (HasOne port) (sym same) one;
+    }
 
 -- and a publisher that keeps its messages alone is the one of its number
 pub keeps_at : {T U : Type 0} (ports : ServicePorts T U) (publishers subscribers : List ℕ) (place number : ℕ) (port : PublisherPort T U)
     → slice_get publishers place ≡ Some number
-    → port_of number ports.publishers ≡ Some port → KeepsAlone ports.subscribers subscribers port → KeepAloneAt ports publishers subscribers place
+    → port_of number ports.publishers ≡ Some port → KeepsAlone ports.subscribers subscribers port
+    → KeepAloneAt ports publishers subscribers place
 keeps_at ports publishers subscribers place number port listed found keeps other own there is =
     let same : number ≡ other = some_is number other (sym listed ∙ there) in
     subst (KeepsAlone ports.subscribers subscribers) (some_is port own (sym found ∙ ap (λ n. port_of n ports.publishers) same ∙ is)) keeps

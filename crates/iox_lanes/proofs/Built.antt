@@ -1,5 +1,5 @@
 -- Lanes that are built of a domain, from what each part of the building says.
-use Rattle.std.proofs.Common.{ℕ, ◌≡◌, ◌<◌, ◌^◌, List, length, ap, subst, ◌∙◌}
+use Rattle.std.proofs.Common.{ℕ, ◌≡◌, ◌<◌, ◌^◌, List, length, sym, ap, subst, ◌∙◌}
 use Rattle.std.proofs.lemmas.List.{length-replicate}
 use Rattle.iox_domain.specs.DomainValues.declared.handlers.Handlers.{Handlers}
 use Rattle.iox_domain.specs.declared.domain.Domain.{Domain}
@@ -13,28 +13,36 @@ use Rattle.iox_lanes.specs.Finding.{WasFound}
 use Rattle.iox_lanes.specs.Laid.{publishers_behind}
 use Rattle.iox_lanes.specs.Ordered.{readers_behind}
 use Rattle.iox_lanes.specs.Sized.{AreAgreed}
+use Rattle.iox_lanes.proofs.Sizing.{sized_by}
 
 -- lanes that were made have as many words as their sizes say
 pub words_counted : (sizes : LaneSizes) (m : World) (words : List ℕ) (count : ℕ) → m ≡ start sizes → words ≡ m.table.words
     → count ≡ length words → count < 2 ^ 64 → words_of (table_sizes sizes) < 2 ^ 64
 words_counted sizes m words count made are long few =
-    subst (λ n. n < 2 ^ 64) (long ∙ ap length are ∙ ap (λ (w : World). length w.table.words) made ∙ length-replicate (words_of (table_sizes sizes)) 0) few
+    subst (λ n. n < 2 ^ 64) (long ∙ ap length are ∙ ap (λ (w : World). length w.table.words) made ∙ length-replicate
+    (words_of (table_sizes sizes)) 0) few
 
 pub are_built : {T U X Y D : Type 0} {F : X → Type 0} {G : Y → Type 0} (payload_words : T → List ℕ) (header_words : U → List ℕ)
     (payload_count header_count : ℕ) (domain : Domain T U (Handlers X Y F G) D)
-    (publishers subscribers : List ℕ) (sizes last : LaneSizes) (begun laid ordered lanes : World) → AreAgreed domain.state.ports.sizes (length publishers) (length subscribers) payload_count header_count sizes
-    → WasFound last lanes → last ≡ sizes → HaveSlots domain.state.ports.publishers publishers sizes.slots → words_of (table_sizes sizes) < 2 ^ 64 → KeepAlone domain.state.ports publishers subscribers
-    → begun ≡ start sizes → laid ≡ publishers_behind payload_words header_words payload_count header_count domain publishers subscribers begun (length publishers)
+    (publishers subscribers : List ℕ) (sizes last : LaneSizes) (begun laid ordered lanes : World)
+    → AreAgreed domain.state.ports.sizes (length publishers) (length subscribers) payload_count header_count sizes
+    → WasFound last lanes → last ≡ sizes → HaveSlots domain.state.ports.publishers publishers sizes.slots
+    → words_of (table_sizes sizes) < 2 ^ 64 → KeepAlone domain.state.ports publishers subscribers
+    → begun ≡ start sizes → laid ≡ publishers_behind payload_words header_words payload_count header_count domain publishers subscribers
+    begun (length publishers)
     → ordered ≡ readers_behind publishers domain.state.ports.subscribers subscribers laid (length subscribers) → lanes ≡ ordered
     → AreBuilt payload_words header_words payload_count header_count domain publishers subscribers lanes
-are_built payload_words header_words payload_count header_count domain publishers subscribers sizes last begun laid ordered lanes agreed was same room small alone made publishing ordering is = record {
-  sizes = sizes;
-  are_agreed = agreed;
-  found = subst (λ (s : LaneSizes). WasFound s lanes) same was;
-  room = room;
-  small = small;
-  alone = alone;
-  behind = is ∙ ordering
-      ∙ ap (λ w. readers_behind publishers domain.state.ports.subscribers subscribers w (length subscribers))
-      (publishing ∙ ap (λ w. publishers_behind payload_words header_words payload_count header_count domain publishers subscribers w (length publishers)) made);
-}
+are_built payload_words header_words payload_count header_count domain publishers subscribers sizes last begun laid ordered lanes agreed
+    was same room small alone made publishing ordering is =
+    let by = sized_by domain.state.ports.sizes (length publishers) (length subscribers) payload_count header_count sizes lanes agreed
+    (subst (λ (s : LaneSizes). WasFound s lanes) same was) in
+    record {
+      sized = by.0;
+      room = subst (λ (s : LaneSizes). HaveSlots domain.state.ports.publishers publishers s.slots) (sym by.1) room;
+      small = subst (λ (s : LaneSizes). words_of (table_sizes s) < 2 ^ 64) (sym by.1) small;
+      alone = alone;
+      behind = is ∙ ordering
+          ∙ ap (λ w. readers_behind publishers domain.state.ports.subscribers subscribers w (length subscribers))
+          (publishing ∙ ap (λ w. publishers_behind payload_words header_words payload_count header_count domain publishers subscribers w
+          (length publishers)) (made ∙ ap start (sym by.1)));
+    }

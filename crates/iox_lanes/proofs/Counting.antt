@@ -1,6 +1,7 @@
 -- Lanes that were made of sizes and found what they found have as many ports, connections and words as these sizes say, and each
 -- connection leads from its publisher to its subscriber.
-use Rattle.std.proofs.Common.{ℕ, ◌≡◌, ◌+◌, ◌*◌, ◌/◌, ◌%◌, ◌<◌, true, List, [], ◌∷◌, length, slice_get, Option, Some, None, refl, sym, ◌∙◌, ap, subst}
+use Rattle.std.proofs.Common.{ℕ, ◌≡◌, ◌+◌, ◌*◌, ◌/◌, ◌%◌, ◌<◌, true, List, [], ◌∷◌, length, slice_get, Option, Some, None, refl, sym, ◌∙◌}
+use Rattle.std.proofs.Common.{ap, subst}
 use Rattle.std.proofs.lemmas.Nat.{div-mul-add, mod-mul-add}
 use Rattle.iox_domain_values.specs.declared.service_sizes.ServiceSizes.{ServiceSizes}
 use Rattle.iox_lanes_machine.specs.LanesBase.declared.words.sizes.TableSizes.{TableSizes}
@@ -14,10 +15,10 @@ use Rattle.iox_lanes_machine.specs.World.{World}
 use Rattle.iox_lanes_machine.specs.declared.found.Found.{Found}
 use Rattle.iox_lanes_machine.specs.declared.sizes.LaneSizes.{LaneSizes}
 use Rattle.iox_lanes_machine.proofs.Ends.{some_is}
-use Rattle.iox_lanes_machine.proofs.FoundKept.{all_found}
+use Rattle.iox_lanes_machine.proofs.FoundKeptWhole.{all_found}
 use Rattle.iox_lanes_machine.proofs.Start.{listed_is, listed_length}
 use Rattle.iox_lanes_machine.proofs.StartUses.{start_kept}
-use Rattle.iox_lanes_machine.proofs.TakenIn.{takes_in}
+use Rattle.iox_lanes_machine.proofs.TakenInPlaces.{takes_in}
 use Rattle.iox_lanes.specs.Holding.{Leads}
 use Rattle.iox_lanes.specs.Sized.{AreSized}
 
@@ -53,7 +54,8 @@ start_made sizes = record {
 }
 
 -- what a finding leaves of a connection
-made_still : (sizes : LaneSizes) (connection : ℕ) (more : List ℕ) (buffer : Option ℕ) (at : Option LinkState) (link : LinkState) → Some link ≡ link_with more buffer at
+made_still : (sizes : LaneSizes) (connection : ℕ) (more : List ℕ) (buffer : Option ℕ) (at : Option LinkState) (link : LinkState)
+    → Some link ≡ link_with more buffer at
     → ((was : LinkState) → at ≡ Some was → IsMadeAt sizes connection was) → IsMadeAt sizes connection link
 made_still sizes connection more buffer None link e made = absurd (cc e)
 made_still sizes connection more buffer (Some was) link e made =
@@ -72,7 +74,8 @@ taken_made sizes m f n t k = record {
   orders = ap (λ (x : World). length x.orders) t.same ∙ k.orders;
   publishers = t.as_many ∙ k.publishers;
   subscribers = t.as_many_receive ∙ k.subscribers;
-  links = λ connection link e. made_still sizes connection (more_messages m f connection) (new_buffer m f connection) (slice_get m.links connection) link
+  links = λ connection link e. made_still sizes connection (more_messages m f connection) (new_buffer m f connection)
+      (slice_get m.links connection) link
       (sym e ∙ t.links connection) (k.links connection);
 }
 
@@ -91,14 +94,18 @@ pub record AreCounted (publishers subscribers payload_count header_count : ℕ) 
   pub subscriber_count : length m.subscribers ≡ subscribers
   pub link_count : length m.links ≡ publishers * subscribers
 
-made_of : (agreed : ServiceSizes) (publishers subscribers payload header : ℕ) (m : World) (is : AreSized agreed publishers subscribers payload header m) → AreMade is.sizes m
+made_of : (agreed : ServiceSizes) (publishers subscribers payload header : ℕ) (m : World)
+    (is : AreSized agreed publishers subscribers payload header m) → AreMade is.sizes m
 made_of agreed publishers subscribers payload header m is =
-    found_made is.sizes (start is.sizes) (is.found).found m (is.found).finds (start_kept is.sizes (is.found).some (is.found).ports (is.found).small) (start_made is.sizes)
+    found_made is.sizes (start is.sizes) (is.found).found m (is.found).finds
+    (start_kept is.sizes (is.found).some (is.found).ports (is.found).small) (start_made is.sizes)
 
-pub are_counted : (agreed : ServiceSizes) (publishers subscribers payload header : ℕ) (m : World) → AreSized agreed publishers subscribers payload header m → AreCounted publishers subscribers payload header m
+pub are_counted : (agreed : ServiceSizes) (publishers subscribers payload header : ℕ) (m : World)
+    → AreSized agreed publishers subscribers payload header m → AreCounted publishers subscribers payload header m
 are_counted agreed publishers subscribers payload header m is =
     let made = made_of agreed publishers subscribers payload header m is in
-    let kept : IsKept m = all_found (start is.sizes) (is.found).found m (is.found).finds (start_kept is.sizes (is.found).some (is.found).ports (is.found).small) in
+    let kept : IsKept m = all_found (start is.sizes) (is.found).found m (is.found).finds
+    (start_kept is.sizes (is.found).some (is.found).ports (is.found).small) in
     record {
       moments = made.moments;
       payload = ap (λ (t : TableSizes). t.payload_words) made.table ∙ (is.are_agreed).payload;
@@ -110,18 +117,23 @@ are_counted agreed publishers subscribers payload header m is =
     }
 
 -- a connection leads from its publisher to its subscriber, and its full ring does what was agreed
-pub leads_at : (agreed : ServiceSizes) (publishers subscribers payload header : ℕ) (m : World) → AreSized agreed publishers subscribers payload header m → (publisher subscriber : ℕ) → subscriber < subscribers
+pub leads_at : (agreed : ServiceSizes) (publishers subscribers payload header : ℕ) (m : World)
+    → AreSized agreed publishers subscribers payload header m → (publisher subscriber : ℕ) → subscriber < subscribers
     → Leads agreed.enable_safe_overflow publisher subscriber (slice_get m.links (publisher * subscribers + subscriber))
-leads_at agreed publishers subscribers payload header m is publisher subscriber below = by (slice_get m.links (publisher * subscribers + subscriber)) refl
+leads_at agreed publishers subscribers payload header m is publisher subscriber below
+    = by (slice_get m.links (publisher * subscribers + subscriber)) refl
   where
     made : AreMade is.sizes m
     made = made_of agreed publishers subscribers payload header m is
 
-    by : (at : Option LinkState) → slice_get m.links (publisher * subscribers + subscriber) ≡ at → Leads agreed.enable_safe_overflow publisher subscriber at
+    by : (at : Option LinkState) → slice_get m.links (publisher * subscribers + subscriber) ≡ at
+        → Leads agreed.enable_safe_overflow publisher subscriber at
     by None e = tt
     by (Some link) e =
         let at = made.links (publisher * subscribers + subscriber) link e in (
-          at.from ∙ ap (λ (n : ℕ). (publisher * subscribers + subscriber) / n) (is.are_agreed).as_many_subscribers ∙ div-mul-add publisher subscribers subscriber below,
-          at.to ∙ ap (λ (n : ℕ). (publisher * subscribers + subscriber) % n) (is.are_agreed).as_many_subscribers ∙ mod-mul-add publisher subscribers subscriber below,
+          at.from ∙ ap (λ (n : ℕ). (publisher * subscribers + subscriber) / n) (is.are_agreed).as_many_subscribers ∙ div-mul-add
+              publisher subscribers subscriber below,
+          at.to ∙ ap (λ (n : ℕ). (publisher * subscribers + subscriber) % n) (is.are_agreed).as_many_subscribers ∙ mod-mul-add publisher
+              subscribers subscriber below,
           at.kind ∙ (is.are_agreed).kind,
         )

@@ -1,5 +1,6 @@
 -- What each of the findings of a domain leaves, all do.
-use Rattle.std.proofs.Common.{arith, ℕ, zero, suc, ◌≡◌, ◌<◌, ◌⊎◌, List, [], ◌∷◌, ◌++◌, length, take, flat_map, slice_get, slice_index, get_or, Option, None, Some, is_some, count_by, refl, sym, ap, subst, inl, inr}
+use Rattle.std.proofs.Common.{arith, ℕ, zero, suc, ◌≡◌, ◌<◌, ◌⊎◌, List, [], ◌∷◌, ◌++◌, length, take, flat_map, slice_get, slice_index}
+use Rattle.std.proofs.Common.{get_or, Option, None, Some, is_some, count_by, refl, sym, ap, subst, inl, inr}
 use Rattle.std.proofs.lemmas.Bool.Decides.{eqb_tells}
 use Rattle.iox_domain.specs.DomainPorts.Messages.{Message}
 use Rattle.iox_domain.specs.DomainPorts.Ports.{connection_of}
@@ -14,7 +15,8 @@ use Rattle.iox_lanes_machine.specs.declared.found.Found.TheVariants as found
 use Rattle.iox_lanes_machine.proofs.Ends.{some_is}
 use Rattle.iox_lanes.specs.Behind.{behind_findings, behind_finding}
 use Rattle.iox_lanes.specs.Holding.{reader_if}
-use Rattle.iox_lanes.specs.Laid.{flat_listed, header_findings, history_findings, link_findings, message_findings, payload_findings, slot_in, waiting_findings, words_findings}
+use Rattle.iox_lanes.specs.Laid.{flat_listed, header_findings, history_findings, link_findings, message_findings, payload_findings}
+use Rattle.iox_lanes.specs.Laid.{slot_in, waiting_findings, words_findings}
 use Rattle.iox_lanes.specs.Ordered.{keys_behind, reader_behind, readers_behind, route_place, swap_behind}
 
 -- each finding of a list is one of these
@@ -64,7 +66,8 @@ module _ {T U : Type 0} (payload_words : T → List ℕ) (header_words : U → L
   pub each_word : (slot node number elements : ℕ) (user_header : U) (values : List T) → P (found.Held slot (Header 0) node)
       → P (found.Held slot (Header 1) number) → P (found.Held slot (Header 2) elements)
       → ((word : ℕ) → word < header_count → P (found.Held slot (UserHeader word) (slice_index (header_words user_header) word)))
-      → ((word : ℕ) → word < payload_count → (value : T) → slice_get values 0 ≡ Some value → P (found.Held slot (Payload word) (slice_index (payload_words value) word)))
+      → ((word : ℕ) → word < payload_count → (value : T) → slice_get values 0 ≡ Some value
+      → P (found.Held slot (Payload word) (slice_index (payload_words value) word)))
       → Each P (words_findings payload_words header_words payload_count header_count slot node number elements user_header values)
   each_word slot node number elements user_header values one two three headed valued = (
     one,
@@ -73,40 +76,57 @@ module _ {T U : Type 0} (payload_words : T → List ℕ) (header_words : U → L
       (
         three,
         each_both P (header_findings header_words header_count slot user_header) (payload_findings payload_words payload_count slot values)
-            (each_listed P (λ word. found.Held slot (UserHeader word) (slice_index (header_words user_header) word)) header_count headed) (each_payload slot values valued),
+            (each_listed P (λ word. found.Held slot (UserHeader word) (slice_index (header_words user_header) word)) header_count
+            headed) (each_payload slot values valued),
       ),
     ),
   )
 
   module _ (place first : ℕ) (port : PublisherPort T U) where
     pub each_history : (messages : List (Message T U))
-        → ((at : ℕ) (message : Message T U) → slice_get messages at ≡ Some message → Each P (message_findings payload_words header_words payload_count header_count first port message))
-        → ((slot : ℕ) → P (found.Newest place slot)) → Each P (history_findings payload_words header_words payload_count header_count place first port messages)
+        → ((at : ℕ) (message : Message T U) → slice_get messages at ≡ Some message
+        → Each P (message_findings payload_words header_words payload_count header_count first port message))
+        → ((slot : ℕ) → P (found.Newest place slot))
+        → Each P (history_findings payload_words header_words payload_count header_count place first port messages)
     each_history messages words newest =
-        each_flat P (λ message. message_findings payload_words header_words payload_count header_count first port message ++ found.Newest place (slot_in first message.slot) ∷ []) messages
-        (λ at message there. each_both P (message_findings payload_words header_words payload_count header_count first port message) (found.Newest place (slot_in first message.slot) ∷ [])
+        each_flat P (λ message. message_findings payload_words header_words payload_count header_count first port message
+        ++ found.Newest place (slot_in first message.slot) ∷ []) messages
+        (λ at message there. each_both P (message_findings payload_words header_words payload_count header_count first port message)
+        (found.Newest place (slot_in first message.slot) ∷ [])
         (words at message there) (newest (slot_in first message.slot), tt))
 
     pub each_waiting : (other : ℕ) (messages : List (Message T U))
-        → ((at : ℕ) (message : Message T U) → slice_get messages at ≡ Some message → Each P (message_findings payload_words header_words payload_count header_count first port message))
-        → ((slot : ℕ) → P (found.Waiting place other slot)) → Each P (waiting_findings payload_words header_words payload_count header_count place other first port messages)
+        → ((at : ℕ) (message : Message T U) → slice_get messages at ≡ Some message
+        → Each P (message_findings payload_words header_words payload_count header_count first port message))
+        → ((slot : ℕ) → P (found.Waiting place other slot))
+        → Each P (waiting_findings payload_words header_words payload_count header_count place other first port messages)
     each_waiting other messages words waits =
-        each_flat P (λ message. message_findings payload_words header_words payload_count header_count first port message ++ found.Waiting place other (slot_in first message.slot) ∷ []) messages
-        (λ at message there. each_both P (message_findings payload_words header_words payload_count header_count first port message) (found.Waiting place other (slot_in first message.slot) ∷ [])
+        each_flat P (λ message. message_findings payload_words header_words payload_count header_count first port message
+        ++ found.Waiting place other (slot_in first message.slot) ∷ []) messages
+        (λ at message there. each_both P (message_findings payload_words header_words payload_count header_count first port message)
+        (found.Waiting place other (slot_in first message.slot) ∷ [])
         (words at message there) (waits (slot_in first message.slot), tt))
 
     pub each_of : (tie : ℕ → ℕ) (count : ℕ)
-        → ((at : ℕ) (message : Message T U) → slice_get port.sender.uses.history at ≡ Some message → Each P (message_findings payload_words header_words payload_count header_count first port message))
-        → ((other : ℕ) → other < count → (at : ℕ) (message : Message T U) → slice_get (connection_of (tie other) port).waiting at ≡ Some message
+        → ((at : ℕ) (message : Message T U) → slice_get port.sender.uses.history at ≡ Some message
         → Each P (message_findings payload_words header_words payload_count header_count first port message))
-        → ((slot : ℕ) → P (found.Newest place slot)) → ((other slot : ℕ) → P (found.Waiting place other slot)) → ((other messages : ℕ) → P (found.Buffer place other messages))
+        → ((other : ℕ) → other < count → (at : ℕ) (message : Message T U)
+        → slice_get (connection_of (tie other) port).waiting at ≡ Some message
+        → Each P (message_findings payload_words header_words payload_count header_count first port message))
+        → ((slot : ℕ) → P (found.Newest place slot)) → ((other slot : ℕ) → P (found.Waiting place other slot))
+        → ((other messages : ℕ) → P (found.Buffer place other messages))
         → Each P (history_findings payload_words header_words payload_count header_count place first port port.sender.uses.history)
-        × Each P (flat_listed (λ other. link_findings payload_words header_words payload_count header_count place other first port (tie other)) count)
+        × Each P (flat_listed (λ other. link_findings payload_words header_words payload_count header_count place other first port
+        (tie other)) count)
     each_of tie count remembered waiting newest waits buffers = (
       each_history port.sender.uses.history remembered newest,
       each_flat_listed P (λ other. link_findings payload_words header_words payload_count header_count place other first port
           (tie other)) count
-          (λ other below. (buffers other (connection_of (tie other) port).limit, each_waiting other (connection_of (tie other) port).waiting (waiting other below) (waits other))),
+          (λ other below. (
+            buffers other (connection_of (tie other) port).limit,
+            each_waiting other
+                (connection_of (tie other) port).waiting (waiting other below) (waits other),
+          )),
     )
 
 -- what the order of a connection leaves, those of all connections do
@@ -121,7 +141,8 @@ module _ (Q : World → Type 0) (leaves : (m : World) (who one other : ℕ) → 
       → Q (keys_behind publishers subscriber values m count)
   keys_leave subscriber values m zero q = q
   keys_leave subscriber values m (suc count) q =
-      swap_leaves subscriber (count_by is_some (take count values)) (keys_behind publishers subscriber values m count) (get_or values count None) (keys_leave subscriber values m count q)
+      swap_leaves subscriber (count_by is_some (take count values)) (keys_behind publishers subscriber values m count)
+      (get_or values count None) (keys_leave subscriber values m count q)
 
   reader_leaves : (subscriber : ℕ) (m : World) (port : Option SubscriberPort) → Q m → Q (reader_behind publishers subscriber m port)
   reader_leaves subscriber m None q = q
@@ -131,7 +152,8 @@ module _ (Q : World → Type 0) (leaves : (m : World) (who one other : ℕ) → 
       → Q (readers_behind publishers readers subscribers m count)
   readers_leave readers subscribers m zero q = q
   readers_leave readers subscribers m (suc count) q =
-      reader_leaves count (readers_behind publishers readers subscribers m count) (reader_if readers (slice_get subscribers count)) (readers_leave readers subscribers m count q)
+      reader_leaves count (readers_behind publishers readers subscribers m count) (reader_if readers (slice_get subscribers count))
+      (readers_leave readers subscribers m count q)
 
 -- a finding is in a list
 abbrev pub IsIn : Found → List Found → Type 0

@@ -1,5 +1,6 @@
 -- Whether sends fail at a full mailbox says what was found of their publisher, and nothing else that is found.
-use Rattle.std.proofs.Common.{ℕ, zero, suc, ◌≡◌, ◌+◌, ◌≤◌, ◌==◌, ◌&&◌, Bool, true, false, List, [], ◌∷◌, ◌++◌, length, take, drop, set, slice_get, Option, Some, None, Result, Ok, Err, IfOk, OnErr, refl, sym, ◌∙◌, ap, subst, inl, inr, arith}
+use Rattle.std.proofs.Common.{ℕ, zero, suc, ◌≡◌, ◌+◌, ◌≤◌, ◌==◌, ◌&&◌, Bool, true, false, List, [], ◌∷◌, ◌++◌, length, take, drop, set}
+use Rattle.std.proofs.Common.{slice_get, Option, Some, None, Result, Ok, Err, IfOk, OnErr, refl, sym, ◌∙◌, ap, subst, inl, inr, arith}
 use Rattle.std.proofs.lemmas.List.{length-map, map-set, set_past}
 use Rattle.std.proofs.lemmas.Option.{slice_get_cases}
 use Rattle.iox_lanes_machine.specs.LanesParties.Parties.{PublisherLaneState, lane_named}
@@ -31,7 +32,9 @@ none_past xs at none = elim (slice_get_cases xs at).1 [
 -- one that isn't there isn't set
 past_fails : (m : World) (who : ℕ) (fails : Bool) → slice_get m.publishers who ≡ None → failing m ≡ set (failing m) who fails
 past_fails m who fails none =
-    sym (set_past (failing m) who fails (subst (λ (n : ℕ). n ≤ who) (sym (length-map m.publishers (λ (x : PublisherLaneState). x.fails))) (none_past m.publishers who none)))
+    sym (set_past (failing m) who fails
+    (subst (λ (n : ℕ). n ≤ who) (sym (length-map m.publishers (λ (x : PublisherLaneState). x.fails)))
+    (none_past m.publishers who none)))
 
 names_of : (m : World) (who node_id publisher_id : ℕ) (fails : Bool) (at : Option PublisherLaneState) → slice_get m.publishers who ≡ at
     → failing (named_of m who node_id publisher_id fails at) ≡ set (failing m) who fails
@@ -113,4 +116,5 @@ pub next_said : (wanted first now after : List Bool) (at : ℕ) (value : Bool) �
     → after ≡ take (at + 1) wanted ++ drop (at + 1) first
 next_said wanted first now after at value is as_many sofar said =
     let next : suc at ≡ at + 1 = omega arith in
-    said ∙ ap (λ (bs : List Bool). set bs at value) sofar ∙ set_one wanted first at value is (sym as_many) ∙ ap (λ (n : ℕ). take n wanted ++ drop n first) next
+    said ∙ ap (λ (bs : List Bool). set bs at value) sofar ∙ set_one wanted first at value is (sym as_many) ∙ ap
+    (λ (n : ℕ). take n wanted ++ drop n first) next

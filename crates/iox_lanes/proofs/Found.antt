@@ -1,5 +1,6 @@
 -- What is found is found of lanes as they were made.
-use Rattle.std.proofs.Common.{ℕ, Bool, ◌≡◌, ◌<◌, ◌^◌, true, false, List, [], ◌∷◌, ◌++◌, get_or, slice_get, refl, sym, ◌∙◌, ap, subst, Some, arith}
+use Rattle.std.proofs.Common.{ℕ, Bool, ◌≡◌, ◌<◌, ◌^◌, true, false, List, [], ◌∷◌, ◌++◌, get_or, slice_get, refl, sym, ◌∙◌, ap, subst}
+use Rattle.std.proofs.Common.{Some, arith}
 use Rattle.std.specs.List.{All}
 use Rattle.std.proofs.lemmas.Option.{slice_get-get_or}
 use Rattle.iox_lanes_machine.specs.LanesBase.Publishing.{publisher_is_idle}
@@ -14,26 +15,51 @@ use Rattle.iox_lanes_machine.specs.WholeReads.{CameTo}
 use Rattle.iox_lanes_machine.specs.World.{World}
 use Rattle.iox_lanes_machine.specs.declared.found.Found.{Found}
 use Rattle.iox_lanes_machine.specs.declared.sizes.LaneSizes.{LaneSizes}
-use Rattle.iox_lanes_machine.proofs.FoundKept.{all_found, found_moments}
+use Rattle.iox_lanes_machine.proofs.FoundKeptWhole.{all_found, found_moments}
 use Rattle.iox_lanes_machine.proofs.StartUses.{start_kept}
 use Rattle.iox_lanes.specs.Finding.{WasFound}
 
 -- lanes that were just made
-pub was_made : (sizes : LaneSizes) (m : World) → 0 < sizes.buffer → sizes.buffer < 2 ^ 61 → sizes.most_borrowed < 2 ^ 61 → sizes.subscribers < 2 ^ 61 → m ≡ start sizes → WasFound sizes m
-was_made sizes m some buffer borrowed ports is = record { some = some; ports = ports; small = omega (arith, buffer, borrowed); found = []; finds = is }
+pub was_made : (sizes : LaneSizes) (m : World) → 0 < sizes.buffer → sizes.buffer < 2 ^ 61 → sizes.most_borrowed < 2 ^ 61
+    → sizes.subscribers < 2 ^ 61 → m ≡ start sizes → WasFound sizes m
+was_made sizes m some buffer borrowed ports is
+    = record { some = some; ports = ports; small = omega (arith, buffer, borrowed); found = []; finds = is }
 
 -- one more behind a list of findings
-one_more : (s : World) (fs : List Found) (m : World) (f : Found) → AreFound s fs m → finds m f ≡ true → AreFound s (fs ++ f ∷ []) (with_found m f)
+one_more : (s : World) (fs : List Found) (m : World) (f : Found) → AreFound s fs m → finds m f ≡ true
+    → AreFound s (fs ++ f ∷ []) (with_found m f)
 one_more s [] m f h fit = subst (λ (x : World). (finds x f ≡ true) × (with_found m f ≡ with_found x f)) h (fit, refl)
 one_more s (g ∷ fs) m f h fit = (h.0, one_more (with_found s g) fs m f h.1 fit)
 
-pub found_on : (sizes : LaneSizes) (m : World) (f : Found) (answer : Bool) (n : World) → FindsTo m f answer n → WasFound sizes m → WasFound sizes n
-found_on sizes m f true n h w = subst (WasFound sizes) (sym h.1) (record { some = w.some; ports = w.ports; small = w.small; found = w.found ++ f ∷ []; finds = one_more (start sizes) w.found m f w.finds h.0 })
+pub found_on : (sizes : LaneSizes) (m : World) (f : Found) (answer : Bool) (n : World) → FindsTo m f answer n → WasFound sizes m
+    → WasFound sizes n
+found_on sizes m f true n h w
+    = subst (WasFound sizes) (sym h.1)
+    (record {
+      some = w.some;
+      ports = w.ports;
+      small = w.small;
+      found = w.found ++ f ∷ [];
+      finds
+          = one_more (start sizes) w.found m f w.finds h.0;
+    })
 found_on sizes m f false n h w = subst (WasFound sizes) (sym h.1) w
 
 -- they came from where they were made
 pub came : (sizes : LaneSizes) (m : World) → WasFound sizes m → CameTo m
-came sizes m w = record { sizes = sizes; some = w.some; ports = w.ports; small = w.small; found = w.found; begun = m; finds = w.finds; schedule = []; made = 0; runs = (refl, refl) }
+came sizes m w = record {
+  sizes = sizes;
+  some = w.some;
+  ports = w.ports;
+  small = w.small;
+  found = w.found;
+  begun = m;
+  finds = w.finds;
+  schedule = [];
+  made
+      = 0;
+  runs = (refl, refl);
+}
 
 pub no_moments : (s : World) (fs : List Found) (m : World) → AreFound s fs m → m.moments ≡ s.moments
 no_moments s [] m h = ap (λ (x : World). x.moments) h
@@ -48,6 +74,8 @@ between sizes m w =
     let kept : IsKept m = all_found (start sizes) w.found m w.finds (start_kept sizes w.some w.ports w.small) in
     let fresh : IsFresh m = kept.fresh (no_moments (start sizes) w.found m w.finds) in
     record {
-      publishers = all_from (λ (lane : PublisherLaneState). publisher_is_idle lane.port.call ≡ true) m.publishers (λ at lane there. ap publisher_is_idle (fresh.publishers at lane there).idle);
-      subscribers = all_from (λ (lane : SubscriberLaneState). subscriber_is_idle lane.port.call ≡ true) m.subscribers (λ at lane there. ap subscriber_is_idle (fresh.subscribers at lane there).idle);
+      publishers = all_from (λ (lane : PublisherLaneState). publisher_is_idle lane.port.call ≡ true) m.publishers
+          (λ at lane there. ap publisher_is_idle (fresh.publishers at lane there).idle);
+      subscribers = all_from (λ (lane : SubscriberLaneState). subscriber_is_idle lane.port.call ≡ true) m.subscribers
+          (λ at lane there. ap subscriber_is_idle (fresh.subscribers at lane there).idle);
     }

@@ -1,5 +1,6 @@
 -- Lanes that go with the publishers of a domain.
-use Rattle.std.proofs.Common.{arith, ◌≡◌, ◌+◌, ◌*◌, ◌^◌, ◌<◌, ◌≤◌, ℕ, Bool, true, List, length, slice_get, get_or, Option, None, Some, refl, sym, subst, ap, inl, inr, ◌∙◌}
+use Rattle.std.proofs.Common.{arith, ◌≡◌, ◌+◌, ◌*◌, ◌^◌, ◌<◌, ◌≤◌, ℕ, Bool, true, List, length, slice_get, get_or, Option, None, Some}
+use Rattle.std.proofs.Common.{refl, sym, subst, ap, inl, inr, ◌∙◌}
 use Rattle.std.proofs.lemmas.Bool.Decides.{eqb_tells}
 use Rattle.std.proofs.lemmas.Nat.{row_fits}
 use Rattle.std.proofs.lemmas.Option.{get_or_from_slice_get, slice_get-get_or, slice_get_within}
@@ -13,12 +14,11 @@ use Rattle.iox_lanes_machine.specs.LanesParties.Parties.{PublisherLaneState, Sub
 use Rattle.iox_lanes_machine.specs.Resting.{AllBetween}
 use Rattle.iox_lanes_machine.specs.World.{World, publisher_stage, subscriber_stage}
 use Rattle.iox_domain.specs.DomainPorts.declared.subscriber_port.SubscriberPort.{SubscriberPort}
-use Rattle.iox_domain.specs.declared.domain.Domain.{Domain}
 use Rattle.iox_lanes_machine.specs.LanesBase.Table.{TableWords}
 use Rattle.iox_lanes_machine.specs.Links.{LinkState}
-use Rattle.iox_lanes.specs.Holding.{port_if, IsLaneIf, IsLinkIf, SenderHolds}
+use Rattle.iox_lanes.specs.Holding.{port_if, IsLinkIf}
 use Rattle.iox_lanes_opening.specs.Restored.{place_of}
-use Rattle.iox_lanes.specs.Joined.{place_if, row_of, AreListedOnce, HasAsMany, HasSlotsIf, IsLinkToIf, IsJoined, JoinedStays}
+use Rattle.iox_lanes.specs.Joined.{place_if, row_of, HasSlotsIf, IsLinkToIf, IsJoined, JoinedStays}
 use Rattle.iox_lanes.specs.Tied.{IsTied}
 use Rattle.iox_lanes.specs.Returning.{AllRest, ArePortsLeft, IsLeftAt, IsPortLeftIf, JoinsAt}
 use Rattle.iox_lanes.proofs.PortsLeft.{first_is}
@@ -27,13 +27,16 @@ between_sender : (m : World) (place : ℕ) (at : Option PublisherLaneState) → 
     → publisher_is_idle (publisher_stage at) ≡ true
 between_sender m place None between found = refl
 between_sender m place (Some lane) between found =
-    subst (λ (l : PublisherLaneState). publisher_is_idle l.port.call ≡ true) (get_or_from_slice_get m.publishers place lane lane found) (between.publishers place lane (slice_get_within m.publishers place lane found))
+    subst (λ (l : PublisherLaneState). publisher_is_idle l.port.call ≡ true) (get_or_from_slice_get m.publishers place lane lane found)
+    (between.publishers place lane (slice_get_within m.publishers place lane found))
 
 between_receiver : (m : World) (place : ℕ) (at : Option SubscriberLaneState) → AllBetween m → slice_get m.subscribers place ≡ at
     → subscriber_is_idle (subscriber_stage at) ≡ true
 between_receiver m place None between found = refl
 between_receiver m place (Some lane) between found =
-    subst (λ (l : SubscriberLaneState). subscriber_is_idle l.port.call ≡ true) (get_or_from_slice_get m.subscribers place lane lane found) (between.subscribers place lane (slice_get_within m.subscribers place lane found))
+    subst (λ (l : SubscriberLaneState). subscriber_is_idle l.port.call ≡ true)
+    (get_or_from_slice_get m.subscribers place lane lane found)
+    (between.subscribers place lane (slice_get_within m.subscribers place lane found))
 
 -- where no party is in a call, each connection is at rest
 pub all_rest : (m : World) → AllBetween m → m.moments ≤ 2 ^ 63 → AllRest m
@@ -57,20 +60,23 @@ joined_stays T U payload_count header_count places before after ports senders re
     alone = (joined.sending place below).alone;
   };
   linking = λ publisher below subscriber beneath.
-      subst (λ links. IsLinkToIf (port_if ports (slice_get senders publisher)) publisher subscriber (row_of readers indices publisher) (slice_get indices (publisher * readers + subscriber)) (slice_get links (publisher * readers + subscriber)))
+      subst (λ links. IsLinkToIf (port_if ports (slice_get senders publisher)) publisher subscriber (row_of readers indices publisher)
+      (slice_get indices (publisher * readers + subscriber)) (slice_get links (publisher * readers + subscriber)))
       (sym stays.links) (joined.linking publisher below subscriber beneath);
 }
 
 -- the publisher at a place joins
 pub joins_at : {T U : Type 0} (payload_count header_count places : ℕ) (lanes : World) (ports : List (ℕ × PublisherPort T U))
     (senders : List ℕ) (readers : ℕ) (indices : List ℕ) (place number : ℕ)
-    → IsJoined payload_count header_count places lanes ports senders readers indices → place < length senders → slice_get senders place ≡ Some number → JoinsAt lanes (port_of number ports) place readers indices
+    → IsJoined payload_count header_count places lanes ports senders readers indices → place < length senders
+    → slice_get senders place ≡ Some number → JoinsAt lanes (port_of number ports) place readers indices
 joins_at payload_count header_count places lanes ports senders readers indices place number joined below is = record {
   slots = subst (λ at. HasSlotsIf (port_if ports at) (slots_at lanes place)) is (joined.sending place below).slots;
   link_count = omega (arith, joined.link_count, row_fits place readers (length senders) readers below (omega arith));
   index_count = omega (arith, joined.index_count, row_fits place readers (length senders) readers below (omega arith));
   linking = λ subscriber beneath.
-      subst (λ at. IsLinkToIf (port_if ports at) place subscriber (row_of readers indices place) (slice_get indices (place * readers + subscriber)) (slice_get lanes.links (place * readers + subscriber))) is
+      subst (λ at. IsLinkToIf (port_if ports at) place subscriber (row_of readers indices place)
+      (slice_get indices (place * readers + subscriber)) (slice_get lanes.links (place * readers + subscriber))) is
       (joined.linking place below subscriber beneath);
 }
 
@@ -78,7 +84,8 @@ joins_at payload_count header_count places lanes ports senders readers indices p
 pub record LeftSoFar {T U : Type 0} (value_of : List ℕ → T) (header_of : List ℕ → U) (lanes : World) (senders : List ℕ) (readers : ℕ)
     (indices : List ℕ) (start now : List (ℕ × PublisherPort T U)) (count : ℕ) : Type 0 where
   pub done : (number place : ℕ) → place_of number senders ≡ Some place → place < count
-      → IsPortLeftIf value_of header_of lanes (place * readers) (row_of readers indices place) (slice_get lanes.publishers place) (port_of number start) (port_of number now)
+      → IsPortLeftIf value_of header_of lanes (place * readers) (row_of readers indices place) (slice_get lanes.publishers place)
+      (port_of number start) (port_of number now)
   pub rest : (number : ℕ) → ((place : ℕ) → place_of number senders ≡ Some place → count ≤ place) → port_of number now ≡ port_of number start
 
 one_place : (one other : ℕ) → Some one ≡ Some other → one ≡ other
@@ -94,7 +101,8 @@ module _ {T U : Type 0} (value_of : List ℕ → T) (header_of : List ℕ → U)
   pub one_left : (now next : List (ℕ × PublisherPort T U)) (count : ℕ) → count < length senders
       → LeftSoFar value_of header_of lanes senders readers indices start now count
       → ((other : ℕ) → (other ≡ get_or senders count 0 → ⊥) → port_of other next ≡ port_of other now)
-      → (JoinsAt lanes (port_of (get_or senders count 0) now) count readers indices → Left count (port_of (get_or senders count 0) now) (port_of (get_or senders count 0) next))
+      → (JoinsAt lanes (port_of (get_or senders count 0) now) count readers indices
+      → Left count (port_of (get_or senders count 0) now) (port_of (get_or senders count 0) next))
       → LeftSoFar value_of header_of lanes senders readers indices start next (count + 1)
   one_left now next count below so_far others this = record {
     done = λ number place is few. elim (eqb_tells place count) [
@@ -104,8 +112,10 @@ module _ {T U : Type 0} (value_of : List ℕ → T) (header_of : List ℕ → U)
           subst (λ p. Left p (port_of number start) (port_of number next)) (sym same.1)
           (subst (λ m. Left count (port_of m start) (port_of m next)) (sym number_is) mine)
       | inr apart ↦
-          let other : number ≡ n → ⊥ = λ number_is. apart.1 (one_place place count (sym is ∙ ap (λ m. place_of m senders) number_is ∙ alone)) in
-          subst (λ port. Left place (port_of number start) port) (sym (others number other)) (so_far.done number place is (omega (arith, few, apart.1)))
+          let other : number ≡ n → ⊥ = λ number_is. apart.1
+          (one_place place count (sym is ∙ ap (λ m. place_of m senders) number_is ∙ alone)) in
+          subst (λ port. Left place (port_of number start) port) (sym (others number other))
+          (so_far.done number place is (omega (arith, few, apart.1)))
     ];
     rest = λ number beyond.
         let other : number ≡ n → ⊥ = λ number_is. absurd (omega (arith, beyond count (ap (λ m. place_of m senders) number_is ∙ alone))) in
@@ -126,7 +136,8 @@ module _ {T U : Type 0} (value_of : List ℕ → T) (header_of : List ℕ → U)
 
       mine : Left count (port_of n start) (port_of n next)
       mine = subst (λ port. Left count port (port_of n next)) untouched
-          (this (subst (λ port. JoinsAt lanes port count readers indices) (sym untouched) (joins_at payload_count header_count places lanes start senders readers indices count n joined below here)))
+          (this (subst (λ port. JoinsAt lanes port count readers indices) (sym untouched)
+          (joins_at payload_count header_count places lanes start senders readers indices count n joined below here)))
 
   -- before the first
   pub none_left : LeftSoFar value_of header_of lanes senders readers indices start start 0
@@ -146,24 +157,12 @@ module _ {T U : Type 0} (value_of : List ℕ → T) (header_of : List ℕ → U)
       by None is = so_far.rest number (λ place there. absurd (cc (sym is ∙ there)))
       by (Some place) is = so_far.done number place is (omega (arith, past, (first_is senders number place is).below))
 
--- lanes that hold what a domain has have as many slots for each publisher
-as_many : {T U : Type 0} (payload_words : T → List ℕ) (header_words : U → List ℕ) (table : TableWords) (port : PublisherPort T U)
-    (lane : Option PublisherLaneState) → IsLaneIf payload_words header_words table (Some port) lane
-    → HasAsMany port lane
-as_many payload_words header_words table port None is = tt
-as_many payload_words header_words table port (Some lane) is = is.slots
-
-pub as_many_if : {T U B D : Type 0} (payload_words : T → List ℕ) (header_words : U → List ℕ) (domain : Domain T U B D) (lanes : World)
-    (publishers : List ℕ) (place : ℕ) (port : PublisherPort T U)
-    → SenderHolds payload_words header_words domain lanes publishers place → port_if domain.state.ports.publishers (slice_get publishers place) ≡ Some port → HasAsMany port (slice_get lanes.publishers place)
-as_many_if payload_words header_words domain lanes publishers place port holds there =
-    as_many payload_words header_words lanes.table port (slice_get lanes.publishers place) (subst (λ at. IsLaneIf payload_words header_words lanes.table at (slice_get lanes.publishers place)) there holds)
-
--- and a link of them whose index no connection of the publisher before it has joins
+-- a link of lanes that hold what a domain has, whose index no connection of the publisher before it has joins
 pub joined_if : {T U : Type 0} (payload_words : T → List ℕ) (header_words : U → List ℕ) (table : TableWords) (overflows : Bool)
     (publisher subscriber : ℕ) (line : List ℕ) (port : Option (PublisherPort T U))
     (reader : Option SubscriberPort) (lane : Option PublisherLaneState) (index : Option ℕ) (link : Option LinkState) (number : ℕ)
-    → IsLinkIf payload_words header_words table overflows publisher subscriber port reader lane index link → IsTied port reader index → index ≡ Some number → place_of number line ≡ Some subscriber
+    → IsLinkIf payload_words header_words table overflows publisher subscriber port reader lane index link → IsTied port reader index
+    → index ≡ Some number → place_of number line ≡ Some subscriber
     → IsLinkToIf port publisher subscriber line index link
 joined_if payload_words header_words table overflows publisher subscriber line None reader lane index link number is tied there alone = is
 joined_if payload_words header_words table overflows publisher subscriber line (Some port) None lane index link number is tied there
@@ -174,15 +173,10 @@ joined_if payload_words header_words table overflows publisher subscriber line (
     tied there alone = is
 joined_if payload_words header_words table overflows publisher subscriber line (Some port) (Some reader) (Some lane) (Some index) None
     number is tied there alone = is
-joined_if payload_words header_words table overflows publisher subscriber line (Some port) (Some reader) (Some lane) (Some index) (Some link) number is tied there alone = record {
-  from = is.from;
-  live = tied.1;
-  limit = is.limit;
-  alone = subst (λ (n : ℕ). place_of n line ≡ Some subscriber) (some_is number index (sym there)) alone;
-}
-
--- numbers each of which is first at its place are listed once
-pub once_listed : (numbers : List ℕ)
-    → ((at number : ℕ) → slice_get numbers at ≡ Some number → place_if (slice_get numbers at) numbers ≡ Some at) → AreListedOnce numbers
-once_listed numbers alone one other number there too =
-    one_place one other (sym (ap (λ at. place_if at numbers) (sym there) ∙ alone one number there) ∙ ap (λ at. place_if at numbers) (sym too) ∙ alone other number too)
+joined_if payload_words header_words table overflows publisher subscriber line (Some port) (Some reader) (Some lane) (Some index)
+    (Some link) number is tied there alone = record {
+      from = is.from;
+      live = tied.1;
+      limit = is.limit;
+      alone = subst (λ (n : ℕ). place_of n line ≡ Some subscriber) (some_is number index (sym there)) alone;
+    }

@@ -20,8 +20,10 @@ use Rattle.iox_lanes.proofs.Tied.{alone_in_row, are_tied, index_is}
 
 module _ {T U X Y Z : Type 0} {F : X → Type 0} {G : Y → Type 0} {H : Z → Type 0} (payload_words : T → List ℕ)
     (header_words : U → List ℕ) (payload_count header_count : ℕ)
-    (domain : Domain T U (Handlers X Y F G) (DegradationHandler Z H)) (lanes : World) (publishers subscribers indices : List ℕ) (none : first_reason domain ≡ None)
-    (hold : LanesHold payload_words header_words payload_count header_count domain lanes publishers subscribers indices) (ties : AreTies domain.state.ports publishers subscribers indices) (once : AreListedOnce subscribers)
+    (domain : Domain T U (Handlers X Y F G) (DegradationHandler Z H)) (lanes : World) (publishers subscribers indices : List ℕ)
+    (none : first_reason domain ≡ None)
+    (hold : LanesHold payload_words header_words payload_count header_count domain lanes publishers subscribers indices)
+    (ties : AreTies domain.state.ports publishers subscribers indices) (once : AreListedOnce subscribers)
     (publisher subscriber : ℕ) (below : publisher < length publishers) (beneath : subscriber < length subscribers) where
   abbrev ports : ServicePorts T U
   ports = domain.state.ports
@@ -43,12 +45,17 @@ module _ {T U X Y Z : Type 0} {F : X → Type 0} {G : Y → Type 0} {H : Z → T
       → LinkJoins ports.publishers lanes publishers (length subscribers) indices publisher subscriber
   by_reader port None found read some = absurd (cc some)
   by_reader port (Some own) found read some =
-      joined_if payload_words header_words lanes.table ports.sizes.enable_safe_overflow publisher subscriber (row_of (length subscribers) indices publisher) (port_if ports.publishers (slice_get publishers publisher))
-      (reader_if ports.subscribers (slice_get subscribers subscriber)) (slice_get lanes.publishers publisher) (slice_get indices (publisher * length subscribers + subscriber))
-      (slice_get lanes.links (publisher * length subscribers + subscriber)) (tie_for port (Some own)) (hold.linking publisher subscriber below beneath)
+      joined_if payload_words header_words lanes.table ports.sizes.enable_safe_overflow publisher subscriber
+      (row_of (length subscribers) indices publisher) (port_if ports.publishers (slice_get publishers publisher))
+      (reader_if ports.subscribers (slice_get subscribers subscriber)) (slice_get lanes.publishers publisher)
+      (slice_get indices (publisher * length subscribers + subscriber))
+      (slice_get lanes.links (publisher * length subscribers + subscriber)) (tie_for port (Some own))
+      (hold.linking publisher subscriber below beneath)
       (are_tied domain none publishers subscribers indices hold.publishers ties publisher subscriber beneath)
-      (index_is domain none publishers subscribers indices hold.publishers ties publisher subscriber number reader port listed found there ∙ ap (λ o. Some (tie_for port o)) read)
-      (alone_in_row domain none publishers subscribers indices hold.publishers ties once publisher subscriber number reader port own listed found there read (readers_there domain subscribers none hold.subscribers))
+      (index_is domain none publishers subscribers indices hold.publishers ties publisher subscriber number reader port listed found
+      there ∙ ap (λ o. Some (tie_for port o)) read)
+      (alone_in_row domain none publishers subscribers indices hold.publishers ties once publisher subscriber number reader port own
+      listed found there read (readers_there domain subscribers none hold.subscribers))
 
   by_port : (port : Option (PublisherPort T U)) → port_of number ports.publishers ≡ port → is_some port ≡ true
       → LinkJoins ports.publishers lanes publishers (length subscribers) indices publisher subscriber

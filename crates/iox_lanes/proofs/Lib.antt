@@ -6,6 +6,15 @@ mod PortsLeft
 mod Numbers
 mod JoinedLanes
 mod Joint
+mod Joins
+mod Sound
+mod Apart
+mod Booked
+mod Histories
+mod Linked
+mod Orders
+mod Readers
+mod Holds
 mod Found
 mod Behind
 mod Alone

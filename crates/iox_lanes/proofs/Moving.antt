@@ -1,11 +1,14 @@
 -- What findings make of the publishers of lanes: each of at most the one that it is about.
-use Rattle.std.proofs.Common.{ℕ, zero, suc, ◌≡◌, ◌⊎◌, Bool, true, false, List, [], ◌∷◌, map, set, slice_get, if◌then◌else◌, Option, Some, None, refl, sym, ◌∙◌, ap, inl, inr}
+use Rattle.std.proofs.Common.{ℕ, zero, suc, ◌≡◌, ◌⊎◌, Bool, true, false, List, [], ◌∷◌, map, set, slice_get, if◌then◌else◌, Option, Some}
+use Rattle.std.proofs.Common.{None, refl, sym, ◌∙◌, ap, inl, inr}
 use Rattle.std.proofs.Math.Seq.{map-set_same}
 use Rattle.std.proofs.lemmas.Bool.{cond-true}
 use Rattle.std.proofs.lemmas.Option.{get_or_from_slice_get}
 use Rattle.iox_lanes_machine.specs.LanesBase.declared.calls.route.Route.{Route}
-use Rattle.iox_lanes_machine.specs.LanesParties.Parties.{PublisherLaneState, lane_found, lane_meets, lane_named, lane_remembers, lane_resized}
-use Rattle.iox_lanes_machine.specs.Findings.{buffered_at, buffered_in, buffered_of, finds, given_at, given_of, named_of, remembered_of, resized_of, swapped_of, waiting_at, waiting_in, waiting_of, with_buffer, with_found}
+use Rattle.iox_lanes_machine.specs.LanesParties.Parties.{PublisherLaneState, lane_found, lane_meets, lane_named, lane_remembers}
+use Rattle.iox_lanes_machine.specs.LanesParties.Parties.{lane_resized}
+use Rattle.iox_lanes_machine.specs.Findings.{buffered_at, buffered_in, buffered_of, finds, given_at, given_of, named_of, remembered_of}
+use Rattle.iox_lanes_machine.specs.Findings.{resized_of, swapped_of, waiting_at, waiting_in, waiting_of, with_buffer, with_found}
 use Rattle.iox_lanes_machine.specs.Links.{LinkState}
 use Rattle.iox_lanes_machine.specs.LanesParties.Parties.{SubscriberLaneState}
 use Rattle.iox_lanes_machine.specs.World.{World}
@@ -38,7 +41,8 @@ Moves (found.Swapped subscriber one other) lane after = ⊥
 -- the publishers stay as they are, or one becomes another
 abbrev Goes : World → ℕ → (PublisherLaneState → PublisherLaneState → Type 0) → World → Type 0
 Goes m who moves n = (n.publishers ≡ m.publishers)
-    ⊎ ((lane : PublisherLaneState) × (after : PublisherLaneState) × (slice_get m.publishers who ≡ Some lane) × moves lane after × (n.publishers ≡ set m.publishers who after))
+    ⊎ ((lane : PublisherLaneState) × (after : PublisherLaneState) × (slice_get m.publishers who ≡ Some lane) × moves lane after
+    × (n.publishers ≡ set m.publishers who after))
 
 waits_in : (m : World) (who place slot : ℕ) (lane : PublisherLaneState) (connection : ℕ) (link : Option LinkState)
     → slice_get m.publishers who ≡ Some lane

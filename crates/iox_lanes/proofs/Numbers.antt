@@ -27,11 +27,13 @@ not_true false isnt = refl
 pub same_key : (number other : ℕ) → is_at (nat_cmp number) other ≡ true → other ≡ number
 same_key number other passes = sym (nat_cmp-IsAntisymmetric number other (equal_of (nat_cmp number other) passes))
 
-module _ {T U : Type 0} (number : ℕ) (ports : List (ℕ × PublisherPort T U)) (port after : PublisherPort T U) (there : port_of number ports ≡ Some port) where
+module _ {T U : Type 0} (number : ℕ) (ports : List (ℕ × PublisherPort T U)) (port after : PublisherPort T U)
+    (there : port_of number ports ≡ Some port) where
   some : IsSome (port_of number ports)
   some = subst (λ (f : Option (PublisherPort T U)). IsSome f) (sym there) refl
 
-  after_put : (other : ℕ) → port_of other (with_port number ports after) ≡ cond (is_at (nat_cmp number) other) (Some after) (port_of other ports)
+  after_put : (other : ℕ) → port_of other (with_port number ports after)
+      ≡ cond (is_at (nat_cmp number) other) (Some after) (port_of other ports)
   after_put other = lookup-set_value same_numbers (is_at (nat_cmp number)) (same_numbers.congr number) other after ports some
 
   -- the changed one is found under its number

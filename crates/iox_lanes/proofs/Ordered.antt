@@ -1,5 +1,6 @@
 -- Lanes behind the order of one connection after the other.
-use Rattle.std.proofs.Common.{arith, ℕ, zero, suc, ◌≡◌, ◌+◌, ◌-◌, ◌≤◌, is_some, count_by, List, take, length, get_or, slice_get, Option, None, sym, ap, ◌∙◌}
+use Rattle.std.proofs.Common.{arith, ℕ, zero, suc, ◌≡◌, ◌+◌, ◌-◌, ◌≤◌, is_some, count_by, List, take, length, get_or, slice_get, Option}
+use Rattle.std.proofs.Common.{None, sym, ap, ◌∙◌}
 use Rattle.iox_domain.specs.DomainPorts.declared.attached.Attached.{Attached}
 use Rattle.iox_domain.specs.DomainPorts.declared.subscriber_port.SubscriberPort.{SubscriberPort}
 use Rattle.iox_lanes_machine.specs.World.{World}
@@ -18,7 +19,8 @@ module _ (publishers : List ℕ) (subscriber : ℕ) (values : List (Option Attac
   more_keys reached zero none = ap (keys_behind publishers subscriber values m) (omega arith)
   more_keys reached (suc more) none =
       let next : reached + suc more ≡ suc (reached + more) = omega arith in
-      ap (keys_behind publishers subscriber values m) next ∙ none_behind (reached + more) (none (reached + more) (omega arith)) ∙ more_keys reached more none
+      ap (keys_behind publishers subscriber values m) next ∙ none_behind (reached + more) (none (reached + more) (omega arith)) ∙
+      more_keys reached more none
 
   -- so it is of all keys, where those behind the reached ones have none
   pub all_keys : (now : World) (reached : ℕ) → ((key : ℕ) → reached ≤ key → get_or values key None ≡ None) → reached ≤ length values
@@ -31,8 +33,11 @@ module _ (publishers : List ℕ) (subscriber : ℕ) (values : List (Option Attac
 -- one subscriber more
 pub next_reader : (publishers : List ℕ) (readers : List (ℕ × SubscriberPort)) (subscribers : List ℕ) (m now after : World) (place : ℕ)
     (port : Option SubscriberPort)
-    → port ≡ reader_if readers (slice_get subscribers place) → now ≡ readers_behind publishers readers subscribers m place → after ≡ reader_behind publishers place now port
+    → port ≡ reader_if readers (slice_get subscribers place) → now ≡ readers_behind publishers readers subscribers m place
+    → after ≡ reader_behind publishers place now port
     → after ≡ readers_behind publishers readers subscribers m (place + 1)
 next_reader publishers readers subscribers m now after place port there sofar is =
     let next : suc place ≡ place + 1 = omega arith in
-    is ∙ ap (reader_behind publishers place now) there ∙ ap (λ w. reader_behind publishers place w (reader_if readers (slice_get subscribers place))) sofar ∙ ap (readers_behind publishers readers subscribers m) next
+    is ∙ ap (reader_behind publishers place now) there ∙ ap
+    (λ w. reader_behind publishers place w (reader_if readers (slice_get subscribers place))) sofar ∙ ap
+    (readers_behind publishers readers subscribers m) next

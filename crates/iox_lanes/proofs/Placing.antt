@@ -1,5 +1,6 @@
 -- The messages of a domain lie in the slots of the lanes that are built of it.
-use Rattle.std.proofs.Common.{arith, ℕ, zero, suc, ◌≡◌, ◌+◌, ◌*◌, ◌/◌, ◌<◌, ◌≤◌, ◌⊎◌, Bool, List, [], ◌∷◌, ◌++◌, length, slice_get, slice_index, Option, None, Some, refl, sym, ◌∙◌, ap, subst, inl, inr}
+use Rattle.std.proofs.Common.{arith, ℕ, zero, suc, ◌≡◌, ◌+◌, ◌*◌, ◌/◌, ◌<◌, ◌≤◌, ◌⊎◌, Bool, List, [], ◌∷◌, ◌++◌, length, slice_get}
+use Rattle.std.proofs.Common.{slice_index, Option, None, Some, refl, sym, ◌∙◌, ap, subst, inl, inr}
 use Rattle.std.proofs.lemmas.Bool.Decides.{eqb_tells}
 use Rattle.std.proofs.lemmas.Nat.{div-mul-add, mul-le, row_fits}
 use Rattle.std.proofs.lemmas.Option.{slice_get-get_or, get_or_from_slice_get, slice_get_within}
@@ -28,7 +29,8 @@ use Rattle.iox_lanes_opening.specs.Deciding.{would_fail}
 use Rattle.iox_lanes.specs.Alone.{IsAlone, IsMessageOf}
 use Rattle.iox_lanes.specs.Behind.{behind_findings, behind_finding}
 use Rattle.iox_lanes.specs.Built.{AreBuilt}
-use Rattle.iox_lanes.specs.Laid.{first_slot, flat_listed, header_findings, history_findings, link_findings, message_findings, messages_behind, payload_findings, publisher_behind, sender_behind, slot_in, slots_in}
+use Rattle.iox_lanes.specs.Laid.{first_slot, flat_listed, header_findings, history_findings, link_findings, message_findings}
+use Rattle.iox_lanes.specs.Laid.{messages_behind, payload_findings, publisher_behind, sender_behind, slot_in, slots_in}
 use Rattle.iox_lanes.specs.Lying.{PayloadLies, WordsLie}
 use Rattle.iox_lanes.specs.Tied.{tie_for}
 use Rattle.iox_lanes.proofs.Each.{each_of, each_word, in_flat, in_flat_listed, in_left, in_listed, in_right, readers_leave, Each, IsIn}
@@ -60,18 +62,23 @@ module _ {T U : Type 0} (payload_words : T → List ℕ) (header_words : U → L
       → Each (Agrees slot (content_of payload_words header_words port message))
       (message_findings payload_words header_words payload_count header_count first port message)
   agree_own slot message =
-      each_word payload_words header_words payload_count header_count (Agrees slot (content_of payload_words header_words port message)) (slot_in first message.slot) port.owner.node_id port.number message.elements message.user_header message.values
-      (λ same. refl) (λ same. refl) (λ same. refl) (λ word below same. refl) (λ word below value there same. ap (λ words. slice_index words word) (first_is payload_words message.values value there))
+      each_word payload_words header_words payload_count header_count (Agrees slot (content_of payload_words header_words port message))
+      (slot_in first message.slot) port.owner.node_id port.number message.elements message.user_header message.values
+      (λ same. refl) (λ same. refl) (λ same. refl) (λ word below same. refl)
+      (λ word below value there same. ap (λ words. slice_index words word) (first_is payload_words message.values value there))
 
   -- and that of one in another slot is no matter
   agree_apart : (slot : ℕ) (content : SlotWord → ℕ) (message : Message T U) → (slot_in first message.slot ≡ slot → ⊥)
       → Each (Agrees slot content) (message_findings payload_words header_words payload_count header_count first port message)
   agree_apart slot content message apart =
-      each_word payload_words header_words payload_count header_count (Agrees slot content) (slot_in first message.slot) port.owner.node_id port.number message.elements message.user_header message.values
-      (λ same. absurd (apart same)) (λ same. absurd (apart same)) (λ same. absurd (apart same)) (λ word below same. absurd (apart same)) (λ word below value there same. absurd (apart same))
+      each_word payload_words header_words payload_count header_count (Agrees slot content) (slot_in first message.slot)
+      port.owner.node_id port.number message.elements message.user_header message.values
+      (λ same. absurd (apart same)) (λ same. absurd (apart same)) (λ same. absurd (apart same)) (λ word below same. absurd (apart same))
+      (λ word below value there same. absurd (apart same))
 
   in_payload : (slot word : ℕ) (values : List T) (value : T) → slice_get values 0 ≡ Some value → word < payload_count
-      → IsIn (found.Held slot (Payload word) (slice_index (first_words payload_words values) word)) (payload_findings payload_words payload_count slot values)
+      → IsIn (found.Held slot (Payload word) (slice_index (first_words payload_words values) word))
+      (payload_findings payload_words payload_count slot values)
   in_payload slot word [] value there below = absurd (cc there)
   in_payload slot word (own ∷ rest) value there below
       = in_listed (λ at. found.Held slot (Payload at) (slice_index (payload_words own) at)) payload_count word below
@@ -79,53 +86,61 @@ module _ {T U : Type 0} (payload_words : T → List ℕ) (header_words : U → L
   -- each word of its slot is found
   in_message : (sizes : TableSizes) (message : Message T U) (value : T) (word : SlotWord) → slice_get message.values 0 ≡ Some value
       → sizes.payload_words ≡ payload_count → sizes.user_header_words ≡ header_count → IsSlotWord sizes word
-      → IsIn (found.Held (slot_in first message.slot) word (content_of payload_words header_words port message word)) (message_findings payload_words header_words payload_count header_count first port message)
+      → IsIn (found.Held (slot_in first message.slot) word (content_of payload_words header_words port message word))
+      (message_findings payload_words header_words payload_count header_count first port message)
   in_message sizes message value (Header zero) there payload header is = inl refl
   in_message sizes message value (Header (suc zero)) there payload header is = inr (inl refl)
   in_message sizes message value (Header (suc (suc zero))) there payload header is = inr (inr (inl refl))
   in_message sizes message value (Header (suc (suc (suc word)))) there payload header is = absurd (omega (arith, is))
   in_message sizes message value (UserHeader word) there payload header is =
-      inr (inr (inr (in_left (found.Held (slot_in first message.slot) (UserHeader word) (slice_index (header_words message.user_header) word))
-      (header_findings header_words header_count (slot_in first message.slot) message.user_header) (payload_findings payload_words payload_count (slot_in first message.slot) message.values)
-      (in_listed (λ at. found.Held (slot_in first message.slot) (UserHeader at) (slice_index (header_words message.user_header) at)) header_count word (omega (arith, is, header))))))
+      inr (inr (inr (in_left (found.Held (slot_in first message.slot) (UserHeader word)
+      (slice_index (header_words message.user_header) word))
+      (header_findings header_words header_count (slot_in first message.slot) message.user_header)
+      (payload_findings payload_words payload_count (slot_in first message.slot) message.values)
+      (in_listed (λ at. found.Held (slot_in first message.slot) (UserHeader at) (slice_index (header_words message.user_header) at))
+      header_count word (omega (arith, is, header))))))
   in_message sizes message value (Payload word) there payload header is =
-      inr (inr (inr (in_right (found.Held (slot_in first message.slot) (Payload word) (slice_index (first_words payload_words message.values) word))
-      (header_findings header_words header_count (slot_in first message.slot) message.user_header) (payload_findings payload_words payload_count (slot_in first message.slot) message.values)
+      inr (inr (inr (in_right (found.Held (slot_in first message.slot) (Payload word)
+      (slice_index (first_words payload_words message.values) word))
+      (header_findings header_words header_count (slot_in first message.slot) message.user_header)
+      (payload_findings payload_words payload_count (slot_in first message.slot) message.values)
       (in_payload (slot_in first message.slot) word message.values value there (omega (arith, is, payload))))))
 
 -- places in two rows are two places
-rows_apart : (one other width at to : ℕ) → at < width → to < width → one * width + at ≡ other * width + to → one ≡ other
+pub rows_apart : (one other width at to : ℕ) → at < width → to < width → one * width + at ≡ other * width + to → one ≡ other
 rows_apart one other width at to below beneath same
     = sym (div-mul-add one width at below) ∙ ap (λ n. n / width) same ∙ div-mul-add other width to beneath
 
-steady_behind : (sizes : TableSizes) (m : World) (fs : List Found) → AreSteady sizes m → AreSteady sizes (behind_findings m fs)
+pub steady_behind : (sizes : TableSizes) (m : World) (fs : List Found) → AreSteady sizes m → AreSteady sizes (behind_findings m fs)
 unfolding behind_findings
 steady_behind sizes m [] steady = steady
 steady_behind sizes m (f ∷ fs) steady = steady_behind sizes (behind_finding m f) fs (steady_on sizes m f steady)
 
 module _ {T U X Y D : Type 0} {F : X → Type 0} {G : Y → Type 0} (payload_words : T → List ℕ) (header_words : U → List ℕ)
     (payload_count header_count : ℕ) (domain : Domain T U (Handlers X Y F G) D)
-    (publishers subscribers : List ℕ) (lanes : World) (built : AreBuilt payload_words header_words payload_count header_count domain publishers subscribers lanes) where
-  abbrev width : ℕ
-  width = (built.sizes).slots
+    (publishers subscribers : List ℕ) (lanes : World)
+    (built : AreBuilt payload_words header_words payload_count header_count domain publishers subscribers lanes) where
+  abbrev pub width : ℕ
+  width = ((built.sized).sizes).slots
 
-  abbrev table : TableSizes
-  table = table_sizes built.sizes
+  abbrev pub table : TableSizes
+  table = table_sizes (built.sized).sizes
 
-  abbrev ports : List (ℕ × PublisherPort T U)
+  abbrev pub ports : List (ℕ × PublisherPort T U)
   ports = domain.state.ports.publishers
 
-  abbrev tie_at : PublisherPort T U → ℕ → ℕ
+  abbrev pub tie_at : PublisherPort T U → ℕ → ℕ
   tie_at port other = tie_for port (subscriber_of (slice_index subscribers other) domain.state.ports.subscribers)
 
   -- the lanes behind the first publishers, so many
-  abbrev so_far : ℕ → World
+  abbrev pub so_far : ℕ → World
   so_far count = found_at payload_words header_words payload_count header_count domain publishers subscribers lanes built count
 
   -- a message is one that is laid: of the history, or it waits at a connection to a subscriber of the lanes
-  abbrev IsLaidOf : PublisherPort T U → Message T U → Type 0
+  abbrev pub IsLaidOf : PublisherPort T U → Message T U → Type 0
   IsLaidOf port message = ((at : ℕ) × (slice_get port.sender.uses.history at ≡ Some message))
-      ⊎ ((other : ℕ) × (at : ℕ) × (other < length subscribers) × (slice_get (connection_of (tie_at port other) port).waiting at ≡ Some message))
+      ⊎ ((other : ℕ) × (at : ℕ) × (other < length subscribers)
+      × (slice_get (connection_of (tie_at port other) port).waiting at ≡ Some message))
 
   is_of : (port : PublisherPort T U) (message : Message T U) → IsLaidOf port message → IsMessageOf port message
   is_of port message (inl kept) = inl kept
@@ -137,18 +152,20 @@ module _ {T U X Y D : Type 0} {F : X → Type 0} {G : Y → Type 0} (payload_wor
   is_alone place number port message listed found (inr waits)
       = (built.alone place number port listed found).waiting waits.0 waits.2 waits.1 message waits.3
 
-  below_width : (place number : ℕ) (port : PublisherPort T U) (message : Message T U) → slice_get publishers place ≡ Some number
+  pub below_width : (place number : ℕ) (port : PublisherPort T U) (message : Message T U) → slice_get publishers place ≡ Some number
       → port_of number ports ≡ Some port → IsLaidOf port message → message.slot < width
   below_width place number port message listed found laid =
       let within = slice_get_within publishers place number listed in
-      let few = few_slots built.sizes (omega (arith, within, (built.are_agreed).as_many_publishers)) built.small in
+      let few = few_slots (built.sized).sizes (omega (arith, within, ((built.sized).are_agreed).as_many_publishers)) built.small in
       let fit = built.room place number port listed found in
       omega (arith, (is_alone place number port message listed found laid).inside, counted port width fit few, fit)
 
-  all_slots : (place slot : ℕ) → place < length publishers → slot < width → (place * width + slot < table.slots)
+  pub all_slots : (place slot : ℕ) → place < length publishers → slot < width → (place * width + slot < table.slots)
       × (slot_in (place * width) slot ≡ place * width + slot)
   all_slots place slot within below =
-      let row = row_fits place width (built.sizes).publishers width (omega (arith, within, (built.are_agreed).as_many_publishers)) (omega arith) in
+      let row = row_fits place width ((built.sized).sizes).publishers width
+      (omega (arith, within, ((built.sized).are_agreed).as_many_publishers))
+      (omega arith) in
       let all = mul-le table.slots 1 table.slots (slot_words table) (omega arith) (omega arith) in
       (omega (arith, row, below), omega (arith, row, below, all, built.small))
 
@@ -174,7 +191,8 @@ module _ {T U X Y D : Type 0} {F : X → Type 0} {G : Y → Type 0} (payload_wor
     agree_any at other_number own other there found other_laid = elim (eqb_tells at place) [
       | inl same_place ↦ by_slot same_place.1
       | inr apart ↦ agree_apart payload_words header_words payload_count header_count (at * width) own slot content other
-          (λ same. apart.1 (rows_apart at place width other.slot message.slot below (below_width place number port message listed found_port laid) (sym own_slot ∙ same ∙ slot_is)))
+          (λ same. apart.1 (rows_apart at place width other.slot message.slot below
+          (below_width place number port message listed found_port laid) (sym own_slot ∙ same ∙ slot_is)))
     ]
       where
         below : other.slot < width
@@ -192,10 +210,13 @@ module _ {T U X Y D : Type 0} {F : X → Type 0} {G : Y → Type 0} (payload_wor
         by_slot same = elim (eqb_tells other.slot message.slot) [
           | inl equal ↦
               let alone = is_alone place number port message listed found_port laid in
-              let of_port : IsMessageOf port other = subst (λ (p : PublisherPort T U). IsMessageOf p other) (same_port same) (is_of own other other_laid) in
+              let of_port : IsMessageOf port other
+              = subst (λ (p : PublisherPort T U). IsMessageOf p other) (same_port same) (is_of own other other_laid) in
               let is : message ≡ other = alone.only message other (is_of port message laid) of_port refl equal.1 in
-              subst (λ (p : PublisherPort T U). Each (Agrees slot content) (message_findings payload_words header_words payload_count header_count (at * width) p other)) (sym (same_port same))
-              (subst (λ (m : Message T U). Each (Agrees slot content) (message_findings payload_words header_words payload_count header_count (at * width) port m)) is
+              subst (λ (p : PublisherPort T U). Each (Agrees slot content)
+              (message_findings payload_words header_words payload_count header_count (at * width) p other)) (sym (same_port same))
+              (subst (λ (m : Message T U). Each (Agrees slot content)
+              (message_findings payload_words header_words payload_count header_count (at * width) port m)) is
               (agree_own payload_words header_words payload_count header_count (at * width) port slot message))
           | inr apart ↦ agree_apart payload_words header_words payload_count header_count (at * width) own slot content other
               (λ equal. apart.1 (omega (arith, sym own_slot ∙ equal ∙ slot_is, ap (λ n. n * width) same)))
@@ -203,16 +224,25 @@ module _ {T U X Y D : Type 0} {F : X → Type 0} {G : Y → Type 0} (payload_wor
 
     agree_all : (at other_number : ℕ) (own : PublisherPort T U) → slice_get publishers at ≡ Some other_number
         → port_of other_number ports ≡ Some own
-        → Each (Agrees slot content) (history_findings payload_words header_words payload_count header_count at (at * width) own own.sender.uses.history)
-        × Each (Agrees slot content) (flat_listed (λ other. link_findings payload_words header_words payload_count header_count at other (at * width) own (tie_at own other)) (length subscribers))
+        → Each (Agrees slot content) (history_findings payload_words header_words payload_count header_count at (at * width) own
+        own.sender.uses.history)
+        × Each (Agrees slot content) (flat_listed
+        (λ other. link_findings payload_words header_words payload_count header_count at other (at * width) own (tie_at own other))
+        (length subscribers))
     agree_all at other_number own there found =
-        each_of payload_words header_words payload_count header_count (Agrees slot content) at (at * width) own (tie_at own) (length subscribers)
-        (λ k other is. agree_any at other_number own other there found (inl (k, is))) (λ reader below k other is. agree_any at other_number own other there found (inr (reader, k, below, is)))
+        each_of payload_words header_words payload_count header_count (Agrees slot content) at (at * width) own (tie_at own)
+        (length subscribers)
+        (λ k other is. agree_any at other_number own other there found (inl (k, is)))
+        (λ reader below k other is. agree_any at other_number own other there found (inr (reader, k, below, is)))
         (λ n. tt) (λ reader n. tt) (λ reader n. tt)
 
     module _ (word : SlotWord) (is_word : IsSlotWord table word) where
       whole_word : IsWord table (Slot slot word)
-      whole_word = (subst (λ n. n < table.slots) (sym slot_is) (all_slots place message.slot within (below_width place number port message listed found_port laid)).0, is_word)
+      whole_word = (
+        subst (λ n. n < table.slots) (sym slot_is)
+            (all_slots place message.slot within (below_width place number port message listed found_port laid)).0,
+        is_word,
+      )
 
       abbrev Holds : World → Type 0
       Holds m = Hold table slot content word whole_word m
@@ -220,12 +250,14 @@ module _ {T U X Y D : Type 0} {F : X → Type 0} {G : Y → Type 0} (payload_wor
       in_words : IsIn (found.Held slot word (content word))
           (message_findings payload_words header_words payload_count header_count (place * width) port message)
       in_words = in_message payload_words header_words payload_count header_count (place * width) port table message value word
-          (ap (λ vs. slice_get vs 0) one) (built.are_agreed).payload (built.are_agreed).user_header is_word
+          (ap (λ vs. slice_get vs 0) one) ((built.sized).are_agreed).payload ((built.sized).are_agreed).user_header is_word
 
       -- the slot comes to hold it as its own publisher is laid
       comes_own : (m : World) → AreSteady table m
-          → Holds (behind_findings (behind_findings m (history_findings payload_words header_words payload_count header_count place (place * width) port port.sender.uses.history))
-          (flat_listed (λ other. link_findings payload_words header_words payload_count header_count place other (place * width) port (tie_at port other)) (length subscribers)))
+          → Holds (behind_findings (behind_findings m
+          (history_findings payload_words header_words payload_count header_count place (place * width) port port.sender.uses.history))
+          (flat_listed (λ other. link_findings payload_words header_words payload_count header_count place other (place * width) port
+          (tie_at port other)) (length subscribers)))
       comes_own m steady = by laid
         where
           kept : List Found
@@ -242,16 +274,25 @@ module _ {T U X Y D : Type 0} {F : X → Type 0} {G : Y → Type 0} (payload_wor
           by (inl there) =
               hold_behind table slot content word whole_word (behind_findings m kept) links agree.1
               (comes_behind table slot content word whole_word m kept
-              (in_flat (found.Held slot word (content word)) (λ one. message_findings payload_words header_words payload_count header_count (place * width) port one ++ found.Newest place (slot_in (place * width) one.slot) ∷ [])
+              (in_flat (found.Held slot word (content word))
+              (λ one. message_findings payload_words header_words payload_count header_count (place * width) port one
+              ++ found.Newest place (slot_in (place * width) one.slot) ∷ [])
               port.sender.uses.history there.0 message there.1
-              (in_left (found.Held slot word (content word)) (message_findings payload_words header_words payload_count header_count (place * width) port message) (found.Newest place slot ∷ []) in_words)) agree.0 steady)
+              (in_left (found.Held slot word (content word))
+              (message_findings payload_words header_words payload_count header_count (place * width) port message)
+              (found.Newest place slot ∷ []) in_words)) agree.0 steady)
           by (inr waits) =
               comes_behind table slot content word whole_word (behind_findings m kept) links
-              (in_flat_listed (found.Held slot word (content word)) (λ other. link_findings payload_words header_words payload_count header_count place other (place * width) port (tie_at port other)) (length subscribers) waits.0 waits.2
+              (in_flat_listed (found.Held slot word (content word))
+              (λ other. link_findings payload_words header_words payload_count header_count place other (place * width) port
+              (tie_at port other)) (length subscribers) waits.0 waits.2
               (inr (in_flat (found.Held slot word (content word))
-              (λ one. message_findings payload_words header_words payload_count header_count (place * width) port one ++ found.Waiting place waits.0 (slot_in (place * width) one.slot) ∷ [])
+              (λ one. message_findings payload_words header_words payload_count header_count (place * width) port one
+              ++ found.Waiting place waits.0 (slot_in (place * width) one.slot) ∷ [])
               (connection_of (tie_at port waits.0) port).waiting waits.1 message waits.3
-              (in_left (found.Held slot word (content word)) (message_findings payload_words header_words payload_count header_count (place * width) port message) (found.Waiting place waits.0 slot ∷ []) in_words)))) agree.1 (steady_behind table m kept steady)
+              (in_left (found.Held slot word (content word))
+              (message_findings payload_words header_words payload_count header_count (place * width) port message)
+              (found.Waiting place waits.0 slot ∷ []) in_words)))) agree.1 (steady_behind table m kept steady)
 
       -- lanes behind the first publishers, so many: if the message's own is among them, its slot holds the word
       record AreLaidTo (m : World) (count : ℕ) : Type 0 where
@@ -260,8 +301,9 @@ module _ {T U X Y D : Type 0} {F : X → Type 0} {G : Y → Type 0} (payload_wor
 
       lay_one : (m : World) (count : ℕ) (own : Option (PublisherPort T U)) → count < length publishers
           → port_of (slice_index publishers count) ports ≡ own
-          → m.moments ≡ 0 → slice_get m.publishers count ≡ slice_get (start built.sizes).publishers count → AreLaidTo m count
-          → AreLaidTo (publisher_behind payload_words header_words payload_count header_count domain.state.ports.subscribers subscribers m count
+          → m.moments ≡ 0 → slice_get m.publishers count ≡ slice_get (start (built.sized).sizes).publishers count → AreLaidTo m count
+          → AreLaidTo (publisher_behind payload_words header_words payload_count header_count domain.state.ports.subscribers subscribers
+          m count
           (would_fail (kept_under (slice_index publishers count) domain.state.publisher_handlers)) own) (suc count)
       lay_one m count None below is fresh rest sofar = record {
         steady = sofar.steady;
@@ -272,7 +314,8 @@ module _ {T U X Y D : Type 0} {F : X → Type 0} {G : Y → Type 0} (payload_wor
         ];
       }
       lay_one m count (Some own) below is fresh rest sofar =
-          subst (λ n. AreLaidTo (messages_behind payload_words header_words payload_count header_count domain.state.ports.subscribers subscribers count own n begun) (suc count)) (sym first_is) (record {
+          subst (λ n. AreLaidTo (messages_behind payload_words header_words payload_count header_count domain.state.ports.subscribers
+          subscribers count own n begun) (suc count)) (sym first_is) (record {
             steady = steady_behind table (behind_findings begun kept) links (steady_behind table begun kept begun_steady);
             holds = λ less. elim (eqb_tells place count) [
               | inl same ↦ subst (λ n. Laid n own) same.1
@@ -295,8 +338,10 @@ module _ {T U X Y D : Type 0} {F : X → Type 0} {G : Y → Type 0} (payload_wor
           here = slice_get-get_or publishers count 0 below
 
           first_is : first_slot (slice_get begun.publishers count) ≡ count * width
-          first_is = ap first_slot (introduces built.sizes m count fails own fresh
-              (rest ∙ listed_at (publisher_at built.sizes) (built.sizes).publishers count (omega (arith, below, (built.are_agreed).as_many_publishers))) (built.room count (slice_index publishers count) own here is)).here
+          first_is = ap first_slot (introduces (built.sized).sizes m count fails own fresh
+              (rest ∙ listed_at (publisher_at (built.sized).sizes) ((built.sized).sizes).publishers count
+              (omega (arith, below, ((built.sized).are_agreed).as_many_publishers)))
+              (built.room count (slice_index publishers count) own here is)).here
 
           begun_steady : AreSteady table begun
           begun_steady = steady_on table sized (found.Sender count own.owner.node_id own.number fails)
@@ -305,7 +350,8 @@ module _ {T U X Y D : Type 0} {F : X → Type 0} {G : Y → Type 0} (payload_wor
           held : place < count → Holds begun
           held less =
               hold_on table slot content word whole_word sized (found.Sender count own.owner.node_id own.number fails) tt
-              (hold_on table slot content word whole_word m (found.Slots count (slots_in own) own.sender.uses.most_loans) tt (record { steady = sofar.steady; holds = sofar.holds less }))
+              (hold_on table slot content word whole_word m (found.Slots count (slots_in own) own.sender.uses.most_loans) tt
+              (record { steady = sofar.steady; holds = sofar.holds less }))
 
           kept : List Found
           kept = history_findings payload_words header_words payload_count header_count count (count * width) own own.sender.uses.history
@@ -327,18 +373,27 @@ module _ {T U X Y D : Type 0} {F : X → Type 0} {G : Y → Type 0} (payload_wor
 
       lay_all : (count : ℕ) → count ≤ length publishers → AreLaidTo (so_far count) count
       lay_all zero few = record {
-        steady = record { moments = refl; table = refl; kept = start_kept built.sizes (built.found).some (built.found).ports (built.found).small };
+        steady = record {
+          moments = refl;
+          table = refl;
+          kept
+              = start_kept (built.sized).sizes ((built.sized).found).some ((built.sized).found).ports ((built.sized).found).small;
+        };
         holds = λ less. absurd (omega (arith, less));
       }
       lay_all (suc count) few =
-          let settled = settle payload_words header_words payload_count header_count domain publishers subscribers built.sizes (built.are_agreed).as_many_publishers built.room count (omega (arith, few)) in
-          lay_one (so_far count) count (port_of (slice_index publishers count) ports) (omega (arith, few)) refl settled.moments (settled.rest count (omega arith)) (lay_all count (omega (arith, few)))
+          let settled = settle payload_words header_words payload_count header_count domain publishers subscribers (built.sized).sizes
+          ((built.sized).are_agreed).as_many_publishers built.room count (omega (arith, few)) in
+          lay_one (so_far count) count (port_of (slice_index publishers count) ports) (omega (arith, few)) refl settled.moments
+          (settled.rest count (omega arith)) (lay_all count (omega (arith, few)))
 
       -- the slot holds the word in the end
       lies : Holds lanes
       lies =
           let laid = lay_all (length publishers) (omega arith) in
-          subst Holds (sym built.behind) (readers_leave Holds (λ m who one other hold. hold_on table slot content word whole_word m (found.Swapped who one other) tt hold) publishers domain.state.ports.subscribers subscribers
+          subst Holds (sym built.behind) (readers_leave Holds
+          (λ m who one other hold. hold_on table slot content word whole_word m (found.Swapped who one other) tt hold) publishers
+          domain.state.ports.subscribers subscribers
           (so_far (length publishers)) (length subscribers) (record { steady = laid.steady; holds = laid.holds within }))
 
     -- the message lies there
@@ -346,9 +401,11 @@ module _ {T U X Y D : Type 0} {F : X → Type 0} {G : Y → Type 0} (payload_wor
         message.elements message.user_header message.values
     words_lie =
         let sizes_are : lanes.table.sizes ≡ table = ((lies (Header 0) (omega arith)).steady).table in
-        subst (λ n. WordsLie payload_words header_words lanes.table n port.owner.node_id port.number message.elements message.user_header message.values) slot_is (
+        subst (λ n. WordsLie payload_words header_words lanes.table n port.owner.node_id port.number message.elements
+        message.user_header message.values) slot_is (
           ((lies (Header 0) (omega arith)).holds, (lies (Header 1) (omega arith)).holds, (lies (Header 2) (omega arith)).holds),
           (λ word below. (lies (UserHeader word) (subst (λ s. word < s.user_header_words) sizes_are below)).holds),
           subst (PayloadLies payload_words lanes.table slot) (sym one)
-              (λ word below. (lies (Payload word) (subst (λ s. word < s.payload_words) sizes_are below)).holds ∙ ap (λ vs. slice_index (first_words payload_words vs) word) one),
+              (λ word below. (lies (Payload word) (subst (λ s. word < s.payload_words) sizes_are below)).holds ∙ ap
+              (λ vs. slice_index (first_words payload_words vs) word) one),
         )

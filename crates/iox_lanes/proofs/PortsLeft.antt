@@ -1,5 +1,6 @@
 -- A publisher gets what lanes leave that go with it.
-use Rattle.std.proofs.Common.{arith, ◌≡◌, ◌+◌, ◌*◌, ◌<◌, ◌≤◌, ◌==◌, [], ◌∷◌, ℕ, zero, suc, Bool, true, false, cond, nat_lt, List, length, inl, inr, take, drop, get_or, slice_get, Option, None, Some, option_map, refl, sym, subst, ap, ◌∙◌}
+use Rattle.std.proofs.Common.{arith, ◌≡◌, ◌+◌, ◌*◌, ◌<◌, ◌≤◌, ◌==◌, [], ◌∷◌, ℕ, zero, suc, Bool, true, false, cond, nat_lt, List, length}
+use Rattle.std.proofs.Common.{inl, inr, take, drop, get_or, slice_get, Option, None, Some, option_map, refl, sym, subst, ap, ◌∙◌}
 use Rattle.std.specs.List.{position_or_len}
 use Rattle.std.specs.Bool.{OnTrue}
 use Rattle.std.proofs.lemmas.Bool.{OnTrue_at, cond-true, cond-false, lt-ltb}
@@ -35,12 +36,14 @@ slot_of : (lanes : World) (place slot : ℕ) (lane : PublisherLaneState) → sli
     → IsSlotOf lanes place slot
     → (lane.port.book.first ≤ slot) × (slot < lane.port.book.first + length lane.port.book.loans)
 slot_of lanes place slot lane found mine =
-    subst (λ (l : PublisherLaneState). (l.port.book.first ≤ slot) × (slot < l.port.book.first + length l.port.book.loans)) (one_lane mine.lane lane (sym mine.found ∙ found)) (mine.above, mine.below)
+    subst (λ (l : PublisherLaneState). (l.port.book.first ≤ slot) × (slot < l.port.book.first + length l.port.book.loans))
+    (one_lane mine.lane lane (sym mine.found ∙ found)) (mine.above, mine.below)
 
 publisher_within : (lanes : World) (place : ℕ) (lane : PublisherLaneState) → IsWithin lanes
     → slice_get lanes.publishers place ≡ Some lane → IsPublisher lanes.table.sizes lane
 publisher_within lanes place lane within found =
-    subst (IsPublisher lanes.table.sizes) (get_or_from_slice_get lanes.publishers place lane lane found) (within.publishers place lane (slice_get_within lanes.publishers place lane found))
+    subst (IsPublisher lanes.table.sizes) (get_or_from_slice_get lanes.publishers place lane lane found)
+    (within.publishers place lane (slice_get_within lanes.publishers place lane found))
 
 -- it is one of the publisher's current segment
 own_of : {T U : Type 0} (lanes : World) (place slot : ℕ) (lane : PublisherLaneState) (port : PublisherPort T U) → IsWithin lanes
@@ -110,7 +113,8 @@ first_is line index s is = by (nat_lt n (length line)) refl
 pub first_place : (line : List ℕ) (at index : ℕ) → slice_get line at ≡ Some index
     → ((k : ℕ) → k < at → slice_get line k ≡ Some index → ⊥) → place_of index line ≡ Some at
 first_place line at index there before =
-    ap (λ n. cond (nat_lt n (length line)) (Some n) None) first ∙ cond-true (nat_lt at (length line)) (Some at) None (lt-ltb at (length line) long)
+    ap (λ n. cond (nat_lt n (length line)) (Some n) None) first ∙ cond-true (nat_lt at (length line)) (Some at) None
+    (lt-ltb at (length line) long)
   where
     long : at < length line
     long = slice_get_within line at index there
@@ -134,13 +138,16 @@ first_place line at index there before =
 may_wait : {T U : Type 0} (lanes : World) (place readers : ℕ) (indices : List ℕ) (lane : PublisherLaneState) (port : PublisherPort T U)
     → LanesKeep lanes → AllRest lanes → slice_get lanes.publishers place ≡ Some lane
     → HasSlotsOf port (fixed_slots lane) → JoinsAt lanes (Some port) place readers indices
-    → (index : ℕ) (at : Option ℕ) → place_of index (row_of readers indices place) ≡ at → MayWaitAt lanes (place * readers) lane.port.book.first index port.sender at
+    → (index : ℕ) (at : Option ℕ) → place_of index (row_of readers indices place) ≡ at
+    → MayWaitAt lanes (place * readers) lane.port.book.first index port.sender at
 may_wait lanes place readers indices lane port keep rest found has joins index None is = tt
 may_wait lanes place readers indices lane port keep rest found has joins index (Some s) is =
     let first = first_is (row_of readers indices place) index s is in
     let there = row_get readers place s index indices first.has in
     let link = joins.linking s (few_taken readers s (drop (place * readers) indices) first.below) in
-    by (slice_get lanes.links (place * readers + s)) refl (subst (λ i. IsLinkToIf (Some port) place s (row_of readers indices place) i (slice_get lanes.links (place * readers + s))) there link)
+    by (slice_get lanes.links (place * readers + s)) refl
+    (subst (λ i. IsLinkToIf (Some port) place s (row_of readers indices place) i (slice_get lanes.links (place * readers + s)))
+    there link)
   where
     by : (at : Option LinkState) → slice_get lanes.links (place * readers + s) ≡ at
         → IsLinkToIf (Some port) place s (row_of readers indices place) (Some index) at
@@ -149,7 +156,8 @@ may_wait lanes place readers indices lane port keep rest found has joins index (
     by (Some link) got to = record {
       rests = rest (place * readers + s);
       own = λ at slot stands. own_of lanes place slot lane port keep.within found has
-          (subst (λ p. IsSlotOf lanes p slot) to.from (keep.mail (place * readers + s) (rest (place * readers + s)).few link got at slot stands));
+          (subst (λ p. IsSlotOf lanes p slot) to.from
+          (keep.mail (place * readers + s) (rest (place * readers + s)).few link got at slot stands));
       live = to.live;
       room = omega (arith, keep.room (place * readers + s) (rest (place * readers + s)) link got, to.limit);
     }
@@ -171,7 +179,8 @@ pub port_left : {T U : Type 0} (value_of : List ℕ → T) (header_of : List ℕ
     (lane : PublisherLaneState) (old new : PublisherPort T U)
     → LanesKeep lanes → AllRest lanes → slice_get lanes.publishers place ≡ Some lane → JoinsAt lanes (Some old) place readers indices
     → new ≡ record old { sender = new.sender }
-    → (IsRested old.sender → IsRestored value_of header_of lanes (place * readers) (row_of readers indices place) lane.port.book.first lane.port.book.history old.sender new.sender)
+    → (IsRested old.sender → IsRestored value_of header_of lanes (place * readers) (row_of readers indices place) lane.port.book.first
+    lane.port.book.history old.sender new.sender)
     → IsPortLeft value_of header_of lanes (place * readers) (row_of readers indices place) lane old new
 port_left value_of header_of lanes place readers indices lane old new keep rest found joins only restored = record {
   rest = only ∙ ap (λ sender. record old { sender = sender }) done.rest;

@@ -1,5 +1,6 @@
 -- Of a domain that nothing keeps from becoming lanes each listed publisher is there, and nothing of a publisher is out.
-use Rattle.std.proofs.Common.{ℕ, zero, suc, ◌≡◌, ◌+◌, ◌==◌, ◌&&◌, ◌||◌, Bool, true, false, not, nat_lt, is_some, if◌then◌else◌, List, [], ◌∷◌, length, get_or, slice_get, Option, Some, None, refl, sym, ap, ◌∙◌, subst, arith}
+use Rattle.std.proofs.Common.{ℕ, zero, suc, ◌≡◌, ◌+◌, ◌==◌, ◌&&◌, ◌||◌, Bool, true, false, not, nat_lt, is_some, if◌then◌else◌, List, []}
+use Rattle.std.proofs.Common.{◌∷◌, length, get_or, slice_get, Option, Some, None, refl, sym, ap, ◌∙◌, subst, arith}
 use Rattle.std.proofs.lemmas.Bool.{cond-true, cond-false, eqb-true, ltb-false}
 use Rattle.std.specs.BTreeMap.{is_at}
 use Rattle.std.specs.List.{list_any}
@@ -21,12 +22,13 @@ use Rattle.iox_domain.specs.declared.ports.service_ports.ServicePorts.{ServicePo
 use Rattle.iox_lanes_machine.proofs.Ends.{some_is}
 use Rattle.iox_lanes_opening.specs.Listed.{of_each_listed}
 use Rattle.iox_lanes_opening.specs.Deciding.{has_handlers, is_retrying}
-use Rattle.iox_lanes_opening.specs.Lingering.{connection_lingers, has_ended, has_out, is_lingering, is_listed_publisher, publisher_lingers, subscriber_lingers}
+use Rattle.iox_lanes_opening.specs.Lingering.{connection_lingers, has_ended, has_out, is_lingering, is_listed_publisher}
+use Rattle.iox_lanes_opening.specs.Lingering.{publisher_lingers, subscriber_lingers}
 use Rattle.iox_lanes_opening.specs.Refusals.{first_reason, has_growing, is_blocked}
 use Rattle.iox_lanes_opening.specs.Restored.{IsRested}
 use Rattle.iox_lanes_opening.specs.Slices.{deals_in_slices, has_slices, is_dynamic, is_slice, keeps_slice, slice_waits}
 use Rattle.iox_lanes_opening.specs.UpToDate.{is_current_port, is_current_publisher, is_current_reader, is_current_subscriber, is_up_to_date}
-use Rattle.iox_lanes.specs.Holding.{numbers_of, port_if, AreThere}
+use Rattle.iox_lanes.specs.Holding.{numbers_of, AreThere}
 
 pub no_reason : {E : Type 0} (test : Bool) (reason : E) (rest : Option E) → (if test then Some reason else rest) ≡ None → (test ≡ false)
     × (rest ≡ None)
@@ -66,30 +68,41 @@ each_there number_of holds P follows first [] all place number is = absurd (cc i
 each_there number_of holds P follows first (None ∷ rest) all place number is
     = each_there number_of holds P follows (first + 1) rest all place number is
 each_there number_of holds P follows first (Some member ∷ rest) all zero number is =
-    subst P (some_is (number_of member.value) number is) (follows first member.value (both (holds first member.value) (of_each_listed holds (first + 1) rest) all).0)
+    subst P (some_is (number_of member.value) number is)
+    (follows first member.value (both (holds first member.value) (of_each_listed holds (first + 1) rest) all).0)
 each_there number_of holds P follows first (Some member ∷ rest) all (suc place) number is =
-    each_there number_of holds P follows (first + 1) rest (both (holds first member.value) (of_each_listed holds (first + 1) rest) all).1 place number is
+    each_there number_of holds P follows (first + 1) rest
+    (both (holds first member.value) (of_each_listed holds (first + 1) rest) all).1 place number is
 
 -- so is the publisher of each listed number
 pub are_there : {T U X Y Z : Type 0} {F : X → Type 0} {G : Y → Type 0} {H : Z → Type 0}
     (domain : Domain T U (Handlers X Y F G) (DegradationHandler Z H)) (numbers : List ℕ)
-    → first_reason domain ≡ None → numbers ≡ numbers_of (λ entry. entry.publisher) domain.state.ports.publisher_list.places → AreThere domain.state.ports.publishers numbers
+    → first_reason domain ≡ None → numbers ≡ numbers_of (λ entry. entry.publisher) domain.state.ports.publisher_list.places
+    → AreThere domain.state.ports.publishers numbers
 are_there domain numbers none is =
     let current = both (of_each_listed (is_current_publisher domain.state.ports) 0 domain.state.ports.publisher_list.places)
-    (of_each_listed (λ place entry. is_current_subscriber domain.state.ports entry) 0 domain.state.ports.subscriber_list.places) (is_current domain none) in
-    subst (AreThere domain.state.ports.publishers) (sym is) (each_there (λ entry. entry.publisher) (is_current_publisher domain.state.ports) (λ number. is_some (port_of number domain.state.ports.publishers) ≡ true)
-    (λ first entry current. some_current domain.state.ports first entry.publisher (port_of entry.publisher domain.state.ports.publishers) current) 0 domain.state.ports.publisher_list.places current.0)
+    (of_each_listed (λ place entry. is_current_subscriber domain.state.ports entry) 0 domain.state.ports.subscriber_list.places)
+    (is_current domain none) in
+    subst (AreThere domain.state.ports.publishers) (sym is)
+    (each_there (λ entry. entry.publisher) (is_current_publisher domain.state.ports)
+    (λ number. is_some (port_of number domain.state.ports.publishers) ≡ true)
+    (λ first entry current. some_current domain.state.ports first entry.publisher
+    (port_of entry.publisher domain.state.ports.publishers) current) 0 domain.state.ports.publisher_list.places current.0)
 
 -- and the subscriber
 pub readers_there : {T U X Y Z : Type 0} {F : X → Type 0} {G : Y → Type 0} {H : Z → Type 0}
     (domain : Domain T U (Handlers X Y F G) (DegradationHandler Z H)) (numbers : List ℕ)
-    → first_reason domain ≡ None → numbers ≡ numbers_of (λ entry. entry.subscriber) domain.state.ports.subscriber_list.places → (place number : ℕ) → slice_get numbers place ≡ Some number
+    → first_reason domain ≡ None → numbers ≡ numbers_of (λ entry. entry.subscriber) domain.state.ports.subscriber_list.places
+    → (place number : ℕ) → slice_get numbers place ≡ Some number
     → is_some (subscriber_of number domain.state.ports.subscribers) ≡ true
 readers_there domain numbers none is place number there =
     let current = both (of_each_listed (is_current_publisher domain.state.ports) 0 domain.state.ports.publisher_list.places)
-    (of_each_listed (λ place entry. is_current_subscriber domain.state.ports entry) 0 domain.state.ports.subscriber_list.places) (is_current domain none) in
-    each_there (λ entry. entry.subscriber) (λ place entry. is_current_subscriber domain.state.ports entry) (λ number. is_some (subscriber_of number domain.state.ports.subscribers) ≡ true)
-    (λ first entry current. some_reader domain.state.ports (subscriber_of entry.subscriber domain.state.ports.subscribers) current) 0 domain.state.ports.subscriber_list.places current.1
+    (of_each_listed (λ place entry. is_current_subscriber domain.state.ports entry) 0 domain.state.ports.subscriber_list.places)
+    (is_current domain none) in
+    each_there (λ entry. entry.subscriber) (λ place entry. is_current_subscriber domain.state.ports entry)
+    (λ number. is_some (subscriber_of number domain.state.ports.subscribers) ≡ true)
+    (λ first entry current. some_reader domain.state.ports (subscriber_of entry.subscriber domain.state.ports.subscribers) current) 0
+    domain.state.ports.subscriber_list.places current.1
     place number (ap (λ numbers. slice_get numbers place) (sym is) ∙ there)
 
 pub neither : (a b : Bool) → (a || b) ≡ false → (a ≡ false) × (b ≡ false)
@@ -97,7 +110,7 @@ neither true b h = absurd (cc h)
 neither false b h = (refl, h)
 
 -- what is found in a list passes no test that nothing there passes
-none_under : {K V : Type 0} (fails : K × V → Bool) (test : K → Bool) (entries : List (K × V)) (value : V)
+pub none_under : {K V : Type 0} (fails : K × V → Bool) (test : K → Bool) (entries : List (K × V)) (value : V)
     → list_any fails entries ≡ false → lookup test entries ≡ Some value → (key : K) × (fails (key, value) ≡ false)
 none_under fails test [] value none is = absurd (cc is)
 none_under {K} {V} fails test ((key, first) ∷ rest) value none is = by (test key) refl (none_under fails test rest value apart.1)
@@ -107,7 +120,11 @@ none_under {K} {V} fails test ((key, first) ∷ rest) value none is = by (test k
 
     by : (here : Bool) → test key ≡ here → (lookup test rest ≡ Some value → (other : K) × (fails (other, value) ≡ false)) → (other : K)
         × (fails (other, value) ≡ false)
-    by true here beyond = (key, subst (λ (v : V). fails (key, v) ≡ false) (some_is first value (sym (cond-true (test key) (Some first) (lookup test rest) here) ∙ is)) apart.0)
+    by true here beyond = (
+      key,
+      subst (λ (v : V). fails (key, v) ≡ false)
+          (some_is first value (sym (cond-true (test key) (Some first) (lookup test rest) here) ∙ is)) apart.0,
+    )
     by false here beyond = beyond (sym (cond-false (test key) (Some first) (lookup test rest) here) ∙ is)
 
 nothing : {X : Type 0} (at : Option X) → is_some at ≡ false → at ≡ None
@@ -156,7 +173,8 @@ one_value {T} message single = by message.values refl
 -- no publisher deals in slices
 no_slices : {T U X Y Z : Type 0} {F : X → Type 0} {G : Y → Type 0} {H : Z → Type 0}
     (domain : Domain T U (Handlers X Y F G) (DegradationHandler Z H)) (number : ℕ) (port : PublisherPort T U)
-    → first_reason domain ≡ None → port_of number domain.state.ports.publishers ≡ Some port → (port.sender.room ≡ 1) × (keeps_slice port ≡ false)
+    → first_reason domain ≡ None → port_of number domain.state.ports.publishers ≡ Some port → (port.sender.room ≡ 1)
+    × (keeps_slice port ≡ false)
 no_slices {T} {U} domain number port none is =
     let ports : ServicePorts T U = domain.state.ports in
     let blocked = no_reason (is_blocked ports) _ _ none in
@@ -167,7 +185,8 @@ no_slices {T} {U} domain number port none is =
     let lingering = no_reason (is_lingering ports) _ _ retrying.1 in
     let sliced = no_reason (has_slices domain) _ _ lingering.1 in
     let slices = none_under (λ (entry : ℕ × PublisherPort T U). deals_in_slices entry.1) (is_at (nat_cmp number)) ports.publishers port
-    (neither (is_dynamic domain.agreed.types.payload.variant) (list_any (λ (entry : ℕ × PublisherPort T U). deals_in_slices entry.1) ports.publishers) sliced.0).1 is in
+    (neither (is_dynamic domain.agreed.types.payload.variant)
+    (list_any (λ (entry : ℕ × PublisherPort T U). deals_in_slices entry.1) ports.publishers) sliced.0).1 is in
     let unit = neither (not (port.unit == 1)) (not (port.sender.room == 1) || keeps_slice port) slices.1 in
     let one = neither (not (port.sender.room == 1)) (keeps_slice port) unit.1 in
     (eqb-true port.sender.room 1 (not_no (port.sender.room == 1) one.0), one.1)
@@ -175,22 +194,27 @@ no_slices {T} {U} domain number port none is =
 -- so a message that it keeps, or that waits at a connection of it, is one value
 pub remembers_one : {T U X Y Z : Type 0} {F : X → Type 0} {G : Y → Type 0} {H : Z → Type 0}
     (domain : Domain T U (Handlers X Y F G) (DegradationHandler Z H)) (number : ℕ) (port : PublisherPort T U)
-    → first_reason domain ≡ None → port_of number domain.state.ports.publishers ≡ Some port → (at : ℕ) (message : Message T U) → slice_get port.sender.uses.history at ≡ Some message
+    → first_reason domain ≡ None → port_of number domain.state.ports.publishers ≡ Some port → (at : ℕ) (message : Message T U)
+    → slice_get port.sender.uses.history at ≡ Some message
     → (value : T) × (message.values ≡ value ∷ [])
 remembers_one domain number port none is at message there =
     one_value message (none_in is_slice port.sender.uses.history at message
-    (neither (list_any is_slice port.sender.uses.history) (list_any slice_waits port.sender.uses.connections) (no_slices domain number port none is).1).0 there)
+    (neither (list_any is_slice port.sender.uses.history) (list_any slice_waits port.sender.uses.connections)
+    (no_slices domain number port none is).1).0 there)
 
 pub waits_one : {T U X Y Z : Type 0} {F : X → Type 0} {G : Y → Type 0} {H : Z → Type 0}
     (domain : Domain T U (Handlers X Y F G) (DegradationHandler Z H)) (number : ℕ) (port : PublisherPort T U)
-    → first_reason domain ≡ None → port_of number domain.state.ports.publishers ≡ Some port → (index at : ℕ) (message : Message T U) → slice_get (connection_of index port).waiting at ≡ Some message
+    → first_reason domain ≡ None → port_of number domain.state.ports.publishers ≡ Some port → (index at : ℕ) (message : Message T U)
+    → slice_get (connection_of index port).waiting at ≡ Some message
     → (value : T) × (message.values ≡ value ∷ [])
 waits_one domain number port none is index at message there =
     one_value message (none_in is_slice (connection_of index port).waiting at message
-    (none_waits port.sender.uses.connections index (neither (list_any is_slice port.sender.uses.history) (list_any slice_waits port.sender.uses.connections) (no_slices domain number port none is).1).1) there)
+    (none_waits port.sender.uses.connections index
+    (neither (list_any is_slice port.sender.uses.history) (list_any slice_waits port.sender.uses.connections)
+    (no_slices domain number port none is).1).1) there)
 
 -- nothing of a publisher is out, and it has room for a value in each slot
-rested : {T U X Y Z : Type 0} {F : X → Type 0} {G : Y → Type 0} {H : Z → Type 0}
+pub rested : {T U X Y Z : Type 0} {F : X → Type 0} {G : Y → Type 0} {H : Z → Type 0}
     (domain : Domain T U (Handlers X Y F G) (DegradationHandler Z H)) (number : ℕ) (port : PublisherPort T U)
     → first_reason domain ≡ None → port_of number domain.state.ports.publishers ≡ Some port → IsRested port.sender
 rested {T} {U} domain number port none is =
@@ -201,9 +225,11 @@ rested {T} {U} domain number port none is =
     let handled = no_reason (has_handlers domain) _ _ growing.1 in
     let retrying = no_reason (is_retrying domain) _ _ handled.1 in
     let lingering = no_reason (is_lingering ports) _ _ retrying.1 in
-    let sends = none_under (λ (entry : ℕ × PublisherPort T U). publishing.is_blocked entry.1) (is_at (nat_cmp number)) ports.publishers port blocked.0 is in
+    let sends = none_under (λ (entry : ℕ × PublisherPort T U). publishing.is_blocked entry.1) (is_at (nat_cmp number)) ports.publishers
+    port blocked.0 is in
     let lingers = none_under (publisher_lingers ports.publisher_list) (is_at (nat_cmp number)) ports.publishers port
-    (neither (list_any (publisher_lingers ports.publisher_list) ports.publishers) (list_any (subscriber_lingers ports.subscriber_list ports.publishers) ports.subscribers) lingering.0).0 is in
+    (neither (list_any (publisher_lingers ports.publisher_list) ports.publishers)
+    (list_any (subscriber_lingers ports.subscriber_list ports.publishers) ports.subscribers) lingering.0).0 is in
     let stands = neither (not port.stands) (not (is_listed_publisher ports.publisher_list lingers.0 port) || has_out port) lingers.1 in
     let listed = neither (not (is_listed_publisher ports.publisher_list lingers.0 port)) (has_out port) stands.1 in
     let out = neither (nat_lt 0 (length port.sender.uses.loans)) (list_any connection_lingers port.sender.uses.connections) listed.1 in
@@ -215,10 +241,3 @@ rested {T} {U} domain number port none is =
       };
       none = λ index. none_borrowed port.sender.uses.connections index out.1;
     }
-
--- the same of a number that may be wanting
-pub rested_if : {T U X Y Z : Type 0} {F : X → Type 0} {G : Y → Type 0} {H : Z → Type 0}
-    (domain : Domain T U (Handlers X Y F G) (DegradationHandler Z H)) (number : Option ℕ) (port : PublisherPort T U)
-    → first_reason domain ≡ None → port_if domain.state.ports.publishers number ≡ Some port → IsRested port.sender
-rested_if domain None port none is = absurd (cc is)
-rested_if domain (Some number) port none is = rested domain number port none is

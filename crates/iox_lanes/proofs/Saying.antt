@@ -1,5 +1,6 @@
 -- What lanes that are built of a domain say of its publishers.
-use Rattle.std.proofs.Common.{arith, ℕ, zero, suc, ◌≡◌, ◌+◌, ◌*◌, ◌<◌, ◌≤◌, ◌^◌, true, nat_lt, List, [], ◌∷◌, length, map, set, replicate, slice_get, slice_index, Option, None, Some, refl, sym, ◌∙◌, ap, subst, length-append}
+use Rattle.std.proofs.Common.{arith, ℕ, zero, suc, ◌≡◌, ◌+◌, ◌*◌, ◌<◌, ◌≤◌, ◌^◌, true, nat_lt, List, [], ◌∷◌, length, map, set, replicate}
+use Rattle.std.proofs.Common.{slice_get, slice_index, Option, None, Some, refl, sym, ◌∙◌, ap, subst, length-append}
 use Rattle.std.proofs.lemmas.Bool.{cond-true, lt-ltb}
 use Rattle.std.proofs.lemmas.List.{length-replicate, take-replicate}
 use Rattle.std.proofs.lemmas.Nat.{mul-le}
@@ -29,7 +30,8 @@ use Rattle.iox_lanes.proofs.Settling.{introduced, lanes_at, said, says_if, seen_
 pub few_slots : (sizes : LaneSizes) → 0 < sizes.publishers → words_of (table_sizes sizes) < 2 ^ 64 → sizes.slots + 1 < 2 ^ 64
 few_slots sizes some small =
     let one = mul-le 1 sizes.slots sizes.publishers sizes.slots (omega (arith, some)) (omega arith) in
-    let all = mul-le (sizes.publishers * sizes.slots) 1 (sizes.publishers * sizes.slots) (slot_words (table_sizes sizes)) (omega arith) (omega arith) in
+    let all = mul-le (sizes.publishers * sizes.slots) 1 (sizes.publishers * sizes.slots) (slot_words (table_sizes sizes)) (omega arith)
+    (omega arith) in
     omega (arith, one, all, small)
 
 -- so are all slots of a publisher counted
@@ -50,8 +52,10 @@ named_head : {T U : Type 0} (sizes : LaneSizes) (place : ℕ) (port : PublisherP
     → IsNamed port (with_origin port.owner.node_id port.number (first_head sizes place))
 named_head sizes place port =
     let head = first_head sizes place in
-    let long : nat_lt 1 (length head) ≡ true = lt-ltb 1 (length head) (omega (arith, length-append (0 ∷ place ∷ 1 ∷ []) (replicate sizes.user_header_words 0))) in
-    subst (IsNamed port) (sym (cond-true (nat_lt 1 (length head)) (set (set head 0 port.owner.node_id) 1 port.number) head long)) (refl, refl)
+    let long : nat_lt 1 (length head) ≡ true
+    = lt-ltb 1 (length head) (omega (arith, length-append (0 ∷ place ∷ 1 ∷ []) (replicate sizes.user_header_words 0))) in
+    subst (IsNamed port) (sym (cond-true (nat_lt 1 (length head)) (set (set head 0 port.owner.node_id) 1 port.number) head long))
+    (refl, refl)
 
 named_all : {T U : Type 0} (sizes : LaneSizes) (place count : ℕ) (port : PublisherPort T U) (heads : List (List ℕ))
     → heads ≡ replicate count (with_origin port.owner.node_id port.number (first_head sizes place))
@@ -74,29 +78,32 @@ pub record IsTold {T U : Type 0} (sizes : LaneSizes) (place : ℕ) (port : Publi
 
 module _ {T U X Y D : Type 0} {F : X → Type 0} {G : Y → Type 0} (payload_words : T → List ℕ) (header_words : U → List ℕ)
     (payload_count header_count : ℕ) (domain : Domain T U (Handlers X Y F G) D)
-    (publishers subscribers : List ℕ) (lanes : World) (built : AreBuilt payload_words header_words payload_count header_count domain publishers subscribers lanes) where
+    (publishers subscribers : List ℕ) (lanes : World)
+    (built : AreBuilt payload_words header_words payload_count header_count domain publishers subscribers lanes) where
   abbrev pub found_at : ℕ → World
-  found_at count = lanes_at payload_words header_words payload_count header_count domain publishers subscribers built.sizes
-      (built.are_agreed).as_many_publishers built.room count
+  found_at count = lanes_at payload_words header_words payload_count header_count domain publishers subscribers (built.sized).sizes
+      ((built.sized).are_agreed).as_many_publishers built.room count
 
   orders_leave : lanes.publishers ≡ (found_at (length publishers)).publishers
   orders_leave = ap (λ w. w.publishers) built.behind
       ∙ readers_leave (λ w. w.publishers ≡ (found_at (length publishers)).publishers)
-      (λ m who one other is. behind_by (λ w. w.publishers ≡ (found_at (length publishers)).publishers) m (found.Swapped who one other) is (λ fits. swaps_of m who one other (slice_get m.subscribers who) ∙ is))
+      (λ m who one other is. behind_by (λ w. w.publishers ≡ (found_at (length publishers)).publishers) m (found.Swapped who one other)
+      is (λ fits. swaps_of m who one other (slice_get m.subscribers who) ∙ is))
       publishers domain.state.ports.subscribers subscribers (found_at (length publishers)) (length subscribers) refl
 
   pub told : (place number : ℕ) (port : PublisherPort T U) (lane : PublisherLaneState) → slice_get publishers place ≡ Some number
       → port_of number domain.state.ports.publishers ≡ Some port
-      → slice_get lanes.publishers place ≡ Some lane → IsTold built.sizes place port lane
+      → slice_get lanes.publishers place ≡ Some lane → IsTold (built.sized).sizes place port lane
   told place number port lane listed found there = record {
     first = ap (λ s. s.first) says;
-    slots = ap (λ s. length s.loans) says ∙ ap length (take-replicate (slots_in port) (built.sizes).slots mark.No fit) ∙
+    slots = ap (λ s. length s.loans) says ∙ ap length (take-replicate (slots_in port) ((built.sized).sizes).slots mark.No fit) ∙
         length-replicate (slots_in port) mark.No ∙ whole;
-    fit = subst (λ n. n ≤ (built.sizes).slots) whole fit;
+    fit = subst (λ n. n ≤ ((built.sized).sizes).slots) whole fit;
     most_loans = ap (λ s. s.most_loans) says;
-    named = named_all built.sizes place (slots_in port) port lane.heads
-        (ap (λ s. s.heads) says ∙ ap (map (with_origin port.owner.node_id port.number)) (take-replicate (slots_in port) (built.sizes).slots (first_head built.sizes place) fit)
-        ∙ map_replicate (with_origin port.owner.node_id port.number) (slots_in port) (first_head built.sizes place));
+    named = named_all (built.sized).sizes place (slots_in port) port lane.heads
+        (ap (λ s. s.heads) says ∙ ap (map (with_origin port.owner.node_id port.number))
+        (take-replicate (slots_in port) ((built.sized).sizes).slots (first_head (built.sized).sizes place) fit)
+        ∙ map_replicate (with_origin port.owner.node_id port.number) (slots_in port) (first_head (built.sized).sizes place));
   }
     where
       below : place < length publishers
@@ -108,17 +115,19 @@ module _ {T U X Y D : Type 0} {F : X → Type 0} {G : Y → Type 0} (payload_wor
       port_is : port_of (slice_index publishers place) domain.state.ports.publishers ≡ Some port
       port_is = ap (λ n. port_of n domain.state.ports.publishers) number_is ∙ found
 
-      says : said lane ≡ said (introduced built.sizes place
+      says : said lane ≡ said (introduced (built.sized).sizes place
           (would_fail (kept_under (slice_index publishers place) domain.state.publisher_handlers)) port)
       says =
-          let settled = settle payload_words header_words payload_count header_count domain publishers subscribers built.sizes (built.are_agreed).as_many_publishers built.room (length publishers) (omega arith) in
+          let settled = settle payload_words header_words payload_count header_count domain publishers subscribers (built.sized).sizes
+          ((built.sized).are_agreed).as_many_publishers built.room (length publishers) (omega arith) in
           let fails = would_fail (kept_under (slice_index publishers place) domain.state.publisher_handlers) in
-          some_is (said lane) (said (introduced built.sizes place fails port))
-          (sym (seen_at lanes place lane there) ∙ ap (λ xs. slice_get (map said xs) place) orders_leave ∙ settled.says place below ∙ ap (λ p. Some (says_if built.sizes place fails p)) port_is)
+          some_is (said lane) (said (introduced (built.sized).sizes place fails port))
+          (sym (seen_at lanes place lane there) ∙ ap (λ xs. slice_get (map said xs) place) orders_leave ∙ settled.says place below ∙ ap
+          (λ p. Some (says_if (built.sized).sizes place fails p)) port_is)
 
-      fit : slots_in port ≤ (built.sizes).slots
+      fit : slots_in port ≤ ((built.sized).sizes).slots
       fit = built.room place number port listed found
 
       whole : slots_in port ≡ port.sender.uses.first + port.sender.uses.size
-      whole = counted port (built.sizes).slots fit
-          (few_slots built.sizes (omega (arith, below, (built.are_agreed).as_many_publishers)) built.small)
+      whole = counted port ((built.sized).sizes).slots fit
+          (few_slots (built.sized).sizes (omega (arith, below, ((built.sized).are_agreed).as_many_publishers)) built.small)

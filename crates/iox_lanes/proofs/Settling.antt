@@ -1,5 +1,6 @@
 -- What lanes say of the publishers of a domain that they are built of.
-use Rattle.std.proofs.Common.{arith, ℕ, zero, suc, ◌≡◌, ◌<◌, ◌≤◌, ◌==◌, ◌&&◌, Bool, true, false, nat_le, List, [], ◌∷◌, length, map, set, replicate, slice_get, slice_index, Option, None, Some, option_map, refl, sym, ◌∙◌, ap, subst, inl, inr}
+use Rattle.std.proofs.Common.{arith, ℕ, zero, suc, ◌≡◌, ◌<◌, ◌≤◌, ◌==◌, ◌&&◌, Bool, true, false, nat_le, List, [], ◌∷◌, length, map, set}
+use Rattle.std.proofs.Common.{replicate, slice_get, slice_index, Option, None, Some, option_map, refl, sym, ◌∙◌, ap, subst, inl, inr}
 use Rattle.std.proofs.lemmas.Bool.{le-leb}
 use Rattle.std.proofs.lemmas.Bool.Decides.{eqb_tells}
 use Rattle.std.proofs.lemmas.List.{length-replicate}
@@ -21,11 +22,12 @@ use Rattle.iox_lanes_machine.specs.World.{World}
 use Rattle.iox_lanes_machine.specs.declared.found.Found.{Found}
 use Rattle.iox_lanes_machine.specs.declared.found.Found.TheVariants as found
 use Rattle.iox_lanes_machine.specs.declared.sizes.LaneSizes.{LaneSizes}
-use Rattle.iox_lanes_machine.proofs.FoundKept.{found_moments}
+use Rattle.iox_lanes_machine.proofs.FoundKeptWhole.{found_moments}
 use Rattle.iox_lanes_machine.proofs.Start.{listed_at}
 use Rattle.iox_lanes_opening.specs.Deciding.{would_fail}
 use Rattle.iox_lanes.specs.Behind.{behind_findings, behind_finding}
-use Rattle.iox_lanes.specs.Laid.{first_slot, flat_listed, history_findings, link_findings, message_findings, messages_behind, publisher_behind, publishers_behind, sender_behind, slot_in, slots_in}
+use Rattle.iox_lanes.specs.Laid.{first_slot, flat_listed, history_findings, link_findings, message_findings, messages_behind}
+use Rattle.iox_lanes.specs.Laid.{publisher_behind, publishers_behind, sender_behind, slot_in, slots_in}
 use Rattle.iox_lanes.specs.Built.{HaveSlots}
 use Rattle.iox_lanes.specs.Tied.{tie_for}
 use Rattle.iox_lanes.proofs.Each.{each_leaves, each_of, each_word, Each}
@@ -40,7 +42,13 @@ pub record LaneSays : Type 0 where
   pub heads : List (List ℕ)
 
 abbrev pub said : PublisherLaneState → LaneSays
-said lane = record { first = lane.port.book.first; most_loans = lane.port.book.most_loans; loans = lane.port.book.loans; heads = lane.heads }
+said lane = record {
+  first = lane.port.book.first;
+  most_loans = lane.port.book.most_loans;
+  loans = lane.port.book.loans;
+  heads
+      = lane.heads;
+}
 
 -- a publisher as it was made, and told its slots, loans, node and number
 abbrev pub introduced : {T U : Type 0} → LaneSizes → ℕ → Bool → PublisherPort T U → PublisherLaneState
@@ -97,7 +105,8 @@ module _ {T U : Type 0} (payload_words : T → List ℕ) (header_words : U → L
   words_of_message : (message : Message T U)
       → Each (IsOfMessage place) (message_findings payload_words header_words payload_count header_count first port message)
   words_of_message message =
-      each_word payload_words header_words payload_count header_count (IsOfMessage place) (slot_in first message.slot) port.owner.node_id port.number message.elements message.user_header message.values tt tt tt
+      each_word payload_words header_words payload_count header_count (IsOfMessage place) (slot_in first message.slot)
+      port.owner.node_id port.number message.elements message.user_header message.values tt tt tt
       (λ word below. tt) (λ word below value there. tt)
 
   -- the messages of a publisher leave what lanes say
@@ -105,13 +114,17 @@ module _ {T U : Type 0} (payload_words : T → List ℕ) (header_words : U → L
       → StaySaid place m (messages_behind payload_words header_words payload_count header_count readers subscribers place port first m)
   messages_stay readers subscribers m =
       let tie : ℕ → ℕ = λ other. tie_for port (subscriber_of (slice_index subscribers other) readers) in
-      let all = each_of payload_words header_words payload_count header_count (IsOfMessage place) place first port tie (length subscribers) (λ at message there. words_of_message message)
+      let all = each_of payload_words header_words payload_count header_count (IsOfMessage place) place first port tie
+      (length subscribers) (λ at message there. words_of_message message)
       (λ other below at message there. words_of_message message) (λ slot. refl) (λ other slot. refl) (λ other messages. refl) in
-      let kept = behind_findings m (history_findings payload_words header_words payload_count header_count place first port port.sender.uses.history) in
+      let kept = behind_findings m (history_findings payload_words header_words payload_count header_count place first port
+      port.sender.uses.history) in
       each_leaves (IsOfMessage place) (StaySaid place m) (λ n f of_it stay. stay_on place m n f of_it stay)
-      (flat_listed (λ other. link_findings payload_words header_words payload_count header_count place other first port (tie other)) (length subscribers)) kept all.1
+      (flat_listed (λ other. link_findings payload_words header_words payload_count header_count place other first port (tie other))
+      (length subscribers)) kept all.1
       (each_leaves (IsOfMessage place) (StaySaid place m) (λ n f of_it stay. stay_on place m n f of_it stay)
-      (history_findings payload_words header_words payload_count header_count place first port port.sender.uses.history) m all.0 (record { moments = refl; says = refl; others = λ other apart. refl }))
+      (history_findings payload_words header_words payload_count header_count place first port port.sender.uses.history) m all.0
+      (record { moments = refl; says = refl; others = λ other apart. refl }))
 
 -- lanes behind a publisher's slots, loans, node and number
 pub record Introduced {T U : Type 0} (sizes : LaneSizes) (m : World) (place : ℕ) (fails : Bool) (port : PublisherPort T U) (n : World) :
@@ -129,7 +142,7 @@ unused_yet : (count : ℕ) → are_unused (replicate count 0) ≡ true
 unused_yet zero = refl
 unused_yet (suc count) = unused_yet count
 
-set_there : {X : Type 0} (xs : List X) (at : ℕ) (old x : X) → slice_get xs at ≡ Some old → slice_get (set xs at x) at ≡ Some x
+pub set_there : {X : Type 0} (xs : List X) (at : ℕ) (old x : X) → slice_get xs at ≡ Some old → slice_get (set xs at x) at ≡ Some x
 set_there [] at old x there = absurd (cc there)
 set_there (y ∷ ys) zero old x there = refl
 set_there (y ∷ ys) (suc at) old x there = set_there ys at old x there
@@ -171,7 +184,8 @@ introduces {T} {U} sizes m place fails port fresh there room = subst (Introduced
 
     resizes : finds m slots ≡ true
     resizes = both (m.moments == 0) (resizes_of (slots_in port) (slice_get m.publishers place)) (ap (λ (n : ℕ). n == 0) fresh)
-        (ap (resizes_of (slots_in port)) there ∙ both (nat_le (slots_in port) (length zeros)) (are_unused zeros) (le-leb (slots_in port) (length zeros) few) (unused_yet sizes.slots))
+        (ap (resizes_of (slots_in port)) there ∙ both (nat_le (slots_in port) (length zeros)) (are_unused zeros)
+        (le-leb (slots_in port) (length zeros) few) (unused_yet sizes.slots))
 
     names : finds sized sender ≡ true
     names = both (sized.moments == 0) (is_there (slice_get sized.publishers place)) (ap (λ (n : ℕ). n == 0) fresh) (ap is_there stands)
@@ -192,7 +206,8 @@ says_if sizes place fails (Some port) = said (introduced sizes place fails port)
 
 module _ {T U X Y D : Type 0} {F : X → Type 0} {G : Y → Type 0} (payload_words : T → List ℕ) (header_words : U → List ℕ)
     (payload_count header_count : ℕ) (domain : Domain T U (Handlers X Y F G) D)
-    (publishers subscribers : List ℕ) (sizes : LaneSizes) (as_many : sizes.publishers ≡ length publishers) (room : HaveSlots domain.state.ports.publishers publishers sizes.slots) where
+    (publishers subscribers : List ℕ) (sizes : LaneSizes) (as_many : sizes.publishers ≡ length publishers)
+    (room : HaveSlots domain.state.ports.publishers publishers sizes.slots) where
   abbrev ports : List (ℕ × PublisherPort T U)
   ports = domain.state.ports.publishers
 
@@ -220,13 +235,15 @@ module _ {T U X Y D : Type 0} {F : X → Type 0} {G : Y → Type 0} (payload_wor
 
   settle_one : (m : World) (count : ℕ) (port : Option (PublisherPort T U)) → count < length publishers
       → port_of (slice_index publishers count) ports ≡ port → AreSettled m count
-      → AreSettled (publisher_behind payload_words header_words payload_count header_count domain.state.ports.subscribers subscribers m count (fails_at count) port) (suc count)
+      → AreSettled (publisher_behind payload_words header_words payload_count header_count domain.state.ports.subscribers subscribers m
+      count (fails_at count) port) (suc count)
   settle_one m count None below is sofar = record {
     moments = sofar.moments;
     says = λ place within. elim (eqb_tells place count) [
       | inl same ↦ subst (λ (n : ℕ). slice_get (map said m.publishers) n
           ≡ Some (says_if sizes n (fails_at n) (port_of (slice_index publishers n) ports))) (sym same.1)
-          (seen_at m count (publisher_at sizes count) (sofar.rest count (omega arith) ∙ made_at count below) ∙ ap (λ p. Some (says_if sizes count (fails_at count) p)) (sym is))
+          (seen_at m count (publisher_at sizes count) (sofar.rest count (omega arith) ∙ made_at count below) ∙ ap
+          (λ p. Some (says_if sizes count (fails_at count) p)) (sym is))
       | inr apart ↦ sofar.says place (omega (arith, within, apart.1))
     ];
     rest = λ place beyond. sofar.rest place (omega (arith, beyond));
@@ -235,16 +252,20 @@ module _ {T U X Y D : Type 0} {F : X → Type 0} {G : Y → Type 0} (payload_wor
       let there = sofar.rest count (omega arith) ∙ made_at count below in
       let begun = sender_behind m count (fails_at count) port in
       let intro = introduces sizes m count (fails_at count) port sofar.moments there (fits_in count port below is) in
-      let stay = messages_stay payload_words header_words payload_count header_count count (first_slot (slice_get begun.publishers count)) port domain.state.ports.subscribers subscribers begun in
-      let after = publisher_behind payload_words header_words payload_count header_count domain.state.ports.subscribers subscribers m count (fails_at count) (Some port) in
+      let stay = messages_stay payload_words header_words payload_count header_count count
+      (first_slot (slice_get begun.publishers count)) port domain.state.ports.subscribers subscribers begun in
+      let after = publisher_behind payload_words header_words payload_count header_count domain.state.ports.subscribers subscribers m
+      count (fails_at count) (Some port) in
       record {
         moments = stay.moments ∙ intro.moments;
         says = λ place within. elim (eqb_tells place count) [
           | inl same ↦ subst (λ (n : ℕ). slice_get (map said after.publishers) n
               ≡ Some (says_if sizes n (fails_at n) (port_of (slice_index publishers n) ports))) (sym same.1)
-              (ap (λ xs. slice_get xs count) stay.says ∙ seen_at begun count (introduced sizes count (fails_at count) port) intro.here ∙ ap (λ p. Some (says_if sizes count (fails_at count) p)) (sym is))
+              (ap (λ xs. slice_get xs count) stay.says ∙ seen_at begun count (introduced sizes count (fails_at count) port) intro.here ∙
+              ap (λ p. Some (says_if sizes count (fails_at count) p)) (sym is))
           | inr apart ↦
-              ap (λ xs. slice_get xs place) stay.says ∙ slice_get-map said begun.publishers place ∙ ap (option_map said) (intro.others place (λ same. apart.1 (sym same)))
+              ap (λ xs. slice_get xs place) stay.says ∙ slice_get-map said begun.publishers place ∙ ap (option_map said)
+              (intro.others place (λ same. apart.1 (sym same)))
               ∙ sym (slice_get-map said m.publishers place) ∙ sofar.says place (omega (arith, within, apart.1))
         ];
         rest = λ place beyond.
@@ -255,4 +276,5 @@ module _ {T U X Y D : Type 0} {F : X → Type 0} {G : Y → Type 0} (payload_wor
   pub settle : (count : ℕ) → count ≤ length publishers → AreSettled (lanes_at count) count
   settle zero few = record { moments = refl; says = λ place below. absurd (omega (arith, below)); rest = λ place beyond. refl }
   settle (suc count) few =
-      settle_one (lanes_at count) count (port_of (slice_index publishers count) ports) (omega (arith, few)) refl (settle count (omega (arith, few)))
+      settle_one (lanes_at count) count (port_of (slice_index publishers count) ports) (omega (arith, few)) refl
+      (settle count (omega (arith, few)))

@@ -1,5 +1,6 @@
 -- Lanes that are built of a domain hold what it has, if the slots of its messages are those that were found.
-use Rattle.std.proofs.Common.{arith, ℕ, ◌≡◌, ◌+◌, ◌*◌, ◌<◌, Bool, true, is_some, unwrap_or, List, length, slice_get, slice_index, Option, None, Some, refl, sym, ap, subst, ◌∙◌, inl, inr}
+use Rattle.std.proofs.Common.{arith, ℕ, ◌≡◌, ◌+◌, ◌*◌, ◌<◌, Bool, true, is_some, unwrap_or, List, length, slice_get, slice_index, Option}
+use Rattle.std.proofs.Common.{None, Some, refl, sym, ap, subst, ◌∙◌, inl, inr}
 use Rattle.std.proofs.lemmas.Option.{get_or_from_slice_get}
 use Rattle.iox_domain.specs.DomainPorts.Messages.{Message}
 use Rattle.iox_domain.specs.DomainPorts.Ports.{connection_of}
@@ -15,7 +16,8 @@ use Rattle.iox_lanes_machine.specs.Links.{LinkState}
 use Rattle.iox_lanes_machine.specs.World.{World}
 use Rattle.iox_lanes_opening.specs.Refusals.{first_reason}
 use Rattle.iox_lanes.specs.Built.{AreBuilt}
-use Rattle.iox_lanes.specs.Holding.{numbers_of, port_if, reader_if, IsLaneIf, IsLinkIf, KeepsIf, Leads, LinkHolds, LinkWaits, SenderHolds, SenderKeeps, WaitsIf}
+use Rattle.iox_lanes.specs.Holding.{numbers_of, port_if, reader_if, IsLaneIf, IsLinkIf, KeepsIf, Leads, LinkHolds, LinkWaits, SenderHolds}
+use Rattle.iox_lanes.specs.Holding.{SenderKeeps, WaitsIf}
 use Rattle.iox_lanes.specs.Lying.{Lies, WordsLie}
 use Rattle.iox_lanes.specs.Tied.{tie_for, IsTied}
 use Rattle.iox_lanes.proofs.Failing.{none_past}
@@ -27,23 +29,27 @@ use Rattle.iox_lanes.proofs.Saying.{told}
 module _ {T U X Y Z : Type 0} {F : X → Type 0} {G : Y → Type 0} {H : Z → Type 0} (payload_words : T → List ℕ)
     (header_words : U → List ℕ) (payload_count header_count : ℕ)
     (domain : Domain T U (Handlers X Y F G) (DegradationHandler Z H)) (publishers subscribers : List ℕ) (lanes : World)
-    (built : AreBuilt payload_words header_words payload_count header_count domain publishers subscribers lanes) (none : first_reason domain ≡ None) where
+    (built : AreBuilt payload_words header_words payload_count header_count domain publishers subscribers lanes)
+    (none : first_reason domain ≡ None) where
   abbrev ports : List (ℕ × PublisherPort T U)
   ports = domain.state.ports.publishers
 
   moved_to : (place : ℕ) (port : PublisherPort T U) (lane : PublisherLaneState) (message : Message T U)
-      → lane.port.book.first ≡ place * (built.sizes).slots
-      → WordsLie payload_words header_words lanes.table (place * (built.sizes).slots + message.slot) port.owner.node_id port.number message.elements message.user_header message.values
+      → lane.port.book.first ≡ place * ((built.sized).sizes).slots
+      → WordsLie payload_words header_words lanes.table (place * ((built.sized).sizes).slots + message.slot) port.owner.node_id port.number
+      message.elements message.user_header message.values
       → Lies payload_words header_words lanes.table lane.port.book.first port message
   moved_to place port lane message first lie =
-      subst (λ n. WordsLie payload_words header_words lanes.table (n + message.slot) port.owner.node_id port.number message.elements message.user_header message.values) (sym first) lie
+      subst (λ n. WordsLie payload_words header_words lanes.table (n + message.slot) port.owner.node_id port.number message.elements
+      message.user_header message.values) (sym first) lie
 
   lane_whole : (place number : ℕ) (port : PublisherPort T U) (lane : Option PublisherLaneState)
       → slice_get publishers place ≡ Some number → port_of number ports ≡ Some port → slice_get lanes.publishers place ≡ lane
       → KeepsIf (Some port) lane → IsLaneIf payload_words header_words lanes.table (Some port) lane
   lane_whole place number port None listed found there keeps = absurd keeps
   lane_whole place number port (Some lane) listed found there keeps =
-      let says = told payload_words header_words payload_count header_count domain publishers subscribers lanes built place number port lane listed found there in
+      let says = told payload_words header_words payload_count header_count domain publishers subscribers lanes built place number port
+      lane listed found there in
       record {
         slots = says.slots;
         most_loans = says.most_loans;
@@ -51,7 +57,9 @@ module _ {T U X Y Z : Type 0} {F : X → Type 0} {G : Y → Type 0} {H : Z → T
             port.sender.uses.history keeps
             (λ at message is.
             let one = remembers_one domain number port none found at message is in
-            moved_to place port lane message says.first (words_lie payload_words header_words payload_count header_count domain publishers subscribers lanes built place number port message one.0 listed found (inl (at, is)) one.1));
+            moved_to place port lane message says.first
+            (words_lie payload_words header_words payload_count header_count domain publishers subscribers lanes built place number
+            port message one.0 listed found (inl (at, is)) one.1));
         named = says.named;
       }
 
@@ -82,12 +90,17 @@ module _ {T U X Y Z : Type 0} {F : X → Type 0} {G : Y → Type 0} {H : Z → T
         (index : ℕ) (link : LinkState)
         → slice_get publishers publisher ≡ Some number → port_of number ports ≡ Some port → slice_get lanes.publishers publisher ≡ Some lane
         → slice_get subscribers subscriber ≡ Some reader_number → subscriber_of reader_number domain.state.ports.subscribers ≡ Some reader
-        → WaitsIf (Some port) (Some lane) (Some index) (Some link) → Leads overflows publisher subscriber (Some link) → IsTied (Some port) (Some reader) (Some index)
-        → IsLinkIf payload_words header_words lanes.table overflows publisher subscriber (Some port) (Some reader) (Some lane) (Some index) (Some link)
+        → WaitsIf (Some port) (Some lane) (Some index) (Some link) → Leads overflows publisher subscriber (Some link)
+        → IsTied (Some port) (Some reader) (Some index)
+        → IsLinkIf payload_words header_words lanes.table overflows publisher subscriber (Some port) (Some reader) (Some lane)
+        (Some index) (Some link)
     link_whole_of number reader_number port reader lane index link listed found there read stands waits leads tied =
-        let says = told payload_words header_words payload_count header_count domain publishers subscribers lanes built publisher number port lane listed found there in
+        let says = told payload_words header_words payload_count header_count domain publishers subscribers lanes built publisher number
+        port lane listed found there in
         let tie_is : index ≡ tie_for port (subscriber_of (slice_index subscribers subscriber) domain.state.ports.subscribers) =
-        sym (ap (λ n. tie_for port (subscriber_of n domain.state.ports.subscribers)) (get_or_from_slice_get subscribers subscriber reader_number 0 read) ∙ ap (tie_for port) stands ∙ ap (λ t. unwrap_or t 0) tied.0) in
+        sym (ap (λ n. tie_for port (subscriber_of n domain.state.ports.subscribers))
+        (get_or_from_slice_get subscribers subscriber reader_number 0 read) ∙ ap (tie_for port) stands ∙ ap (λ t. unwrap_or t 0)
+        tied.0) in
         record {
           from = leads.0;
           to = leads.1;
@@ -100,13 +113,15 @@ module _ {T U X Y Z : Type 0} {F : X → Type 0} {G : Y → Type 0} {H : Z → T
               let one = waits_one domain number port none found index at message is in
               let laid = ap (λ n. slice_get (connection_of n port).waiting at) (sym tie_is) ∙ is in
               moved_to publisher port lane message says.first
-              (words_lie payload_words header_words payload_count header_count domain publishers subscribers lanes built publisher number port message one.0 listed found (inr (subscriber, at, below, laid)) one.1));
+              (words_lie payload_words header_words payload_count header_count domain publishers subscribers lanes built publisher
+              number port message one.0 listed found (inr (subscriber, at, below, laid)) one.1));
         }
 
     link_whole_by : (number reader_number : ℕ) (port : PublisherPort T U) (reader : Option SubscriberPort)
         (lane : Option PublisherLaneState) (index : Option ℕ) (link : Option LinkState)
         → slice_get publishers publisher ≡ Some number → port_of number ports ≡ Some port → slice_get lanes.publishers publisher ≡ lane
-        → slice_get subscribers subscriber ≡ Some reader_number → subscriber_of reader_number domain.state.ports.subscribers ≡ reader → is_some reader ≡ true
+        → slice_get subscribers subscriber ≡ Some reader_number → subscriber_of reader_number domain.state.ports.subscribers ≡ reader
+        → is_some reader ≡ true
         → WaitsIf (Some port) lane index link → Leads overflows publisher subscriber link → IsTied (Some port) reader index
         → IsLinkIf payload_words header_words lanes.table overflows publisher subscriber (Some port) reader lane index link
     link_whole_by number reader_number port None lane index link listed found there read stands some waits leads tied = absurd (cc some)
@@ -131,17 +146,22 @@ module _ {T U X Y Z : Type 0} {F : X → Type 0} {G : Y → Type 0} {H : Z → T
 
     by_port : (number reader_number : ℕ) (port : Option (PublisherPort T U)) → slice_get publishers publisher ≡ Some number
         → port_of number ports ≡ port
-        → slice_get subscribers subscriber ≡ Some reader_number → WaitsIf port lane_at index_at link_at → Leads overflows publisher subscriber link_at
+        → slice_get subscribers subscriber ≡ Some reader_number → WaitsIf port lane_at index_at link_at
+        → Leads overflows publisher subscriber link_at
         → IsTied port (subscriber_of reader_number domain.state.ports.subscribers) index_at
-        → IsLinkIf payload_words header_words lanes.table overflows publisher subscriber port (subscriber_of reader_number domain.state.ports.subscribers) lane_at index_at link_at
+        → IsLinkIf payload_words header_words lanes.table overflows publisher subscriber port
+        (subscriber_of reader_number domain.state.ports.subscribers) lane_at index_at link_at
     by_port number reader_number None listed found read waits leads tied = absurd waits
     by_port number reader_number (Some port) listed found read waits leads tied =
-        link_whole_by number reader_number port (subscriber_of reader_number domain.state.ports.subscribers) lane_at index_at link_at listed found refl read refl
+        link_whole_by number reader_number port (subscriber_of reader_number domain.state.ports.subscribers) lane_at index_at link_at
+        listed found refl read refl
         (readers_there domain subscribers none numbered subscriber reader_number read) waits leads tied
 
     by_reader : (number : ℕ) (reader : Option ℕ) → slice_get publishers publisher ≡ Some number → slice_get subscribers subscriber ≡ reader
-        → WaitsIf (port_of number ports) lane_at index_at link_at → Leads overflows publisher subscriber link_at → IsTied (port_of number ports) (reader_if domain.state.ports.subscribers reader) index_at
-        → IsLinkIf payload_words header_words lanes.table overflows publisher subscriber (port_of number ports) (reader_if domain.state.ports.subscribers reader) lane_at index_at link_at
+        → WaitsIf (port_of number ports) lane_at index_at link_at → Leads overflows publisher subscriber link_at
+        → IsTied (port_of number ports) (reader_if domain.state.ports.subscribers reader) index_at
+        → IsLinkIf payload_words header_words lanes.table overflows publisher subscriber (port_of number ports)
+        (reader_if domain.state.ports.subscribers reader) lane_at index_at link_at
     by_reader number None listed read waits leads tied = absurd (omega (arith, below, none_past subscribers subscriber read))
     by_reader number (Some reader_number) listed read waits leads tied
         = by_port number reader_number (port_of number ports) listed refl read waits leads tied
@@ -149,13 +169,15 @@ module _ {T U X Y Z : Type 0} {F : X → Type 0} {G : Y → Type 0} {H : Z → T
     by_number : (number : Option ℕ) → slice_get publishers publisher ≡ number → WaitsIf (port_if ports number) lane_at index_at link_at
         → Leads overflows publisher subscriber link_at
         → IsTied (port_if ports number) (reader_if domain.state.ports.subscribers (slice_get subscribers subscriber)) index_at
-        → IsLinkIf payload_words header_words lanes.table overflows publisher subscriber (port_if ports number) (reader_if domain.state.ports.subscribers (slice_get subscribers subscriber)) lane_at index_at link_at
+        → IsLinkIf payload_words header_words lanes.table overflows publisher subscriber (port_if ports number)
+        (reader_if domain.state.ports.subscribers (slice_get subscribers subscriber)) lane_at index_at link_at
     by_number None listed waits leads tied = absurd waits
     by_number (Some number) listed waits leads tied = by_reader number (slice_get subscribers subscriber) listed refl waits leads tied
 
     -- a connection of lanes at which the domain's messages wait is the domain's
     pub link_whole : LinkWaits domain lanes publishers subscribers indices publisher subscriber
         → Leads overflows publisher subscriber link_at
-        → IsTied (port_if ports (slice_get publishers publisher)) (reader_if domain.state.ports.subscribers (slice_get subscribers subscriber)) index_at
+        → IsTied (port_if ports (slice_get publishers publisher))
+        (reader_if domain.state.ports.subscribers (slice_get subscribers subscriber)) index_at
         → LinkHolds payload_words header_words domain lanes publishers subscribers indices publisher subscriber
     link_whole waits leads tied = by_number (slice_get publishers publisher) refl waits leads tied

@@ -13,8 +13,8 @@ use Rattle.iox_lanes_machine.specs.TakenIn.{IsFirst, IsTakenIn}
 use Rattle.iox_lanes_machine.specs.World.{World}
 use Rattle.iox_lanes_machine.specs.declared.found.Found.{Found}
 use Rattle.iox_lanes_machine.specs.declared.found.Found.TheVariants as found
-use Rattle.iox_lanes_machine.proofs.FoundKept.{found_moments, found_keeps}
-use Rattle.iox_lanes_machine.proofs.TakenIn.{takes_in}
+use Rattle.iox_lanes_machine.proofs.FoundKeptWhole.{found_moments, found_keeps}
+use Rattle.iox_lanes_machine.proofs.TakenInPlaces.{takes_in}
 use Rattle.iox_lanes.specs.Behind.{behind_findings, behind_finding}
 use Rattle.iox_lanes.proofs.Each.{each_leaves, Each, IsIn}
 use Rattle.iox_lanes.proofs.Moving.{behind_by, behind_fits}
@@ -25,7 +25,7 @@ pub record AreSteady (sizes : TableSizes) (m : World) : Type 0 where
   pub table : m.table.sizes ≡ sizes
   pub kept : IsKept m
 
-taken_in : (m : World) (f : Found) → finds m f ≡ true → IsKept m → IsTakenIn m f (with_found m f)
+pub taken_in : (m : World) (f : Found) → finds m f ≡ true → IsKept m → IsTakenIn m f (with_found m f)
 taken_in m f fits kept = (takes_in m f true (with_found m f) (fits, refl) kept).1
 
 pub steady_on : (sizes : TableSizes) (m : World) (f : Found) → AreSteady sizes m → AreSteady sizes (behind_finding m f)
@@ -36,7 +36,7 @@ steady_on sizes m f steady = behind_by (AreSteady sizes) m f steady (λ fits. re
 })
 
 -- what may be found is found
-accepted : (m : World) (f : Found) → IsKept m → IsFirst m f → finds m f ≡ true
+pub accepted : (m : World) (f : Found) → IsKept m → IsFirst m f → finds m f ≡ true
 accepted m f kept first = by (finds m f) refl
   where
     by : (fits : Bool) → finds m f ≡ fits → fits ≡ true
@@ -137,7 +137,8 @@ module _ (sizes : TableSizes) (slot : ℕ) (content : SlotWord → ℕ) (word : 
 
   comes_to_hold : (m : World) → AreSteady sizes m → Hold (behind_finding m (found.Held slot word (content word)))
   comes_to_hold m steady =
-      let fits = accepted m (found.Held slot word (content word)) steady.kept (record { first = steady.moments; may = of_lanes m steady }) in
+      let fits = accepted m (found.Held slot word (content word)) steady.kept
+      (record { first = steady.moments; may = of_lanes m steady }) in
       record {
         steady = steady_on sizes m (found.Held slot word (content word)) steady;
         holds = ap (λ (w : World). held_by w.table (Slot slot word)) (behind_fits m (found.Held slot word (content word)) fits)

@@ -7,12 +7,10 @@ use Rattle.iox_domain.specs.declared.domain.Domain.{Domain}
 use Rattle.iox_lanes_machine.specs.LanesBase.Numbers.{words_of}
 use Rattle.iox_lanes_machine.specs.Made.{start, table_sizes}
 use Rattle.iox_lanes_machine.specs.World.{World}
-use Rattle.iox_lanes_machine.specs.declared.sizes.LaneSizes.{LaneSizes}
 use Rattle.iox_lanes.specs.Alone.{KeepAlone}
-use Rattle.iox_lanes.specs.Finding.{WasFound}
 use Rattle.iox_lanes.specs.Laid.{publishers_behind, slots_in}
 use Rattle.iox_lanes.specs.Ordered.{readers_behind}
-use Rattle.iox_lanes.specs.Sized.{AreAgreed}
+use Rattle.iox_lanes.specs.Sized.{AreSized}
 
 -- those of a publisher, if there is one; none has none
 abbrev pub slots_if : {T U : Type 0} → Option (PublisherPort T U) → ℕ
@@ -33,17 +31,17 @@ abbrev pub domain_behind : {T U X Y D : Type 0} {F : X → Type 0} {G : Y → Ty
     → Domain T U (Handlers X Y F G) D → List ℕ → List ℕ → World → World
 domain_behind payload_words header_words payload_count header_count domain publishers subscribers m =
     readers_behind publishers domain.state.ports.subscribers subscribers
-    (publishers_behind payload_words header_words payload_count header_count domain publishers subscribers m (length publishers)) (length subscribers)
+    (publishers_behind payload_words header_words payload_count header_count domain publishers subscribers m (length publishers))
+    (length subscribers)
 
 -- The lanes of a domain are those that are made of sizes as agreed, with as many slots for each publisher as any has, and behind all
 -- that they find of the domain; memory has room for their words, and each message that is laid was alone in its slot.
 pub record AreBuilt {T U X Y D : Type 0} {F : X → Type 0} {G : Y → Type 0} (payload_words : T → List ℕ) (header_words : U
-    → List ℕ) (payload_count header_count : ℕ) (domain : Domain T U (Handlers X Y F G) D) (publishers subscribers : List ℕ) (lanes : World) :
+    → List ℕ) (payload_count header_count : ℕ) (domain : Domain T U (Handlers X Y F G) D) (publishers subscribers : List ℕ)
+    (lanes : World) :
     Type 0 where
-  pub sizes : LaneSizes
-  pub are_agreed : AreAgreed domain.state.ports.sizes (length publishers) (length subscribers) payload_count header_count sizes
-  pub found : WasFound sizes lanes
-  pub room : HaveSlots domain.state.ports.publishers publishers sizes.slots
-  pub small : words_of (table_sizes sizes) < 2 ^ 64
+  pub sized : AreSized domain.state.ports.sizes (length publishers) (length subscribers) payload_count header_count lanes
+  pub room : HaveSlots domain.state.ports.publishers publishers (sized.sizes).slots
+  pub small : words_of (table_sizes sized.sizes) < 2 ^ 64
   pub alone : KeepAlone domain.state.ports publishers subscribers
-  pub behind : lanes ≡ domain_behind payload_words header_words payload_count header_count domain publishers subscribers (start sizes)
+  pub behind : lanes ≡ domain_behind payload_words header_words payload_count header_count domain publishers subscribers (start sized.sizes)

@@ -1,5 +1,6 @@
 -- What lanes hold of a domain.
-use Rattle.std.specs.Prelude.{ℕ, ◌≡◌, ◌+◌, ◌*◌, ◌<◌, Bool, true, false, is_some, count_by, List, [], ◌∷◌, length, take, get_or, slice_get, Option, None, Some}
+use Rattle.std.specs.Prelude.{ℕ, ◌≡◌, ◌+◌, ◌*◌, ◌<◌, Bool, true, false, is_some, count_by, List, [], ◌∷◌, length, take, get_or, slice_get}
+use Rattle.std.specs.Prelude.{Option, None, Some}
 use Rattle.iox_domain.specs.Container.declared.container.Member.{Member}
 use Rattle.iox_domain.specs.DomainPorts.Publishers.{port_of}
 use Rattle.iox_domain.specs.DomainPorts.Subscribing.{attached_at}
@@ -81,7 +82,8 @@ SenderKeeps domain lanes publishers place =
 -- the publisher at a place of the lanes is the one of the domain that has the number of this place
 abbrev pub SenderHolds : {T U B D : Type 0} → (T → List ℕ) → (U → List ℕ) → Domain T U B D → World → List ℕ → ℕ → Type 0
 SenderHolds payload_words header_words domain lanes publishers place =
-    IsLaneIf payload_words header_words lanes.table (port_if domain.state.ports.publishers (slice_get publishers place)) (slice_get lanes.publishers place)
+    IsLaneIf payload_words header_words lanes.table (port_if domain.state.ports.publishers (slice_get publishers place))
+    (slice_get lanes.publishers place)
 
 -- A link is a connection of a publisher to a subscriber, the one that its messages for the subscriber's place go to: it leads
 -- from the one's place to the other's, as many may wait, and the same messages do.
@@ -125,14 +127,16 @@ WaitsIf (Some port) (Some lane) (Some index) (Some link) = (link.limit ≡ (conn
 abbrev pub LinkWaits : {T U B D : Type 0} → Domain T U B D → World → List ℕ → List ℕ → List ℕ → ℕ → ℕ → Type 0
 LinkWaits domain lanes publishers subscribers connections publisher subscriber =
     WaitsIf (port_if domain.state.ports.publishers (slice_get publishers publisher)) (slice_get lanes.publishers publisher)
-    (slice_get connections (publisher * length subscribers + subscriber)) (slice_get lanes.links (publisher * length subscribers + subscriber))
+    (slice_get connections (publisher * length subscribers + subscriber))
+    (slice_get lanes.links (publisher * length subscribers + subscriber))
 
 -- the connection of the lanes between a publisher and a subscriber, at these places, is that of the domain; it has the number of
 -- its place, publisher by publisher
 abbrev pub LinkHolds : {T U B D : Type 0} → (T → List ℕ) → (U → List ℕ) → Domain T U B D → World → List ℕ → List ℕ → List ℕ → ℕ → ℕ → Type 0
 LinkHolds payload_words header_words domain lanes publishers subscribers connections publisher subscriber =
     IsLinkIf payload_words header_words lanes.table domain.state.ports.sizes.enable_safe_overflow publisher subscriber
-    (port_if domain.state.ports.publishers (slice_get publishers publisher)) (reader_if domain.state.ports.subscribers (slice_get subscribers subscriber))
+    (port_if domain.state.ports.publishers (slice_get publishers publisher))
+    (reader_if domain.state.ports.subscribers (slice_get subscribers subscriber))
     (slice_get lanes.publishers publisher) (slice_get connections (publisher * length subscribers + subscriber))
     (slice_get lanes.links (publisher * length subscribers + subscriber))
 
@@ -155,7 +159,8 @@ IsRouteIf lanes publishers subscriber (Some attached) route = IsRouteOf lanes pu
 -- these routes are those of the connections of a subscriber, in the order of its keys
 abbrev pub FollowKeys : World → List ℕ → ℕ → SubscriberPort → List Route → Type 0
 FollowKeys lanes publishers subscriber port routes =
-    (key : ℕ) → IsRouteIf lanes publishers subscriber (attached_at key port) (slice_get routes (count_by is_some (take key port.connections.values)))
+    (key : ℕ) → IsRouteIf lanes publishers subscriber (attached_at key port)
+    (slice_get routes (count_by is_some (take key port.connections.values)))
 
 -- a lane, if there is one, goes over its connections as a subscriber does, if there is one
 abbrev pub FollowIf : World → List ℕ → ℕ → Option SubscriberPort → Option SubscriberLaneState → Type 0
@@ -167,7 +172,8 @@ FollowIf lanes publishers subscriber (Some port) (Some lane) = FollowKeys lanes 
 -- number of this place
 abbrev pub ReaderHolds : {T U B D : Type 0} → Domain T U B D → World → List ℕ → List ℕ → ℕ → Type 0
 ReaderHolds domain lanes publishers subscribers place =
-    FollowIf lanes publishers place (reader_if domain.state.ports.subscribers (slice_get subscribers place)) (slice_get lanes.subscribers place)
+    FollowIf lanes publishers place (reader_if domain.state.ports.subscribers (slice_get subscribers place))
+    (slice_get lanes.subscribers place)
 
 -- Lanes hold what a domain has: before their first step, its publishers and subscribers by their places, with their connections.
 pub record LanesHold {T U B D : Type 0} (payload_words : T → List ℕ) (header_words : U

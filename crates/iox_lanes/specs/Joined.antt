@@ -5,7 +5,6 @@ use Rattle.iox_domain.specs.DomainPorts.declared.publisher_port.PublisherPort.{P
 use Rattle.iox_domain.specs.DomainSlots.declared.stage.Stage.TheVariants as stage
 use Rattle.iox_lanes_opening.specs.Restored.{IsRested, place_of}
 use Rattle.iox_lanes_machine.specs.Fixed.{FixedSlots, StaysFixed, slots_at}
-use Rattle.iox_lanes_machine.specs.LanesParties.Parties.{PublisherLaneState}
 use Rattle.iox_lanes_machine.specs.Links.{LinkState}
 use Rattle.iox_lanes_machine.specs.World.{World}
 use Rattle.iox_lanes.specs.Holding.{port_if}
@@ -20,11 +19,6 @@ pub record HasSlotsOf {T U : Type 0} (port : PublisherPort T U) (fixed : FixedSl
   pub first : port.sender.uses.first ≡ 0
   pub slots : fixed.slots ≡ port.sender.uses.size
   pub kept : fixed.kept ≡ port.sender.uses.kept
-
--- a lane, if there is one, has as many slots as a publisher of the domain
-abbrev pub HasAsMany : {T U : Type 0} → PublisherPort T U → Option PublisherLaneState → Type 0
-HasAsMany port None = Unit {0}
-HasAsMany port (Some lane) = length lane.port.book.loans ≡ port.sender.uses.first + port.sender.uses.size
 
 -- the same of a publisher and a lane that may be wanting; where one is it isn't so
 abbrev pub HasSlotsIf : {T U : Type 0} → Option (PublisherPort T U) → Option FixedSlots → Type 0
@@ -86,4 +80,5 @@ pub record IsJoined {T U : Type 0} (payload_count header_count places : ℕ) (la
 abbrev pub JoinedStays : (T U : Type 0) → Type 0
 JoinedStays T U = (payload_count header_count places : ℕ) (before after : World) (ports : List (ℕ
     × PublisherPort T U)) (senders : List ℕ) (readers : ℕ) (indices : List ℕ)
-    → IsJoined payload_count header_count places before ports senders readers indices → StaysFixed before after → IsJoined payload_count header_count places after ports senders readers indices
+    → IsJoined payload_count header_count places before ports senders readers indices → StaysFixed before after
+    → IsJoined payload_count header_count places after ports senders readers indices

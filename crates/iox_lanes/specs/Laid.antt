@@ -1,5 +1,6 @@
 -- What is found of a domain that becomes lanes.
-use Rattle.std.specs.Prelude.{ℕ, zero, suc, ◌+◌, ◌-◌, ◌^◌, min, Bool, List, [], ◌∷◌, ◌++◌, flat_map, length, slice_get, slice_index, Option, None, Some}
+use Rattle.std.specs.Prelude.{ℕ, zero, suc, ◌+◌, ◌-◌, ◌^◌, min, Bool, List, [], ◌∷◌, ◌++◌, flat_map, length, slice_get, slice_index}
+use Rattle.std.specs.Prelude.{Option, None, Some}
 use Rattle.iox_domain.specs.DomainPorts.Messages.{Message}
 use Rattle.iox_domain.specs.DomainPorts.Ports.{connection_of}
 use Rattle.iox_domain.specs.DomainPorts.declared.publisher_port.PublisherPort.{PublisherPort}
@@ -46,20 +47,23 @@ words_findings payload_words header_words payload_count header_count slot node n
 -- that the words of a message of a publisher are in its slot, where the publisher's slots begin at this one
 abbrev pub message_findings : {T U : Type 0} → (T → List ℕ) → (U → List ℕ) → ℕ → ℕ → ℕ → PublisherPort T U → Message T U → List Found
 message_findings payload_words header_words payload_count header_count first port message =
-    words_findings payload_words header_words payload_count header_count (slot_in first message.slot) port.owner.node_id port.number message.elements message.user_header message.values
+    words_findings payload_words header_words payload_count header_count (slot_in first message.slot) port.owner.node_id port.number
+    message.elements message.user_header message.values
 
 -- that these are the messages of the history of the publisher at a place, oldest first: of each its words, and that it is the newest then
 abbrev pub history_findings : {T U : Type 0} → (T → List ℕ) → (U → List ℕ) → ℕ → ℕ → ℕ → ℕ → PublisherPort T U → List (Message T U)
     → List Found
 history_findings payload_words header_words payload_count header_count place first port messages =
-    flat_map (λ message. message_findings payload_words header_words payload_count header_count first port message ++ found.Newest place (slot_in first message.slot) ∷ []) messages
+    flat_map (λ message. message_findings payload_words header_words payload_count header_count first port message
+    ++ found.Newest place (slot_in first message.slot) ∷ []) messages
 
 -- that these messages wait at the connection of the publisher at a place to the subscriber at another, oldest first: of each its words,
 -- and that it waits behind those before it
 abbrev pub waiting_findings : {T U : Type 0} → (T → List ℕ) → (U → List ℕ) → ℕ → ℕ → ℕ → ℕ → ℕ → PublisherPort T U
     → List (Message T U) → List Found
 waiting_findings payload_words header_words payload_count header_count place other first port messages =
-    flat_map (λ message. message_findings payload_words header_words payload_count header_count first port message ++ found.Waiting place other (slot_in first message.slot) ∷ []) messages
+    flat_map (λ message. message_findings payload_words header_words payload_count header_count first port message
+    ++ found.Waiting place other (slot_in first message.slot) ∷ []) messages
 
 -- that as many may wait at the connection of the publisher at a place to the subscriber at another as at the one of this index in the
 -- domain, and that the messages do that wait there
@@ -94,8 +98,10 @@ sender_behind m place fails port =
 abbrev pub messages_behind : {T U : Type 0} → (T → List ℕ) → (U → List ℕ) → ℕ → ℕ → List (ℕ × SubscriberPort) → List ℕ → ℕ
     → PublisherPort T U → ℕ → World → World
 messages_behind payload_words header_words payload_count header_count readers subscribers place port first m =
-    behind_findings (behind_findings m (history_findings payload_words header_words payload_count header_count place first port port.sender.uses.history))
-    (flat_listed (λ other. link_findings payload_words header_words payload_count header_count place other first port (tie_for port (subscriber_of (slice_index subscribers other) readers))) (length subscribers))
+    behind_findings (behind_findings m (history_findings payload_words header_words payload_count header_count place first port
+    port.sender.uses.history))
+    (flat_listed (λ other. link_findings payload_words header_words payload_count header_count place other first port
+    (tie_for port (subscriber_of (slice_index subscribers other) readers))) (length subscribers))
 
 -- so it is of a whole publisher, if it is in the domain
 abbrev pub publisher_behind : {T U : Type 0} → (T → List ℕ) → (U → List ℕ) → ℕ → ℕ → List (ℕ × SubscriberPort) → List ℕ → World → ℕ

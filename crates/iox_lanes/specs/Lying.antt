@@ -9,7 +9,8 @@ use Rattle.iox_lanes_machine.specs.LanesBase.declared.words.word.SlotWord.TheVar
 -- the header of a slot says this node, this publisher and so many elements
 abbrev pub HeaderLies : TableWords → ℕ → ℕ → ℕ → ℕ → Type 0
 HeaderLies table slot node number elements =
-    (held_by table (Slot slot (Header 0)) ≡ node) × (held_by table (Slot slot (Header 1)) ≡ number) × (held_by table (Slot slot (Header 2)) ≡ elements)
+    (held_by table (Slot slot (Header 0)) ≡ node) × (held_by table (Slot slot (Header 1)) ≡ number)
+    × (held_by table (Slot slot (Header 2)) ≡ elements)
 
 -- the user header of a slot has the words of this one
 abbrev pub UserHeaderLies : {U : Type 0} → (U → List ℕ) → TableWords → ℕ → U → Type 0
@@ -30,12 +31,14 @@ PayloadLies words table slot (value ∷ more ∷ rest) = ⊥
 -- a slot has the words of a header, a user header and one value
 abbrev pub WordsLie : {T U : Type 0} → (T → List ℕ) → (U → List ℕ) → TableWords → ℕ → ℕ → ℕ → ℕ → U → List T → Type 0
 WordsLie payload_words header_words table slot node number elements user_header values =
-    HeaderLies table slot node number elements × UserHeaderLies header_words table slot user_header × PayloadLies payload_words table slot values
+    HeaderLies table slot node number elements × UserHeaderLies header_words table slot user_header
+    × PayloadLies payload_words table slot values
 
 -- a message of a publisher lies in its slot, where the publisher's slots begin at this one
 abbrev pub Lies : {T U : Type 0} → (T → List ℕ) → (U → List ℕ) → TableWords → ℕ → PublisherPort T U → Message T U → Type 0
 Lies payload_words header_words table first port message =
-    WordsLie payload_words header_words table (first + message.slot) port.owner.node_id port.number message.elements message.user_header message.values
+    WordsLie payload_words header_words table (first + message.slot) port.owner.node_id port.number message.elements message.user_header
+    message.values
 
 -- a message of a publisher, if there is one, has this slot and lies there
 abbrev pub IsLaidAt : {T U : Type 0} → (T → List ℕ) → (U → List ℕ) → TableWords → ℕ → PublisherPort T U → Option ℕ

@@ -1,5 +1,6 @@
 -- In which order the subscribers of a domain that becomes lanes go over their connections.
-use Rattle.std.specs.Prelude.{ℕ, zero, suc, ◌-◌, ◌^◌, ◌==◌, Bool, false, is_some, count_by, List, take, length, get_or, slice_get, unwrap_or, Option, None, Some}
+use Rattle.std.specs.Prelude.{ℕ, zero, suc, ◌-◌, ◌^◌, ◌==◌, Bool, false, is_some, count_by, List, take, length, get_or, slice_get}
+use Rattle.std.specs.Prelude.{unwrap_or, Option, None, Some}
 use Rattle.std.specs.List.{position}
 use Rattle.iox_domain.specs.DomainPorts.declared.attached.Attached.{Attached}
 use Rattle.iox_domain.specs.DomainPorts.declared.subscriber_port.SubscriberPort.{SubscriberPort}
@@ -41,7 +42,8 @@ swap_behind publishers subscriber to m (Some attached) =
 abbrev pub keys_behind : List ℕ → ℕ → List (Option Attached) → World → ℕ → World
 keys_behind publishers subscriber values m zero = m
 keys_behind publishers subscriber values m (suc count) =
-    swap_behind publishers subscriber (count_by is_some (take count values)) (keys_behind publishers subscriber values m count) (get_or values count None)
+    swap_behind publishers subscriber (count_by is_some (take count values)) (keys_behind publishers subscriber values m count)
+    (get_or values count None)
 
 -- behind all of the subscriber at a place, if it is in the domain
 abbrev pub reader_behind : List ℕ → ℕ → World → Option SubscriberPort → World

@@ -21,7 +21,10 @@ use Rattle.iox_lanes.specs.Joined.{HasSlotsIf, IsLinkToIf, row_of}
 -- connection of which the lanes have none, the history is that of the lanes, and all else is as it was.
 pub record IsPortLeft {T U : Type 0} (value_of : List ℕ → T) (header_of : List ℕ
     → U) (lanes : World) (from : ℕ) (row : List ℕ) (lane : PublisherLaneState) (old new : PublisherPort T U) : Type 0 where
-  pub rest : new ≡ record old { sender = with_uses (record old.sender.uses { history = new.sender.uses.history; connections = new.sender.uses.connections }) old.sender }
+  pub rest : new ≡ record old {
+    sender = with_uses (record old.sender.uses { history = new.sender.uses.history; connections = new.sender.uses.connections })
+        old.sender;
+  }
   pub count : length new.sender.uses.connections ≡ length old.sender.uses.connections
   pub each : (index : ℕ) → connection_of index new
       ≡ with_waiting (connection_of index old) (left_at value_of header_of lanes from lane.port.book.first (place_of index row))
@@ -48,7 +51,8 @@ pub record JoinsAt {T U : Type 0} (lanes : World) (port : Option (PublisherPort 
   pub link_count : place * readers + readers ≤ length lanes.links
   pub index_count : place * readers + readers ≤ length indices
   pub linking : (subscriber : ℕ) → subscriber < readers
-      → IsLinkToIf port place subscriber (row_of readers indices place) (slice_get indices (place * readers + subscriber)) (slice_get lanes.links (place * readers + subscriber))
+      → IsLinkToIf port place subscriber (row_of readers indices place) (slice_get indices (place * readers + subscriber))
+      (slice_get lanes.links (place * readers + subscriber))
 
 -- the publishers by number: each is as the lanes leave it
 abbrev pub ArePortsLeft : {T U : Type 0} → (List ℕ → T) → (List ℕ → U) → World → List ℕ → ℕ → List ℕ → List (ℕ × PublisherPort T U)

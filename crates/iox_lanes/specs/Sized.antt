@@ -79,5 +79,6 @@ AgreedSlotsSuffice = (agreed : ServiceSizes) (publishers subscribers payload_cou
     ≡ (led (happens m (Publisher place) (Begin call.LoanUninit)) entries).finished ++ ended ∷ []
     → (given : LoanAnswer) → ended.answer ≡ answer.Lent given
     → (lane : PublisherLaneState) → slice_get m.publishers place ≡ Some lane → lane.port.book.first + length lane.port.book.loans < 2 ^ 64
-    → loans_out lane.port.book < lane.port.book.most_loans → slots_used agreed subscribers lane.port.book.most_loans ≤ length lane.port.book.uses
+    → loans_out lane.port.book < lane.port.book.most_loans
+    → slots_used agreed subscribers lane.port.book.most_loans ≤ length lane.port.book.uses
     → (slot : ℕ) × (given ≡ loan.Slot slot)

@@ -1,5 +1,6 @@
 //! Lanes find what a domain has.
-ghost use Rattle.std.specs.Prelude.{◌≡◌, ◌+◌, ◌-◌, ◌*◌, ◌++◌, ◌<◌, ℕ, [], length, map, max, option_copied, slice_get, slice_index, is_some, set, true, IfOk, OnOk, None, Some};
+ghost use Rattle.std.specs.Prelude.{◌≡◌, ◌+◌, ◌-◌, ◌*◌, ◌++◌, ◌<◌, ℕ, [], length, map, max, option_copied, slice_get, slice_index};
+ghost use Rattle.std.specs.Prelude.{is_some, set, true, IfOk, OnOk, None, Some};
 ghost use Rattle.std.specs.List.{position};
 ghost use Rattle.iox_domain.specs.DomainPorts.Messages.{Message};
 ghost use Rattle.iox_domain.specs.DomainPorts.Ports.{connection_of};
@@ -11,10 +12,11 @@ ghost use Rattle.iox_lanes_opening.specs.Refusals.{first_reason};
 ghost use Rattle.iox_lanes.specs.Alone.{AreAlone, HasOne, KeepAlone};
 ghost use Rattle.iox_lanes.specs.Behind.{behind_findings, behind_finding};
 ghost use Rattle.iox_lanes.specs.Built.{slots_if, AreBuilt, HaveSlots};
-ghost use Rattle.iox_lanes.specs.Laid.{first_slot, flat_listed, header_findings, history_findings, link_findings, message_findings, publishers_behind, sender_behind, slots_in, value_findings, waiting_findings};
+ghost use Rattle.iox_lanes.specs.Laid.{first_slot, flat_listed, header_findings, history_findings, link_findings, message_findings};
+ghost use Rattle.iox_lanes.specs.Laid.{publishers_behind, sender_behind, slots_in, value_findings, waiting_findings};
 ghost use Rattle.iox_lanes.specs.Ordered.{keys_behind, leads_here, route_place, reader_behind, readers_behind};
 ghost use Rattle.iox_lanes.specs.Failing.{asked, failing, FailAsAsked};
-ghost use Rattle.iox_lanes.specs.Holding.{kind_of, numbers_of, AreThere};
+ghost use Rattle.iox_lanes.specs.Holding.{kind_of, numbers_of, reader_if, AreThere};
 ghost use Rattle.iox_lanes.specs.Sized.{AreAgreed, AreSized};
 ghost use Rattle.iox_lanes.specs.Tied.{tie_for, ties_for, AreTies};
 ghost use Rattle.iox_lanes_machine.specs.Resting.{AllBetween};
@@ -22,7 +24,6 @@ ghost use Rattle.iox_lanes_machine.specs.WholeReads.{CameTo};
 
 use crate::domain_lanes::Opened;
 use crate::finding::NewLanes;
-use crate::linking::subscriber_at;
 use crate::listed::{publishers_listed, subscribers_listed};
 use iox_domain::Domain;
 use iox_domain_ports::reading::waiting_at;
@@ -276,7 +277,8 @@ fn find_connections<T: Words, U: Words>(
         (tie_for port.now (subscriber_of (slice_index subscribers.now other) domain.now.state.ports.subscribers)))
         (length subscribers.now))) }
     ensures alone { OnOk result ((other : ℕ) → other < length subscribers.now → AreAlone port.now
-        (connection_of (tie_for port.now (subscriber_of (slice_index subscribers.now other) domain.now.state.ports.subscribers)) port.now).waiting) }
+        (connection_of (tie_for port.now (subscriber_of (slice_index subscribers.now other) domain.now.state.ports.subscribers))
+        port.now).waiting) }
 {
     for other in 0..subscribers.len() {
         let index = tie_to(domain, port, subscribers[other]);
@@ -452,6 +454,20 @@ fn find_orders<T: Words, U: Words>(
         )?;
     }
     Ok(())
+}
+
+/// The subscriber whose number stands at a place, if there is one.
+pub(crate) fn subscriber_at<'a, T: Words, U: Words>(
+    domain: &'a Domain<T, U>,
+    subscribers: &[u64],
+    place: usize,
+) -> Option<&'a SubscriberPort>
+    ensures { option_copied result ≡ reader_if domain.now.state.ports.subscribers (slice_get subscribers.now place) }
+{
+    match subscribers.get(place) {
+        Some(number) => domain.state.ports.subscribers.get(*number),
+        None => None,
+    }
 }
 
 fn find_reader(

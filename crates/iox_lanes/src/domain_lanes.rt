@@ -1,5 +1,5 @@
 //! Lanes with the domain that they came from.
-ghost use Rattle.std.specs.Prelude.{◌≡◌, length, IfSome, IfOk, IfErr, OnOk, None};
+ghost use Rattle.std.specs.Prelude.{◌≡◌, length, IfOk, IfErr, OnOk, None};
 ghost use Rattle.iox_lanes_opening.specs.Refusals.{first_reason};
 ghost use Rattle.iox_lanes_machine.specs.Resting.{AllBetween};
 ghost use Rattle.iox_lanes_machine.specs.WholeReads.{CameTo};
@@ -10,13 +10,11 @@ ghost use Rattle.iox_lanes.specs.Joined.{IsJoined};
 ghost use Rattle.iox_lanes.specs.Sized.{AreSized};
 
 use crate::building::build;
-use crate::holding::hold;
-use crate::joining::joins;
 use iox_domain::Domain;
 use iox_lanes_machine::Lanes;
 use iox_lanes_opening::refusals::{IntoLanesError, refusal};
 use iox_queues_base::Words;
-use std::alloc::Global;
+use std::alloc::{AllocError, Global};
 
 /// The ports of a domain as lanes, and the domain as it was when they began.
 ///
@@ -64,9 +62,8 @@ pub(crate) struct Opened<T> {
 /// holds of them. Their sizes are those that the service agreed on: its buffer, one message at least, its borrow limit and its
 /// history.
 ///
-/// Refused with the first reason of `refusal` that applies, else with `OutOfMemory` where an allocation fails, or for ports that no
-/// calls leave: one that is listed twice, or whose mailbox or history has a slot twice or more messages than it may. Then the domain
-/// is handed back as it was.
+/// Refused with the first reason of `refusal` that applies, before anything is built; else with `OutOfMemory`, only where an allocation
+/// fails. Then the domain is handed back as it was. Of what is built nothing is tested: that it holds what the domain has is proved.
 pub fn into_lanes<T: Words, U: Words>(
     alloc: Global,
     domain: Domain<T, U>,
@@ -89,8 +86,8 @@ pub fn into_lanes<T: Words, U: Words>(
         return Err(Refused { error, domain });
     }
     match open(alloc, &domain) {
-        Some(opened) => Ok(with(opened, domain)),
-        None => Err(Refused {
+        Ok(opened) => Ok(with(opened, domain)),
+        Err(_) => Err(Refused {
             error: IntoLanesError::OutOfMemory,
             domain,
         }),
@@ -99,7 +96,15 @@ pub fn into_lanes<T: Words, U: Words>(
 
 // The lanes beside their domain.
 fn with<T, U>(opened: Opened<T>, domain: Domain<T, U>) -> DomainLanes<T, U>
-    ensures { result ≡ record { lanes = opened.lanes; domain = domain; publishers = opened.publishers; subscribers = opened.subscribers; connections = opened.connections; one = opened.one } }
+    ensures { result ≡ record {
+      lanes = opened.lanes;
+      domain = domain;
+      publishers = opened.publishers;
+      subscribers = opened.subscribers;
+      connections
+          = opened.connections;
+      one = opened.one;
+    } }
 {
     DomainLanes {
         lanes: opened.lanes,
@@ -111,27 +116,19 @@ fn with<T, U>(opened: Opened<T>, domain: Domain<T, U>) -> DomainLanes<T, U>
     }
 }
 
-// The lanes of a domain, if memory is found for them.
-fn open<T: Words, U: Words>(alloc: Global, domain: &Domain<T, U>) -> Option<Opened<T>>
+// The lanes of a domain, unless an allocation fails.
+fn open<T: Words, U: Words>(alloc: Global, domain: &Domain<T, U>) -> Result<Opened<T>, AllocError>
     requires { first_reason domain.now ≡ None }
-    ensures came { IfSome result (λ opened. CameTo opened.lanes) }
-    ensures between { IfSome result (λ opened. AllBetween opened.lanes) }
-    ensures sized { IfSome result (λ opened. AreSized domain.now.state.ports.sizes (length opened.publishers.items)
+    ensures came { IfOk result (λ opened. CameTo opened.lanes) }
+    ensures between { IfOk result (λ opened. AllBetween opened.lanes) }
+    ensures sized { IfOk result (λ opened. AreSized domain.now.state.ports.sizes (length opened.publishers.items)
         (length opened.subscribers.items) T.WORDS U.WORDS opened.lanes) }
-    ensures joined { IfSome result (λ opened. IsJoined T.WORDS U.WORDS (length opened.one.items) opened.lanes
+    ensures joined { IfOk result (λ opened. IsJoined T.WORDS U.WORDS (length opened.one.items) opened.lanes
         domain.now.state.ports.publishers opened.publishers.items (length opened.subscribers.items) opened.connections.items) }
-    ensures holds { IfSome result (λ opened. LanesHold T.parts U.parts T.WORDS U.WORDS domain.now opened.lanes opened.publishers.items
+    ensures holds { IfOk result (λ opened. LanesHold T.parts U.parts T.WORDS U.WORDS domain.now opened.lanes opened.publishers.items
         opened.subscribers.items opened.connections.items) }
-    ensures fails { IfSome result (λ opened. FailAsAsked domain.now opened.lanes opened.publishers.items) }
+    ensures fails { IfOk result (λ opened. FailAsAsked domain.now opened.lanes opened.publishers.items) }
 {
-    match build(alloc, domain) {
-        Ok(opened) => {
-            if hold(domain, &opened) && joins(domain, &opened) {
-                Some(opened)
-            } else {
-                None
-            }
-        }
-        Err(_) => None,
-    }
+    let opened = build(alloc, domain)?;
+    Ok(opened)
 }

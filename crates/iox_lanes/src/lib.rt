@@ -4,10 +4,6 @@
 //! - `listed`: the numbers of the ports, by their places.
 //! - `finding`: lanes before their first step.
 //! - `building`: they find what the domain has.
-//! - `sending`, `linking`, `receiving`: whether publishers, connections and subscribers of the lanes have the messages and the order of
-//!   those of the domain.
-//! - `holding`: whether lanes that are built of a domain hold what it has.
-//! - `joining`: whether they go with it, whatever steps they make.
 //! - [`returning`]: the domain that lanes leave.
 //! - [`into_domain_error`]: why lanes don't become a domain.
 //! - [`threads`]: the ports of a domain in threads of their own.
@@ -32,15 +28,10 @@
 mod building;
 pub mod domain_lanes;
 mod finding;
-mod holding;
 pub mod into_domain_error;
-mod joining;
 pub mod laws;
-mod linking;
 mod listed;
-mod receiving;
 pub mod returning;
-mod sending;
 pub mod threads;
 
 pub use domain_lanes::{DomainLanes, Refused, into_lanes};

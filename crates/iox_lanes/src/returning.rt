@@ -1,5 +1,6 @@
 //! The domain that lanes leave.
-ghost use Rattle.std.specs.Prelude.{◌≡◌, ◌+◌, ◌*◌, ◌^◌, ◌<◌, ◌≤◌, ℕ, IfErr, IfOk, OnOk, length, slice_get, option_copied, vec_capacity, IfSome, None, Some, false};
+ghost use Rattle.std.specs.Prelude.{◌≡◌, ◌+◌, ◌*◌, ◌^◌, ◌<◌, ◌≤◌, ℕ, IfErr, IfOk, OnOk, length, slice_get, option_copied, vec_capacity};
+ghost use Rattle.std.specs.Prelude.{IfSome, None, Some, false};
 ghost use Rattle.std.specs.Bool.{OnTrue};
 ghost use Rattle.iox_domain.specs.DomainPorts.MessagesSending.{with_uses};
 ghost use Rattle.iox_domain.specs.DomainPorts.Publishers.{port_of};
@@ -46,8 +47,10 @@ impl<T: Words, U: Words> DomainLanes<T, U> {
         ensures same { IfOk result (λ domain. self.lanes.moments ≡ 0 → domain ≡ self.domain) }
         ensures rest { IfOk result (λ domain. OnlyPublishers self.domain domain) }
         ensures left { IfOk result (λ domain. 0 < self.lanes.moments → self.lanes.moments ≤ 2 ^ 63
-            → IsJoined T.WORDS U.WORDS (length self.one.items) self.lanes self.domain.state.ports.publishers self.publishers.items (length self.subscribers.items) self.connections.items
-            → ArePortsLeft T.of_parts U.of_parts self.lanes self.publishers.items (length self.subscribers.items) self.connections.items self.domain.state.ports.publishers domain.state.ports.publishers) }
+            → IsJoined T.WORDS U.WORDS (length self.one.items) self.lanes self.domain.state.ports.publishers self.publishers.items
+            (length self.subscribers.items) self.connections.items
+            → ArePortsLeft T.of_parts U.of_parts self.lanes self.publishers.items (length self.subscribers.items) self.connections.items
+            self.domain.state.ports.publishers domain.state.ports.publishers) }
     {
         if let Some(unrest) = self.lanes.unrest() {
             return Err(StillLanes {
@@ -78,7 +81,8 @@ fn returned<T: Words, U: Words>(opened: DomainLanes<T, U>) -> Domain<T, U>
     ensures left { AllRest opened.lanes
         → IsJoined T.WORDS U.WORDS (length opened.one.items) opened.lanes opened.domain.state.ports.publishers opened.publishers.items
         (length opened.subscribers.items) opened.connections.items
-        → ArePortsLeft T.of_parts U.of_parts opened.lanes opened.publishers.items (length opened.subscribers.items) opened.connections.items opened.domain.state.ports.publishers result.state.ports.publishers }
+        → ArePortsLeft T.of_parts U.of_parts opened.lanes opened.publishers.items (length opened.subscribers.items)
+        opened.connections.items opened.domain.state.ports.publishers result.state.ports.publishers }
 {
     let DomainLanes {
         lanes,
@@ -171,7 +175,8 @@ fn restore_publisher<T: Words, U: Words>(
     requires whole { IsWhole T.WORDS U.WORDS lanes.now.table }
     ensures others { (other : ℕ) → (other ≡ number → ⊥) → port_of other publishers.new ≡ port_of other publishers.old }
     ensures this { AllRest lanes.now → JoinsAt lanes.now (port_of number publishers.old) place readers indices.now
-        → IsPortLeftIf T.of_parts U.of_parts lanes.now (place * readers) (row_of readers indices.now place) (slice_get lanes.now.publishers place) (port_of number publishers.old) (port_of number publishers.new) }
+        → IsPortLeftIf T.of_parts U.of_parts lanes.now (place * readers) (row_of readers indices.now place)
+        (slice_get lanes.now.publishers place) (port_of number publishers.old) (port_of number publishers.new) }
     ensures room { vec_capacity one.new ≡ vec_capacity one.old }
 {
     if let Some(port) = publishers.get_mut(number) {
@@ -191,7 +196,8 @@ fn restore_port<T: Words, U: Words>(
     requires room { 0 < vec_capacity one.old }
     requires whole { IsWhole T.WORDS U.WORDS lanes.now.table }
     ensures left { AllRest lanes.now → JoinsAt lanes.now (Some port.old) place readers indices.now
-        → IsPortLeftIf T.of_parts U.of_parts lanes.now (place * readers) (row_of readers indices.now place) (slice_get lanes.now.publishers place) (Some port.old) (Some port.new) }
+        → IsPortLeftIf T.of_parts U.of_parts lanes.now (place * readers) (row_of readers indices.now place)
+        (slice_get lanes.now.publishers place) (Some port.old) (Some port.new) }
     ensures room { vec_capacity one.new ≡ vec_capacity one.old }
 {
     lanes.are_of_one_service();

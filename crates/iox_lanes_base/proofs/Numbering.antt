@@ -10,7 +10,8 @@ use Rattle.iox_lanes_base.specs.declared.words.word.SlotWord.TheVariants.{Header
 use Rattle.iox_lanes_base.specs.declared.words.word.SharedWord.{SharedWord}
 use Rattle.iox_lanes_base.specs.declared.words.word.SharedWord.TheVariants.{Ring, Slot}
 use Rattle.iox_lanes_base.specs.declared.words.sizes.TableSizes.{TableSizes}
-use Rattle.iox_lanes_base.specs.Numbers.{connection_words, slot_words, slots_first, ring_offset, ring_word_number, slot_word_number, number_of, most_cells, IsRingWord, IsSlotWord, IsWord, IsSmall, AreApart, AreWithin}
+use Rattle.iox_lanes_base.specs.Numbers.{connection_words, slot_words, slots_first, ring_offset, ring_word_number, slot_word_number}
+use Rattle.iox_lanes_base.specs.Numbers.{number_of, most_cells, IsRingWord, IsSlotWord, IsWord, IsSmall, AreApart, AreWithin}
 
 -- rows of one width: a place has one row and one column
 same_place : (w a b o p : ℕ) → o < w → p < w → a * w + o ≡ b * w + p → (a ≡ b) × (o ≡ p)
@@ -75,7 +76,12 @@ same_slot_word sizes (Payload x) (Payload y) h k e = ap (λ (n : ℕ). Payload n
 before_slots : (sizes : TableSizes) (connection : ℕ) (ring : ConnectionRing) (word : Word) → connection < sizes.connections
     → IsRingWord (most_cells sizes ring) word → number_of sizes (Ring connection ring word) < slots_first sizes
 before_slots sizes connection ring word h k =
-    omega (arith, in_connection sizes ring word k, row_fits connection (connection_words sizes) sizes.connections (connection_words sizes) h (omega arith))
+    omega (
+      arith,
+      in_connection sizes ring word k,
+      row_fits connection (connection_words sizes) sizes.connections (connection_words sizes)
+          h (omega arith),
+    )
 
 ring_same : (c d : ℕ) (r s : ConnectionRing) (x y : Word) → c ≡ d → (r ≡ s) × (x ≡ y) → Ring c r x ≡ Ring d s y
 ring_same c d r s x y e f = cc (e, f.0, f.1)
@@ -86,18 +92,21 @@ slot_same c d x y e f = cc (e, f)
 pub apart : AreApart
 apart sizes (Ring c r x) (Ring d s y) h k e =
     let same : (c ≡ d) × (ring_offset sizes r + ring_word_number x ≡ ring_offset sizes s + ring_word_number y) =
-    same_place (connection_words sizes) c d (ring_offset sizes r + ring_word_number x) (ring_offset sizes s + ring_word_number y) (in_connection sizes r x h.1) (in_connection sizes s y k.1) (omega (arith, e)) in
+    same_place (connection_words sizes) c d (ring_offset sizes r + ring_word_number x) (ring_offset sizes s + ring_word_number y)
+    (in_connection sizes r x h.1) (in_connection sizes s y k.1) (omega (arith, e)) in
     ring_same c d r s x y same.0 (same_in_connection sizes r s x y h.1 k.1 same.1)
 apart sizes (Ring c r x) (Slot d y) h k e = absurd (omega (arith, e, before_slots sizes c r x h.0 h.1))
 apart sizes (Slot c x) (Ring d s y) h k e = absurd (omega (arith, e, before_slots sizes d s y k.0 k.1))
 apart sizes (Slot c x) (Slot d y) h k e =
     let same : (c ≡ d) × (slot_word_number sizes x ≡ slot_word_number sizes y) =
-    same_place (slot_words sizes) c d (slot_word_number sizes x) (slot_word_number sizes y) (in_slot sizes x h.1) (in_slot sizes y k.1) (omega (arith, e)) in
+    same_place (slot_words sizes) c d (slot_word_number sizes x) (slot_word_number sizes y) (in_slot sizes x h.1) (in_slot sizes y k.1)
+    (omega (arith, e)) in
     slot_same c d x y same.0 (same_slot_word sizes x y h.1 k.1 same.1)
 
 pub within : AreWithin
 within sizes (Ring c r x) h = (omega arith, omega (arith, before_slots sizes c r x h.0 h.1))
-within sizes (Slot c x) h = (omega arith, omega (arith, in_slot sizes x h.1, row_fits c (slot_words sizes) sizes.slots (slot_words sizes) h.0 (omega arith)))
+within sizes (Slot c x) h
+    = (omega arith, omega (arith, in_slot sizes x h.1, row_fits c (slot_words sizes) sizes.slots (slot_words sizes) h.0 (omega arith)))
 
 -- a word's number has 64 bits
 pub number_fits : (sizes : TableSizes) (word : SharedWord) → IsWord sizes word → IsSmall sizes → number_of sizes word < 2 ^ 64

@@ -26,7 +26,9 @@ use Rattle.iox_lanes_base.specs.Answers.{refusing_pop_answer, push_answer}
 use Rattle.iox_lanes_base.specs.declared.calls.route.Route.{Route}
 use Rattle.iox_lanes_base.specs.declared.calls.publisher.Delivery.{Delivery}
 use Rattle.iox_lanes_base.specs.declared.calls.publisher.PublisherCall.{PublisherCall}
-use Rattle.iox_lanes_base.specs.declared.calls.publisher.PublisherCall.TheVariants.{Idle, LoanReclaims, Lending, Writing, Written, Heading, Remembering, SendReclaims, Pushing, Sent, Dropping}
+use Rattle.iox_lanes_base.specs.declared.calls.publisher.PublisherCall.TheVariants.{Idle, LoanReclaims, Lending, Writing, Written}
+use Rattle.iox_lanes_base.specs.declared.calls.publisher.PublisherCall.TheVariants.{Heading, Remembering, SendReclaims, Pushing, Sent}
+use Rattle.iox_lanes_base.specs.declared.calls.publisher.PublisherCall.TheVariants.{Dropping}
 use Rattle.iox_lanes_base.specs.declared.calls.publisher.PublisherChange.{PublisherChange}
 use Rattle.iox_lanes_base.specs.declared.calls.publisher.PublisherChange.TheVariants as change
 

@@ -23,7 +23,8 @@ use Rattle.iox_lanes_base.specs.declared.calls.subscriber.Receipt.{Receipt}
 use Rattle.iox_lanes_base.specs.declared.calls.subscriber.Receipt.TheVariants as receipt
 use Rattle.iox_lanes_base.specs.declared.calls.subscriber.SlotExtent.{SlotExtent}
 use Rattle.iox_lanes_base.specs.declared.calls.subscriber.SubscriberCall.{SubscriberCall}
-use Rattle.iox_lanes_base.specs.declared.calls.subscriber.SubscriberCall.TheVariants.{Idle, Receiving, Received, Reading, WasRead, Releasing, Released}
+use Rattle.iox_lanes_base.specs.declared.calls.subscriber.SubscriberCall.TheVariants.{Idle, Receiving, Received, Reading, WasRead}
+use Rattle.iox_lanes_base.specs.declared.calls.subscriber.SubscriberCall.TheVariants.{Releasing, Released}
 use Rattle.iox_lanes_base.specs.declared.calls.subscriber.SubscriberChange.{SubscriberChange}
 use Rattle.iox_lanes_base.specs.declared.calls.subscriber.SubscriberChange.TheVariants as change
 

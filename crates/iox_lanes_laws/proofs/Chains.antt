@@ -1,5 +1,6 @@
 -- Behind a call that no other call overlaps the next one may begin.
-use Rattle.std.proofs.Common.{ℕ, zero, suc, ◌≡◌, ◌<◌, ◌≤◌, ◌^◌, List, get_or, slice_get, Option, Some, None, is_some, Bool, false, refl, sym, subst, arith}
+use Rattle.std.proofs.Common.{ℕ, zero, suc, ◌≡◌, ◌<◌, ◌≤◌, ◌^◌, List, get_or, slice_get, Option, Some, None, is_some, Bool, false, refl}
+use Rattle.std.proofs.Common.{sym, subst, arith}
 use Rattle.std.specs.List.{All}
 use Rattle.std.proofs.lemmas.Option.{slice_get-get_or}
 use Rattle.iox_lanes_machine.specs.QueuesSteps.Access.{successor}

@@ -25,12 +25,14 @@ use Rattle.iox_lanes_base.specs.declared.calls.subscriber.SubscriberCall.TheVari
 use Rattle.iox_lanes_laws.specs.Changes.{moves, is_of_slots, is_of_samples, PublishersKeepPace, SubscribersKeepPace, LimitsHold}
 
 -- after the write position was loaded nothing is back yet
-nothing_back : (place read : ℕ) (empty : Bool) → is_of_slots (taken_back place (refusing_pop_answer (refusing.pop_emptied empty read))) ≡ false
+nothing_back : (place read : ℕ) (empty : Bool)
+    → is_of_slots (taken_back place (refusing_pop_answer (refusing.pop_emptied empty read))) ≡ false
 nothing_back place read true = refl
 nothing_back place read false = refl
 
 takes_back : (connection cells place answer : ℕ) (p : refusing_pop_type.Pop)
-    → is_of_slots (taken_back place (refusing_pop_answer (refusing.pop_take p answer))) ≡ moves (on_ring connection Completion cells (refusing.pop_next p)) answer
+    → is_of_slots (taken_back place (refusing_pop_answer (refusing.pop_take p answer)))
+    ≡ moves (on_ring connection Completion cells (refusing.pop_next p)) answer
 takes_back connection cells place answer refusing_pop.Idle = refl
 takes_back connection cells place answer refusing_pop.Begun = refl
 takes_back connection cells place answer (refusing_pop.SawRead read) = nothing_back place read (answer == read)
@@ -42,18 +44,21 @@ takes_back connection cells place answer (refusing_pop.LookRead read) = refl
 takes_back connection cells place answer (refusing_pop.Looked some) = refl
 
 -- the oldest leaves exactly if the exchange is won
-left_out : (place oldest : ℕ) (won : Bool) → is_of_slots (if won then publisher_change.LeftOut place oldest else publisher_change.Nothing) ≡ won
+left_out : (place oldest : ℕ) (won : Bool)
+    → is_of_slots (if won then publisher_change.LeftOut place oldest else publisher_change.Nothing) ≡ won
 left_out place oldest true = refl
 left_out place oldest false = refl
 
-pushes : (connection cells place answer : ℕ) (p : Push) → is_of_slots (push_change place p answer) ≡ moves (on_ring connection Submission cells (push_next p)) answer
+pushes : (connection cells place answer : ℕ) (p : Push)
+    → is_of_slots (push_change place p answer) ≡ moves (on_ring connection Submission cells (push_next p)) answer
 pushes connection cells place answer (push.Overflowing overflowing_push.Idle) = refl
 pushes connection cells place answer (push.Overflowing (overflowing_push.Begun limit value)) = refl
 pushes connection cells place answer (push.Overflowing (overflowing_push.SawWrite limit value write next)) = refl
 pushes connection cells place answer (push.Overflowing (overflowing_push.SawRead limit value write next read)) = refl
 pushes connection cells place answer (push.Overflowing (overflowing_push.Filled limit value write next read)) = refl
 pushes connection cells place answer (push.Overflowing (overflowing_push.Full value read next)) = refl
-pushes connection cells place answer (push.Overflowing (overflowing_push.SawOldest value read next oldest)) = left_out place oldest (answer == read)
+pushes connection cells place answer (push.Overflowing (overflowing_push.SawOldest value read next oldest))
+    = left_out place oldest (answer == read)
 pushes connection cells place answer (push.Overflowing (overflowing_push.Pushed value answered)) = refl
 pushes connection cells place answer (push.Refusing refusing_push.Idle) = refl
 pushes connection cells place answer (push.Refusing (refusing_push.Begun limit value)) = refl
@@ -76,25 +81,30 @@ publishers_keep_pace (publisher.Sent slot delivery) answer = refl
 publishers_keep_pace (publisher.Dropping slot) answer = refl
 
 -- after the write position was loaded nothing is borrowed yet
-nothing_borrowed : (place read : ℕ) (empty : Bool) → is_of_samples (borrowed_by place (pop_answer (pop.Overflowing (overflowing.pop_emptied empty read)))) ≡ false
+nothing_borrowed : (place read : ℕ) (empty : Bool)
+    → is_of_samples (borrowed_by place (pop_answer (pop.Overflowing (overflowing.pop_emptied empty read)))) ≡ false
 nothing_borrowed place read true = refl
 nothing_borrowed place read false = refl
 
-nothing_taken : (place read : ℕ) (empty : Bool) → is_of_samples (borrowed_by place (pop_answer (pop.Refusing (refusing.pop_emptied empty read)))) ≡ false
+nothing_taken : (place read : ℕ) (empty : Bool)
+    → is_of_samples (borrowed_by place (pop_answer (pop.Refusing (refusing.pop_emptied empty read)))) ≡ false
 nothing_taken place read true = refl
 nothing_taken place read false = refl
 
 -- a slot is borrowed exactly if the exchange is won
-swapped : (place found value : ℕ) (won : Bool) → is_of_samples (borrowed_by place (pop_answer (pop.Overflowing (overflowing.pop_swapped won found value)))) ≡ won
+swapped : (place found value : ℕ) (won : Bool)
+    → is_of_samples (borrowed_by place (pop_answer (pop.Overflowing (overflowing.pop_swapped won found value)))) ≡ won
 swapped place found value true = refl
 swapped place found value false = refl
 
-borrows : (connection cells place answer : ℕ) (p : Pop) → is_of_samples (borrowed_by place (pop_answer (pop_take p answer))) ≡ moves (on_ring connection Submission cells (pop_next p)) answer
+borrows : (connection cells place answer : ℕ) (p : Pop)
+    → is_of_samples (borrowed_by place (pop_answer (pop_take p answer))) ≡ moves (on_ring connection Submission cells (pop_next p)) answer
 borrows connection cells place answer (pop.Overflowing overflowing_pop.Idle) = refl
 borrows connection cells place answer (pop.Overflowing overflowing_pop.Begun) = refl
 borrows connection cells place answer (pop.Overflowing (overflowing_pop.SawRead read)) = nothing_borrowed place read (answer == read)
 borrows connection cells place answer (pop.Overflowing (overflowing_pop.Nonempty read next)) = refl
-borrows connection cells place answer (pop.Overflowing (overflowing_pop.SawCell read next value)) = swapped place answer value (answer == read)
+borrows connection cells place answer (pop.Overflowing (overflowing_pop.SawCell read next value))
+    = swapped place answer value (answer == read)
 borrows connection cells place answer (pop.Overflowing (overflowing_pop.Popped got)) = refl
 borrows connection cells place answer (pop.Overflowing overflowing_pop.LookBegun) = refl
 borrows connection cells place answer (pop.Overflowing (overflowing_pop.LookRead read)) = refl
@@ -109,7 +119,8 @@ borrows connection cells place answer (pop.Refusing refusing_pop.LookBegun) = re
 borrows connection cells place answer (pop.Refusing (refusing_pop.LookRead read)) = refl
 borrows connection cells place answer (pop.Refusing (refusing_pop.Looked some)) = refl
 
-gives_back : (connection cells place answer : ℕ) (p : refusing_push_type.Push) → is_of_samples (given_back_by place p) ≡ moves (on_ring connection Completion cells (refusing.push_next p)) answer
+gives_back : (connection cells place answer : ℕ) (p : refusing_push_type.Push)
+    → is_of_samples (given_back_by place p) ≡ moves (on_ring connection Completion cells (refusing.push_next p)) answer
 gives_back connection cells place answer refusing_push.Idle = refl
 gives_back connection cells place answer (refusing_push.Begun limit value) = refl
 gives_back connection cells place answer (refusing_push.SawWrite limit value write next) = refl

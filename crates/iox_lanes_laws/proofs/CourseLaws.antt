@@ -1,5 +1,6 @@
 -- The accesses of whole calls, step by step.
-use Rattle.std.proofs.Common.{ℕ, suc, ◌≡◌, ◌+◌, ◌-◌, ◌<◌, ◌^◌, ◌%◌, ◌==◌, Bool, true, false, if◌then◌else◌, List, [], ◌∷◌, length, slice_get, Option, refl, ◌∙◌, ap, arith}
+use Rattle.std.proofs.Common.{ℕ, suc, ◌≡◌, ◌+◌, ◌-◌, ◌<◌, ◌^◌, ◌%◌, ◌==◌, Bool, true, false, if◌then◌else◌, List, [], ◌∷◌, length}
+use Rattle.std.proofs.Common.{slice_get, Option, refl, ◌∙◌, ap, arith}
 use Rattle.iox_queues_steps.specs.Access.{successor}
 use Rattle.iox_queues_steps.specs.declared.access.Word.TheVariants.{Write, Read, Cell}
 use Rattle.iox_queues_steps.specs.Refusing.{pop_emptied}
@@ -12,7 +13,8 @@ use Rattle.iox_lanes_base.specs.Answers.{refusing_pop_answer}
 use Rattle.iox_lanes_base.specs.Publishing.{loan_at, loan_from, loan_reclaimed, write_at, write_from}
 use Rattle.iox_lanes_base.specs.declared.calls.route.Route.{Route}
 use Rattle.iox_lanes_base.specs.declared.calls.publisher.PublisherCall.TheVariants.{Idle, LoanReclaims, Lending, Written}
-use Rattle.iox_lanes_laws.specs.Courses.{publisher_course, quiet_course, back, reclaim_course, loan_course, write_course, LoansTakeBack, WritesStore}
+use Rattle.iox_lanes_laws.specs.Courses.{publisher_course, quiet_course, back, reclaim_course, loan_course, write_course, LoansTakeBack}
+use Rattle.iox_lanes_laws.specs.Courses.{WritesStore}
 
 -- positions in a list are as large as they are
 pub next_place : (k : ℕ) → k < 2 ^ 64 - 1 → successor k ≡ k + 1
@@ -37,7 +39,8 @@ loan_course_none (route ∷ routes) = refl
 after_one : (routes : List Route) (words : List ℕ) (place : ℕ) (route : Route) (next : List ℕ → List SharedAccess)
     → ((answers : List ℕ) → publisher_course routes words (loan_at routes (successor place)) answers ≡ next answers)
     → (equal : Bool) (read slot : ℕ)
-    → publisher_course routes words (loan_reclaimed routes place route (pop_emptied equal read) (refusing_pop_answer (pop_emptied equal read))) (slot ∷ [])
+    → publisher_course routes words (loan_reclaimed routes place route (pop_emptied equal read)
+    (refusing_pop_answer (pop_emptied equal read))) (slot ∷ [])
     ≡ (if equal then next (slot ∷ []) else Load (back route (Cell (read % route.completion_cells))) ∷ [])
 after_one routes words place route next follows true read slot = follows (slot ∷ [])
 after_one routes words place route next follows false read slot = refl
@@ -47,12 +50,15 @@ after_more : (routes : List Route) (words : List ℕ) (place : ℕ) (route : Rou
     → ((answers : List ℕ) → publisher_course routes words (loan_at routes (successor place)) answers ≡ next answers)
     → (equal : Bool) (read slot stored : ℕ) (answers : List ℕ)
     → publisher_course routes words (LoanReclaims place route Begun) answers ≡ reclaim_course route next answers
-    → publisher_course routes words (loan_reclaimed routes place route (pop_emptied equal read) (refusing_pop_answer (pop_emptied equal read))) (slot ∷ stored ∷ answers)
+    → publisher_course routes words (loan_reclaimed routes place route (pop_emptied equal read)
+    (refusing_pop_answer (pop_emptied equal read))) (slot ∷ stored ∷ answers)
     ≡ (if equal then next (slot ∷ stored ∷ answers)
-    else Load (back route (Cell (read % route.completion_cells))) ∷ Store (back route Read) (successor read) ∷ reclaim_course route next answers)
+    else Load (back route (Cell (read % route.completion_cells))) ∷ Store (back route Read) (successor read)
+    ∷ reclaim_course route next answers)
 after_more routes words place route next follows true read slot stored answers again = follows (slot ∷ stored ∷ answers)
 after_more routes words place route next follows false read slot stored answers again =
-    ap (λ (rest : List SharedAccess). Load (back route (Cell (read % route.completion_cells))) ∷ Store (back route Read) (successor read) ∷ rest) again
+    ap (λ (rest : List SharedAccess). Load (back route (Cell (read % route.completion_cells)))
+    ∷ Store (back route Read) (successor read) ∷ rest) again
 
 -- taking back at one connection
 reclaims : (routes : List Route) (words : List ℕ) (place : ℕ) (route : Route) (next : List ℕ → List SharedAccess)
@@ -74,7 +80,8 @@ loan_run : (routes : List Route) (words : List ℕ) (k : ℕ) (rest : List Route
     → ((i j : ℕ) → j ≡ k + i → slice_get routes j ≡ slice_get rest i) → k + length rest < 2 ^ 64 - 1
     → (answers : List ℕ) → publisher_course routes words (loan_at routes k) answers ≡ loan_course rest answers
 loan_run routes words k [] same small answers =
-    ap (λ (found : Option Route). publisher_course routes words (loan_from k found) answers) (same 0 k (omega arith)) ∙ lending_course routes words answers
+    ap (λ (found : Option Route). publisher_course routes words (loan_from k found) answers) (same 0 k (omega arith)) ∙ lending_course
+    routes words answers
 loan_run routes words k (route ∷ rest) same small answers =
     ap (λ (found : Option Route). publisher_course routes words (loan_from k found) answers) (same 0 k (omega arith))
     ∙ reclaims routes words k route (loan_course rest)
@@ -83,7 +90,8 @@ loan_run routes words k (route ∷ rest) same small answers =
     answers
 
 pub loans_take_back : LoansTakeBack
-loans_take_back routes words answers small = loan_run routes words 0 routes (λ i j e. ap (λ (n : ℕ). slice_get routes n) (omega (arith, e))) (omega (arith, small)) answers
+loans_take_back routes words answers small
+    = loan_run routes words 0 routes (λ i j e. ap (λ (n : ℕ). slice_get routes n) (omega (arith, e))) (omega (arith, small)) answers
 
 -- a write that ends
 written_course : (routes : List Route) (words : List ℕ) (slot : ℕ) (answers : List ℕ) (k : ℕ)
@@ -96,7 +104,8 @@ write_run : (routes : List Route) (words : List ℕ) (slot k : ℕ) (rest : List
     → ((i j : ℕ) → j ≡ k + i → slice_get words j ≡ slice_get rest i) → k + length rest < 2 ^ 64 - 1
     → (answers : List ℕ) → publisher_course routes words (write_at words slot k) answers ≡ write_course slot k rest answers
 write_run routes words slot k [] same small answers =
-    ap (λ (found : Option ℕ). publisher_course routes words (write_from slot k found) answers) (same 0 k (omega arith)) ∙ written_course routes words slot answers k
+    ap (λ (found : Option ℕ). publisher_course routes words (write_from slot k found) answers) (same 0 k (omega arith)) ∙ written_course
+    routes words slot answers k
 write_run routes words slot k (value ∷ rest) same small [] = refl
 write_run routes words slot k (value ∷ rest) same small (answer ∷ answers) =
     ap (λ (found : Option ℕ). publisher_course routes words (write_from slot k found) (answer ∷ answers)) (same 0 k (omega arith))
@@ -105,4 +114,5 @@ write_run routes words slot k (value ∷ rest) same small (answer ∷ answers) =
     ∙ write_run routes words slot (k + 1) rest (λ i j e. same (suc i) j (omega (arith, e))) (omega (arith, small)) answers)
 
 pub writes_store : WritesStore
-writes_store routes words answers slot small = write_run routes words slot 0 words (λ i j e. ap (λ (n : ℕ). slice_get words n) (omega (arith, e))) (omega (arith, small)) answers
+writes_store routes words answers slot small
+    = write_run routes words slot 0 words (λ i j e. ap (λ (n : ℕ). slice_get words n) (omega (arith, e))) (omega (arith, small)) answers

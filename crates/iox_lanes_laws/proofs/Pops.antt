@@ -1,5 +1,6 @@
 -- What one step of a pop or a look makes of what waits at its connection, where nobody pushes there.
-use Rattle.std.proofs.Common.{ℕ, ◌≡◌, ◌<◌, ◌^◌, ◌==◌, not, Bool, true, false, nat_lt, List, [], ◌∷◌, ◌++◌, length, drop, slice_get, Option, Some, None, refl, sym, ◌∙◌, ap, subst, arith}
+use Rattle.std.proofs.Common.{ℕ, ◌≡◌, ◌<◌, ◌^◌, ◌==◌, not, Bool, true, false, nat_lt, List, [], ◌∷◌, ◌++◌, length, drop, slice_get}
+use Rattle.std.proofs.Common.{Option, Some, None, refl, sym, ◌∙◌, ap, subst, arith}
 use Rattle.iox_lanes_machine.specs.QueuesSteps.Access.{RingWords, answer_of}
 use Rattle.iox_lanes_machine.specs.QueuesSteps.Order.{Acts, after_acts, put_values, take_values, PutNow}
 use Rattle.iox_lanes_machine.specs.QueuesSteps.declared.order.Act.{Act}
@@ -11,7 +12,8 @@ use Rattle.iox_lanes_machine.specs.QueuesSteps.Overflowing as overflowing
 use Rattle.iox_lanes_machine.specs.QueuesSteps.declared.rings.overflowing.pop.Pop.TheVariants as overflowing_pop
 use Rattle.iox_lanes_machine.specs.QueuesSteps.Refusing as refusing
 use Rattle.iox_lanes_machine.specs.QueuesSteps.declared.rings.refusing.pop.Pop.TheVariants as refusing_pop
-use Rattle.iox_lanes_machine.specs.QueuesSteps.Ends.{Shape, overflows, cells_of, push_idle, pop_ended, pop_next, pop_take, pop_looks, pop_first, placed_by_pop}
+use Rattle.iox_lanes_machine.specs.QueuesSteps.Ends.{Shape, overflows, cells_of, push_idle, pop_ended, pop_next, pop_take, pop_looks}
+use Rattle.iox_lanes_machine.specs.QueuesSteps.Ends.{pop_first, placed_by_pop}
 use Rattle.iox_lanes_machine.specs.QueuesSteps.declared.rings.ends.RingKind.{RingKind}
 use Rattle.iox_lanes_machine.specs.QueuesSteps.declared.rings.ends.RingKind.TheVariants as kind
 use Rattle.iox_lanes_machine.specs.QueuesSteps.declared.rings.ends.Push.{Push}
@@ -83,7 +85,8 @@ stays_kind (pop.Overflowing (overflowing_pop.SawRead read)) a unanswered = by_te
 stays_kind (pop.Overflowing (overflowing_pop.Nonempty read next)) a unanswered = pops_on _ _ refl refl
 stays_kind (pop.Overflowing (overflowing_pop.SawCell read next value)) a unanswered = by_test (a == read)
   where
-    by_test : (b : Bool) → StaysKind (pop.Overflowing (overflowing_pop.SawCell read next value)) (pop.Overflowing (overflowing.pop_swapped b a value))
+    by_test : (b : Bool) → StaysKind (pop.Overflowing (overflowing_pop.SawCell read next value))
+        (pop.Overflowing (overflowing.pop_swapped b a value))
     by_test true = pops_got _ _ (Some value) refl refl
     by_test false = pops_on _ _ refl refl
 stays_kind (pop.Overflowing (overflowing_pop.Popped got)) a unanswered = absurd (cc unanswered)
@@ -147,7 +150,8 @@ first_is : (q : List ℕ) (value : ℕ) → Some value ≡ slice_get q 0 → q �
 first_is [] value e = absurd (cc e)
 first_is (x ∷ q) value e = ap (λ (y : ℕ). y ∷ q) (some_is x value (sym e))
 
-given_by : (o : Bool) (limit : ℕ) (q : List ℕ) (acts : List Act) (a : Option PopAnswer) → IsTakenBy acts a → Acts o limit q acts → Given q (after_acts o limit q acts) a
+given_by : (o : Bool) (limit : ℕ) (q : List ℕ) (acts : List Act) (a : Option PopAnswer) → IsTakenBy acts a → Acts o limit q acts
+    → Given q (after_acts o limit q acts) a
 given_by o limit q acts None is h =
     subst (λ (xs : List Act). Given q (after_acts o limit q xs) None) (sym is)
     (record { none = λ e. refl; empty = λ e. absurd (cc e); one = λ value e. absurd (cc e); saw = λ some e. absurd (cc e) })
@@ -155,18 +159,36 @@ given_by o limit q acts (Some (Got None)) is h =
     let taken : None ≡ slice_get q 0 = (subst (Acts o limit q) is h).0 in
     let none = empty_is q taken in
     subst (λ (xs : List Act). Given q (after_acts o limit q xs) (Some (Got None))) (sym is)
-    (record { none = λ e. absurd (cc e); empty = λ e. (none, ap (drop 1) none); one = λ value e. absurd (cc e); saw = λ some e. absurd (cc e) })
+    (record {
+      none = λ e. absurd (cc e);
+      empty = λ e. (none, ap (drop 1) none);
+      one = λ value e. absurd (cc e);
+      saw
+          = λ some e. absurd (cc e);
+    })
 given_by o limit q acts (Some (Got (Some value))) is h =
     let taken : Some value ≡ slice_get q 0 = (subst (Acts o limit q) is h).0 in
     subst (λ (xs : List Act). Given q (after_acts o limit q xs) (Some (Got (Some value)))) (sym is)
-    (record { none = λ e. absurd (cc e); empty = λ e. absurd (cc e); one = λ v e. first_is q v (sym (value_is value v e) ∙ taken); saw = λ some e. absurd (cc e) })
+    (record {
+      none = λ e. absurd (cc e);
+      empty = λ e. absurd (cc e);
+      one = λ v e. first_is q v (sym (value_is value v e) ∙ taken);
+      saw
+          = λ some e. absurd (cc e);
+    })
   where
     value_is : (x y : ℕ) → Some (Got (Some x)) ≡ Some (Got (Some y)) → Some x ≡ Some y
     value_is x y e = cc e
 given_by o limit q acts (Some (Saw seen)) is h =
     let taken : seen ≡ nat_lt 0 (length q) = (subst (Acts o limit q) is h).0 in
     subst (λ (xs : List Act). Given q (after_acts o limit q xs) (Some (Saw seen))) (sym is)
-    (record { none = λ e. absurd (cc e); empty = λ e. absurd (cc e); one = λ v e. absurd (cc e); saw = λ some e. (sym (seen_is seen some e) ∙ taken, refl) })
+    (record {
+      none = λ e. absurd (cc e);
+      empty = λ e. absurd (cc e);
+      one = λ v e. absurd (cc e);
+      saw
+          = λ some e. (sym (seen_is seen some e) ∙ taken, refl);
+    })
   where
     seen_is : (x y : Bool) → Some (Saw x) ≡ Some (Saw y) → x ≡ y
     seen_is x y e = cc e
@@ -175,34 +197,55 @@ none_behind : (xs : List PutNow) → [] ≡ [] ++ xs → xs ≡ []
 none_behind xs e = sym e
 
 -- what stands at a step of a pop or a look where nobody pushes: its take or its look, if it is answered, and nothing else
-pub popped : (table : TableWords) (moments : ℕ) (place : ℕ) (route : Route) (p : Pop) (waits : Bool) (link : LinkState) (order : List Placed) (sends : PublisherCall) (cells : ℕ) (push : Push)
-    → cells ≡ cells_of link.kind link.limit → push ≡ push_on route.connection link.kind sends → push_on route.connection link.kind sends ≡ push_idle link.kind → IsSeat Submission table route.connection (cells_of link.kind link.limit) → moments < 2 ^ 63
+pub popped : (table : TableWords) (moments : ℕ) (place : ℕ) (route : Route) (p : Pop) (waits : Bool) (link : LinkState)
+    (order : List Placed) (sends : PublisherCall) (cells : ℕ) (push : Push)
+    → cells ≡ cells_of link.kind link.limit → push ≡ push_on route.connection link.kind sends
+    → push_on route.connection link.kind sends ≡ push_idle link.kind
+    → IsSeat Submission table route.connection (cells_of link.kind link.limit) → moments < 2 ^ 63
     → IsKeptAt table moments route.connection link order sends (subscribing.Receiving place route p waits)
     → Acts (overflows link.kind) link.limit (waiting link order) (placed_by_pop (ring_in table route.connection cells) push p)
-    → Given (waiting link order) (after_acts (overflows link.kind) link.limit (waiting link order) (placed_by_pop (ring_in table route.connection cells) push p)) (pop_answer (pop_take p (shared_answer table (on_ring route.connection Submission cells (pop_next p)))))
+    → Given (waiting link order) (after_acts (overflows link.kind) link.limit (waiting link order)
+    (placed_by_pop (ring_in table route.connection cells) push p))
+    (pop_answer (pop_take p (shared_answer table (on_ring route.connection Submission cells (pop_next p)))))
 popped table moments place route p waits link order sends cells push size is idle st bound k acts =
-    let exact : Given (waiting link order) (after_acts (overflows link.kind) link.limit (waiting link order) (placed_by_pop words (push_idle link.kind) p)) (pop_answer (pop_take p (shared_answer table (on_ring route.connection Submission (cells_of link.kind link.limit) (pop_next p))))) =
-    given_by (overflows link.kind) link.limit (waiting link order) (placed_by_pop words (push_idle link.kind) p) (pop_answer (pop_take p (shared_answer table (on_ring route.connection Submission (cells_of link.kind link.limit) (pop_next p)))))
+    let exact : Given (waiting link order)
+    (after_acts (overflows link.kind) link.limit (waiting link order) (placed_by_pop words (push_idle link.kind) p))
+    (pop_answer (pop_take p (shared_answer table (on_ring route.connection Submission (cells_of link.kind link.limit) (pop_next p))))) =
+    given_by (overflows link.kind) link.limit (waiting link order) (placed_by_pop words (push_idle link.kind) p)
+    (pop_answer (pop_take p (shared_answer table (on_ring route.connection Submission (cells_of link.kind link.limit) (pop_next p)))))
     (takes_only (placed_by_pop words (push_idle link.kind) p) _ no_puts takes)
     (subst (λ (x : Push). Acts (overflows link.kind) link.limit (waiting link order) (placed_by_pop words x p)) (is ∙ idle)
-    (subst (λ (n : ℕ). Acts (overflows link.kind) link.limit (waiting link order) (placed_by_pop (ring_in table route.connection n) push p)) size acts)) in
-    subst (λ (x : Push). Given (waiting link order) (after_acts (overflows link.kind) link.limit (waiting link order) (placed_by_pop (ring_in table route.connection cells) x p)) (pop_answer (pop_take p (shared_answer table (on_ring route.connection Submission cells (pop_next p)))))) (sym (is ∙ idle))
-    (subst (λ (n : ℕ). Given (waiting link order) (after_acts (overflows link.kind) link.limit (waiting link order) (placed_by_pop (ring_in table route.connection n) (push_idle link.kind) p)) (pop_answer (pop_take p (shared_answer table (on_ring route.connection Submission n (pop_next p)))))) (sym size) exact)
+    (subst (λ (n : ℕ). Acts (overflows link.kind) link.limit (waiting link order)
+    (placed_by_pop (ring_in table route.connection n) push p)) size acts)) in
+    subst (λ (x : Push). Given (waiting link order)
+    (after_acts (overflows link.kind) link.limit (waiting link order) (placed_by_pop (ring_in table route.connection cells) x p))
+    (pop_answer (pop_take p (shared_answer table (on_ring route.connection Submission cells (pop_next p)))))) (sym (is ∙ idle))
+    (subst (λ (n : ℕ). Given (waiting link order)
+    (after_acts (overflows link.kind) link.limit (waiting link order)
+    (placed_by_pop (ring_in table route.connection n) (push_idle link.kind) p))
+    (pop_answer (pop_take p (shared_answer table (on_ring route.connection Submission n (pop_next p)))))) (sym size) exact)
   where
     words : RingWords
     words = ring_in table route.connection (cells_of link.kind link.limit)
 
     shape : Shape link.kind link.limit words (waiting link order) (push_idle link.kind) p
     shape = subst (λ (x : Push). Shape link.kind link.limit words (waiting link order) x p) idle
-        (subst (λ (x : Pop). Shape link.kind link.limit words (waiting link order) (push_on route.connection link.kind sends) x) (pop_here place route link.kind p waits) k.shape)
+        (subst (λ (x : Pop). Shape link.kind link.limit words (waiting link order) (push_on route.connection link.kind sends) x)
+        (pop_here place route link.kind p waits) k.shape)
 
     no_puts : put_values (placed_by_pop words (push_idle link.kind) p) ≡ []
     no_puts =
         let g = pop_goes link.kind link.limit words (waiting link order) (push_idle link.kind) p (omega (arith, k.few, bound)) shape in
-        none_behind _ (sym (idle_hand _ link.kind) ∙ g.in_hand ∙ ap (λ (xs : List PutNow). xs ++ put_values (placed_by_pop words (push_idle link.kind) p)) (idle_hand words.read link.kind))
+        none_behind _ (sym (idle_hand _ link.kind) ∙ g.in_hand ∙ ap
+        (λ (xs : List PutNow). xs ++ put_values (placed_by_pop words (push_idle link.kind) p)) (idle_hand words.read link.kind))
 
-    takes : take_values (placed_by_pop words (push_idle link.kind) p) ≡ answers (pop_answer (pop_take p (shared_answer table (on_ring route.connection Submission (cells_of link.kind link.limit) (pop_next p)))))
+    takes : take_values (placed_by_pop words (push_idle link.kind) p)
+        ≡ answers (pop_answer (pop_take p
+        (shared_answer table (on_ring route.connection Submission (cells_of link.kind link.limit) (pop_next p)))))
     takes =
         let g = pop_goes link.kind link.limit words (waiting link order) (push_idle link.kind) p (omega (arith, k.few, bound)) shape in
-        let given : answer_of words (pop_next p) ≡ shared_answer table (on_ring route.connection Submission (cells_of link.kind link.limit) (pop_next p)) = access_answer Submission table route.connection (cells_of link.kind link.limit) (pop_next p) st in
-        sym g.ended ∙ ap (λ (a : ℕ). pop_ended (pop_take p a)) given ∙ pop_answers (pop_take p (shared_answer table (on_ring route.connection Submission (cells_of link.kind link.limit) (pop_next p))))
+        let given : answer_of words (pop_next p)
+        ≡ shared_answer table (on_ring route.connection Submission (cells_of link.kind link.limit) (pop_next p))
+        = access_answer Submission table route.connection (cells_of link.kind link.limit) (pop_next p) st in
+        sym g.ended ∙ ap (λ (a : ℕ). pop_ended (pop_take p a)) given ∙ pop_answers
+        (pop_take p (shared_answer table (on_ring route.connection Submission (cells_of link.kind link.limit) (pop_next p))))

@@ -1,5 +1,6 @@
 -- The laws on calls of a publisher that no other call overlaps.
-use Rattle.std.proofs.Common.{ℕ, ◌≡◌, ◌+◌, ◌-◌, ◌<◌, ◌≤◌, ◌^◌, ◌==◌, ◌⊎◌, ◌&&◌, min, Bool, true, false, nat_lt, if◌then◌else◌, List, [], ◌∷◌, ◌++◌, length, get_or, slice_get, Option, Some, None, refl, sym, ◌∙◌, ap, subst, inl, inr, arith}
+use Rattle.std.proofs.Common.{ℕ, ◌≡◌, ◌+◌, ◌-◌, ◌<◌, ◌≤◌, ◌^◌, ◌==◌, ◌⊎◌, ◌&&◌, min, Bool, true, false, nat_lt, if◌then◌else◌, List, []}
+use Rattle.std.proofs.Common.{◌∷◌, ◌++◌, length, get_or, slice_get, Option, Some, None, refl, sym, ◌∙◌, ap, subst, inl, inr, arith}
 use Rattle.std.proofs.lemmas.Bool.{cases_lt, ltb-false}
 use Rattle.std.proofs.lemmas.Bool.Decides.{eqb_tells}
 use Rattle.iox_lanes_machine.specs.QueuesSteps.declared.schedule.Stepped.TheVariants as stepped
@@ -11,13 +12,15 @@ use Rattle.iox_lanes_machine.specs.LanesBase.Publishing.{publisher_is_idle, publ
 use Rattle.iox_lanes_machine.specs.LanesBase.declared.calls.publisher.Delivery.{Delivery}
 use Rattle.iox_lanes_machine.specs.LanesBase.declared.calls.publisher.PublisherCall.{PublisherCall}
 use Rattle.iox_lanes_machine.specs.LanesBase.declared.calls.publisher.PublisherCall.TheVariants as publishing
-use Rattle.iox_lanes_machine.specs.LanesParties.PublisherKeeping.{BookState, changed, loan_of, lent, lent_from, first_free, put_at, number_in}
+use Rattle.iox_lanes_machine.specs.LanesParties.PublisherKeeping.{BookState, changed, loan_of, lent, lent_from, first_free, put_at}
+use Rattle.iox_lanes_machine.specs.LanesParties.PublisherKeeping.{number_in}
 use Rattle.iox_lanes_machine.specs.LanesParties.declared.publisher.slot_book.LoanAnswer.{LoanAnswer}
 use Rattle.iox_lanes_machine.specs.LanesParties.declared.publisher.slot_book.LoanAnswer.TheVariants as loan
 use Rattle.iox_lanes_machine.specs.LanesParties.declared.publisher.slot_book.LoanMark.{LoanMark}
 use Rattle.iox_lanes_machine.specs.LanesParties.declared.publisher.slot_book.LoanMark.TheVariants as mark
 use Rattle.iox_lanes_machine.specs.LanesParties.Parties as parties
-use Rattle.iox_lanes_machine.specs.LanesParties.Parties.{PublisherLaneState, is_out, is_written, name_of, publisher_may, publisher_fits, publisher_answer}
+use Rattle.iox_lanes_machine.specs.LanesParties.Parties.{PublisherLaneState, is_out, is_written, name_of, publisher_may, publisher_fits}
+use Rattle.iox_lanes_machine.specs.LanesParties.Parties.{publisher_answer}
 use Rattle.iox_lanes_machine.specs.LanesParties.SendAnswers.{send_answer}
 use Rattle.iox_lanes_machine.specs.LanesParties.declared.call.Answer.{Answer}
 use Rattle.iox_lanes_machine.specs.LanesParties.declared.call.Answer.TheVariants as answer
@@ -86,7 +89,8 @@ write_stage slot (publishing.Pushing own place route p delivery) over h = absurd
 write_stage slot (publishing.Sent own delivery) over h = absurd (cc h)
 write_stage slot (publishing.Dropping own) over h = absurd (cc h)
 
-send_stage : (slot : ℕ) (c : PublisherCall) → publisher_is_over c ≡ true → IsStageOf (name.Send slot) c → (delivery : Delivery) × (c ≡ publishing.Sent slot delivery)
+send_stage : (slot : ℕ) (c : PublisherCall) → publisher_is_over c ≡ true → IsStageOf (name.Send slot) c → (delivery : Delivery)
+    × (c ≡ publishing.Sent slot delivery)
 send_stage slot publishing.Idle over h = absurd (cc over)
 send_stage slot (publishing.LoanReclaims place route p) over h = absurd (cc over)
 send_stage slot publishing.Lending over h = absurd (cc h)
@@ -119,23 +123,33 @@ drop_stage slot (publishing.Dropping own) over h = ap (λ (s : ℕ). publishing.
     same e = cc e
 
 -- the stage of the last step
-stage_of : (m : World) (place : ℕ) (c : Call) (before : PublisherLaneState) (n : World) (after : PublisherLaneState) (w : WholeCall m place c before n after) → IsStageOf (name_of c) (w.last.lane).port.call
+stage_of : (m : World) (place : ℕ) (c : Call) (before : PublisherLaneState) (n : World) (after : PublisherLaneState)
+    (w : WholeCall m place c before n after) → IsStageOf (name_of c) (w.last.lane).port.call
 stage_of m place c before n after w =
     let few : (w.last.k).moments ≤ 2 ^ 63 = omega (arith, w.few_before) in
-    subst (λ (called : CallName). IsStageOf called (w.last.lane).port.call) w.last.alone.asked ((w.last.alone.kept.calls few).publishers place w.last.lane w.last.alone.found).0
+    subst (λ (called : CallName). IsStageOf called (w.last.lane).port.call) w.last.alone.asked
+    ((w.last.alone.kept.calls few).publishers place w.last.lane w.last.alone.found).0
 
 -- what the last step makes of the record
-book_is : (m : World) (place : ℕ) (c : Call) (before : PublisherLaneState) (n : World) (after : PublisherLaneState) (w : WholeCall m place c before n after) (stage : PublisherCall) → (w.last.lane).port.call ≡ stage
+book_is : (m : World) (place : ℕ) (c : Call) (before : PublisherLaneState) (n : World) (after : PublisherLaneState)
+    (w : WholeCall m place c before n after) (stage : PublisherCall) → (w.last.lane).port.call ≡ stage
     → after.port.book ≡ changed (publisher_change stage (publisher_given (w.last.k).table w.last.lane)) (w.last.lane).port.book
 book_is m place c before n after w stage is =
-    ap (λ (x : PublisherLaneState). x.port.book) w.after_is ∙ ap (λ (s : PublisherCall). changed (publisher_change s (publisher_given (w.last.k).table w.last.lane)) (w.last.lane).port.book) is
+    ap (λ (x : PublisherLaneState). x.port.book) w.after_is ∙ ap
+    (λ (s : PublisherCall). changed (publisher_change s (publisher_given (w.last.k).table w.last.lane)) (w.last.lane).port.book) is
 
-said_is : (m : World) (place : ℕ) (c : Call) (before : PublisherLaneState) (n : World) (after : PublisherLaneState) (w : WholeCall m place c before n after) (stage : PublisherCall) → (w.last.lane).port.call ≡ stage
-    → publisher_ending (w.last.k).table w.last.lane ≡ publisher_answer (w.last.lane).fails stage (next_lane w.last.k w.last.lane).port.book.answer
-said_is m place c before n after w stage is = ap (λ (s : PublisherCall). publisher_answer (w.last.lane).fails s (next_lane w.last.k w.last.lane).port.book.answer) is
+said_is : (m : World) (place : ℕ) (c : Call) (before : PublisherLaneState) (n : World) (after : PublisherLaneState)
+    (w : WholeCall m place c before n after) (stage : PublisherCall) → (w.last.lane).port.call ≡ stage
+    → publisher_ending (w.last.k).table w.last.lane
+    ≡ publisher_answer (w.last.lane).fails stage (next_lane w.last.k w.last.lane).port.book.answer
+said_is m place c before n after w stage is
+    = ap (λ (s : PublisherCall). publisher_answer (w.last.lane).fails s (next_lane w.last.k w.last.lane).port.book.answer) is
 
-book_there : (m : World) (place : ℕ) (c : Call) (before : PublisherLaneState) (n : World) (after : PublisherLaneState) (w : WholeCall m place c before n after) (stage : PublisherCall) → (w.last.lane).port.call ≡ stage → BookAlone before.port.book stage (w.last.lane).port.book
-book_there m place c before n after w stage is = subst (λ (s : PublisherCall). BookAlone before.port.book s (w.last.lane).port.book) is w.last.alone.book
+book_there : (m : World) (place : ℕ) (c : Call) (before : PublisherLaneState) (n : World) (after : PublisherLaneState)
+    (w : WholeCall m place c before n after) (stage : PublisherCall) → (w.last.lane).port.call ≡ stage
+    → BookAlone before.port.book stage (w.last.lane).port.book
+book_there m place c before n after w stage is
+    = subst (λ (s : PublisherCall). BookAlone before.port.book s (w.last.lane).port.book) is w.last.alone.book
 
 written_out : (x : LoanMark) → is_written x ≡ true → is_out x ≡ true
 written_out mark.No h = absurd (cc h)
@@ -150,11 +164,14 @@ sends_in_turn = λ m n place slot before after t found now.
     let delivery : Delivery = stage.0 in
     let said = said_is m place (call.Send slot) before n after w (publishing.Sent slot delivery) stage.1
     ∙ ap (λ (f : Bool). Some (answer.Sent (send_answer f delivery))) w.last.alone.fails in
-    let book : SentBook before.port.book slot (w.last.lane).port.book = book_there m place (call.Send slot) before n after w (publishing.Sent slot delivery) stage.1 in
+    let book : SentBook before.port.book slot (w.last.lane).port.book
+    = book_there m place (call.Send slot) before n after w (publishing.Sent slot delivery) stage.1 in
     let same = book_is m place (call.Send slot) before n after w (publishing.Sent slot delivery) stage.1 in
     let first = ap (λ (b : BookState). b.first) same ∙ book.first in
     let loans = ap (λ (b : BookState). b.loans) same ∙ book.loans in
-    let out : is_out (loan_of slot before.port.book) ≡ true = written_out (loan_of slot before.port.book) (and_right (publisher_is_idle before.port.call) (publisher_may before (call.Send slot)) w.may) in
+    let out : is_out (loan_of slot before.port.book) ≡ true
+    = written_out (loan_of slot before.port.book)
+    (and_right (publisher_is_idle before.port.call) (publisher_may before (call.Send slot)) w.may) in
     let s = sent_now m place slot before n after w delivery now said in
     let counts = counted m place slot before n after w delivery s found now in (
       delivery,
@@ -179,12 +196,15 @@ drops_in_turn = λ m n place slot before after t found now.
     let w = whole m place (call.DropLoan slot) before n after t found now in
     let stage = drop_stage slot (w.last.lane).port.call w.last.over (stage_of m place (call.DropLoan slot) before n after w) in
     let said = said_is m place (call.DropLoan slot) before n after w (publishing.Dropping slot) stage in
-    let book : SameBook before.port.book (w.last.lane).port.book = book_there m place (call.DropLoan slot) before n after w (publishing.Dropping slot) stage in
+    let book : SameBook before.port.book (w.last.lane).port.book
+    = book_there m place (call.DropLoan slot) before n after w (publishing.Dropping slot) stage in
     let same = book_is m place (call.DropLoan slot) before n after w (publishing.Dropping slot) stage in
     let first = ap (λ (b : BookState). b.first) same ∙ book.first in
     let loans : after.port.book.loans ≡ put_at before.port.book.loans (slot - before.port.book.first) mark.No =
-    ap (λ (b : BookState). b.loans) same ∙ ap (λ (f : ℕ). put_at (w.last.lane).port.book.loans (slot - f) mark.No) book.first ∙ ap (λ (l : List LoanMark). put_at l (slot - before.port.book.first) mark.No) book.loans in
-    let out : is_out (loan_of slot before.port.book) ≡ true = and_right (publisher_is_idle before.port.call) (publisher_may before (call.DropLoan slot)) w.may in (
+    ap (λ (b : BookState). b.loans) same ∙ ap (λ (f : ℕ). put_at (w.last.lane).port.book.loans (slot - f) mark.No) book.first ∙ ap
+    (λ (l : List LoanMark). put_at l (slot - before.port.book.first) mark.No) book.loans in
+    let out : is_out (loan_of slot before.port.book) ≡ true
+    = and_right (publisher_is_idle before.port.call) (publisher_may before (call.DropLoan slot)) w.may in (
       answered_by m place (call.DropLoan slot) before n after w answer.Dropped said,
       w.others,
       mail_stays m place (call.DropLoan slot) before n after w answer.Dropped found now said refl,
@@ -196,12 +216,14 @@ drops_in_turn = λ m n place slot before after t found now.
     )
 
 -- a write
-write_out : (slot : ℕ) (c : Call) (lane : PublisherLaneState) → name_of c ≡ name.Write slot → publisher_fits lane (Begin c) ≡ true → is_out (loan_of slot lane.port.book) ≡ true
+write_out : (slot : ℕ) (c : Call) (lane : PublisherLaneState) → name_of c ≡ name.Write slot → publisher_fits lane (Begin c) ≡ true
+    → is_out (loan_of slot lane.port.book) ≡ true
 write_out slot call.LoanUninit lane is fit = absurd (cc is)
 write_out slot (call.Write own payload user_header) lane is fit =
     subst (λ (s : ℕ). is_out (loan_of s lane.port.book) ≡ true) (slot_is slot own (sym is))
     (and_left (is_out (loan_of own lane.port.book)) (length payload.items == length lane.port.payload)
-    (and_left (is_out (loan_of own lane.port.book) && (length payload.items == length lane.port.payload)) (3 + length user_header.items == length lane.port.head)
+    (and_left (is_out (loan_of own lane.port.book) && (length payload.items == length lane.port.payload))
+    (3 + length user_header.items == length lane.port.head)
     (and_right (publisher_is_idle lane.port.call) (publisher_may lane (call.Write own payload user_header)) fit)))
 write_out slot (call.Send own) lane is fit = absurd (cc is)
 write_out slot (call.DropLoan own) lane is fit = absurd (cc is)
@@ -212,13 +234,15 @@ write_out slot (call.Release sample) lane is fit = absurd (cc is)
 pub writes_in_turn : WritesInTurn
 writes_in_turn = λ m n place slot c before after is t found now.
     let w = whole m place c before n after t found now in
-    let stage = write_stage slot (w.last.lane).port.call w.last.over (subst (λ (called : CallName). IsStageOf called (w.last.lane).port.call) is (stage_of m place c before n after w)) in
+    let stage = write_stage slot (w.last.lane).port.call w.last.over
+    (subst (λ (called : CallName). IsStageOf called (w.last.lane).port.call) is (stage_of m place c before n after w)) in
     let said = said_is m place c before n after w (publishing.Written slot) stage in
     let book : SameBook before.port.book (w.last.lane).port.book = book_there m place c before n after w (publishing.Written slot) stage in
     let same = book_is m place c before n after w (publishing.Written slot) stage in
     let first = ap (λ (b : BookState). b.first) same ∙ book.first in
     let loans : after.port.book.loans ≡ put_at before.port.book.loans (slot - before.port.book.first) mark.Written =
-    ap (λ (b : BookState). b.loans) same ∙ ap (λ (f : ℕ). put_at (w.last.lane).port.book.loans (slot - f) mark.Written) book.first ∙ ap (λ (l : List LoanMark). put_at l (slot - before.port.book.first) mark.Written) book.loans in
+    ap (λ (b : BookState). b.loans) same ∙ ap (λ (f : ℕ). put_at (w.last.lane).port.book.loans (slot - f) mark.Written) book.first ∙ ap
+    (λ (l : List LoanMark). put_at l (slot - before.port.book.first) mark.Written) book.loans in
     let out = write_out slot c before is w.may in
     let marked = loan_marked slot before.port.book after.port.book out first loans in (
       answered_by m place c before n after w answer.Written said,
@@ -226,7 +250,8 @@ writes_in_turn = λ m n place slot c before after is t found now.
       mail_stays m place c before n after w answer.Written found now said refl,
       ap (λ (b : BookState). b.history) same ∙ book.history,
       λ other. elim (eqb_tells other slot) [
-        | inl here ↦ subst (λ (s : ℕ). is_out (loan_of s after.port.book) ≡ is_out (loan_of s before.port.book)) (sym here.1) (ap is_out marked ∙ sym out)
+        | inl here ↦ subst (λ (s : ℕ). is_out (loan_of s after.port.book) ≡ is_out (loan_of s before.port.book)) (sym here.1)
+            (ap is_out marked ∙ sym out)
         | inr apart ↦ ap is_out (others_same slot other before.port.book after.port.book mark.Written out first loans apart.1)
       ],
       ap is_written marked,
@@ -249,8 +274,10 @@ lent_keeps book = by_test (nat_lt book.out book.most_loans)
     by_free None = (refl, refl)
     by_free (Some index) = (refl, refl)
 
-    by_test : (b : Bool) → ((if b then lent_from book (first_free book.uses 0) else record book { answer = Some loan.ExceedsMaxLoans }).first ≡ book.first)
-        × ((if b then lent_from book (first_free book.uses 0) else record book { answer = Some loan.ExceedsMaxLoans }).history ≡ book.history)
+    by_test : (b : Bool) → ((if b then lent_from book (first_free book.uses 0) else record book
+        { answer = Some loan.ExceedsMaxLoans }).first ≡ book.first)
+        × ((if b then lent_from book (first_free book.uses 0) else record book { answer = Some loan.ExceedsMaxLoans }).history
+        ≡ book.history)
     by_test true = by_free (first_free book.uses 0)
     by_test false = (refl, refl)
 
@@ -258,22 +285,27 @@ below_min : (n : ℕ) → n < 2 ^ 64 → min n (2 ^ 64 - 1) ≡ n
 below_min n h = omega (arith, h)
 
 -- a loan makes no other slot a loan than the one that it gives
-lent_others : (book : BookState) (given : LoanAnswer) → parties.lent (lent book).answer ≡ answer.Lent given → book.first + length book.loans < 2 ^ 64 → length book.uses ≡ length book.loans → (slot : ℕ) → (given ≡ loan.Slot slot → ⊥)
+lent_others : (book : BookState) (given : LoanAnswer) → parties.lent (lent book).answer ≡ answer.Lent given
+    → book.first + length book.loans < 2 ^ 64 → length book.uses ≡ length book.loans → (slot : ℕ) → (given ≡ loan.Slot slot → ⊥)
     → loan_of slot (lent book) ≡ loan_of slot book
 lent_others book given says small sizes slot apart = by_test (nat_lt book.out book.most_loans) says
   where
     said : (x y : LoanAnswer) → answer.Lent x ≡ answer.Lent y → y ≡ x
     said x y e = cc e
 
-    put : (index : ℕ) → (slot - book.first ≡ index → ⊥) ⊎ (slot < book.first) → loan_of slot (lent_from book (Some index)) ≡ loan_of slot book
+    put : (index : ℕ) → (slot - book.first ≡ index → ⊥) ⊎ (slot < book.first)
+        → loan_of slot (lent_from book (Some index)) ≡ loan_of slot book
     put index h = by_first (nat_lt slot book.first) refl h
       where
-        by_first : (b : Bool) → nat_lt slot book.first ≡ b → (slot - book.first ≡ index → ⊥) ⊎ (slot < book.first) → (if b then mark.No else get_or (put_at book.loans index mark.Lent) (slot - book.first) mark.No) ≡ (if b then mark.No else get_or book.loans (slot - book.first) mark.No)
+        by_first : (b : Bool) → nat_lt slot book.first ≡ b → (slot - book.first ≡ index → ⊥) ⊎ (slot < book.first)
+            → (if b then mark.No else get_or (put_at book.loans index mark.Lent) (slot - book.first) mark.No)
+            ≡ (if b then mark.No else get_or book.loans (slot - book.first) mark.No)
         by_first true t h = refl
         by_first false t (inl h) = put_other book.loans index (slot - book.first) mark.Lent h
         by_first false t (inr h) = absurd (omega (arith, ltb-false slot book.first t, h))
 
-    by_free : (at : Option ℕ) → first_free book.uses 0 ≡ at → parties.lent (lent_from book at).answer ≡ answer.Lent given → loan_of slot (lent_from book at) ≡ loan_of slot book
+    by_free : (at : Option ℕ) → first_free book.uses 0 ≡ at → parties.lent (lent_from book at).answer ≡ answer.Lent given
+        → loan_of slot (lent_from book at) ≡ loan_of slot book
     by_free None e h = refl
     by_free (Some index) e h =
         let there = first_free_is book.uses 0 index e in
@@ -284,8 +316,11 @@ lent_others book given says small sizes slot apart = by_test (nat_lt book.out bo
               ∙ ap (λ (s : ℕ). loan.Slot s) (below_min (book.first + index) fits ∙ omega (arith, same, above)))))
         ]
 
-    by_test : (b : Bool) → parties.lent (if b then lent_from book (first_free book.uses 0) else record book { answer = Some loan.ExceedsMaxLoans }).answer ≡ answer.Lent given
-        → loan_of slot (if b then lent_from book (first_free book.uses 0) else record book { answer = Some loan.ExceedsMaxLoans }) ≡ loan_of slot book
+    by_test : (b : Bool) → parties.lent
+        (if b then lent_from book (first_free book.uses 0) else record book { answer = Some loan.ExceedsMaxLoans }).answer
+        ≡ answer.Lent given
+        → loan_of slot (if b then lent_from book (first_free book.uses 0) else record book { answer = Some loan.ExceedsMaxLoans })
+        ≡ loan_of slot book
     by_test true h = by_free (first_free book.uses 0) refl h
     by_test false h = refl
 
@@ -295,7 +330,8 @@ stage_idle m place between = by_lane (slice_get m.publishers place) refl
   where
     by_lane : (at : Option PublisherLaneState) → slice_get m.publishers place ≡ at → publisher_is_idle (publisher_stage at) ≡ true
     by_lane None e = refl
-    by_lane (Some lane) e = all_at (λ (x : PublisherLaneState). publisher_is_idle x.port.call ≡ true) m.publishers place lane e between.publishers
+    by_lane (Some lane) e = all_at (λ (x : PublisherLaneState). publisher_is_idle x.port.call ≡ true) m.publishers place lane e
+        between.publishers
 
 pub idle_pushes : (c : PublisherCall) (connection : ℕ) (k : RingKind) → publisher_is_idle c ≡ true → push_on connection k c ≡ push_idle k
 idle_pushes publishing.Idle connection k h = refl
@@ -310,13 +346,16 @@ idle_pushes (publishing.Pushing slot place route p delivery) connection k h = ab
 idle_pushes (publishing.Sent slot delivery) connection k h = absurd (cc h)
 idle_pushes (publishing.Dropping slot) connection k h = absurd (cc h)
 
-none_aside : (m : World) (connection place : ℕ) (link : LinkState) → AllBetween m → aside_at m.table connection link (publisher_stage (slice_get m.publishers place)) ≡ []
+none_aside : (m : World) (connection place : ℕ) (link : LinkState) → AllBetween m
+    → aside_at m.table connection link (publisher_stage (slice_get m.publishers place)) ≡ []
 none_aside m connection place link between =
     let read : ℕ = held_by m.table (sent_word connection Read) in
-    ap (aside read) (idle_pushes (publisher_stage (slice_get m.publishers place)) connection link.kind (stage_idle m place between)) ∙ idle_aside read link.kind
+    ap (aside read) (idle_pushes (publisher_stage (slice_get m.publishers place)) connection link.kind (stage_idle m place between)) ∙
+    idle_aside read link.kind
 
 -- a loan that ended, with what was known of it before its last step
-record LoanNow (m : World) (place : ℕ) (before : PublisherLaneState) (n : World) (after : PublisherLaneState) (w : WholeCall m place call.LoanUninit before n after) : Type 0 where
+record LoanNow (m : World) (place : ℕ) (before : PublisherLaneState) (n : World) (after : PublisherLaneState)
+    (w : WholeCall m place call.LoanUninit before n after) : Type 0 where
   given : LoanAnswer
   said : publisher_ending (w.last.k).table w.last.lane ≡ Some (answer.Lent given)
   book : SameBook before.port.book (w.last.lane).port.book
@@ -324,14 +363,17 @@ record LoanNow (m : World) (place : ℕ) (before : PublisherLaneState) (n : Worl
   stage : (w.last.lane).port.call ≡ publishing.Lending
   is_lent : (w.last.lane).port.book.first + length (w.last.lane).port.book.loans < 2 ^ 64 → IsLent w.last.k n place w.last.lane given
 
-loan_now : (m : World) (place : ℕ) (before : PublisherLaneState) (n : World) (after : PublisherLaneState) (w : WholeCall m place call.LoanUninit before n after) → LoanNow m place before n after w
+loan_now : (m : World) (place : ℕ) (before : PublisherLaneState) (n : World) (after : PublisherLaneState)
+    (w : WholeCall m place call.LoanUninit before n after) → LoanNow m place before n after w
 loan_now m place before n after w =
     let stage = loan_stage (w.last.lane).port.call w.last.over (stage_of m place call.LoanUninit before n after w) in
     let given : LoanAnswer = given_of (next_lane w.last.k w.last.lane).port.book.answer in
-    let said = said_is m place call.LoanUninit before n after w publishing.Lending stage ∙ ap (λ (a : Answer). Some a) (given_is (next_lane w.last.k w.last.lane).port.book.answer) in
+    let said = said_is m place call.LoanUninit before n after w publishing.Lending stage ∙ ap (λ (a : Answer). Some a)
+    (given_is (next_lane w.last.k w.last.lane).port.book.answer) in
     let a = w.last.alone in
     let few : (w.last.k).moments ≤ 2 ^ 63 = omega (arith, w.few_before) in
-    let steps : StepsTo w.last.k (Publisher place) GoOn stepped.Finished n = (w.last.fit, ap publisher_ends_at a.found ∙ w.last.over, w.last.now) in
+    let steps : StepsTo w.last.k (Publisher place) GoOn stepped.Finished n
+    = (w.last.fit, ap publisher_ends_at a.found ∙ w.last.over, w.last.now) in
     let answered = answered_by m place call.LoanUninit before n after w (answer.Lent given) said in
     record {
       given = given;
@@ -339,30 +381,50 @@ loan_now m place before n after w =
       book = book_there m place call.LoanUninit before n after w publishing.Lending stage;
       lent_now = book_is m place call.LoanUninit before n after w publishing.Lending stage;
       stage = stage;
-      is_lent = λ small. loans_lent w.last.k (Publisher place) GoOn stepped.Finished n steps (steps_told w.last.k (Publisher place) GoOn stepped.Finished n steps) a.kept.within a.kept.uses a.kept.rooms few answered.call place w.last.lane given
-          (answered.more ∙ ap (λ (xs : List FinishedCall). xs ++ answered.call ∷ []) (sym a.finished)) answered.own a.found answered.answered small;
+      is_lent = λ small. loans_lent w.last.k (Publisher place) GoOn stepped.Finished n steps
+          (steps_told w.last.k (Publisher place) GoOn stepped.Finished n steps) a.kept.within a.kept.uses a.kept.rooms few answered.call
+          place w.last.lane given
+          (answered.more ∙ ap (λ (xs : List FinishedCall). xs ++ answered.call ∷ []) (sym a.finished)) answered.own a.found
+          answered.answered small;
     }
 
 loans_counted : (was now : BookState) → now.loans ≡ was.loans → loans_out now ≡ loans_out was
 loans_counted was now e = ap (λ (l : List LoanMark). total (λ index. is_out (get_or l index mark.No)) (length l)) e
 
 -- the slot that a loan gives was in no use
-not_used : (m : World) (place : ℕ) (before : PublisherLaneState) (n : World) (after : PublisherLaneState) (w : WholeCall m place call.LoanUninit before n after) (l : LoanNow m place before n after w) (slot : ℕ)
-    → slice_get m.publishers place ≡ Some before → slice_get n.publishers place ≡ Some after → AllBetween m → is_out (loan_of slot (w.last.lane).port.book) ≡ false → IsLoanAt n place slot → IsInUse m before slot → ⊥
+not_used : (m : World) (place : ℕ) (before : PublisherLaneState) (n : World) (after : PublisherLaneState)
+    (w : WholeCall m place call.LoanUninit before n after) (l : LoanNow m place before n after w) (slot : ℕ)
+    → slice_get m.publishers place ≡ Some before → slice_get n.publishers place ≡ Some after → AllBetween m
+    → is_out (loan_of slot (w.last.lane).port.book) ≡ false → IsLoanAt n place slot → IsInUse m before slot → ⊥
 not_used m place before n after w l slot found now between out lent_at (inl used) =
     absurd (cc (sym out ∙ ap is_out (loans_same before.port.book (w.last.lane).port.book l.book.first l.book.loans slot) ∙ used))
 not_used m place before n after w l slot found now between out lent_at (inr (inl used)) =
     let none = (loans_alone n w.kept w.few place slot lent_at).0 place after now in
-    let same : after.port.book.history ≡ before.port.book.history = ap (λ (b : BookState). b.history) l.lent_now ∙ (lent_keeps (w.last.lane).port.book).1 ∙ l.book.history in
+    let same : after.port.book.history ≡ before.port.book.history
+    = ap (λ (b : BookState). b.history) l.lent_now ∙ (lent_keeps (w.last.lane).port.book).1 ∙ l.book.history in
     absurd (omega (arith, used, none, ap (count slot) same))
 not_used m place before n after w l slot found now between out lent_at (inr (inr held)) =
-    let links : slice_get n.links held.connection ≡ Some held.link = ap (λ (ls : List LinkState). slice_get ls held.connection) w.links ∙ held.found in
-    let none = (loans_alone n w.kept w.few place slot lent_at).1 held.connection held.link (get_or n.orders held.connection []) links (order_there n held.connection held.link w.kept links) in
-    let order : held.order ≡ get_or m.orders held.connection [] = some_is held.order (get_or m.orders held.connection []) (sym held.got ∙ order_there m held.connection held.link w.was held.found) in
+    let links : slice_get n.links held.connection ≡ Some held.link
+    = ap (λ (ls : List LinkState). slice_get ls held.connection) w.links ∙ held.found in
+    let none = (loans_alone n w.kept w.few place slot lent_at).1 held.connection held.link (get_or n.orders held.connection []) links
+    (order_there n held.connection held.link w.kept links) in
+    let order : held.order ≡ get_or m.orders held.connection []
+    = some_is held.order (get_or m.orders held.connection [])
+    (sym held.got ∙ order_there m held.connection held.link w.was held.found) in
     let waits : waiting held.link (get_or n.orders held.connection []) ≡ waiting held.link held.order =
-    waits_on m place call.LoanUninit before n after w (answer.Lent l.given) found now l.said refl held.connection held.link held.found ∙ sym (ap (waiting held.link) order) in
-    let borrowed = ap (λ xs. borrows held.connection slot (slice_get xs (held.link).subscriber)) (sym w.others.subscribers) ∙ none.borrowed in
-    absurd (omega (arith, held.has, none.waits, ap (count slot) waits, ap (count slot) (none_aside m held.connection (held.link).publisher held.link between), ap one_if borrowed))
+    waits_on m place call.LoanUninit before n after w (answer.Lent l.given) found now l.said refl held.connection held.link held.found ∙
+    sym (ap (waiting held.link) order) in
+    let borrowed = ap (λ xs. borrows held.connection slot (slice_get xs (held.link).subscriber)) (sym w.others.subscribers) ∙
+    none.borrowed in
+    absurd (omega (
+      arith,
+      held.has,
+      none.waits,
+      ap (count slot) waits,
+      ap (count slot)
+          (none_aside m held.connection (held.link).publisher held.link between),
+      ap one_if borrowed,
+    ))
 
 -- a loan
 pub loans_in_turn : LoansInTurn
@@ -379,25 +441,41 @@ loans_in_turn = λ m n place before after t found now small.
     let counts = ((w.was.rooms w.few_first).publishers place before found).counts in
     let out = loans_counted before.port.book (w.last.lane).port.book book.loans in
     let said_so : parties.lent (lent (w.last.lane).port.book).answer ≡ answer.Lent l.given =
-    some_is _ (answer.Lent l.given) (sym (said_is m place call.LoanUninit before n after w publishing.Lending l.stage ∙ ap (λ (b : BookState). Some (parties.lent b.answer)) (sym (ap (λ (x : PublisherLaneState). x.port.book) w.after_is) ∙ l.lent_now)) ∙ l.said) in
+    some_is _ (answer.Lent l.given) (sym
+    (said_is m place call.LoanUninit before n after w publishing.Lending l.stage ∙ ap
+    (λ (b : BookState). Some (parties.lent b.answer)) (sym (ap (λ (x : PublisherLaneState). x.port.book) w.after_is) ∙ l.lent_now))
+    ∙ l.said) in
     let own : (slot : ℕ) → IsOwn (w.last.lane).port.book slot → IsOwn before.port.book slot = λ slot o.
-    record { above = omega (arith, o.above, book.first); below = omega (arith, o.below, book.first, size, counted_then.loans_each, counted_first.loans_each) } in
-    let gives : (slot : ℕ) → l.given ≡ loan.Slot slot → IsOwn before.port.book slot × (IsInUse m before slot → ⊥) × (is_loan after slot ≡ true) = λ slot e.
+    record {
+      above = omega (arith, o.above, book.first);
+      below
+          = omega (arith, o.below, book.first, size, counted_then.loans_each, counted_first.loans_each);
+    } in
+    let gives : (slot : ℕ) → l.given ≡ loan.Slot slot → IsOwn before.port.book slot × (IsInUse m before slot → ⊥)
+    × (is_loan after slot ≡ true) = λ slot e.
     let g = is.gives slot e in (
       own slot g.0,
       not_used m place before n after w l slot found now t.between g.1 g.2,
       subst (λ (x : PublisherLaneState). is_loan x slot ≡ true) (some_is (g.2).lane after (sym (g.2).found ∙ now)) (g.2).out,
     ) in
-    let refuses : loans_out before.port.book ≡ before.port.book.most_loans → l.given ≡ loan.ExceedsMaxLoans = λ e. is.refuses (out ∙ e ∙ sym book.most_loans) in
+    let refuses : loans_out before.port.book ≡ before.port.book.most_loans
+    → l.given ≡ loan.ExceedsMaxLoans = λ e. is.refuses (out ∙ e ∙ sym book.most_loans) in
     let lacks : l.given ≡ loan.OutOfMemory → (loans_out before.port.book < before.port.book.most_loans) × AllInUse m before = λ e. (
       fewer_out before l.given (omega (arith, counts.few, counts.out (omega (arith, small)))) refuses e,
       λ slot o. loans_find_all_used m t.came place w.last.entries w.fit
           (subst (λ (v : World). v.moments ≤ 2 ^ 63) w.last.led_to few)
-          (subst (λ (v : World). IsInCall v place m.moments) w.last.led_to (record { lane = w.last.lane; found = w.last.alone.found; since = w.last.alone.first; busy = ap publisher_is_idle l.stage }))
+          (subst (λ (v : World). IsInCall v place m.moments) w.last.led_to
+          (record { lane = w.last.lane; found = w.last.alone.found; since = w.last.alone.first; busy = ap publisher_is_idle l.stage }))
           (answered_by m place call.LoanUninit before n after w (answer.Lent l.given) l.said).call
-          (subst (λ (v : World). (happens v (Publisher place) GoOn).finished ≡ v.finished ++ (answered_by m place call.LoanUninit before n after w (answer.Lent l.given) l.said).call ∷ []) w.last.led_to
-          (sym (ap (λ (v : World). v.finished) w.last.now) ∙ (answered_by m place call.LoanUninit before n after w (answer.Lent l.given) l.said).more ∙ ap (λ (xs : List FinishedCall). xs ++ (answered_by m place call.LoanUninit before n after w (answer.Lent l.given) l.said).call ∷ []) (sym w.last.alone.finished)))
-          ((answered_by m place call.LoanUninit before n after w (answer.Lent l.given) l.said).answered ∙ ap (λ (g : LoanAnswer). answer.Lent g) e) before found slot o,
+          (subst (λ (v : World). (happens v (Publisher place) GoOn).finished ≡ v.finished
+          ++ (answered_by m place call.LoanUninit before n after w (answer.Lent l.given) l.said).call ∷ []) w.last.led_to
+          (sym (ap (λ (v : World). v.finished) w.last.now) ∙
+          (answered_by m place call.LoanUninit before n after w (answer.Lent l.given) l.said).more ∙ ap
+          (λ (xs : List FinishedCall). xs
+          ++ (answered_by m place call.LoanUninit before n after w (answer.Lent l.given) l.said).call ∷ [])
+          (sym w.last.alone.finished)))
+          ((answered_by m place call.LoanUninit before n after w (answer.Lent l.given) l.said).answered ∙ ap
+          (λ (g : LoanAnswer). answer.Lent g) e) before found slot o,
     ) in (
       l.given,
       answered_by m place call.LoanUninit before n after w (answer.Lent l.given) l.said,
@@ -406,23 +484,31 @@ loans_in_turn = λ m n place before after t found now small.
       ap (λ (b : BookState). b.history) l.lent_now ∙ (lent_keeps (w.last.lane).port.book).1 ∙ book.history,
       record {
         refused = (λ e. sym out ∙ is.refused e ∙ book.most_loans, refuses);
-        lacks = (lacks, λ h. must_lack m before l.given h.1 (λ slot e. ((gives slot e).0, (gives slot e).1)) (λ e. sym out ∙ is.refused e ∙ book.most_loans) h.0);
+        lacks = (
+          lacks,
+          λ h. must_lack m before l.given h.1 (λ slot e. ((gives slot e).0, (gives slot e).1))
+              (λ e. sym out ∙ is.refused e ∙ book.most_loans) h.0,
+        );
         gives = gives;
-        others = λ slot apart. ap is_out (ap (loan_of slot) l.lent_now ∙ lent_others (w.last.lane).port.book l.given said_so there (sym counted_then.loans_each) slot apart ∙ loans_same before.port.book (w.last.lane).port.book book.first book.loans slot);
+        others = λ slot apart. ap is_out (ap (loan_of slot) l.lent_now ∙ lent_others (w.last.lane).port.book l.given said_so there
+            (sym counted_then.loans_each) slot apart ∙ loans_same before.port.book (w.last.lane).port.book book.first book.loans slot);
       },
     )
   where
     not_refused : loan.ExceedsMaxLoans ≡ loan.OutOfMemory → ⊥
     not_refused e = cc e
 
-    fewer_out : (lane : PublisherLaneState) (given : LoanAnswer) → loans_out lane.port.book ≤ lane.port.book.most_loans → (loans_out lane.port.book ≡ lane.port.book.most_loans → given ≡ loan.ExceedsMaxLoans) → given ≡ loan.OutOfMemory
+    fewer_out : (lane : PublisherLaneState) (given : LoanAnswer) → loans_out lane.port.book ≤ lane.port.book.most_loans
+        → (loans_out lane.port.book ≡ lane.port.book.most_loans → given ≡ loan.ExceedsMaxLoans) → given ≡ loan.OutOfMemory
         → loans_out lane.port.book < lane.port.book.most_loans
     fewer_out lane given most refuses e = elim (cases_lt (loans_out lane.port.book) lane.port.book.most_loans) [
       | inl less ↦ less
       | inr full ↦ absurd (not_refused (sym (refuses (omega (arith, full, most))) ∙ e))
     ]
 
-    must_lack : (m : World) (lane : PublisherLaneState) (given : LoanAnswer) → AllInUse m lane → ((slot : ℕ) → given ≡ loan.Slot slot → IsOwn lane.port.book slot × (IsInUse m lane slot → ⊥)) → (given ≡ loan.ExceedsMaxLoans → loans_out lane.port.book ≡ lane.port.book.most_loans)
+    must_lack : (m : World) (lane : PublisherLaneState) (given : LoanAnswer) → AllInUse m lane
+        → ((slot : ℕ) → given ≡ loan.Slot slot → IsOwn lane.port.book slot × (IsInUse m lane slot → ⊥))
+        → (given ≡ loan.ExceedsMaxLoans → loans_out lane.port.book ≡ lane.port.book.most_loans)
         → loans_out lane.port.book < lane.port.book.most_loans → given ≡ loan.OutOfMemory
     must_lack m lane loan.OutOfMemory all gives refused room = refl
     must_lack m lane loan.ExceedsMaxLoans all gives refused room = absurd (omega (arith, room, refused refl))

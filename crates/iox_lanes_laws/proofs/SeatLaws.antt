@@ -69,7 +69,8 @@ receives connection cells (pop.Refusing (refusing_pop.LookRead read)) = tt
 receives connection cells (pop.Refusing (refusing_pop.Looked some)) = tt
 
 -- giving back
-gives_back : (connection cells : ℕ) (p : refusing_push_type.Push) → SubscriberMay (on_ring connection Completion cells (refusing.push_next p))
+gives_back : (connection cells : ℕ) (p : refusing_push_type.Push)
+    → SubscriberMay (on_ring connection Completion cells (refusing.push_next p))
 gives_back connection cells refusing_push.Idle = tt
 gives_back connection cells (refusing_push.Begun limit value) = tt
 gives_back connection cells (refusing_push.SawWrite limit value write next) = tt

@@ -1,5 +1,6 @@
 -- Which slot a publisher sends, by the stage where its call stands.
-use Rattle.std.proofs.Common.{ℕ, ◌≡◌, ◌+◌, ◌-◌, ◌<◌, ◌≤◌, ◌==◌, Bool, true, false, if◌then◌else◌, nat_lt, List, length, slice_get, Option, Some, None, refl, sym, ◌∙◌, ap, subst, arith}
+use Rattle.std.proofs.Common.{ℕ, ◌≡◌, ◌+◌, ◌-◌, ◌<◌, ◌≤◌, ◌==◌, Bool, true, false, if◌then◌else◌, nat_lt, List, length, slice_get, Option}
+use Rattle.std.proofs.Common.{Some, None, refl, sym, ◌∙◌, ap, subst, arith}
 use Rattle.iox_lanes_machine.specs.QueuesSteps.Access.{successor}
 use Rattle.iox_lanes_machine.specs.QueuesSteps.declared.access.Access.{Access}
 use Rattle.iox_lanes_machine.specs.QueuesSteps.declared.access.Access.TheVariants as own_access
@@ -20,7 +21,9 @@ use Rattle.iox_lanes_machine.specs.LanesBase.declared.words.word.SlotWord.{SlotW
 use Rattle.iox_lanes_machine.specs.LanesBase.declared.words.word.SlotWord.TheVariants.{Header, UserHeader, Payload}
 use Rattle.iox_lanes_machine.specs.LanesBase.declared.words.word.SharedWord.TheVariants.{Slot}
 use Rattle.iox_lanes_machine.specs.LanesBase.Answers.{push_answer, refusing_pop_answer}
-use Rattle.iox_lanes_machine.specs.LanesBase.Publishing.{publisher_next, publisher_take, publisher_change, push_change, taken_back, loan_from, loan_reclaimed, write_from, head_from, push_from, sweep_from, send_reclaimed, pushed, counted, nothing_sent}
+use Rattle.iox_lanes_machine.specs.LanesBase.Publishing.{publisher_next, publisher_take, publisher_change, push_change, taken_back}
+use Rattle.iox_lanes_machine.specs.LanesBase.Publishing.{loan_from, loan_reclaimed, write_from, head_from, push_from, sweep_from}
+use Rattle.iox_lanes_machine.specs.LanesBase.Publishing.{send_reclaimed, pushed, counted, nothing_sent}
 use Rattle.iox_lanes_machine.specs.LanesBase.declared.calls.publisher.Delivery.{Delivery}
 use Rattle.iox_lanes_machine.specs.LanesBase.declared.calls.publisher.PublisherCall.{PublisherCall}
 use Rattle.iox_lanes_machine.specs.LanesBase.declared.calls.publisher.PublisherCall.TheVariants as publishing
@@ -55,7 +58,8 @@ loan_sends : (place : ℕ) (at : Option Route) → sending (loan_from place at) 
 loan_sends place None = refl
 loan_sends place (Some route) = refl
 
-loaned_sends : (routes : List Route) (place : ℕ) (route : Route) (p : refusing_pop_type.Pop) (a : Option PopAnswer) → sending (loan_reclaimed routes place route p a) ≡ None
+loaned_sends : (routes : List Route) (place : ℕ) (route : Route) (p : refusing_pop_type.Pop) (a : Option PopAnswer)
+    → sending (loan_reclaimed routes place route p a) ≡ None
 loaned_sends routes place route p None = refl
 loaned_sends routes place route p (Some (Got (Some slot))) = refl
 loaned_sends routes place route p (Some (Got None)) = loan_sends (successor place) (slice_get routes (successor place))
@@ -80,32 +84,42 @@ sweep_sends : (routes : List Route) (slot place : ℕ) (at : Option Route) → s
 sweep_sends routes slot place None = push_sends slot 0 nothing_sent (slice_get routes 0)
 sweep_sends routes slot place (Some route) = refl
 
-swept_sends : (routes : List Route) (slot place : ℕ) (route : Route) (p : refusing_pop_type.Pop) (a : Option PopAnswer) → sending (send_reclaimed routes slot place route p a) ≡ Some slot
+swept_sends : (routes : List Route) (slot place : ℕ) (route : Route) (p : refusing_pop_type.Pop) (a : Option PopAnswer)
+    → sending (send_reclaimed routes slot place route p a) ≡ Some slot
 swept_sends routes slot place route p None = refl
 swept_sends routes slot place route p (Some (Got (Some back))) = refl
 swept_sends routes slot place route p (Some (Got None)) = sweep_sends routes slot (successor place) (slice_get routes (successor place))
 swept_sends routes slot place route p (Some (Saw some)) = sweep_sends routes slot (successor place) (slice_get routes (successor place))
 
-pushed_sends : (routes : List Route) (slot place : ℕ) (route : Route) (p : Push) (delivery : Delivery) (a : Option PushAnswer) → sending (pushed routes slot place route p delivery a) ≡ Some slot
+pushed_sends : (routes : List Route) (slot place : ℕ) (route : Route) (p : Push) (delivery : Delivery) (a : Option PushAnswer)
+    → sending (pushed routes slot place route p delivery a) ≡ Some slot
 pushed_sends routes slot place route p delivery None = refl
-pushed_sends routes slot place route p delivery (Some answer) = push_sends slot (successor place) (counted delivery answer) (slice_get routes (successor place))
+pushed_sends routes slot place route p delivery (Some answer)
+    = push_sends slot (successor place) (counted delivery answer) (slice_get routes (successor place))
 
 -- who sends a slot behind a step sent it before
-pub sent_before : (routes : List Route) (words : List ℕ) (c : PublisherCall) (a slot : ℕ) → sending (publisher_take routes words c a) ≡ Some slot → sending c ≡ Some slot
+pub sent_before : (routes : List Route) (words : List ℕ) (c : PublisherCall) (a slot : ℕ)
+    → sending (publisher_take routes words c a) ≡ Some slot → sending c ≡ Some slot
 sent_before routes words publishing.Idle a slot h = absurd (cc h)
-sent_before routes words (publishing.LoanReclaims place route p) a slot h = absurd (cc (sym (loaned_sends routes place route (refusing.pop_take p a) (refusing_pop_answer (refusing.pop_take p a))) ∙ h))
+sent_before routes words (publishing.LoanReclaims place route p) a slot h
+    = absurd (cc (sym (loaned_sends routes place route (refusing.pop_take p a) (refusing_pop_answer (refusing.pop_take p a))) ∙ h))
 sent_before routes words publishing.Lending a slot h = absurd (cc h)
-sent_before routes words (publishing.Writing own word value) a slot h = absurd (cc (sym (write_sends own (successor word) (slice_get words (successor word))) ∙ h))
+sent_before routes words (publishing.Writing own word value) a slot h
+    = absurd (cc (sym (write_sends own (successor word) (slice_get words (successor word))) ∙ h))
 sent_before routes words (publishing.Written own) a slot h = absurd (cc h)
-sent_before routes words (publishing.Heading own word value) a slot h = sym (head_sends own (successor word) (slice_get words (successor word))) ∙ h
+sent_before routes words (publishing.Heading own word value) a slot h
+    = sym (head_sends own (successor word) (slice_get words (successor word))) ∙ h
 sent_before routes words (publishing.Remembering own) a slot h = sym (sweep_sends routes own 0 (slice_get routes 0)) ∙ h
-sent_before routes words (publishing.SendReclaims own place route p) a slot h = sym (swept_sends routes own place route (refusing.pop_take p a) (refusing_pop_answer (refusing.pop_take p a))) ∙ h
-sent_before routes words (publishing.Pushing own place route p delivery) a slot h = sym (pushed_sends routes own place route (push_take p a) delivery (push_answer (push_take p a))) ∙ h
+sent_before routes words (publishing.SendReclaims own place route p) a slot h
+    = sym (swept_sends routes own place route (refusing.pop_take p a) (refusing_pop_answer (refusing.pop_take p a))) ∙ h
+sent_before routes words (publishing.Pushing own place route p delivery) a slot h
+    = sym (pushed_sends routes own place route (push_take p a) delivery (push_answer (push_take p a))) ∙ h
 sent_before routes words (publishing.Sent own delivery) a slot h = absurd (cc h)
 sent_before routes words (publishing.Dropping own) a slot h = absurd (cc h)
 
 -- the slot that a publisher sends is its own
-pub sends_own : (connections : ℕ) (book : BookState) (c : PublisherCall) (slot : ℕ) → sending c ≡ Some slot → StandsAtLoan book c → SendsLacking connections book c → UsesCounted connections book → (book.first ≤ slot) × (slot < book.first + length book.loans)
+pub sends_own : (connections : ℕ) (book : BookState) (c : PublisherCall) (slot : ℕ) → sending c ≡ Some slot → StandsAtLoan book c
+    → SendsLacking connections book c → UsesCounted connections book → (book.first ≤ slot) × (slot < book.first + length book.loans)
 sends_own connections book publishing.Idle slot h stands lacks k = absurd (cc h)
 sends_own connections book (publishing.LoanReclaims place route p) slot h stands lacks k = absurd (cc h)
 sends_own connections book publishing.Lending slot h stands lacks k = absurd (cc h)
@@ -131,18 +145,21 @@ sends_own connections book (publishing.Sent own delivery) slot h stands lacks k 
 sends_own connections book (publishing.Dropping own) slot h stands lacks k = absurd (cc h)
 
 -- an access of a ring touches no word of a slot
-ring_touches : (connection : ℕ) (ring : ConnectionRing) (cells : ℕ) (access : Access) (slot : ℕ) (word : SlotWord) → MayChange (on_ring connection ring cells access) (Slot slot word) → ⊥
+ring_touches : (connection : ℕ) (ring : ConnectionRing) (cells : ℕ) (access : Access) (slot : ℕ) (word : SlotWord)
+    → MayChange (on_ring connection ring cells access) (Slot slot word) → ⊥
 ring_touches connection ring cells (own_access.Load w) slot word h = h
 ring_touches connection ring cells (own_access.Store w value) slot word h = absurd (cc h)
 ring_touches connection ring cells (own_access.Exchange w old new) slot word h = absurd (cc h)
 ring_touches connection ring cells own_access.Local slot word h = h
 
-head_is_no_payload : (one slot at word : ℕ) (b : Bool) → Slot one (Payload word) ≡ Slot slot (if b then Header at else UserHeader (at - 3)) → ⊥
+head_is_no_payload : (one slot at word : ℕ) (b : Bool)
+    → Slot one (Payload word) ≡ Slot slot (if b then Header at else UserHeader (at - 3)) → ⊥
 head_is_no_payload one slot at word true h = absurd (cc h)
 head_is_no_payload one slot at word false h = absurd (cc h)
 
 -- who sends stores no word of a payload
-pub payload_spared : (c : PublisherCall) (slot one word : ℕ) → sending c ≡ Some slot → MayChange (publisher_next c) (Slot one (Payload word)) → ⊥
+pub payload_spared : (c : PublisherCall) (slot one word : ℕ) → sending c ≡ Some slot
+    → MayChange (publisher_next c) (Slot one (Payload word)) → ⊥
 payload_spared publishing.Idle slot one word h t = absurd (cc h)
 payload_spared (publishing.LoanReclaims place route p) slot one word h t = absurd (cc h)
 payload_spared publishing.Lending slot one word h t = absurd (cc h)
@@ -167,7 +184,8 @@ taken_gives place (Some (Got (Some back))) slot h = h
 taken_gives place (Some (Got None)) slot h = h
 taken_gives place (Some (Saw some)) slot h = h
 
-push_gives : (book : BookState) (place own : ℕ) (p : Push) (a slot : ℕ) → PushLacks book place own p → IsGiven (push_change place p a) slot → own ≡ slot
+push_gives : (book : BookState) (place own : ℕ) (p : Push) (a slot : ℕ) → PushLacks book place own p
+    → IsGiven (push_change place p a) slot → own ≡ slot
 push_gives book place own (push.Overflowing overflowing_push.Idle) a slot l h = absurd h
 push_gives book place own (push.Overflowing (overflowing_push.Begun limit value)) a slot l h = absurd h
 push_gives book place own (push.Overflowing (overflowing_push.SawWrite limit value write next)) a slot l h = absurd h
@@ -187,9 +205,11 @@ push_gives book place own (push.Refusing (refusing_push.SawRoom value write next
 push_gives book place own (push.Refusing (refusing_push.Filled value next)) a slot l h = sym l.same ∙ h
 push_gives book place own (push.Refusing (refusing_push.Pushed value answered)) a slot l h = absurd h
 
-pub gives_at : (table : TableWords) (sends : Bool) (payload head : List ℕ) (connections : ℕ) (book : BookState) (c : PublisherCall) (a slot : ℕ) → SendsLacking connections book c → IsGiven (publisher_change c a) slot → GivesAt table sends payload head c slot
+pub gives_at : (table : TableWords) (sends : Bool) (payload head : List ℕ) (connections : ℕ) (book : BookState) (c : PublisherCall)
+    (a slot : ℕ) → SendsLacking connections book c → IsGiven (publisher_change c a) slot → GivesAt table sends payload head c slot
 gives_at table sends payload head connections book publishing.Idle a slot l h = absurd h
-gives_at table sends payload head connections book (publishing.LoanReclaims place route p) a slot l h = absurd (taken_gives place (refusing_pop_answer (refusing.pop_take p a)) slot h)
+gives_at table sends payload head connections book (publishing.LoanReclaims place route p) a slot l h
+    = absurd (taken_gives place (refusing_pop_answer (refusing.pop_take p a)) slot h)
 gives_at table sends payload head connections book publishing.Lending a slot l h = absurd h
 gives_at table sends payload head connections book (publishing.Writing own word value) a slot l h = absurd h
 gives_at table sends payload head connections book (publishing.Written own) a slot l h = absurd h
@@ -199,7 +219,8 @@ gives_at table sends payload head connections book (publishing.Remembering own) 
   stored = λ all. subst (λ (s : ℕ). HoldsAllHead table s head) h all;
   spared = λ one word t. t;
 }
-gives_at table sends payload head connections book (publishing.SendReclaims own place route p) a slot l h = absurd (taken_gives place (refusing_pop_answer (refusing.pop_take p a)) slot h)
+gives_at table sends payload head connections book (publishing.SendReclaims own place route p) a slot l h
+    = absurd (taken_gives place (refusing_pop_answer (refusing.pop_take p a)) slot h)
 gives_at table sends payload head connections book (publishing.Pushing own place route p delivery) a slot l h =
     let same : own ≡ slot = push_gives book place own p a slot (l.1) h in
     record {
@@ -217,12 +238,14 @@ taken_puts book place (Some (Got (Some back))) = tt
 taken_puts book place (Some (Got None)) = tt
 taken_puts book place (Some (Saw some)) = tt
 
-push_puts : (book : BookState) (place own : ℕ) (p : Push) (a : ℕ) → PushLacks book place own p → IsSending book own → PutsOwn book (push_change place p a)
+push_puts : (book : BookState) (place own : ℕ) (p : Push) (a : ℕ) → PushLacks book place own p → IsSending book own
+    → PutsOwn book (push_change place p a)
 push_puts book place own (push.Overflowing overflowing_push.Idle) a l s = tt
 push_puts book place own (push.Overflowing (overflowing_push.Begun limit value)) a l s = tt
 push_puts book place own (push.Overflowing (overflowing_push.SawWrite limit value write next)) a l s = tt
 push_puts book place own (push.Overflowing (overflowing_push.SawRead limit value write next seen)) a l s = tt
-push_puts book place own (push.Overflowing (overflowing_push.Filled limit value write next seen)) a l s = record { above = omega (arith, s.own.above, l.same); below = omega (arith, s.own.below, l.same) }
+push_puts book place own (push.Overflowing (overflowing_push.Filled limit value write next seen)) a l s
+    = record { above = omega (arith, s.own.above, l.same); below = omega (arith, s.own.below, l.same) }
 push_puts book place own (push.Overflowing (overflowing_push.Full value seen next)) a l s = tt
 push_puts book place own (push.Overflowing (overflowing_push.SawOldest value seen next oldest)) a l s = by_test (a == seen)
   where
@@ -234,10 +257,12 @@ push_puts book place own (push.Refusing refusing_push.Idle) a l s = tt
 push_puts book place own (push.Refusing (refusing_push.Begun limit value)) a l s = tt
 push_puts book place own (push.Refusing (refusing_push.SawWrite limit value write next)) a l s = tt
 push_puts book place own (push.Refusing (refusing_push.SawRoom value write next)) a l s = tt
-push_puts book place own (push.Refusing (refusing_push.Filled value next)) a l s = record { above = omega (arith, s.own.above, l.same); below = omega (arith, s.own.below, l.same) }
+push_puts book place own (push.Refusing (refusing_push.Filled value next)) a l s
+    = record { above = omega (arith, s.own.above, l.same); below = omega (arith, s.own.below, l.same) }
 push_puts book place own (push.Refusing (refusing_push.Pushed value answered)) a l s = tt
 
-pub puts_own : (connections : ℕ) (book : BookState) (c : PublisherCall) (a : ℕ) → SendsLacking connections book c → PutsOwn book (publisher_change c a)
+pub puts_own : (connections : ℕ) (book : BookState) (c : PublisherCall) (a : ℕ) → SendsLacking connections book c
+    → PutsOwn book (publisher_change c a)
 puts_own connections book publishing.Idle a l = tt
 puts_own connections book (publishing.LoanReclaims place route p) a l = taken_puts book place (refusing_pop_answer (refusing.pop_take p a))
 puts_own connections book publishing.Lending a l = tt
@@ -245,7 +270,8 @@ puts_own connections book (publishing.Writing own word value) a l = tt
 puts_own connections book (publishing.Written own) a l = tt
 puts_own connections book (publishing.Heading own word value) a l = tt
 puts_own connections book (publishing.Remembering own) a l = tt
-puts_own connections book (publishing.SendReclaims own place route p) a l = taken_puts book place (refusing_pop_answer (refusing.pop_take p a))
+puts_own connections book (publishing.SendReclaims own place route p) a l
+    = taken_puts book place (refusing_pop_answer (refusing.pop_take p a))
 puts_own connections book (publishing.Pushing own place route p delivery) a l = push_puts book place own p a (l.1) (l.0)
 puts_own connections book (publishing.Sent own delivery) a l = tt
 puts_own connections book (publishing.Dropping own) a l = tt

@@ -1,5 +1,6 @@
 -- A read gives the message that was sent in its slot.
-use Rattle.std.proofs.Common.{ℕ, ◌≡◌, ◌<◌, ◌≤◌, ◌^◌, ◌⊎◌, Bool, true, false, List, [], ◌∷◌, ◌++◌, length, slice_get, Option, Some, None, refl, sym, ◌∙◌, ap, subst, inl, inr, arith}
+use Rattle.std.proofs.Common.{ℕ, ◌≡◌, ◌<◌, ◌≤◌, ◌^◌, ◌⊎◌, Bool, true, false, List, [], ◌∷◌, ◌++◌, length, slice_get, Option, Some, None}
+use Rattle.std.proofs.Common.{refl, sym, ◌∙◌, ap, subst, inl, inr, arith}
 use Rattle.std.proofs.lemmas.Option.{slice_get_within}
 use Rattle.iox_lanes_machine.specs.QueuesSteps.Access.{successor}
 use Rattle.iox_lanes_machine.specs.LanesBase.Publishing.{publisher_is_idle}
@@ -49,7 +50,8 @@ idle_sends (publishing.Dropping slot) h = absurd (cc h)
 -- where nobody is inside a call, each slot has what it holds
 at_first : (m : World) → AllBetween m → AllSent m (slot_held m.table)
 at_first m between = λ place lane found. record {
-  stage = λ slot at. absurd (cc (sym (idle_sends lane.port.call (all_at (λ (x : PublisherLaneState). publisher_is_idle x.port.call ≡ true) m.publishers place lane found between.publishers)) ∙ at));
+  stage = λ slot at. absurd (cc (sym (idle_sends lane.port.call
+      (all_at (λ (x : PublisherLaneState). publisher_is_idle x.port.call ≡ true) m.publishers place lane found between.publishers)) ∙ at));
   used = λ slot at. holds_held m.table slot;
 }
 
@@ -60,7 +62,8 @@ few_before : (n k : ℕ) → successor n ≤ k → k ≤ 2 ^ 63 → n < 2 ^ 63
 few_before n k h g = omega arith
 
 -- of the steps that are left, how many were made
-grows : (m : World) (entries : List Entry) (messages : List MessageState) (n : World) → SendsThrough m entries messages n → n.moments ≤ 2 ^ 63 → m.moments ≤ n.moments
+grows : (m : World) (entries : List Entry) (messages : List MessageState) (n : World) → SendsThrough m entries messages n
+    → n.moments ≤ 2 ^ 63 → m.moments ≤ n.moments
 grows m [] messages n h few = subst (λ (x : World). m.moments ≤ x.moments) (sym h.1) (omega arith)
 grows m (entry ∷ entries) messages n (inl h) few = grows m entries messages n h.1 few
 grows m (entry ∷ entries) messages n (inr h) few =
@@ -69,22 +72,29 @@ grows m (entry ∷ entries) messages n (inr h) few =
     let bound : m.moments < 2 ^ 63 = few_before m.moments n.moments (omega (arith, next, rest)) few in
     omega (arith, rest, next, up m.moments bound)
 
-through : (m : World) (sent : ℕ → List ℕ) (entries : List Entry) (messages : List MessageState) (n : World) → SendsThrough m entries messages n → n.moments ≤ 2 ^ 63 → IsKept m → AllSent m sent → IsKept n × AllSent n (λ slot. last_in (sent slot) messages slot)
+through : (m : World) (sent : ℕ → List ℕ) (entries : List Entry) (messages : List MessageState) (n : World)
+    → SendsThrough m entries messages n → n.moments ≤ 2 ^ 63 → IsKept m → AllSent m sent → IsKept n
+    × AllSent n (λ slot. last_in (sent slot) messages slot)
 through m sent [] messages n h few k all =
-    subst (λ (x : World). IsKept x × AllSent x (λ slot. last_in (sent slot) messages slot)) (sym h.1) (subst (λ (ms : List MessageState). IsKept m × AllSent m (λ slot. last_in (sent slot) ms slot)) (sym h.0) (k, all))
+    subst (λ (x : World). IsKept x × AllSent x (λ slot. last_in (sent slot) messages slot)) (sym h.1)
+    (subst (λ (ms : List MessageState). IsKept m × AllSent m (λ slot. last_in (sent slot) ms slot)) (sym h.0) (k, all))
 through m sent (entry ∷ entries) messages n (inl h) few k all = through m sent entries messages n h.1 few k all
 through m sent (entry ∷ entries) messages n (inr h) few k all =
     let begun = begun_messages m entry.party entry.step in
     let next = happens_moments m entry.party entry.step h.0 in
     let rest = grows (happens m entry.party entry.step) entries (h.1).0 n (h.1).2 few in
     let bound : m.moments < 2 ^ 63 = few_before m.moments n.moments (omega (arith, next, rest)) few in
-    let end = through (happens m entry.party entry.step) (λ slot. last_in (sent slot) begun slot) entries (h.1).0 n (h.1).2 few (happens_keeps m entry.party entry.step h.0 k) (step_sent m sent entry.party entry.step h.0 k (omega (arith, bound)) all) in (
+    let end = through (happens m entry.party entry.step) (λ slot. last_in (sent slot) begun slot) entries (h.1).0 n (h.1).2 few
+    (happens_keeps m entry.party entry.step h.0 k) (step_sent m sent entry.party entry.step h.0 k (omega (arith, bound)) all) in (
       end.0,
-      λ place lane found. same_sent n lane (λ slot. last_in (last_in (sent slot) begun slot) (h.1).0 slot) (λ slot. last_in (sent slot) messages slot)
-          (λ slot. ap (λ (ms : List MessageState). last_in (sent slot) ms slot) (h.1).1 ∙ last_append (sent slot) begun (h.1).0 slot) (end.1 place lane found),
+      λ place lane found. same_sent n lane (λ slot. last_in (last_in (sent slot) begun slot) (h.1).0 slot)
+          (λ slot. last_in (sent slot) messages slot)
+          (λ slot. ap (λ (ms : List MessageState). last_in (sent slot) ms slot) (h.1).1 ∙ last_append (sent slot) begun (h.1).0 slot)
+          (end.1 place lane found),
     )
   where
-    same_sent : (n : World) (lane : PublisherLaneState) (one other : ℕ → List ℕ) → ((slot : ℕ) → other slot ≡ one slot) → LaneSent n.table one lane → LaneSent n.table other lane
+    same_sent : (n : World) (lane : PublisherLaneState) (one other : ℕ → List ℕ) → ((slot : ℕ) → other slot ≡ one slot)
+        → LaneSent n.table one lane → LaneSent n.table other lane
     same_sent n lane one other same h = record {
       stage = λ slot at. subst (λ (words : List ℕ). IsSent n.table words lane.port.head slot) (sym (same slot)) (h.stage slot at);
       used = λ slot at. subst (Holds n.table slot) (sym (same slot)) (h.used slot at);
@@ -108,7 +118,12 @@ connection_used m slot k few at =
       place = (at.link).publisher;
       lane = r.lane;
       found = r.found;
-      used = inr (r.place, slice_get_within (r.lane).port.routes r.place r.route r.at, has_it (refers_to (r.lane).port.book r.place slot) _ r.is at.has);
+      used = inr (
+        r.place,
+        slice_get_within (r.lane).port.routes r.place r.route r.at,
+        has_it (refers_to (r.lane).port.book r.place slot)
+            _ r.is at.has,
+      );
     }
 
 slot_used : (m : World) (slot : ℕ) → IsKept m → m.moments ≤ 2 ^ 63 → IsRemembered m slot ⊎ IsAtConnection m slot → UsedBy m slot
@@ -120,12 +135,16 @@ reads_give_what_was_sent m came between entries sent n steps few party step call
     let end = through m (slot_held m.table) entries sent n steps few (came_kept m came).0 (at_first m between) in
     let k : IsKept n = end.0 in
     let made = step_made n party step fit (ends n party step) refl in
-    let got = reads_whole n party step made.0 (happens n party step) made.1 (steps_told n party step made.0 (happens n party step) made.1) k.within k.uses k.reads k.calls k.held few call slot more is in
+    let got = reads_whole n party step made.0 (happens n party step) made.1
+    (steps_told n party step made.0 (happens n party step) made.1) k.within k.uses k.reads k.calls k.held few call slot more is in
     let u = connection_used n slot k few got.1 in
-    got.0 ∙ ap (λ (ws : List ℕ). n.read ++ ws) (held_is n.table slot (last_in (slot_held m.table slot) sent slot) ((end.1 u.place u.lane u.found).used slot u.used))
+    got.0 ∙ ap (λ (ws : List ℕ). n.read ++ ws)
+    (held_is n.table slot (last_in (slot_held m.table slot) sent slot) ((end.1 u.place u.lane u.found).used slot u.used))
 
 -- a message that begins is a loan of its publisher
-begun_is : (m : World) (place : ℕ) (c : Call) (at : Option PublisherLaneState) (message : MessageState) → slice_get m.publishers place ≡ at → publisher_fits_at at (Begin c) ≡ true → sent_by m place c at ≡ message ∷ [] → IsLoanAt m place message.slot
+begun_is : (m : World) (place : ℕ) (c : Call) (at : Option PublisherLaneState) (message : MessageState)
+    → slice_get m.publishers place ≡ at → publisher_fits_at at (Begin c) ≡ true → sent_by m place c at ≡ message ∷ []
+    → IsLoanAt m place message.slot
 begun_is m place c None message e fit h = absurd (cc h)
 begun_is m place call.LoanUninit (Some lane) message e fit h = absurd (cc h)
 begun_is m place (call.Write loan payload user_header) (Some lane) message e fit h = absurd (cc h)
@@ -141,6 +160,7 @@ pub used_slots_send_nothing : UsedSlotsSendNothing
 used_slots_send_nothing m came few slot used (Publisher place) (Begin c) message fit h same =
     let k = (came_kept m came).0 in
     let u = slot_used m slot k few used in
-    used_no_loan m u.place place u.lane slot u.found k.loans (k.uses few) u.used (subst (IsLoanAt m place) same (begun_is m place c (slice_get m.publishers place) message refl fit h))
+    used_no_loan m u.place place u.lane slot u.found k.loans (k.uses few) u.used
+    (subst (IsLoanAt m place) same (begun_is m place c (slice_get m.publishers place) message refl fit h))
 used_slots_send_nothing m came few slot used (Publisher place) GoOn message fit h same = absurd (cc h)
 used_slots_send_nothing m came few slot used (Subscriber place) step message fit h same = absurd (cc h)

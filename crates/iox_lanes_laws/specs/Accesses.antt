@@ -1,12 +1,14 @@
 -- The accesses of a whole call in any run of lanes, however the steps of others fall between its own.
-use Rattle.std.specs.Prelude.{ℕ, ◌≡◌, ◌+◌, ◌-◌, ◌<◌, ◌≤◌, ◌^◌, ◌&&◌, ◌⊎◌, Bool, true, false, if◌then◌else◌, List, [], ◌∷◌, ◌++◌, length, slice_get, Option, Some, None}
+use Rattle.std.specs.Prelude.{ℕ, ◌≡◌, ◌+◌, ◌-◌, ◌<◌, ◌≤◌, ◌^◌, ◌&&◌, ◌⊎◌, Bool, true, false, if◌then◌else◌, List, [], ◌∷◌, ◌++◌, length}
+use Rattle.std.specs.Prelude.{slice_get, Option, Some, None}
 use Rattle.iox_lanes_base.specs.Subscribing.{subscriber_is_idle}
 use Rattle.iox_lanes_base.specs.Table.{shared_answer}
 use Rattle.iox_lanes_base.specs.declared.words.access.SharedAccess.{SharedAccess}
 use Rattle.iox_lanes_base.specs.declared.words.access.SharedAccess.TheVariants.{Local}
 use Rattle.iox_lanes_base.specs.declared.calls.publisher.PublisherCall.TheVariants.{Remembering}
 use Rattle.iox_lanes_base.specs.declared.calls.route.Route.{Route}
-use Rattle.iox_lanes_machine.specs.LanesParties.Parties.{PublisherLaneState, SubscriberLaneState, publisher_fits, subscriber_fits, head_of, place_of, route_at}
+use Rattle.iox_lanes_machine.specs.LanesParties.Parties.{PublisherLaneState, SubscriberLaneState, publisher_fits, subscriber_fits}
+use Rattle.iox_lanes_machine.specs.LanesParties.Parties.{head_of, place_of, route_at}
 use Rattle.iox_lanes_machine.specs.LanesParties.declared.call.Call.{Call}
 use Rattle.iox_lanes_machine.specs.LanesParties.declared.call.Call.TheVariants as call
 use Rattle.iox_lanes_machine.specs.LanesParties.declared.call.Entry.{Entry}

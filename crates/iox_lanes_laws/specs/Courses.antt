@@ -40,7 +40,8 @@ reclaim_course route next (read ∷ write ∷ slot ∷ []) =
 reclaim_course route next (read ∷ write ∷ slot ∷ stored ∷ answers) =
     Load (back route Read) ∷ Load (back route Write)
     ∷ (if write == read then next (slot ∷ stored ∷ answers)
-    else Load (back route (Cell (read % route.completion_cells))) ∷ Store (back route Read) (successor read) ∷ reclaim_course route next answers)
+    else Load (back route (Cell (read % route.completion_cells))) ∷ Store (back route Read) (successor read)
+    ∷ reclaim_course route next answers)
 
 -- one connection after the other is taken back, then no word is touched
 abbrev pub loan_course : List Route → List ℕ → List SharedAccess

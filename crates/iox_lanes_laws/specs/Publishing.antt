@@ -1,5 +1,6 @@
 -- What a call of a publisher leaves that no other call overlaps.
-use Rattle.std.specs.Prelude.{ℕ, ◌≡◌, ◌+◌, ◌-◌, ◌<◌, ◌^◌, ◌↔◌, ◌||◌, not, Bool, true, false, nat_lt, List, [], ◌∷◌, ◌++◌, length, drop, count_by, slice_get, Option, Some, None}
+use Rattle.std.specs.Prelude.{ℕ, ◌≡◌, ◌+◌, ◌-◌, ◌<◌, ◌^◌, ◌↔◌, ◌||◌, not, Bool, true, false, nat_lt, List, [], ◌∷◌, ◌++◌, length, drop}
+use Rattle.std.specs.Prelude.{count_by, slice_get, Option, Some, None}
 use Rattle.iox_lanes_machine.specs.QueuesSteps.Order.{after_put}
 use Rattle.iox_lanes_machine.specs.QueuesSteps.Ends.{overflows}
 use Rattle.iox_lanes_machine.specs.LanesBase.declared.calls.publisher.Delivery.{Delivery}
@@ -89,7 +90,8 @@ abbrev pub LoansInTurn : Type 0
 LoansInTurn = (m n : World) (place : ℕ) (before after : PublisherLaneState) → IsInTurn m (Publisher place) call.LoanUninit n
     → slice_get m.publishers place ≡ Some before → slice_get n.publishers place ≡ Some after
     → before.port.book.first + length before.port.book.loans < 2 ^ 64
-    → (given : LoanAnswer) × IsAnswered m (Publisher place) call.LoanUninit (answer.Lent given) n × OnlyPublisher m place n × MailStays m n × HistoryStays before after × Lends m before given after
+    → (given : LoanAnswer) × IsAnswered m (Publisher place) call.LoanUninit (answer.Lent given) n × OnlyPublisher m place n
+    × MailStays m n × HistoryStays before after × Lends m before given after
 
 -- So a send ends that no other call overlaps. It is unable to deliver just where its publisher fails at a full mailbox and some
 -- connection refused the message.
@@ -103,10 +105,12 @@ SendsInTurn = (m n : World) (place slot : ℕ) (before after : PublisherLaneStat
 abbrev pub DropsInTurn : Type 0
 DropsInTurn = (m n : World) (place slot : ℕ) (before after : PublisherLaneState) → IsInTurn m (Publisher place) (call.DropLoan slot) n
     → slice_get m.publishers place ≡ Some before → slice_get n.publishers place ≡ Some after
-    → IsAnswered m (Publisher place) (call.DropLoan slot) answer.Dropped n × OnlyPublisher m place n × MailStays m n × HistoryStays before after × LoanEnds before after slot
+    → IsAnswered m (Publisher place) (call.DropLoan slot) answer.Dropped n × OnlyPublisher m place n × MailStays m n
+    × HistoryStays before after × LoanEnds before after slot
 
 -- So a write ends that no other call overlaps: its loan is written, and that is all.
 abbrev pub WritesInTurn : Type 0
 WritesInTurn = (m n : World) (place slot : ℕ) (c : Call) (before after : PublisherLaneState) → name_of c ≡ name.Write slot
     → IsInTurn m (Publisher place) c n → slice_get m.publishers place ≡ Some before → slice_get n.publishers place ≡ Some after
-    → IsAnswered m (Publisher place) c answer.Written n × OnlyPublisher m place n × MailStays m n × HistoryStays before after × LoansStay before after × (is_written (loan_of slot after.port.book) ≡ true)
+    → IsAnswered m (Publisher place) c answer.Written n × OnlyPublisher m place n × MailStays m n × HistoryStays before after
+    × LoansStay before after × (is_written (loan_of slot after.port.book) ≡ true)

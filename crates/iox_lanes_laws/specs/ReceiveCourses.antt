@@ -60,7 +60,8 @@ receive_course borrowed most place (route ∷ routes) answers =
 -- a receive does so
 abbrev pub ReceivesVisit : Type 0
 ReceivesVisit = (routes : List Route) (borrowed answers : List ℕ) (most : ℕ) (waits : Bool) → length routes < 2 ^ 64 - 1
-    → subscriber_course routes borrowed most (receive_at routes borrowed most 0 waits) answers ≡ receive_course borrowed most 0 routes answers
+    → subscriber_course routes borrowed most (receive_at routes borrowed most 0 waits) answers
+    ≡ receive_course borrowed most 0 routes answers
 
 -- so many words of a slot are loaded, from one on, then no word is touched
 abbrev pub read_course : ℕ → SlotExtent → ℕ → ℕ → List ℕ → List SharedAccess

@@ -78,17 +78,20 @@ Receives m before receipt.ExceedsMaxBorrows n after = TakesNone m before n after
 abbrev pub ReceivesInTurn : Type 0
 ReceivesInTurn = (m n : World) (place : ℕ) (before after : SubscriberLaneState) → IsInTurn m (Subscriber place) call.Receive n
     → slice_get m.subscribers place ≡ Some before → slice_get n.subscribers place ≡ Some after
-    → (given : Receipt) × IsAnswered m (Subscriber place) call.Receive (answer.Received given) n × OnlySubscriber m place n × Receives m before given n after
+    → (given : Receipt) × IsAnswered m (Subscriber place) call.Receive (answer.Received given) n × OnlySubscriber m place n
+    × Receives m before given n after
 
 -- So a release ends that no other call overlaps: the sample is no longer borrowed, and that is all.
 abbrev pub ReleasesInTurn : Type 0
 ReleasesInTurn = (m n : World) (place sample : ℕ) (before after : SubscriberLaneState)
     → IsInTurn m (Subscriber place) (call.Release sample) n → slice_get m.subscribers place ≡ Some before
     → slice_get n.subscribers place ≡ Some after
-    → IsAnswered m (Subscriber place) (call.Release sample) (answer.Released true) n × OnlySubscriber m place n × MailStays m n × (place_of sample after ≡ None) × OtherSamplesStay before sample after
+    → IsAnswered m (Subscriber place) (call.Release sample) (answer.Released true) n × OnlySubscriber m place n × MailStays m n
+    × (place_of sample after ≡ None) × OtherSamplesStay before sample after
 
 -- So a read ends that no other call overlaps: it gives what its sample's slot held when it began, and changes nothing.
 abbrev pub ReadsInTurn : Type 0
 ReadsInTurn = (m n : World) (place sample : ℕ) (before after : SubscriberLaneState) → IsInTurn m (Subscriber place) (call.Read sample) n
     → slice_get m.subscribers place ≡ Some before → slice_get n.subscribers place ≡ Some after
-    → IsAnswered m (Subscriber place) (call.Read sample) (answer.Read (length m.read)) n × (n.read ≡ m.read ++ slot_held m.table sample) × OnlySubscriber m place n × MailStays m n × SamplesStay before after
+    → IsAnswered m (Subscriber place) (call.Read sample) (answer.Read (length m.read)) n × (n.read ≡ m.read ++ slot_held m.table sample)
+    × OnlySubscriber m place n × MailStays m n × SamplesStay before after

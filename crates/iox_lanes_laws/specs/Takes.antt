@@ -79,4 +79,5 @@ Visits borrowed most place waits (route ∷ routes) (take ∷ takes) c =
 abbrev pub ReceivesTakeInOrder : Type 0
 ReceivesTakeInOrder = (m : World) → CameTo m → (place : ℕ) (lane : SubscriberLaneState) (entries : List Entry)
     → (is : IsSubscriberCall m place lane call.Receive entries)
-    → Visits lane.port.borrowed lane.port.most_borrowed 0 false lane.port.routes (own_takes (λ party. is_receiver party place) (happens m (Subscriber place) (Begin call.Receive)) entries) is.inside.lane.port.call
+    → Visits lane.port.borrowed lane.port.most_borrowed 0 false lane.port.routes
+    (own_takes (λ party. is_receiver party place) (happens m (Subscriber place) (Begin call.Receive)) entries) is.inside.lane.port.call

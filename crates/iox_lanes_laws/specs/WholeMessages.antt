@@ -17,7 +17,9 @@ abbrev pub SendsThrough : World → List Entry → List MessageState → World �
 SendsThrough m [] sent n = (sent ≡ []) × (n ≡ m)
 SendsThrough m (entry ∷ entries) sent n =
     ((fits m entry.party entry.step ≡ false) × SendsThrough m entries sent n)
-    ⊎ ((fits m entry.party entry.step ≡ true) × ((later : List MessageState) × (sent ≡ begun_messages m entry.party entry.step ++ later) × SendsThrough (happens m entry.party entry.step) entries later n))
+    ⊎ ((fits m entry.party entry.step ≡ true)
+    × ((later : List MessageState) × (sent ≡ begun_messages m entry.party entry.step ++ later)
+    × SendsThrough (happens m entry.party entry.step) entries later n))
 
 -- From where nobody is inside a call, whatever steps follow: a read gives just the words of the last message whose send began in
 -- its slot, header, user header and payload, as they were when that send began; of a slot in which none began, those that it held
@@ -25,11 +27,13 @@ SendsThrough m (entry ∷ entries) sent n =
 abbrev pub ReadsGiveWhatWasSent : Type 0
 ReadsGiveWhatWasSent = (m : World) → CameTo m → AllBetween m → (entries : List Entry) (sent : List MessageState) (n : World)
     → SendsThrough m entries sent n → n.moments ≤ 2 ^ 63
-    → (party : Party) (step : Move) (call : FinishedCall) (slot : ℕ) → fits n party step ≡ true → (happens n party step).finished ≡ n.finished ++ call ∷ [] → call.call ≡ name.Read slot
+    → (party : Party) (step : Move) (call : FinishedCall) (slot : ℕ) → fits n party step ≡ true
+    → (happens n party step).finished ≡ n.finished ++ call ∷ [] → call.call ≡ name.Read slot
     → (happens n party step).read ≡ n.read ++ last_in (slot_held m.table slot) sent slot
 
 -- While a slot stands in a history or at a connection no send begins in it: so the last message whose send began there is the one
 -- that stands there.
 abbrev pub UsedSlotsSendNothing : Type 0
 UsedSlotsSendNothing = (m : World) → CameTo m → m.moments ≤ 2 ^ 63 → (slot : ℕ) → IsRemembered m slot ⊎ IsAtConnection m slot
-    → (party : Party) (step : Move) (message : MessageState) → fits m party step ≡ true → begun_messages m party step ≡ message ∷ [] → message.slot ≡ slot → ⊥
+    → (party : Party) (step : Move) (message : MessageState) → fits m party step ≡ true → begun_messages m party step ≡ message ∷ []
+    → message.slot ≡ slot → ⊥

@@ -7,7 +7,8 @@
 //! publishers_keep_course();
 //! ```
 
-ghost use Rattle.iox_lanes_laws.specs.Accesses.{PublishersKeepCourse, PublishersEndAtOnce, SubscribersKeepCourse, SubscribersEndAtOnce, ReleasesEndSoon};
+ghost use Rattle.iox_lanes_laws.specs.Accesses.{PublishersKeepCourse, PublishersEndAtOnce, SubscribersKeepCourse, SubscribersEndAtOnce};
+ghost use Rattle.iox_lanes_laws.specs.Accesses.{ReleasesEndSoon};
 ghost use Rattle.iox_lanes_laws.specs.Takes.{ReceivesTakeInOrder};
 
 /// A publisher's call makes just the accesses of its course, by what each was answered, whoever steps between them. It ends right

@@ -1,5 +1,6 @@
 -- A loan has no other use.
-use Rattle.std.proofs.Common.{ℕ, ◌≡◌, ◌+◌, ◌<◌, ◌≤◌, ◌^◌, ◌⊎◌, Bool, true, false, List, length, slice_get, Some, refl, sym, ◌∙◌, ap, subst, inl, inr, arith}
+use Rattle.std.proofs.Common.{ℕ, ◌≡◌, ◌+◌, ◌<◌, ◌≤◌, ◌^◌, ◌⊎◌, Bool, true, false, List, length, slice_get, Some, refl, sym, ◌∙◌, ap}
+use Rattle.std.proofs.Common.{subst, inl, inr, arith}
 use Rattle.std.proofs.lemmas.Bool.{cases_lt}
 use Rattle.std.proofs.lemmas.Option.{slice_get_within}
 use Rattle.iox_lanes_machine.specs.QueuesSteps.declared.order.Placed.{Placed}
@@ -21,11 +22,14 @@ use Rattle.iox_lanes_machine.proofs.Ends.{some_is}
 use Rattle.iox_lanes_machine.proofs.SubscriberUses.{Standing, recorded}
 
 -- a loan lies among its publisher's slots
-pub loan_within : (m : World) (place slot : ℕ) (loan : IsLoanAt m place slot) → ((loan.lane).port.book.first ≤ slot) × (slot < (loan.lane).port.book.first + length (loan.lane).port.book.loans)
-loan_within m place slot loan = entry_own (loan.lane).port.book.first slot (loan.lane).port.book.loans mark.No (λ none. cc (sym loan.out ∙ ap is_out none))
+pub loan_within : (m : World) (place slot : ℕ) (loan : IsLoanAt m place slot) → ((loan.lane).port.book.first ≤ slot)
+    × (slot < (loan.lane).port.book.first + length (loan.lane).port.book.loans)
+loan_within m place slot loan = entry_own (loan.lane).port.book.first slot (loan.lane).port.book.loans mark.No
+    (λ none. cc (sym loan.out ∙ ap is_out none))
 
 -- no other publisher has it among its own
-pub only_one : (m : World) (place who slot : ℕ) (loan : IsLoanAt m place slot) (z : PublisherLaneState) → LoansStand m → slice_get m.publishers who ≡ Some z → z.port.book.first ≤ slot → slot < z.port.book.first + length z.port.book.loans → who ≡ place
+pub only_one : (m : World) (place who slot : ℕ) (loan : IsLoanAt m place slot) (z : PublisherLaneState) → LoansStand m
+    → slice_get m.publishers who ≡ Some z → z.port.book.first ≤ slot → slot < z.port.book.first + length z.port.book.loans → who ≡ place
 only_one m place who slot loan z l found above below =
     let own = loan_within m place slot loan in
     elim (cases_lt who place) [
@@ -46,31 +50,39 @@ in_no_history m place slot loan l u = λ who z found.
           let own = entry_own z.port.book.first slot z.port.book.uses 0 (λ none. absurd (omega (arith, none, used))) in
           let same : who ≡ place = only_one m place who slot loan z l found own.0 (omega (arith, own.1, uses.counted.loans_each)) in
           let is : loan.lane ≡ z = some_is loan.lane z (sym loan.found ∙ ap (slice_get m.publishers) (sym same) ∙ found) in
-          (clause.alone (subst (λ (x : PublisherLaneState). is_out (entry x.port.book.first x.port.book.loans slot mark.No) ≡ true) is loan.out)).0
+          (clause.alone (subst (λ (x : PublisherLaneState). is_out (entry x.port.book.first x.port.book.loans slot mark.No) ≡ true) is
+          loan.out)).0
       | inr none ↦ omega (arith, none)
     ]
 
-refers_not : (m : World) (place slot connection : ℕ) (link : LinkState) (loan : IsLoanAt m place slot) (z : PublisherLaneState) (at : ℕ) → LoansStand m → UsesKept m → slice_get m.publishers link.publisher ≡ Some z → at < length z.port.routes
+refers_not : (m : World) (place slot connection : ℕ) (link : LinkState) (loan : IsLoanAt m place slot) (z : PublisherLaneState) (at : ℕ)
+    → LoansStand m → UsesKept m → slice_get m.publishers link.publisher ≡ Some z → at < length z.port.routes
     → (b : Bool) → refers_to z.port.book at slot ≡ b → b ≡ false
 refers_not m place slot connection link loan z at l u found there false e = refl
 refers_not m place slot connection link loan z at l u found there true e =
     let uses : PublisherUses m z = u.publishers link.publisher z found in
     let own = refers_own z.port.book.first (length z.port.book.uses) z.port.book.referred at slot e in
-    let same : link.publisher ≡ place = only_one m place link.publisher slot loan z l found own.0 (omega (arith, own.1, uses.counted.loans_each)) in
+    let same : link.publisher ≡ place = only_one m place link.publisher slot loan z l found own.0
+    (omega (arith, own.1, uses.counted.loans_each)) in
     let is : loan.lane ≡ z = some_is loan.lane z (sym loan.found ∙ ap (slice_get m.publishers) (sym same) ∙ found) in
-    let out : is_out (entry z.port.book.first z.port.book.loans slot mark.No) ≡ true = subst (λ (x : PublisherLaneState). is_out (entry x.port.book.first x.port.book.loans slot mark.No) ≡ true) is loan.out in
+    let out : is_out (entry z.port.book.first z.port.book.loans slot mark.No) ≡ true
+    = subst (λ (x : PublisherLaneState). is_out (entry x.port.book.first x.port.book.loans slot mark.No) ≡ true) is loan.out in
     sym e ∙ loan_lacks (length z.port.routes) slot z.port.book out uses.counted at there
 
 is_none : (b : Bool) → one_if b ≡ 0 → b ≡ false
 is_none true h = absurd (omega (arith, h))
 is_none false h = refl
 
-stands_not : (m : World) (place slot : ℕ) (loan : IsLoanAt m place slot) → AllSendsPut m → LoansStand m → UsesKept m → (connection : ℕ) (link : LinkState) (order : List Placed) → slice_get m.links connection ≡ Some link → slice_get m.orders connection ≡ Some order → Standing m connection link order slot ≡ 0
+stands_not : (m : World) (place slot : ℕ) (loan : IsLoanAt m place slot) → AllSendsPut m → LoansStand m → UsesKept m
+    → (connection : ℕ) (link : LinkState) (order : List Placed) → slice_get m.links connection ≡ Some link
+    → slice_get m.orders connection ≡ Some order → Standing m connection link order slot ≡ 0
 stands_not m place slot loan s l u connection link order found got =
     let r = recorded m connection link order found got s u slot in
-    r.is ∙ ap one_if (refers_not m place slot connection link loan r.lane r.place l u r.found (slice_get_within (r.lane).port.routes r.place r.route r.at) (refers_to (r.lane).port.book r.place slot) refl)
+    r.is ∙ ap one_if (refers_not m place slot connection link loan r.lane r.place l u r.found
+    (slice_get_within (r.lane).port.routes r.place r.route r.at) (refers_to (r.lane).port.book r.place slot) refl)
 
-at_no_connection : (m : World) (place slot : ℕ) (loan : IsLoanAt m place slot) → AllSendsPut m → LoansStand m → UsesKept m → AtNoConnection m slot
+at_no_connection : (m : World) (place slot : ℕ) (loan : IsLoanAt m place slot) → AllSendsPut m → LoansStand m → UsesKept m
+    → AtNoConnection m slot
 at_no_connection m place slot loan s l u = λ connection link order found got.
     let none = stands_not m place slot loan s l u connection link order found got in
     record {
@@ -81,18 +93,22 @@ at_no_connection m place slot loan s l u = λ connection link order found got.
     }
 
 pub loans_alone : (m : World) → IsKept m → LoansStandAlone m
-loans_alone m k = λ few place slot loan. (in_no_history m place slot loan k.loans (k.uses few), at_no_connection m place slot loan (k.sends few) k.loans (k.uses few))
+loans_alone m k = λ few place slot loan.
+    (in_no_history m place slot loan k.loans (k.uses few), at_no_connection m place slot loan (k.sends few) k.loans (k.uses few))
 
 -- so a slot with a use is no loan
-not_used : (m : World) (place slot : ℕ) → IsLoanAt m place slot → m.moments ≤ 2 ^ 63 → IsKept m → IsRemembered m slot ⊎ IsAtConnection m slot → ⊥
+not_used : (m : World) (place slot : ℕ) → IsLoanAt m place slot → m.moments ≤ 2 ^ 63 → IsKept m → IsRemembered m slot
+    ⊎ IsAtConnection m slot → ⊥
 not_used m place slot loan few k (inl history) =
     let none = in_no_history m place slot loan k.loans (k.uses few) history.place history.lane history.found in
     absurd (omega (arith, none, history.has))
 not_used m place slot loan few k (inr there) =
-    let none = stands_not m place slot loan (k.sends few) k.loans (k.uses few) there.connection there.link there.order there.found there.got in
+    let none = stands_not m place slot loan (k.sends few) k.loans (k.uses few) there.connection there.link there.order there.found
+    there.got in
     absurd (omega (arith, none, there.has))
 
-no_loan : (m : World) (party : Party) (slot : ℕ) → m.moments ≤ 2 ^ 63 → IsKept m → IsRemembered m slot ⊎ IsAtConnection m slot → IsLoanOf m party slot → ⊥
+no_loan : (m : World) (party : Party) (slot : ℕ) → m.moments ≤ 2 ^ 63 → IsKept m → IsRemembered m slot ⊎ IsAtConnection m slot
+    → IsLoanOf m party slot → ⊥
 no_loan m (Publisher place) slot few k used loan = not_used m place slot loan few k used
 no_loan m (Subscriber place) slot few k used loan = loan
 

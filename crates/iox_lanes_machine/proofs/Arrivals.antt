@@ -1,6 +1,8 @@
 -- An order that answers as a mailbox gives what was put, in the order of the puts.
-use Rattle.std.proofs.Common.{ℕ, ◌≡◌, Bool, true, false, if◌then◌else◌, nat_lt, List, [], ◌∷◌, ◌++◌, length, drop, map, Some, None, refl, sym, ◌∙◌, ap, subst, inl, inr, append_assoc, append-nil}
-use Rattle.iox_lanes_machine.specs.QueuesSteps.Order.{Acts, after_acts, acts_of, after_put, puts, push_call, put_of, put_values, take_values, PutNow}
+use Rattle.std.proofs.Common.{ℕ, ◌≡◌, Bool, true, false, if◌then◌else◌, nat_lt, List, [], ◌∷◌, ◌++◌, length, drop, map, Some, None, refl}
+use Rattle.std.proofs.Common.{sym, ◌∙◌, ap, subst, inl, inr, append_assoc, append-nil}
+use Rattle.iox_lanes_machine.specs.QueuesSteps.Order.{Acts, after_acts, acts_of, after_put, puts, push_call, put_of, put_values}
+use Rattle.iox_lanes_machine.specs.QueuesSteps.Order.{take_values, PutNow}
 use Rattle.iox_lanes_machine.specs.QueuesSteps.declared.order.Act.{Act}
 use Rattle.iox_lanes_machine.specs.QueuesSteps.declared.order.Act.TheVariants.{Put, Take}
 use Rattle.iox_lanes_machine.specs.QueuesSteps.declared.order.Placed.{Placed}
@@ -65,13 +67,16 @@ values : List PutNow → List ℕ
 values [] = []
 values (p ∷ ps) = p.value ∷ values ps
 
-parts : (o : Bool) (limit : ℕ) (q : List ℕ) (acts : List Act) → Acts o limit q acts → IsPartOf (slots_of (take_values acts) ++ after_acts o limit q acts) (q ++ values (put_values acts))
+parts : (o : Bool) (limit : ℕ) (q : List ℕ) (acts : List Act) → Acts o limit q acts
+    → IsPartOf (slots_of (take_values acts) ++ after_acts o limit q acts) (q ++ values (put_values acts))
 unfolding values
 parts o limit q [] h = subst (IsPartOf q) (sym (append-nil q)) (part_same q)
 parts o limit q (Put value answer ∷ acts) h =
     let after : List ℕ = after_put o limit q value in
-    let more : IsPartOf (after ++ values (put_values acts)) ((q ++ value ∷ []) ++ values (put_values acts)) = part_append after (q ++ value ∷ []) (values (put_values acts)) (put_part o limit q value) in
-    part_of_part (slots_of (take_values acts) ++ after_acts o limit after acts) (after ++ values (put_values acts)) (q ++ value ∷ values (put_values acts)) (parts o limit after acts h.1)
+    let more : IsPartOf (after ++ values (put_values acts)) ((q ++ value ∷ []) ++ values (put_values acts))
+    = part_append after (q ++ value ∷ []) (values (put_values acts)) (put_part o limit q value) in
+    part_of_part (slots_of (take_values acts) ++ after_acts o limit after acts) (after ++ values (put_values acts))
+    (q ++ value ∷ values (put_values acts)) (parts o limit after acts h.1)
     (subst (IsPartOf (after ++ values (put_values acts))) (append_assoc q (value ∷ []) (values (put_values acts))) more)
 parts o limit [] (Take (Got None) ∷ acts) h = parts o limit [] acts h.1
 parts o limit (x ∷ q) (Take (Got None) ∷ acts) h = absurd (cc (h.0))
@@ -85,7 +90,8 @@ unfolding values
 one_put moment [] = refl
 one_put moment (p ∷ ps) = ap (λ (xs : List ℕ). p.value ∷ xs) (one_put moment ps)
 
-map_append : (xs ys : List PushCall) → map (λ (p : PushCall). p.value) (xs ++ ys) ≡ map (λ (p : PushCall). p.value) xs ++ map (λ (p : PushCall). p.value) ys
+map_append : (xs ys : List PushCall)
+    → map (λ (p : PushCall). p.value) (xs ++ ys) ≡ map (λ (p : PushCall). p.value) xs ++ map (λ (p : PushCall). p.value) ys
 map_append [] ys = refl
 map_append (x ∷ xs) ys = ap (λ (zs : List ℕ). x.value ∷ zs) (map_append xs ys)
 

@@ -1,5 +1,6 @@
 -- One value for each slot of a publisher, and a row of them for each connection.
-use Rattle.std.proofs.Common.{ℕ, zero, suc, ◌≡◌, ◌+◌, ◌-◌, ◌*◌, ◌/◌, ◌%◌, ◌<◌, ◌≤◌, Bool, true, false, nat_lt, if◌then◌else◌, List, [], ◌∷◌, ◌++◌, length, set, get_or, replicate, refl, sym, ◌∙◌, ap, subst, inl, inr, arith, length-set}
+use Rattle.std.proofs.Common.{ℕ, zero, suc, ◌≡◌, ◌+◌, ◌-◌, ◌*◌, ◌/◌, ◌%◌, ◌<◌, ◌≤◌, Bool, true, false, nat_lt, if◌then◌else◌, List, []}
+use Rattle.std.proofs.Common.{◌∷◌, ◌++◌, length, set, get_or, replicate, refl, sym, ◌∙◌, ap, subst, inl, inr, arith, length-set}
 use Rattle.std.proofs.lemmas.Bool.{cases_lt, lt-ltb, le-ltb}
 use Rattle.std.proofs.lemmas.List.{get_or_past, get_or-set_same, get_or-set_other, get_or-replicate, length-replicate}
 use Rattle.std.proofs.lemmas.Nat.{div-mul-add, mod-mul-add, row_fits}
@@ -35,7 +36,8 @@ total_below f g p (suc n) le h =
     omega (arith, total_below f g p n (omega (arith, le)) h, ap one_if (h n not))
 
 -- one place more
-pub total_more : (f g : ℕ → Bool) (p n : ℕ) → p < n → f p ≡ false → g p ≡ true → ((k : ℕ) → (k ≡ p → ⊥) → g k ≡ f k) → total g n ≡ total f n + 1
+pub total_more : (f g : ℕ → Bool) (p n : ℕ) → p < n → f p ≡ false → g p ≡ true → ((k : ℕ) → (k ≡ p → ⊥) → g k ≡ f k)
+    → total g n ≡ total f n + 1
 total_more f g p zero below off on h = absurd (omega (arith, below))
 total_more f g p (suc n) below off on h = elim (cases_lt p n) [
   | inl lt ↦
@@ -43,7 +45,15 @@ total_more f g p (suc n) below off on h = elim (cases_lt p n) [
       omega (arith, total_more f g p n lt off on h, ap one_if (h n not))
   | inr ge ↦
       let e : n ≡ p = omega (arith, below, ge) in
-      omega (arith, total_below f g p n (omega (arith, e)) h, ap (λ (k : ℕ). one_if (f k)) e, ap (λ (k : ℕ). one_if (g k)) e, ap one_if off, ap one_if on)
+      omega (
+        arith,
+        total_below f g p n (omega (arith, e)) h,
+        ap (λ (k : ℕ). one_if (f k)) e,
+        ap (λ (k : ℕ). one_if (g k)) e,
+        ap one_if
+            off,
+        ap one_if on,
+      )
 ]
 
 pub total_le : (f : ℕ → Bool) (n : ℕ) → total f n ≤ n
@@ -88,21 +98,25 @@ entry_is first slot xs d le = choose_other (nat_lt slot first) d (get_or xs (slo
 pub entry_before : {X : Type 0} (first slot : ℕ) (xs : List X) (d : X) → slot < first → entry first xs slot d ≡ d
 entry_before first slot xs d lt = choose_one (nat_lt slot first) d (get_or xs (slot - first) d) (lt-ltb slot first lt)
 
-pub entry_same : {X : Type 0} (first slot : ℕ) (xs : List X) (x d : X) → first ≤ slot → slot < first + length xs → entry first (put_at xs (slot - first) x) slot d ≡ x
+pub entry_same : {X : Type 0} (first slot : ℕ) (xs : List X) (x d : X) → first ≤ slot → slot < first + length xs
+    → entry first (put_at xs (slot - first) x) slot d ≡ x
 entry_same first slot xs x d le below =
     let within : slot - first < length xs = omega (arith, le, below) in
     entry_is first slot (put_at xs (slot - first) x) d le ∙ put_at_same xs (slot - first) x d within
 
-pub entry_other : {X : Type 0} (first slot other : ℕ) (xs : List X) (x d : X) → first ≤ slot → (slot ≡ other → ⊥) → entry first (put_at xs (slot - first) x) other d ≡ entry first xs other d
+pub entry_other : {X : Type 0} (first slot other : ℕ) (xs : List X) (x d : X) → first ≤ slot → (slot ≡ other → ⊥)
+    → entry first (put_at xs (slot - first) x) other d ≡ entry first xs other d
 entry_other first slot other xs x d le not = elim (cases_lt other first) [
   | inl lt ↦ entry_before first other (put_at xs (slot - first) x) d lt ∙ sym (entry_before first other xs d lt)
   | inr ge ↦
       let apart : other - first ≡ slot - first → ⊥ = λ e. absurd (not (omega (arith, e, le, ge))) in
-      entry_is first other (put_at xs (slot - first) x) d ge ∙ put_at_other xs (slot - first) (other - first) x d apart ∙ sym (entry_is first other xs d ge)
+      entry_is first other (put_at xs (slot - first) x) d ge ∙ put_at_other xs (slot - first) (other - first) x d apart ∙ sym
+      (entry_is first other xs d ge)
 ]
 
 -- a slot of which the list says something is one of the publisher's
-pub entry_own : {X : Type 0} (first slot : ℕ) (xs : List X) (d : X) → (entry first xs slot d ≡ d → ⊥) → (first ≤ slot) × (slot < first + length xs)
+pub entry_own : {X : Type 0} (first slot : ℕ) (xs : List X) (d : X) → (entry first xs slot d ≡ d → ⊥) → (first ≤ slot)
+    × (slot < first + length xs)
 entry_own first slot xs d not = elim (cases_lt slot first) [
   | inl lt ↦ absurd (not (entry_before first slot xs d lt))
   | inr ge ↦ elim (cases_lt (slot - first) (length xs)) [
@@ -118,48 +132,63 @@ row_same width p q i j il jl e = (
   sym (mod-mul-add p width i il) ∙ ap (λ (n : ℕ). n % width) e ∙ mod-mul-add q width j jl,
 )
 
-pub refers_is : (first width : ℕ) (referred : List Bool) (place slot : ℕ) → first ≤ slot → slot < first + width → refers first width referred place slot ≡ get_or referred (place * width + (slot - first)) false
+pub refers_is : (first width : ℕ) (referred : List Bool) (place slot : ℕ) → first ≤ slot → slot < first + width
+    → refers first width referred place slot ≡ get_or referred (place * width + (slot - first)) false
 refers_is first width referred place slot le below =
     let within : slot - first < width = omega (arith, le, below) in
-    choose_other (nat_lt slot first) false (if nat_lt (slot - first) width then get_or referred (place * width + (slot - first)) false else false) (le-ltb slot first le)
-    ∙ choose_one (nat_lt (slot - first) width) (get_or referred (place * width + (slot - first)) false) false (lt-ltb (slot - first) width within)
+    choose_other (nat_lt slot first) false
+    (if nat_lt (slot - first) width then get_or referred (place * width + (slot - first)) false else false) (le-ltb slot first le)
+    ∙ choose_one (nat_lt (slot - first) width) (get_or referred (place * width + (slot - first)) false) false
+    (lt-ltb (slot - first) width within)
 
-pub refers_own : (first width : ℕ) (referred : List Bool) (place slot : ℕ) → refers first width referred place slot ≡ true → (first ≤ slot) × (slot < first + width)
+pub refers_own : (first width : ℕ) (referred : List Bool) (place slot : ℕ) → refers first width referred place slot ≡ true
+    → (first ≤ slot) × (slot < first + width)
 refers_own first width referred place slot on = elim (cases_lt slot first) [
-  | inl lt ↦ absurd (cc (sym on ∙ choose_one (nat_lt slot first) false (if nat_lt (slot - first) width then get_or referred (place * width + (slot - first)) false else false) (lt-ltb slot first lt)))
+  | inl lt ↦ absurd (cc (sym on ∙ choose_one (nat_lt slot first) false
+      (if nat_lt (slot - first) width then get_or referred (place * width + (slot - first)) false else false) (lt-ltb slot first lt)))
   | inr ge ↦ elim (cases_lt (slot - first) width) [
     | inl lt ↦ (ge, omega (arith, ge, lt))
-    | inr past ↦ absurd (cc (sym on ∙ choose_other (nat_lt slot first) false (if nat_lt (slot - first) width then get_or referred (place * width + (slot - first)) false else false) (le-ltb slot first ge)
-        ∙ choose_other (nat_lt (slot - first) width) (get_or referred (place * width + (slot - first)) false) false (le-ltb (slot - first) width past)))
+    | inr past ↦ absurd (cc (sym on ∙ choose_other (nat_lt slot first) false
+        (if nat_lt (slot - first) width then get_or referred (place * width + (slot - first)) false else false) (le-ltb slot first ge)
+        ∙ choose_other (nat_lt (slot - first) width) (get_or referred (place * width + (slot - first)) false) false
+        (le-ltb (slot - first) width past)))
   ]
 ]
 
 -- a place of the record
-pub row_place : (first width connections place slot : ℕ) → first ≤ slot → slot < first + width → place < connections → place * width + (slot - first) < connections * width
+pub row_place : (first width connections place slot : ℕ) → first ≤ slot → slot < first + width → place < connections
+    → place * width + (slot - first) < connections * width
 row_place first width connections place slot le below there =
     omega (arith, row_fits place width connections width there (omega arith), le, below)
 
-pub refers_same : (first width : ℕ) (referred : List Bool) (place slot : ℕ) (b : Bool) → first ≤ slot → slot < first + width → place * width + (slot - first) < length referred
+pub refers_same : (first width : ℕ) (referred : List Bool) (place slot : ℕ) (b : Bool) → first ≤ slot → slot < first + width
+    → place * width + (slot - first) < length referred
     → refers first width (put_at referred (place * width + (slot - first)) b) place slot ≡ b
 refers_same first width referred place slot b le below within =
-    refers_is first width (put_at referred (place * width + (slot - first)) b) place slot le below ∙ put_at_same referred (place * width + (slot - first)) b false within
+    refers_is first width (put_at referred (place * width + (slot - first)) b) place slot le below ∙ put_at_same referred
+    (place * width + (slot - first)) b false within
 
-pub refers_other : (first width : ℕ) (referred : List Bool) (place slot place' slot' : ℕ) (b : Bool) → first ≤ slot → slot < first + width → ((place' ≡ place) × (slot' ≡ slot) → ⊥)
+pub refers_other : (first width : ℕ) (referred : List Bool) (place slot place' slot' : ℕ) (b : Bool) → first ≤ slot
+    → slot < first + width → ((place' ≡ place) × (slot' ≡ slot) → ⊥)
     → refers first width (put_at referred (place * width + (slot - first)) b) place' slot' ≡ refers first width referred place' slot'
 refers_other first width referred place slot place' slot' b le below not = elim (cases_lt slot' first) [
-  | inl lt ↦ choose_one (nat_lt slot' first) false _ (lt-ltb slot' first lt) ∙ sym (choose_one (nat_lt slot' first) false _ (lt-ltb slot' first lt))
+  | inl lt ↦ choose_one (nat_lt slot' first) false _ (lt-ltb slot' first lt) ∙ sym
+      (choose_one (nat_lt slot' first) false _ (lt-ltb slot' first lt))
   | inr ge ↦ elim (cases_lt (slot' - first) width) [
     | inl lt ↦
         let below' : slot' < first + width = omega (arith, ge, lt) in
         let within : slot - first < width = omega (arith, le, below) in
         let apart : place' * width + (slot' - first) ≡ place * width + (slot - first) → ⊥ =
-        λ e. let both = row_same width place' place (slot' - first) (slot - first) lt within e in not (both.0, omega (arith, both.1, le, ge)) in
+        λ e. let both = row_same width place' place (slot' - first) (slot - first) lt within e in not
+        (both.0, omega (arith, both.1, le, ge)) in
         refers_is first width (put_at referred (place * width + (slot - first)) b) place' slot' ge below'
         ∙ put_at_other referred (place * width + (slot - first)) (place' * width + (slot' - first)) b false apart
         ∙ sym (refers_is first width referred place' slot' ge below')
     | inr past ↦
-        choose_other (nat_lt slot' first) false _ (le-ltb slot' first ge) ∙ choose_other (nat_lt (slot' - first) width) _ false (le-ltb (slot' - first) width past)
-        ∙ sym (choose_other (nat_lt slot' first) false _ (le-ltb slot' first ge) ∙ choose_other (nat_lt (slot' - first) width) _ false (le-ltb (slot' - first) width past))
+        choose_other (nat_lt slot' first) false _ (le-ltb slot' first ge) ∙ choose_other (nat_lt (slot' - first) width) _ false
+        (le-ltb (slot' - first) width past)
+        ∙ sym (choose_other (nat_lt slot' first) false _ (le-ltb slot' first ge) ∙ choose_other (nat_lt (slot' - first) width) _ false
+        (le-ltb (slot' - first) width past))
   ]
 ]
 
@@ -180,7 +209,8 @@ entry_none {X} first n slot x = by_test (nat_lt slot first)
 pub refers_none : (first width n place slot : ℕ) → refers first width (replicate n false) place slot ≡ false
 refers_none first width n place slot = by_tests (nat_lt slot first) (nat_lt (slot - first) width)
   where
-    by_tests : (a b : Bool) → (if a then false else if b then get_or (replicate n false) (place * width + (slot - first)) false else false) ≡ false
+    by_tests : (a b : Bool) → (if a then false else if b then get_or (replicate n false) (place * width + (slot - first)) false else
+        false) ≡ false
     by_tests true b = refl
     by_tests false true = get_replicated n (place * width + (slot - first)) false
     by_tests false false = refl

@@ -1,5 +1,6 @@
 -- What is found before the first step fits the words of the service.
-use Rattle.std.proofs.Common.{ℕ, ◌≡◌, ◌+◌, ◌-◌, ◌<◌, if◌then◌else◌, Bool, true, false, nat_lt, List, length, get_or, slice_get, Option, Some, None, refl, sym, ◌∙◌, ap, subst, arith}
+use Rattle.std.proofs.Common.{ℕ, ◌≡◌, ◌+◌, ◌-◌, ◌<◌, if◌then◌else◌, Bool, true, false, nat_lt, List, length, get_or, slice_get, Option}
+use Rattle.std.proofs.Common.{Some, None, refl, sym, ◌∙◌, ap, subst, arith}
 use Rattle.std.proofs.lemmas.Bool.{ltb-true, ltb-false}
 use Rattle.std.proofs.lemmas.Option.{slice_get-get_or}
 use Rattle.iox_lanes_machine.specs.QueuesSteps.Ends.{cells_of}
@@ -16,7 +17,8 @@ use Rattle.iox_lanes_machine.specs.World.{World}
 use Rattle.iox_lanes_machine.proofs.Ends.{some_is}
 
 -- a connection that there is has its words
-pub link_there : (m : World) (connection : ℕ) (link : LinkState) → IsWithin m → slice_get m.links connection ≡ Some link → connection < m.table.sizes.connections
+pub link_there : (m : World) (connection : ℕ) (link : LinkState) → IsWithin m → slice_get m.links connection ≡ Some link
+    → connection < m.table.sizes.connections
 link_there m connection link w found = (w.links connection link found).connection_is
 
 -- a slot that may be found to wait, and where
@@ -29,14 +31,19 @@ pub record MayWait (m : World) (place slot : ℕ) (lane : PublisherLaneState) : 
   pub room : length link.found < link.limit
   pub few : length link.found + back_found m.table route.connection < m.table.sizes.completion_cells
 
-pub may_wait_is : (m : World) (place slot : ℕ) (lane : PublisherLaneState) → waits_of m place slot (Some lane) ≡ true → MayWait m place slot lane
+pub may_wait_is : (m : World) (place slot : ℕ) (lane : PublisherLaneState) → waits_of m place slot (Some lane) ≡ true
+    → MayWait m place slot lane
 may_wait_is m place slot lane h = by_route (slice_get lane.port.routes place) refl h
   where
-    by_link : (route : Route) (at : Option LinkState) → slice_get lane.port.routes place ≡ Some route → slice_get m.links route.connection ≡ at → may_have place slot lane.port.book ≡ true → may_wait m route.connection at ≡ true → MayWait m place slot lane
+    by_link : (route : Route) (at : Option LinkState) → slice_get lane.port.routes place ≡ Some route
+        → slice_get m.links route.connection ≡ at → may_have place slot lane.port.book ≡ true → may_wait m route.connection at ≡ true
+        → MayWait m place slot lane
     by_link route None here there lacks h = absurd (cc (h))
     by_link route (Some link) here there lacks h =
-        let room = ltb-true (length link.found) link.limit (and_left (nat_lt (length link.found) link.limit) (takes_more m route.connection link) h) in
-        let few = ltb-true (length link.found) (m.table.sizes.completion_cells - back_found m.table route.connection) (and_right (nat_lt (length link.found) link.limit) (takes_more m route.connection link) h) in
+        let room = ltb-true (length link.found) link.limit
+        (and_left (nat_lt (length link.found) link.limit) (takes_more m route.connection link) h) in
+        let few = ltb-true (length link.found) (m.table.sizes.completion_cells - back_found m.table route.connection)
+        (and_right (nat_lt (length link.found) link.limit) (takes_more m route.connection link) h) in
         record { route = route; at = here; lacks = lacks; link = link; found = there; room = room; few = omega (arith, few) }
 
     by_route : (r : Option Route) → slice_get lane.port.routes place ≡ r → waits_at m place slot lane r ≡ true → MayWait m place slot lane
@@ -54,10 +61,13 @@ pub record MayBeBack (m : World) (place slot : ℕ) (lane : PublisherLaneState) 
   pub found : slice_get m.links route.connection ≡ Some link
   pub few : length link.found + back_found m.table route.connection < m.table.sizes.completion_cells
 
-pub may_be_back_is : (m : World) (place slot : ℕ) (lane : PublisherLaneState) → back_of m place slot (Some lane) ≡ true → MayBeBack m place slot lane
+pub may_be_back_is : (m : World) (place slot : ℕ) (lane : PublisherLaneState) → back_of m place slot (Some lane) ≡ true
+    → MayBeBack m place slot lane
 may_be_back_is m place slot lane h = by_route (slice_get lane.port.routes place) refl h
   where
-    by_link : (route : Route) (at : Option LinkState) → slice_get lane.port.routes place ≡ Some route → slice_get m.links route.connection ≡ at → may_have place slot lane.port.book ≡ true → may_be_back m route.connection at ≡ true → MayBeBack m place slot lane
+    by_link : (route : Route) (at : Option LinkState) → slice_get lane.port.routes place ≡ Some route
+        → slice_get m.links route.connection ≡ at → may_have place slot lane.port.book ≡ true → may_be_back m route.connection at ≡ true
+        → MayBeBack m place slot lane
     by_link route None here there lacks h = absurd (cc (h))
     by_link route (Some link) here there lacks h =
         let few = ltb-true (length link.found) (m.table.sizes.completion_cells - back_found m.table route.connection) h in
@@ -78,7 +88,9 @@ cell_below kind.Refusing limit n h = by_test (nat_lt 0 limit) refl
     by_test true e = h
     by_test false e = absurd (omega (arith, h, ltb-false 0 limit e))
 
-pub waiting_cell : (m : World) (place slot : ℕ) (lane : PublisherLaneState) (route : Route) (link : LinkState) → IsWithin m → waits_of m place slot (Some lane) ≡ true → slice_get lane.port.routes place ≡ Some route → slice_get m.links route.connection ≡ Some link
+pub waiting_cell : (m : World) (place slot : ℕ) (lane : PublisherLaneState) (route : Route) (link : LinkState) → IsWithin m
+    → waits_of m place slot (Some lane) ≡ true → slice_get lane.port.routes place ≡ Some route
+    → slice_get m.links route.connection ≡ Some link
     → (route.connection < m.table.sizes.connections) × (length link.found < m.table.sizes.submission_cells)
 waiting_cell m place slot lane route link w fits here there =
     let is = may_wait_is m place slot lane fits in

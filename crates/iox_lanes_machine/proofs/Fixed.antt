@@ -1,5 +1,6 @@
 -- No step changes the connections, the sizes, or which slots a publisher has.
-use Rattle.std.proofs.Common.{ℕ, ◌≡◌, ◌-◌, Bool, true, false, if◌then◌else◌, nat_lt, List, [], ◌∷◌, ◌++◌, length, remove, set, get_or, slice_get, Option, Some, None, option_map, refl, sym, ◌∙◌, ap, subst, inl, inr, length-set}
+use Rattle.std.proofs.Common.{ℕ, ◌≡◌, ◌-◌, Bool, true, false, if◌then◌else◌, nat_lt, List, [], ◌∷◌, ◌++◌, length, remove, set, get_or}
+use Rattle.std.proofs.Common.{slice_get, Option, Some, None, option_map, refl, sym, ◌∙◌, ap, subst, inl, inr, length-set}
 use Rattle.std.proofs.lemmas.Bool.Decides.{eqb_tells}
 use Rattle.iox_lanes_machine.specs.QueuesSteps.declared.order.Placed.{Placed}
 use Rattle.iox_lanes_machine.specs.QueuesSteps.declared.schedule.Stepped.{Stepped}
@@ -8,9 +9,11 @@ use Rattle.iox_lanes_machine.specs.LanesBase.Publishing.{publisher_next, publish
 use Rattle.iox_lanes_machine.specs.LanesBase.Subscribing.{subscriber_next}
 use Rattle.iox_lanes_machine.specs.LanesBase.declared.calls.publisher.PublisherChange.{PublisherChange}
 use Rattle.iox_lanes_machine.specs.LanesBase.declared.calls.publisher.PublisherChange.TheVariants as change
-use Rattle.iox_lanes_machine.specs.LanesParties.PublisherKeeping.{BookState, changed, lent, lent_from, first_free, counted_down, dropped, newest_of, unlent, remembered}
+use Rattle.iox_lanes_machine.specs.LanesParties.PublisherKeeping.{BookState, changed, lent, lent_from, first_free, counted_down, dropped}
+use Rattle.iox_lanes_machine.specs.LanesParties.PublisherKeeping.{newest_of, unlent, remembered}
 use Rattle.iox_lanes_machine.specs.LanesParties.declared.publisher.slot_book.LoanAnswer.TheVariants as answer
-use Rattle.iox_lanes_machine.specs.LanesParties.Parties.{PublisherLaneState, SubscriberLaneState, publisher_begun, publisher_after, subscriber_begun, subscriber_after}
+use Rattle.iox_lanes_machine.specs.LanesParties.Parties.{PublisherLaneState, SubscriberLaneState, publisher_begun, publisher_after}
+use Rattle.iox_lanes_machine.specs.LanesParties.Parties.{subscriber_begun, subscriber_after}
 use Rattle.iox_lanes_machine.specs.LanesParties.declared.call.Call.{Call}
 use Rattle.iox_lanes_machine.specs.LanesParties.declared.call.Call.TheVariants as call
 use Rattle.iox_lanes_machine.specs.LanesParties.declared.call.Move.{Move}
@@ -18,7 +21,8 @@ use Rattle.iox_lanes_machine.specs.LanesParties.declared.call.Move.TheVariants.{
 use Rattle.iox_lanes_machine.specs.LanesParties.declared.call.Party.{Party}
 use Rattle.iox_lanes_machine.specs.LanesParties.declared.call.Party.TheVariants.{Publisher, Subscriber}
 use Rattle.iox_lanes_machine.specs.Fixed.{fixed_slots, StaysFixed}
-use Rattle.iox_lanes_machine.specs.World.{World, happens, publisher_begins, publisher_goes_on, publisher_given, subscriber_begins, subscriber_goes_on, subscriber_given, StepsTo}
+use Rattle.iox_lanes_machine.specs.World.{World, happens, publisher_begins, publisher_goes_on, publisher_given, subscriber_begins}
+use Rattle.iox_lanes_machine.specs.World.{subscriber_goes_on, subscriber_given, StepsTo}
 use Rattle.iox_lanes_machine.proofs.Slots.{begun_slots, changed_slots}
 use Rattle.iox_lanes_machine.proofs.Within.{set_other, set_same, sizes_stay}
 
@@ -37,14 +41,17 @@ lent_limits book = by_test (nat_lt book.out book.most_loans)
     by_free None = record { most_loans = refl; kept = refl }
     by_free (Some index) = record { most_loans = refl; kept = refl }
 
-    by_test : (b : Bool) → SameLimits book (if b then lent_from book (first_free book.uses 0) else record book { answer = Some answer.ExceedsMaxLoans })
+    by_test : (b : Bool) → SameLimits book
+        (if b then lent_from book (first_free book.uses 0) else record book { answer = Some answer.ExceedsMaxLoans })
     by_test true = by_free (first_free book.uses 0)
     by_test false = record { most_loans = refl; kept = refl }
 
 newest_limits : (slot : ℕ) (book : BookState) → SameLimits book (newest_of slot book)
 newest_limits slot book = by_test (nat_lt (length book.history) book.kept)
   where
-    by_test : (b : Bool) → SameLimits book (if b then record book { history = book.history ++ slot ∷ [] } else record book { history = remove book.history 0 ++ slot ∷ []; uses = counted_down book.uses (get_or book.history 0 0 - book.first) })
+    by_test : (b : Bool) → SameLimits book
+        (if b then record book { history = book.history ++ slot ∷ [] } else record book
+        { history = remove book.history 0 ++ slot ∷ []; uses = counted_down book.uses (get_or book.history 0 0 - book.first) })
     by_test true = record { most_loans = refl; kept = refl }
     by_test false = record { most_loans = refl; kept = refl }
 
@@ -87,15 +94,18 @@ gone_fixed given lane =
     cc (slots.first, slots.loans, limits.most_loans, limits.kept)
 
 -- one publisher changed, and kept its slots
-rows_fixed : (lanes : List PublisherLaneState) (place i : ℕ) (lane after : PublisherLaneState) → slice_get lanes place ≡ Some lane → fixed_slots after ≡ fixed_slots lane
+rows_fixed : (lanes : List PublisherLaneState) (place i : ℕ) (lane after : PublisherLaneState) → slice_get lanes place ≡ Some lane
+    → fixed_slots after ≡ fixed_slots lane
     → option_map fixed_slots (slice_get (set lanes place after) i) ≡ option_map fixed_slots (slice_get lanes i)
 rows_fixed lanes place i lane after found same = elim (eqb_tells i place) [
-  | inl here ↦ subst (λ (j : ℕ). option_map fixed_slots (slice_get (set lanes place after) j) ≡ option_map fixed_slots (slice_get lanes j)) (sym here.1)
+  | inl here ↦ subst (λ (j : ℕ). option_map fixed_slots (slice_get (set lanes place after) j)
+      ≡ option_map fixed_slots (slice_get lanes j)) (sym here.1)
       (ap (option_map fixed_slots) (set_same lanes place after lane found) ∙ ap Some same ∙ sym (ap (option_map fixed_slots) found))
   | inr there ↦ ap (option_map fixed_slots) (set_other lanes place i after there.1)
 ]
 
-stays : (m n : World) → n.links ≡ m.links → n.table.sizes ≡ m.table.sizes → n.publishers ≡ m.publishers → length n.subscribers ≡ length m.subscribers → StaysFixed m n
+stays : (m n : World) → n.links ≡ m.links → n.table.sizes ≡ m.table.sizes → n.publishers ≡ m.publishers
+    → length n.subscribers ≡ length m.subscribers → StaysFixed m n
 stays m n links sizes publishers subscribers = record {
   links = links;
   sizes = sizes;
@@ -117,7 +127,8 @@ fixed_on m n o first next = record {
   subscriber_count = next.subscriber_count ∙ first.subscriber_count;
 }
 
-begun_publisher : (m : World) (place : ℕ) (c : Call) (at : Option PublisherLaneState) → slice_get m.publishers place ≡ at → StaysFixed m (publisher_begins m place c at)
+begun_publisher : (m : World) (place : ℕ) (c : Call) (at : Option PublisherLaneState) → slice_get m.publishers place ≡ at
+    → StaysFixed m (publisher_begins m place c at)
 begun_publisher m place c None e = same_fixed m
 begun_publisher m place c (Some lane) e = record {
   links = refl;
@@ -127,23 +138,29 @@ begun_publisher m place c (Some lane) e = record {
   subscriber_count = refl;
 }
 
-gone_publisher : (m : World) (place : ℕ) (orders : List (List Placed)) (at : Option PublisherLaneState) → slice_get m.publishers place ≡ at → StaysFixed m (publisher_goes_on (record m { orders = orders }) place at)
+gone_publisher : (m : World) (place : ℕ) (orders : List (List Placed)) (at : Option PublisherLaneState)
+    → slice_get m.publishers place ≡ at → StaysFixed m (publisher_goes_on (record m { orders = orders }) place at)
 gone_publisher m place orders None e = stays m (record m { orders = orders }) refl refl refl refl
 gone_publisher m place orders (Some lane) e = record {
   links = refl;
   sizes = (sizes_stay m.table (publisher_next lane.port.call)).0;
-  publishers = λ i. rows_fixed m.publishers place i lane (publisher_after (publisher_given m.table lane) lane) e (gone_fixed (publisher_given m.table lane) lane);
+  publishers = λ i. rows_fixed m.publishers place i lane (publisher_after (publisher_given m.table lane) lane) e
+      (gone_fixed (publisher_given m.table lane) lane);
   publisher_count = length-set m.publishers place (publisher_after (publisher_given m.table lane) lane);
   subscriber_count = refl;
 }
 
 begun_subscriber : (m : World) (place : ℕ) (c : Call) (at : Option SubscriberLaneState) → StaysFixed m (subscriber_begins m place c at)
 begun_subscriber m place c None = same_fixed m
-begun_subscriber m place c (Some lane) = stays m (subscriber_begins m place c (Some lane)) refl refl refl (length-set m.subscribers place (subscriber_begun m.moments c lane))
+begun_subscriber m place c (Some lane)
+    = stays m (subscriber_begins m place c (Some lane)) refl refl refl (length-set m.subscribers place (subscriber_begun m.moments c lane))
 
-gone_subscriber : (m : World) (place : ℕ) (orders : List (List Placed)) (at : Option SubscriberLaneState) → StaysFixed m (subscriber_goes_on (record m { orders = orders }) place at)
+gone_subscriber : (m : World) (place : ℕ) (orders : List (List Placed)) (at : Option SubscriberLaneState)
+    → StaysFixed m (subscriber_goes_on (record m { orders = orders }) place at)
 gone_subscriber m place orders None = stays m (record m { orders = orders }) refl refl refl refl
-gone_subscriber m place orders (Some lane) = stays m (subscriber_goes_on (record m { orders = orders }) place (Some lane)) refl (sizes_stay m.table (subscriber_next lane.port.call)).0 refl
+gone_subscriber m place orders (Some lane)
+    = stays m (subscriber_goes_on (record m { orders = orders }) place (Some lane)) refl
+    (sizes_stay m.table (subscriber_next lane.port.call)).0 refl
     (length-set m.subscribers place (subscriber_after (subscriber_given m.table lane) lane))
 
 happens_fixed : (m : World) (party : Party) (step : Move) → StaysFixed m (happens m party step)

@@ -1,5 +1,7 @@
 -- What is found leaves lanes as they are before their first step.
-use Rattle.std.proofs.Common.{ℕ, suc, ◌≡◌, ◌+◌, ◌-◌, ◌%◌, ◌<◌, ◌≤◌, ◌^◌, ◌⊎◌, false, List, [], ◌∷◌, ◌++◌, length, set, replicate, slice_get, slice_index, Some, refl, sym, ◌∙◌, ap, subst, inl, inr, arith, append_assoc, length-append, mod-eq_of_lt}
+use Rattle.std.proofs.Common.{ℕ, suc, ◌≡◌, ◌+◌, ◌-◌, ◌%◌, ◌<◌, ◌≤◌, ◌^◌, ◌⊎◌, false, List, [], ◌∷◌, ◌++◌, length, set, replicate}
+use Rattle.std.proofs.Common.{slice_get, slice_index, Some, refl, sym, ◌∙◌, ap, subst, inl, inr, arith, append_assoc, length-append}
+use Rattle.std.proofs.Common.{mod-eq_of_lt}
 use Rattle.std.proofs.lemmas.Bool.Decides.{eqb_tells}
 use Rattle.std.proofs.lemmas.List.{length-set, length-replicate}
 use Rattle.std.proofs.lemmas.List.Elements.{All-weaker}
@@ -38,7 +40,8 @@ use Rattle.iox_lanes_machine.proofs.InTable.{IsSeat, access_after, same_ring}
 use Rattle.iox_lanes_machine.proofs.Within.{set_same, set_other}
 
 -- a place of a list after one was set: that one, or another as it was
-pub set_cases : {X : Type 0} (xs : List X) (place : ℕ) (x y : X) → slice_get xs place ≡ Some x → (i : ℕ) (z : X) → slice_get (set xs place y) i ≡ Some z
+pub set_cases : {X : Type 0} (xs : List X) (place : ℕ) (x y : X) → slice_get xs place ≡ Some x → (i : ℕ) (z : X)
+    → slice_get (set xs place y) i ≡ Some z
     → ((i ≡ place) × (y ≡ z)) ⊎ ((i ≡ place → ⊥) × (slice_get xs i ≡ Some z))
 set_cases xs place x y found i z e = elim (eqb_tells i place) [
   | inl here ↦ inl (here.1, some_is y z (sym (set_same xs place y x found) ∙ ap (slice_get (set xs place y)) (sym here.1) ∙ e))
@@ -55,8 +58,10 @@ pub record SameEnd (one other : LinkState) : Type 0 where
 -- so it is of two lists of links
 pub record SameEnds (links after : List LinkState) : Type 0 where
   pub size : length after ≡ length links
-  pub back : (c : ℕ) (link : LinkState) → slice_get after c ≡ Some link → (was : LinkState) × (slice_get links c ≡ Some was) × SameEnd was link
-  pub there : (c : ℕ) (link : LinkState) → slice_get links c ≡ Some link → (now : LinkState) × (slice_get after c ≡ Some now) × SameEnd link now
+  pub back : (c : ℕ) (link : LinkState) → slice_get after c ≡ Some link → (was : LinkState) × (slice_get links c ≡ Some was)
+      × SameEnd was link
+  pub there : (c : ℕ) (link : LinkState) → slice_get links c ≡ Some link → (now : LinkState) × (slice_get after c ≡ Some now)
+      × SameEnd link now
 
 pub same_ends : (links : List LinkState) → SameEnds links links
 same_ends links = record {
@@ -65,7 +70,8 @@ same_ends links = record {
   there = λ c link e. (link, e, record { publisher = refl; subscriber = refl; kind = refl; limit = refl });
 }
 
-pub found_ends : (links : List LinkState) (connection : ℕ) (link : LinkState) (found : List ℕ) → slice_get links connection ≡ Some link → SameEnds links (set links connection (record link { found = found }))
+pub found_ends : (links : List LinkState) (connection : ℕ) (link : LinkState) (found : List ℕ) → slice_get links connection ≡ Some link
+    → SameEnds links (set links connection (record link { found = found }))
 found_ends links connection link found e = record {
   size = length-set links connection (record link { found = found });
   back = λ c after now. elim (set_cases links connection link (record link { found = found }) e c after now) [
@@ -85,7 +91,8 @@ found_ends links connection link found e = record {
     | inl here ↦
         let same : link ≡ was = some_is link was (sym e ∙ ap (slice_get links) (sym here.1) ∙ before) in (
           record link { found = found },
-          ap (slice_get (set links connection (record link { found = found }))) here.1 ∙ set_same links connection (record link { found = found }) link e,
+          ap (slice_get (set links connection (record link { found = found }))) here.1 ∙ set_same links connection
+              (record link { found = found }) link e,
           record {
             publisher = ap (λ (l : LinkState). l.publisher) same;
             subscriber = ap (λ (l : LinkState). l.subscriber) same;
@@ -93,11 +100,18 @@ found_ends links connection link found e = record {
             limit = ap (λ (l : LinkState). l.limit) same;
           },
         )
-    | inr other ↦ (was, set_other links connection c (record link { found = found }) other.1 ∙ before, record { publisher = refl; subscriber = refl; kind = refl; limit = refl })
+    | inr other ↦ (
+      was,
+      set_other links connection c (record link { found = found }) other.1 ∙ before,
+      record
+          { publisher = refl; subscriber = refl; kind = refl; limit = refl },
+    )
   ];
 }
 
-link_of_after : (links after : List LinkState) (port : LinkState → ℕ) (who : ℕ) (route : Route) → ((one other : LinkState) → SameEnd one other → port other ≡ port one) → SameEnds links after → IsLinkOf links port who route → IsLinkOf after port who route
+link_of_after : (links after : List LinkState) (port : LinkState → ℕ) (who : ℕ) (route : Route)
+    → ((one other : LinkState) → SameEnd one other → port other ≡ port one) → SameEnds links after → IsLinkOf links port who route
+    → IsLinkOf after port who route
 link_of_after links after port who route same ends is =
     let now = ends.there route.connection is.link is.found in
     record {
@@ -106,18 +120,23 @@ link_of_after links after port who route same ends is =
       own = same is.link now.0 now.2 ∙ is.own;
       kind = is.kind ∙ sym (now.2).kind;
       limit = is.limit ∙ sym (now.2).limit;
-      cells = is.cells ∙ ap (λ (k : RingKind). cells_of k is.link.limit) (sym (now.2).kind) ∙ ap (λ (n : ℕ). cells_of (now.0).kind n) (sym (now.2).limit);
+      cells = is.cells ∙ ap (λ (k : RingKind). cells_of k is.link.limit) (sym (now.2).kind) ∙ ap (λ (n : ℕ). cells_of (now.0).kind n)
+          (sym (now.2).limit);
     }
 
-connections_after : (links after : List LinkState) (who : ℕ) (routes : List Route) → SameEnds links after → HasConnections links who routes → HasConnections after who routes
+connections_after : (links after : List LinkState) (who : ℕ) (routes : List Route) → SameEnds links after
+    → HasConnections links who routes → HasConnections after who routes
 connections_after links after who routes ends h = record {
-  each = λ connection link found own. let was = ends.back connection link found in h.each connection was.0 was.1 (sym (was.2).publisher ∙ own);
+  each = λ connection link found own. let was
+      = ends.back connection link found in h.each connection was.0 was.1 (sym (was.2).publisher ∙ own);
   once = h.once;
 }
 
-received_after : (links after : List LinkState) (who : ℕ) (routes : List Route) → SameEnds links after → HasReceived links who routes → HasReceived after who routes
+received_after : (links after : List LinkState) (who : ℕ) (routes : List Route) → SameEnds links after → HasReceived links who routes
+    → HasReceived after who routes
 received_after links after who routes ends h = record {
-  each = λ connection link found own. let was = ends.back connection link found in h.each connection was.0 was.1 (sym (was.2).subscriber ∙ own);
+  each = λ connection link found own. let was
+      = ends.back connection link found in h.each connection was.0 was.1 (sym (was.2).subscriber ∙ own);
   once = h.once;
 }
 
@@ -126,12 +145,21 @@ pub relinked_within : (m : World) (after : List LinkState) → SameEnds m.links 
 relinked_within m after ends w = record {
   publishers = w.publishers;
   subscribers = w.subscribers;
-  senders = λ place lane e. All-weaker (IsLinkOf m.links sender place) (IsLinkOf after sender place) (λ route is. link_of_after m.links after sender place route (λ one other same. same.publisher) ends is) lane.port.routes (w.senders place lane e);
-  receivers = λ place lane e. All-weaker (IsLinkOf m.links receiver place) (IsLinkOf after receiver place) (λ route is. link_of_after m.links after receiver place route (λ one other same. same.subscriber) ends is) lane.port.routes (w.receivers place lane e);
+  senders = λ place lane e. All-weaker (IsLinkOf m.links sender place) (IsLinkOf after sender place)
+      (λ route is. link_of_after m.links after sender place route (λ one other same. same.publisher) ends is) lane.port.routes
+      (w.senders place lane e);
+  receivers = λ place lane e. All-weaker (IsLinkOf m.links receiver place) (IsLinkOf after receiver place)
+      (λ route is. link_of_after m.links after receiver place route (λ one other same. same.subscriber) ends is) lane.port.routes
+      (w.receivers place lane e);
   links = λ connection link found.
       let was = ends.back connection link found in
       let is = w.links connection was.0 was.1 in
-      record { connection_is = is.connection_is; cells = subst (λ (k : RingKind). cells_of k link.limit ≤ m.table.sizes.submission_cells) (sym (was.2).kind) (subst (λ (n : ℕ). cells_of (was.0).kind n ≤ m.table.sizes.submission_cells) (sym (was.2).limit) is.cells) };
+      record {
+        connection_is = is.connection_is;
+        cells
+            = subst (λ (k : RingKind). cells_of k link.limit ≤ m.table.sizes.submission_cells) (sym (was.2).kind)
+            (subst (λ (n : ℕ). cells_of (was.0).kind n ≤ m.table.sizes.submission_cells) (sym (was.2).limit) is.cells);
+      };
   orders = w.orders ∙ sym ends.size;
   words = w.words;
 }
@@ -156,7 +184,8 @@ pub record PublisherAfter (m n : World) (who : ℕ) (lane : PublisherLaneState) 
 pub fresh_after : (m : World) (words : List ℕ) (links : List LinkState) (publishers : List PublisherLaneState) → SameEnds m.links links
     → slice_index words 0 ≡ 0 → CellsNameSlots (record m.table { words = words })
     → ((c : ℕ) (link : LinkState) → slice_get links c ≡ Some link → IsFreshLink (after m words links publishers) c link)
-    → ((who : ℕ) (lane : PublisherLaneState) → slice_get publishers who ≡ Some lane → PublisherAfter m (after m words links publishers) who lane)
+    → ((who : ℕ) (lane : PublisherLaneState) → slice_get publishers who ≡ Some lane
+    → PublisherAfter m (after m words links publishers) who lane)
     → SlotsInRows (after m words links publishers) → IsFresh m → IsFresh (after m words links publishers)
 fresh_after m words links publishers ends spare named each lanes rows h = record {
   finished = h.finished;
@@ -169,7 +198,8 @@ fresh_after m words links publishers ends spare named each lanes rows h = record
       let was = h.publishers who is.was is.before in
       record {
         idle = is.call ∙ was.idle;
-        connections = connections_after m.links links who lane.port.routes ends (subst (HasConnections m.links who) (sym is.routes) was.connections);
+        connections = connections_after m.links links who lane.port.routes ends
+            (subst (HasConnections m.links who) (sym is.routes) was.connections);
         round = subst (GoesRound m.table.sizes.completion_cells) (sym is.routes) was.round;
         counted = is.counted;
         counts = is.counts;
@@ -192,14 +222,16 @@ fresh_after m words links publishers ends spare named each lanes rows h = record
   pairs = λ one other link behind found found' rows columns.
       let first = ends.back one link found in
       let second = ends.back other behind found' in
-      h.pairs one other first.0 second.0 first.1 second.1 (sym (first.2).publisher ∙ rows ∙ (second.2).publisher) (sym (first.2).subscriber ∙ columns ∙ (second.2).subscriber);
+      h.pairs one other first.0 second.0 first.1 second.1 (sym (first.2).publisher ∙ rows ∙ (second.2).publisher)
+      (sym (first.2).subscriber ∙ columns ∙ (second.2).subscriber);
   rows = rows;
   spare = spare;
   named = named;
 }
 
 -- a connection whose rings stay as they were
-pub link_stays : (m : World) (words : List ℕ) (links : List LinkState) (publishers : List PublisherLaneState) (c : ℕ) (link : LinkState) → length publishers ≡ length m.publishers
+pub link_stays : (m : World) (words : List ℕ) (links : List LinkState) (publishers : List PublisherLaneState) (c : ℕ) (link : LinkState)
+    → length publishers ≡ length m.publishers
     → ring_in (record m.table { words = words }) c (cells_of link.kind link.limit) ≡ ring_in m.table c (cells_of link.kind link.limit)
     → back_ring (record m.table { words = words }) c m.table.sizes.completion_cells ≡ back_ring m.table c m.table.sizes.completion_cells
     → IsFreshLink m c link → IsFreshLink (after m words links publishers) c link
@@ -216,7 +248,9 @@ link_stays m words links publishers c link size ring back k = record {
 }
 
 -- the slots of publishers lie one behind the other still, if one of them has no more slots than it had, from the same one on
-pub rows_within : (m : World) (words : List ℕ) (links : List LinkState) (place : ℕ) (lane now : PublisherLaneState) → slice_get m.publishers place ≡ Some lane → now.port.book.first ≡ lane.port.book.first → length now.port.book.loans ≤ length lane.port.book.loans
+pub rows_within : (m : World) (words : List ℕ) (links : List LinkState) (place : ℕ) (lane now : PublisherLaneState)
+    → slice_get m.publishers place ≡ Some lane → now.port.book.first ≡ lane.port.book.first
+    → length now.port.book.loans ≤ length lane.port.book.loans
     → SlotsInRows m → SlotsInRows (after m words links (set m.publishers place now))
 rows_within m words links place lane now found first loans h = λ one other low high e f less.
     let a = was one low e in
@@ -224,7 +258,8 @@ rows_within m words links place lane now found first loans h = λ one other low 
     omega (arith, h one other a.0 b.0 a.1 b.1 less, a.2, a.3, b.2)
   where
     was : (who : ℕ) (z : PublisherLaneState) → slice_get (set m.publishers place now) who ≡ Some z
-        → (before : PublisherLaneState) × (slice_get m.publishers who ≡ Some before) × (z.port.book.first ≡ before.port.book.first) × (length z.port.book.loans ≤ length before.port.book.loans)
+        → (before : PublisherLaneState) × (slice_get m.publishers who ≡ Some before) × (z.port.book.first ≡ before.port.book.first)
+        × (length z.port.book.loans ≤ length before.port.book.loans)
     was who z e = elim (set_cases m.publishers place lane now found who z e) [
       | inl here ↦ (
         lane,
@@ -236,7 +271,8 @@ rows_within m words links place lane now found first loans h = λ one other low 
     ]
 
 -- so they do if its slots are those that it had
-pub rows_after : (m : World) (words : List ℕ) (links : List LinkState) (place : ℕ) (lane now : PublisherLaneState) → slice_get m.publishers place ≡ Some lane → now.port.book.first ≡ lane.port.book.first → now.port.book.loans ≡ lane.port.book.loans
+pub rows_after : (m : World) (words : List ℕ) (links : List LinkState) (place : ℕ) (lane now : PublisherLaneState)
+    → slice_get m.publishers place ≡ Some lane → now.port.book.first ≡ lane.port.book.first → now.port.book.loans ≡ lane.port.book.loans
     → SlotsInRows m → SlotsInRows (after m words links (set m.publishers place now))
 rows_after m words links place lane now found first loans h =
     rows_within m words links place lane now found first (omega (arith, ap (λ (xs : List LoanMark). length xs) loans)) h
@@ -252,7 +288,8 @@ pub laid_words : (k : RingKind) (limit : ℕ) (q : List ℕ) (v : ℕ) → lengt
     → after_store (after_store (first_words k limit q) (Cell (length q)) v) Write (successor (length q)) ≡ first_words k limit (q ++ v ∷ [])
 laid_words k limit q v below small =
     let cells : ℕ = cells_of k limit in
-    let whole : length (q ++ replicate {A = ℕ} (cells - length q) 0) ≡ cells = omega (arith, length-append q (replicate {A = ℕ} (cells - length q) 0), length-replicate {A = ℕ} (cells - length q) 0, below) in
+    let whole : length (q ++ replicate {A = ℕ} (cells - length q) 0) ≡ cells
+    = omega (arith, length-append q (replicate {A = ℕ} (cells - length q) 0), length-replicate {A = ℕ} (cells - length q) 0, below) in
     let at : length q % length (q ++ replicate {A = ℕ} (cells - length q) 0) ≡ length q = mod-eq_of_lt (omega (arith, whole, below)) in
     let size : length (q ++ v ∷ []) ≡ length q + 1 = length-append q (v ∷ []) in
     same_ring _ ((q ++ v ∷ []) ++ replicate (cells - length (q ++ v ∷ [])) 0) _ (length (q ++ v ∷ [])) 0 0
@@ -265,31 +302,53 @@ laid_words k limit q v below small =
     refl
 
 -- the ring of messages of a connection after a slot was laid into it
-pub laid_ring : (table : TableWords) (c : ℕ) (k : RingKind) (limit : ℕ) (q : List ℕ) (v : ℕ) → IsSeat Submission table c (cells_of k limit) → length q < cells_of k limit → length q < 2 ^ 63 → ring_in table c (cells_of k limit) ≡ first_words k limit q
+pub laid_ring : (table : TableWords) (c : ℕ) (k : RingKind) (limit : ℕ) (q : List ℕ) (v : ℕ)
+    → IsSeat Submission table c (cells_of k limit) → length q < cells_of k limit → length q < 2 ^ 63
+    → ring_in table c (cells_of k limit) ≡ first_words k limit q
     → ring_in (laid table c Submission (length q) v) c (cells_of k limit) ≡ first_words k limit (q ++ v ∷ [])
 laid_ring table c k limit q v st below small is =
     let cells : ℕ = cells_of k limit in
     let at : length q % cells ≡ length q = mod-eq_of_lt below in
     let t1 : TableWords = stored_in table (Ring c Submission (Cell (length q))) v in
-    let st1 : IsSeat Submission t1 c cells = record { there = st.there; some = st.some; room = st.room; words = length-set table.words (number_of table.sizes (Ring c Submission (Cell (length q)))) v ∙ st.words } in
+    let st1 : IsSeat Submission t1 c cells
+    = record {
+      there = st.there;
+      some = st.some;
+      room = st.room;
+      words
+          = length-set table.words (number_of table.sizes (Ring c Submission (Cell (length q)))) v ∙ st.words;
+    } in
     let first : after_store (ring_in table c cells) (Cell (length q)) v ≡ ring_in t1 c cells =
-    access_after Submission table c cells (own.Store (Cell (length q)) v) st ∙ ap (λ (i : ℕ). ring_in (stored_in table (Ring c Submission (Cell i)) v) c cells) at in
-    let second : after_store (ring_in t1 c cells) Write (successor (length q)) ≡ ring_in (laid table c Submission (length q) v) c cells = access_after Submission t1 c cells (own.Store Write (successor (length q))) st1 in
+    access_after Submission table c cells (own.Store (Cell (length q)) v) st ∙ ap
+    (λ (i : ℕ). ring_in (stored_in table (Ring c Submission (Cell i)) v) c cells) at in
+    let second : after_store (ring_in t1 c cells) Write (successor (length q)) ≡ ring_in (laid table c Submission (length q) v) c cells
+    = access_after Submission t1 c cells (own.Store Write (successor (length q))) st1 in
     sym second
     ∙ ap (λ (ws : RingWords). after_store ws Write (successor (length q))) (sym first)
     ∙ ap (λ (ws : RingWords). after_store (after_store ws (Cell (length q)) v) Write (successor (length q))) is
     ∙ laid_words k limit q v below small
 
 -- the ring of samples given back at a connection after a slot was laid into it
-pub laid_back : (table : TableWords) (c cells : ℕ) (q : List ℕ) (v : ℕ) → IsSeat Completion table c cells → length q < cells → length q < 2 ^ 63 → back_ring table c cells ≡ first_words kind.Refusing cells q
+pub laid_back : (table : TableWords) (c cells : ℕ) (q : List ℕ) (v : ℕ) → IsSeat Completion table c cells → length q < cells
+    → length q < 2 ^ 63 → back_ring table c cells ≡ first_words kind.Refusing cells q
     → back_ring (laid table c Completion (length q) v) c cells ≡ first_words kind.Refusing cells (q ++ v ∷ [])
 laid_back table c cells q v st below small is =
     let at : length q % cells ≡ length q = mod-eq_of_lt below in
     let t1 : TableWords = stored_in table (Ring c Completion (Cell (length q))) v in
-    let st1 : IsSeat Completion t1 c cells = record { there = st.there; some = st.some; room = st.room; words = length-set table.words (number_of table.sizes (Ring c Completion (Cell (length q)))) v ∙ st.words } in
+    let st1 : IsSeat Completion t1 c cells
+    = record {
+      there = st.there;
+      some = st.some;
+      room = st.room;
+      words
+          = length-set table.words (number_of table.sizes (Ring c Completion (Cell (length q)))) v ∙ st.words;
+    } in
     let first : after_store (back_ring table c cells) (Cell (length q)) v ≡ back_ring t1 c cells =
-    access_after Completion table c cells (own.Store (Cell (length q)) v) st ∙ ap (λ (i : ℕ). back_ring (stored_in table (Ring c Completion (Cell i)) v) c cells) at in
-    let second : after_store (back_ring t1 c cells) Write (successor (length q)) ≡ back_ring (laid table c Completion (length q) v) c cells = access_after Completion t1 c cells (own.Store Write (successor (length q))) st1 in
+    access_after Completion table c cells (own.Store (Cell (length q)) v) st ∙ ap
+    (λ (i : ℕ). back_ring (stored_in table (Ring c Completion (Cell i)) v) c cells) at in
+    let second : after_store (back_ring t1 c cells) Write (successor (length q))
+    ≡ back_ring (laid table c Completion (length q) v) c cells
+    = access_after Completion t1 c cells (own.Store Write (successor (length q))) st1 in
     sym second
     ∙ ap (λ (ws : RingWords). after_store ws Write (successor (length q))) (sym first)
     ∙ ap (λ (ws : RingWords). after_store (after_store ws (Cell (length q)) v) Write (successor (length q))) is

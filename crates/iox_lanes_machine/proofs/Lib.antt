@@ -37,9 +37,11 @@ pub mod Resized
 pub mod Swaps
 pub mod Buffers
 pub mod FoundKept
+pub mod FoundKeptWhole
 pub mod BuffersTaken
 pub mod SwapsTaken
 pub mod TakenIn
+pub mod TakenInPlaces
 pub mod StartRooms
 pub mod StartUses
 pub mod Alone

@@ -1,5 +1,6 @@
 -- What waits or is remembered is its publisher's own.
-use Rattle.std.proofs.Common.{ℕ, zero, suc, ◌≡◌, ◌<◌, ◌≤◌, ◌^◌, List, [], ◌∷◌, get_or, slice_get, Some, refl, sym, ap, subst, inl, inr, arith}
+use Rattle.std.proofs.Common.{ℕ, zero, suc, ◌≡◌, ◌<◌, ◌≤◌, ◌^◌, List, [], ◌∷◌, get_or, slice_get, Some, refl, sym, ap, subst, inl, inr}
+use Rattle.std.proofs.Common.{arith}
 use Rattle.std.proofs.lemmas.Bool.Decides.{eqb_tells}
 use Rattle.iox_lanes_machine.specs.QueuesSteps.declared.order.Placed.{Placed}
 use Rattle.iox_lanes_machine.specs.LanesParties.Parties.{PublisherLaneState}
@@ -28,7 +29,8 @@ counted_at [] at slot is = absurd (cc is)
 counted_at (x ∷ xs) zero slot is = subst (λ (first : ℕ). 0 < count slot (first ∷ xs)) (sym (some_is x slot is)) (counted_first slot xs)
 counted_at (x ∷ xs) (suc at) slot is = omega (arith, counted_at xs at slot is)
 
-waiting_own : (m : World) (connection : ℕ) (link : LinkState) (order : List Placed) → IsKept m → m.moments ≤ 2 ^ 63 → slice_get m.links connection ≡ Some link → slice_get m.orders connection ≡ Some order
+waiting_own : (m : World) (connection : ℕ) (link : LinkState) (order : List Placed) → IsKept m → m.moments ≤ 2 ^ 63
+    → slice_get m.links connection ≡ Some link → slice_get m.orders connection ≡ Some order
     → (slot : ℕ) → 0 < count slot (waiting link order) → IsSlotOf m link.publisher slot
 waiting_own m connection link order k few found got slot waits =
     let own = of_publisher m connection link order found got (k.sends few) (k.uses few) slot (omega (arith, waits)) in
@@ -37,9 +39,11 @@ waiting_own m connection link order k few found got slot waits =
 pub mail_is_own : (m : World) (connection : ℕ) → IsKept m → MailIsOwn m connection
 mail_is_own m connection k = λ few link found at slot is.
     waiting_own m connection link (get_or m.orders connection []) k few found (order_there m connection link k found) slot
-    (counted_at (waiting link (get_or m.orders connection [])) at slot (subst (λ (mail : List ℕ). slice_get mail at ≡ Some slot) (mail_is m connection link found) is))
+    (counted_at (waiting link (get_or m.orders connection [])) at slot
+    (subst (λ (mail : List ℕ). slice_get mail at ≡ Some slot) (mail_is m connection link found) is))
 
-remembered_own : (m : World) (place : ℕ) (lane : PublisherLaneState) → UsesKept m → slice_get m.publishers place ≡ Some lane → (slot : ℕ) → 0 < count slot lane.port.book.history → IsSlotOf m place slot
+remembered_own : (m : World) (place : ℕ) (lane : PublisherLaneState) → UsesKept m → slice_get m.publishers place ≡ Some lane
+    → (slot : ℕ) → 0 < count slot lane.port.book.history → IsSlotOf m place slot
 remembered_own m place lane u found slot some =
     let uses : PublisherUses m lane = u.publishers place lane found in
     let clause = uses.counted.each slot in

@@ -1,5 +1,6 @@
 -- A publisher with as many slots as the worst case wants has a free one for a loan that it may give.
-use Rattle.std.proofs.Common.{ℕ, zero, suc, ◌≡◌, ◌+◌, ◌-◌, ◌*◌, ◌<◌, ◌≤◌, ◌==◌, Bool, true, false, List, [], ◌∷◌, length, get_or, Some, None, refl, sym, ◌∙◌, ap, inl, inr, arith}
+use Rattle.std.proofs.Common.{ℕ, zero, suc, ◌≡◌, ◌+◌, ◌-◌, ◌*◌, ◌<◌, ◌≤◌, ◌==◌, Bool, true, false, List, [], ◌∷◌, length, get_or, Some}
+use Rattle.std.proofs.Common.{None, refl, sym, ◌∙◌, ap, inl, inr, arith}
 use Rattle.std.proofs.lemmas.Bool.{cases_lt}
 use Rattle.std.proofs.lemmas.Bool.Decides.{eqb_tells}
 use Rattle.iox_lanes_parties.specs.LanesBase.declared.calls.publisher.PublisherCall.TheVariants as publishing
@@ -24,7 +25,8 @@ none_free (x ∷ counts) at zero e below = elim (eqb_tells x 0) [
 ]
 none_free (x ∷ counts) at (suc k) e below = elim (eqb_tells x 0) [
   | inl none ↦ absurd (cc (sym (choose_one (x == 0) (Some at) (first_free counts (at + 1)) none.0) ∙ e))
-  | inr some ↦ none_free counts (at + 1) k (sym (choose_other (x == 0) (Some at) (first_free counts (at + 1)) some.0) ∙ e) (omega (arith, below))
+  | inr some ↦ none_free counts (at + 1) k (sym (choose_other (x == 0) (Some at) (first_free counts (at + 1)) some.0) ∙ e)
+      (omega (arith, below))
 ]
 
 sum_ones : (n : ℕ) → sum (λ k. 1) n ≡ n
@@ -37,16 +39,20 @@ sum_each (suc n) c = omega (arith, sum_each n c)
 
 -- the use of a slot by its index
 use_is : (connections : ℕ) (book : BookState) (k : ℕ) → UsesCounted connections book
-    → get_or book.uses k 0 ≡ one_if (is_out (get_or book.loans k mark.No)) + count (book.first + k) book.history + references book.first (length book.uses) book.referred connections (book.first + k)
+    → get_or book.uses k 0 ≡ one_if (is_out (get_or book.loans k mark.No)) + count (book.first + k) book.history + references book.first
+    (length book.uses) book.referred connections (book.first + k)
 use_is connections book k c =
     let le : book.first ≤ book.first + k = omega arith in
     let at : book.first + k - book.first ≡ k = omega arith in
-    let uses : entry book.first book.uses (book.first + k) 0 ≡ get_or book.uses k 0 = entry_is book.first (book.first + k) book.uses 0 le ∙ ap (λ (i : ℕ). get_or book.uses i 0) at in
-    let loans : is_out (entry book.first book.loans (book.first + k) mark.No) ≡ is_out (get_or book.loans k mark.No) = ap is_out (entry_is book.first (book.first + k) book.loans mark.No le ∙ ap (λ (i : ℕ). get_or book.loans i mark.No) at) in
+    let uses : entry book.first book.uses (book.first + k) 0 ≡ get_or book.uses k 0
+    = entry_is book.first (book.first + k) book.uses 0 le ∙ ap (λ (i : ℕ). get_or book.uses i 0) at in
+    let loans : is_out (entry book.first book.loans (book.first + k) mark.No) ≡ is_out (get_or book.loans k mark.No)
+    = ap is_out (entry_is book.first (book.first + k) book.loans mark.No le ∙ ap (λ (i : ℕ). get_or book.loans i mark.No) at) in
     omega (arith, (c.each (book.first + k)).counted, uses, ap one_if loans)
 
 -- as many slots as have a use: those of loans, of the history and of the connections
-pub all_used : (cells connections : ℕ) (book : BookState) → first_free book.uses 0 ≡ None → UsesCounted connections book → HasRooms cells connections book publishing.Lending
+pub all_used : (cells connections : ℕ) (book : BookState) → first_free book.uses 0 ≡ None → UsesCounted connections book
+    → HasRooms cells connections book publishing.Lending
     → length book.uses ≤ loans_out book + book.kept + connections * (cells - 1)
 all_used cells connections book none c k =
     let n : ℕ = length book.uses in
@@ -54,13 +60,20 @@ all_used cells connections book none c k =
     let history : ℕ → ℕ = λ i. count (book.first + i) book.history in
     let rows : ℕ → ℕ = λ i. references book.first n book.referred connections (book.first + i) in
     let cell : ℕ → ℕ → ℕ = λ i place. one_if (refers_to book place (book.first + i)) in
-    let used : sum (λ i. 1) n ≤ sum (λ i. get_or book.uses i 0) n = sum_le (λ i. 1) (λ i. get_or book.uses i 0) n (λ i below. omega (arith, none_free book.uses 0 i none below)) in
-    let parts : sum (λ i. get_or book.uses i 0) n ≡ sum (λ i. loans i + history i + rows i) n = sum_same _ _ n (λ i below. use_is connections book i c) in
-    let out : loans_out book ≡ sum loans n = ap (total (λ i. is_out (get_or book.loans i mark.No))) c.loans_each ∙ total_is (λ i. is_out (get_or book.loans i mark.No)) n in
-    let cells_of : sum rows n ≡ sum (λ i. sum (λ place. cell i place) connections) n = sum_same _ _ n (λ i below. total_is (λ place. refers_to book place (book.first + i)) connections) in
-    let turned : sum (λ i. sum (λ place. cell i place) connections) n ≡ sum (λ place. sum (λ i. cell i place) n) connections = sum_turned cell n connections in
-    let columns : sum (λ place. sum (λ i. cell i place) n) connections ≡ sum (λ place. slots_at book place) connections = sum_same _ _ connections (λ place below. sym (slots_sum book place)) in
-    let few : sum (λ place. slots_at book place) connections ≤ sum (λ place. cells - 1) connections = sum_le _ _ connections (λ place below. omega (arith, k.swept place below tt)) in
+    let used : sum (λ i. 1) n ≤ sum (λ i. get_or book.uses i 0) n
+    = sum_le (λ i. 1) (λ i. get_or book.uses i 0) n (λ i below. omega (arith, none_free book.uses 0 i none below)) in
+    let parts : sum (λ i. get_or book.uses i 0) n ≡ sum (λ i. loans i + history i + rows i) n
+    = sum_same _ _ n (λ i below. use_is connections book i c) in
+    let out : loans_out book ≡ sum loans n
+    = ap (total (λ i. is_out (get_or book.loans i mark.No))) c.loans_each ∙ total_is (λ i. is_out (get_or book.loans i mark.No)) n in
+    let cells_of : sum rows n ≡ sum (λ i. sum (λ place. cell i place) connections) n
+    = sum_same _ _ n (λ i below. total_is (λ place. refers_to book place (book.first + i)) connections) in
+    let turned : sum (λ i. sum (λ place. cell i place) connections) n ≡ sum (λ place. sum (λ i. cell i place) n) connections
+    = sum_turned cell n connections in
+    let columns : sum (λ place. sum (λ i. cell i place) n) connections ≡ sum (λ place. slots_at book place) connections
+    = sum_same _ _ connections (λ place below. sym (slots_sum book place)) in
+    let few : sum (λ place. slots_at book place) connections ≤ sum (λ place. cells - 1) connections
+    = sum_le _ _ connections (λ place below. omega (arith, k.swept place below tt)) in
     omega (
       arith,
       sum_ones n,

@@ -16,12 +16,14 @@ nothing_more [] = refl
 nothing_more (x ∷ q) = ap (λ (xs : List ℕ). x ∷ xs) (nothing_more q)
 
 -- a pop takes the first
-pub takes_first : (cells write : ℕ) (q : List ℕ) (c : Pop) → Acts false cells q (refusing.placed_by_pop write c) → q ≡ taking_refusing c ++ after_acts false cells q (refusing.placed_by_pop write c)
+pub takes_first : (cells write : ℕ) (q : List ℕ) (c : Pop) → Acts false cells q (refusing.placed_by_pop write c)
+    → q ≡ taking_refusing c ++ after_acts false cells q (refusing.placed_by_pop write c)
 takes_first cells write q pop.Idle h = refl
 takes_first cells write q pop.Begun h = refl
 takes_first cells write q (pop.SawRead seen) h = by_test (write == seen) q h
   where
-    by_test : (b : Bool) (q : List ℕ) → Acts false cells q (if b then Take (Got None) ∷ [] else []) → q ≡ after_acts false cells q (if b then Take (Got None) ∷ [] else [])
+    by_test : (b : Bool) (q : List ℕ) → Acts false cells q (if b then Take (Got None) ∷ [] else [])
+        → q ≡ after_acts false cells q (if b then Take (Got None) ∷ [] else [])
     by_test true [] h = refl
     by_test true (x ∷ q) h = absurd (cc h.0)
     by_test false q h = refl
@@ -34,7 +36,8 @@ takes_first cells write q (pop.LookRead seen) h = refl
 takes_first cells write q (pop.Looked some) h = refl
 
 -- a push puts behind the others
-pub puts_last : (cells read : ℕ) (q : List ℕ) (p : Push) → Acts false cells q (refusing.placed_by_push read p) → after_acts false cells q (refusing.placed_by_push read p) ≡ q ++ storing_refusing p
+pub puts_last : (cells read : ℕ) (q : List ℕ) (p : Push) → Acts false cells q (refusing.placed_by_push read p)
+    → after_acts false cells q (refusing.placed_by_push read p) ≡ q ++ storing_refusing p
 puts_last cells read q push.Idle h = nothing_more q
 puts_last cells read q (push.Begun limit value) h = nothing_more q
 puts_last cells read q (push.SawWrite limit value write next) h = by_test (nat_lt (write - read) limit) h
@@ -43,7 +46,8 @@ puts_last cells read q (push.SawWrite limit value write next) h = by_test (nat_l
     full true e = absurd (cc e)
     full false e = nothing_more q
 
-    by_test : (b : Bool) → Acts false cells q (if b then [] else Put value Refused ∷ []) → after_acts false cells q (if b then [] else Put value Refused ∷ []) ≡ q ++ []
+    by_test : (b : Bool) → Acts false cells q (if b then [] else Put value Refused ∷ [])
+        → after_acts false cells q (if b then [] else Put value Refused ∷ []) ≡ q ++ []
     by_test true h = nothing_more q
     by_test false h = full (nat_lt (length q) cells) h.0
 puts_last cells read q (push.SawRoom value write next) h = nothing_more q

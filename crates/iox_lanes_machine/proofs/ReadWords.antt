@@ -1,5 +1,7 @@
 -- Every step keeps that the words of reads lie one read behind the other.
-use Rattle.std.proofs.Common.{ℕ, ◌≡◌, ◌+◌, ◌*◌, Bool, true, false, if◌then◌else◌, nat_lt, List, [], ◌∷◌, ◌++◌, length, set, slice_get, Option, Some, None, refl, sym, ◌∙◌, ap, subst, inl, inr, arith, append-nil, append_assoc, length-append, length-set}
+use Rattle.std.proofs.Common.{ℕ, ◌≡◌, ◌+◌, ◌*◌, Bool, true, false, if◌then◌else◌, nat_lt, List, [], ◌∷◌, ◌++◌, length, set, slice_get}
+use Rattle.std.proofs.Common.{Option, Some, None, refl, sym, ◌∙◌, ap, subst, inl, inr, arith, append-nil, append_assoc, length-append}
+use Rattle.std.proofs.Common.{length-set}
 use Rattle.std.proofs.lemmas.Bool.Decides.{eqb_tells}
 use Rattle.iox_lanes_machine.specs.QueuesSteps.declared.order.Placed.{Placed}
 use Rattle.iox_lanes_machine.specs.LanesBase.declared.words.sizes.TableSizes.{TableSizes}
@@ -14,7 +16,9 @@ use Rattle.iox_lanes_machine.specs.LanesBase.declared.calls.subscriber.Subscribe
 use Rattle.iox_lanes_machine.specs.LanesBase.declared.calls.subscriber.SubscriberChange.TheVariants as change
 use Rattle.iox_lanes_machine.specs.LanesParties.declared.publisher.slot_book.LoanAnswer.{LoanAnswer}
 use Rattle.iox_lanes_machine.specs.LanesParties.Keeping.{SubscriberState, changed}
-use Rattle.iox_lanes_machine.specs.LanesParties.Parties.{PublisherLaneState, SubscriberLaneState, publisher_after, publisher_answer, subscriber_begun, subscriber_after, subscriber_answer, release_begun, place_of, route_at, words_read, lent}
+use Rattle.iox_lanes_machine.specs.LanesParties.Parties.{PublisherLaneState, SubscriberLaneState, publisher_after, publisher_answer}
+use Rattle.iox_lanes_machine.specs.LanesParties.Parties.{subscriber_begun, subscriber_after, subscriber_answer, release_begun, place_of}
+use Rattle.iox_lanes_machine.specs.LanesParties.Parties.{route_at, words_read, lent}
 use Rattle.iox_lanes_machine.specs.LanesParties.declared.call.Answer.{Answer}
 use Rattle.iox_lanes_machine.specs.LanesParties.declared.call.Answer.TheVariants as answer
 use Rattle.iox_lanes_machine.specs.LanesParties.declared.call.Call.{Call}
@@ -26,7 +30,8 @@ use Rattle.iox_lanes_machine.specs.LanesParties.declared.call.Move.TheVariants.{
 use Rattle.iox_lanes_machine.specs.LanesParties.declared.call.Party.{Party}
 use Rattle.iox_lanes_machine.specs.LanesParties.declared.call.Party.TheVariants.{Publisher, Subscriber}
 use Rattle.iox_lanes_machine.specs.Reads.{is_read, reads_of, width, ReadsLie}
-use Rattle.iox_lanes_machine.specs.World.{World, ended, happens, publisher_begins, publisher_goes_on, publisher_given, publisher_ending, subscriber_begins, subscriber_goes_on, subscriber_given}
+use Rattle.iox_lanes_machine.specs.World.{World, ended, happens, publisher_begins, publisher_goes_on, publisher_given, publisher_ending}
+use Rattle.iox_lanes_machine.specs.World.{subscriber_begins, subscriber_goes_on, subscriber_given}
 use Rattle.iox_lanes_machine.proofs.Calls.{set_is}
 use Rattle.iox_lanes_machine.proofs.Sends.{last_or}
 use Rattle.iox_lanes_machine.proofs.Within.{set_other, sizes_stay}
@@ -53,42 +58,64 @@ record Lie (wide : ℕ) (finished : List FinishedCall) (read : List ℕ) : Type 
   each : (number : ℕ) (call : FinishedCall) → slice_get (reads_of finished) number ≡ Some call → call.answer ≡ answer.Read (number * wide)
   all : length read ≡ length (reads_of finished) * wide
 
-same_lie : (wide : ℕ) (finished finished' : List FinishedCall) (read words : List ℕ) → reads_of finished' ≡ reads_of finished → words ≡ [] → Lie wide finished read → Lie wide finished' (read ++ words)
+same_lie : (wide : ℕ) (finished finished' : List FinishedCall) (read words : List ℕ) → reads_of finished' ≡ reads_of finished
+    → words ≡ [] → Lie wide finished read → Lie wide finished' (read ++ words)
 same_lie wide finished finished' read words e f k = record {
   each = λ number c found. k.each number c (ap (λ (xs : List FinishedCall). slice_get xs number) (sym e) ∙ found);
-  all = ap (λ (ws : List ℕ). length ws) (ap (λ (ws : List ℕ). read ++ ws) f ∙ append-nil read) ∙ k.all ∙ ap (λ (xs : List FinishedCall). length xs * wide) (sym e);
+  all = ap (λ (ws : List ℕ). length ws) (ap (λ (ws : List ℕ). read ++ ws) f ∙ append-nil read) ∙ k.all ∙ ap
+      (λ (xs : List FinishedCall). length xs * wide) (sym e);
 }
 
 no_read : (finished : List FinishedCall) (c : FinishedCall) → is_read c.answer ≡ false → reads_of (finished ++ c ∷ []) ≡ reads_of finished
-no_read finished c e = reads_append finished (c ∷ []) ∙ ap (λ (b : Bool). reads_of finished ++ ((if b then c ∷ [] else []) ++ [])) e ∙ append-nil (reads_of finished)
+no_read finished c e = reads_append finished (c ∷ []) ∙ ap (λ (b : Bool). reads_of finished ++ ((if b then c ∷ [] else []) ++ [])) e ∙
+    append-nil (reads_of finished)
 
 -- the next read lies behind the others
 next_row : (k wide a b : ℕ) → a ≡ k * wide → b ≡ wide → a + b ≡ (k + 1) * wide
 next_row k wide a b e f = omega (arith, e, f)
 
-one_read : (wide : ℕ) (finished : List FinishedCall) (c : FinishedCall) (read words : List ℕ) → c.answer ≡ answer.Read (length read) → length words ≡ wide → Lie wide finished read → Lie wide (finished ++ c ∷ []) (read ++ words)
+one_read : (wide : ℕ) (finished : List FinishedCall) (c : FinishedCall) (read words : List ℕ) → c.answer ≡ answer.Read (length read)
+    → length words ≡ wide → Lie wide finished read → Lie wide (finished ++ c ∷ []) (read ++ words)
 one_read wide finished c read words e f k =
-    let more : reads_of (finished ++ c ∷ []) ≡ reads_of finished ++ c ∷ [] = reads_append finished (c ∷ []) ∙ ap (λ (a : Answer). reads_of finished ++ ((if is_read a then c ∷ [] else []) ++ [])) e in
+    let more : reads_of (finished ++ c ∷ []) ≡ reads_of finished ++ c ∷ []
+    = reads_append finished (c ∷ []) ∙ ap (λ (a : Answer). reads_of finished ++ ((if is_read a then c ∷ [] else []) ++ [])) e in
     record {
-      each = λ number one found. elim (last_or (reads_of finished) c one number (ap (λ (xs : List FinishedCall). slice_get xs number) (sym more) ∙ found)) [
-        | inl old ↦ k.each number one old
-        | inr new ↦ ap (λ (x : FinishedCall). x.answer) new.1 ∙ e ∙ ap (λ (n : ℕ). answer.Read n) (k.all ∙ ap (λ (n : ℕ). n * wide) (sym new.0))
-      ];
+      each = λ number one found. elim (last_or (reads_of finished) c one number
+          (ap (λ (xs : List FinishedCall). slice_get xs number) (sym more) ∙ found)) [
+            | inl old ↦ k.each number one old
+            | inr new ↦ ap (λ (x : FinishedCall). x.answer) new.1 ∙ e ∙ ap (λ (n : ℕ). answer.Read n)
+                (k.all ∙ ap (λ (n : ℕ). n * wide) (sym new.0))
+          ];
       all = length-append read words ∙ next_row (length (reads_of finished)) wide (length read) (length words) k.all f
           ∙ ap (λ (n : ℕ). n * wide) (sym (ap (λ (xs : List FinishedCall). length xs) more ∙ length-append (reads_of finished) (c ∷ [])));
     }
 
-grown : (wide : ℕ) (finished : List FinishedCall) (party : Party) (name : CallName) (first last : ℕ) (a : Option Answer) (read words : List ℕ) → Adds wide a words → ((from : ℕ) → a ≡ Some (answer.Read from) → from ≡ length read) → Lie wide finished read
+grown : (wide : ℕ) (finished : List FinishedCall) (party : Party) (name : CallName) (first last : ℕ) (a : Option Answer)
+    (read words : List ℕ) → Adds wide a words → ((from : ℕ) → a ≡ Some (answer.Read from) → from ≡ length read) → Lie wide finished read
     → Lie wide (finished ++ ended party name first last a) (read ++ words)
-grown wide finished party name first last None read words h at k = same_lie wide finished (finished ++ []) read words (ap reads_of (append-nil finished)) h k
-grown wide finished party name first last (Some (answer.Lent loan)) read words h at k = same_lie wide finished _ read words (no_read finished (record { party = party; call = name; answer = answer.Lent loan; first = first; last = last }) refl) h k
-grown wide finished party name first last (Some answer.Written) read words h at k = same_lie wide finished _ read words (no_read finished (record { party = party; call = name; answer = answer.Written; first = first; last = last }) refl) h k
-grown wide finished party name first last (Some (answer.Sent given)) read words h at k = same_lie wide finished _ read words (no_read finished (record { party = party; call = name; answer = answer.Sent given; first = first; last = last }) refl) h k
-grown wide finished party name first last (Some answer.Dropped) read words h at k = same_lie wide finished _ read words (no_read finished (record { party = party; call = name; answer = answer.Dropped; first = first; last = last }) refl) h k
-grown wide finished party name first last (Some (answer.Received given)) read words h at k = same_lie wide finished _ read words (no_read finished (record { party = party; call = name; answer = answer.Received given; first = first; last = last }) refl) h k
+grown wide finished party name first last None read words h at k
+    = same_lie wide finished (finished ++ []) read words (ap reads_of (append-nil finished)) h k
+grown wide finished party name first last (Some (answer.Lent loan)) read words h at k
+    = same_lie wide finished _ read words
+    (no_read finished (record { party = party; call = name; answer = answer.Lent loan; first = first; last = last }) refl) h k
+grown wide finished party name first last (Some answer.Written) read words h at k
+    = same_lie wide finished _ read words
+    (no_read finished (record { party = party; call = name; answer = answer.Written; first = first; last = last }) refl) h k
+grown wide finished party name first last (Some (answer.Sent given)) read words h at k
+    = same_lie wide finished _ read words
+    (no_read finished (record { party = party; call = name; answer = answer.Sent given; first = first; last = last }) refl) h k
+grown wide finished party name first last (Some answer.Dropped) read words h at k
+    = same_lie wide finished _ read words
+    (no_read finished (record { party = party; call = name; answer = answer.Dropped; first = first; last = last }) refl) h k
+grown wide finished party name first last (Some (answer.Received given)) read words h at k
+    = same_lie wide finished _ read words
+    (no_read finished (record { party = party; call = name; answer = answer.Received given; first = first; last = last }) refl) h k
 grown wide finished party name first last (Some (answer.Read from)) read words h at k =
-    one_read wide finished (record { party = party; call = name; answer = answer.Read from; first = first; last = last }) read words (ap (λ (n : ℕ). answer.Read n) (at from refl)) h k
-grown wide finished party name first last (Some (answer.Released done)) read words h at k = same_lie wide finished _ read words (no_read finished (record { party = party; call = name; answer = answer.Released done; first = first; last = last }) refl) h k
+    one_read wide finished (record { party = party; call = name; answer = answer.Read from; first = first; last = last }) read words
+    (ap (λ (n : ℕ). answer.Read n) (at from refl)) h k
+grown wide finished party name first last (Some (answer.Released done)) read words h at k
+    = same_lie wide finished _ read words
+    (no_read finished (record { party = party; call = name; answer = answer.Released done; first = first; last = last }) refl) h k
 
 lent_adds : (wide : ℕ) (loan : Option LoanAnswer) → Adds wide (Some (lent loan)) []
 lent_adds wide None = refl
@@ -111,7 +138,8 @@ lent_no_read : (loan : Option LoanAnswer) (from : ℕ) → Some (lent loan) ≡ 
 lent_no_read None from e = absurd (cc e)
 lent_no_read (Some given) from e = absurd (cc e)
 
-publisher_no_read : (fails : Bool) (c : PublisherCall) (loan : Option LoanAnswer) (from : ℕ) → publisher_answer fails c loan ≡ Some (answer.Read from) → ⊥
+publisher_no_read : (fails : Bool) (c : PublisherCall) (loan : Option LoanAnswer) (from : ℕ)
+    → publisher_answer fails c loan ≡ Some (answer.Read from) → ⊥
 publisher_no_read fails publishing.Idle loan from e = absurd (cc e)
 publisher_no_read fails (publishing.LoanReclaims place route p) loan from e = absurd (cc e)
 publisher_no_read fails publishing.Lending loan from e = lent_no_read loan from e
@@ -124,7 +152,8 @@ publisher_no_read fails (publishing.Pushing slot place route p delivery) loan fr
 publisher_no_read fails (publishing.Sent slot delivery) loan from e = absurd (cc e)
 publisher_no_read fails (publishing.Dropping slot) loan from e = absurd (cc e)
 
-subscriber_adds : (wide : ℕ) (c : SubscriberCall) (from : ℕ) (words : List ℕ) → length words ≡ wide → Adds wide (subscriber_answer c from) (words_read c words)
+subscriber_adds : (wide : ℕ) (c : SubscriberCall) (from : ℕ) (words : List ℕ) → length words ≡ wide
+    → Adds wide (subscriber_answer c from) (words_read c words)
 subscriber_adds wide subscribing.Idle from words h = refl
 subscriber_adds wide (subscribing.Receiving place route p waits) from words h = refl
 subscriber_adds wide (subscribing.Received given) from words h = refl
@@ -153,7 +182,8 @@ changed_words (change.Note word value) state = by_test (nat_lt word (length stat
     by_test false = refl
 changed_words (change.GiveBack place slot) state = refl
 
-release_words : (moment sample : ℕ) (place : Option ℕ) (route : Option Route) (lane : SubscriberLaneState) → (release_begun moment sample place route lane).port.words ≡ lane.port.words
+release_words : (moment sample : ℕ) (place : Option ℕ) (route : Option Route) (lane : SubscriberLaneState)
+    → (release_begun moment sample place route lane).port.words ≡ lane.port.words
 release_words moment sample None route lane = refl
 release_words moment sample (Some place) None lane = refl
 release_words moment sample (Some place) (Some route) lane = refl
@@ -165,51 +195,70 @@ begun_words moment (call.Send loan) lane = refl
 begun_words moment (call.DropLoan loan) lane = refl
 begun_words moment call.Receive lane = refl
 begun_words moment (call.Read sample) lane = refl
-begun_words moment (call.Release sample) lane = release_words moment sample (place_of sample lane) (route_at (place_of sample lane) lane) lane
+begun_words moment (call.Release sample) lane
+    = release_words moment sample (place_of sample lane) (route_at (place_of sample lane) lane) lane
 
-rooms_set : (lanes : List SubscriberLaneState) (place wide : ℕ) (lane after : SubscriberLaneState) → slice_get lanes place ≡ Some lane → length after.port.words ≡ wide
-    → ((i : ℕ) (z : SubscriberLaneState) → slice_get lanes i ≡ Some z → length z.port.words ≡ wide) → (i : ℕ) (z : SubscriberLaneState) → slice_get (set lanes place after) i ≡ Some z → length z.port.words ≡ wide
+rooms_set : (lanes : List SubscriberLaneState) (place wide : ℕ) (lane after : SubscriberLaneState) → slice_get lanes place ≡ Some lane
+    → length after.port.words ≡ wide
+    → ((i : ℕ) (z : SubscriberLaneState) → slice_get lanes i ≡ Some z → length z.port.words ≡ wide) → (i : ℕ) (z : SubscriberLaneState)
+    → slice_get (set lanes place after) i ≡ Some z → length z.port.words ≡ wide
 rooms_set lanes place wide lane after found h all i z got = elim (eqb_tells i place) [
   | inl same ↦ ap (λ (x : SubscriberLaneState). length x.port.words) (set_is lanes place i lane after z found same.1 got) ∙ h
   | inr other ↦ all i z (sym (set_other lanes place i after other.1) ∙ got)
 ]
 
 -- the reads lie in a world of the same sizes
-lies : (m n : World) → n.table.sizes ≡ m.table.sizes → Lie (width m.table.sizes) n.finished n.read → ((i : ℕ) (z : SubscriberLaneState) → slice_get n.subscribers i ≡ Some z → length z.port.words ≡ width m.table.sizes) → ReadsLie n
+lies : (m n : World) → n.table.sizes ≡ m.table.sizes → Lie (width m.table.sizes) n.finished n.read
+    → ((i : ℕ) (z : SubscriberLaneState) → slice_get n.subscribers i ≡ Some z → length z.port.words ≡ width m.table.sizes) → ReadsLie n
 lies m n same k rooms = record {
   each = λ number c found. k.each number c found ∙ ap (λ (s : TableSizes). answer.Read (number * width s)) (sym same);
   all = k.all ∙ ap (λ (s : TableSizes). length (reads_of n.finished) * width s) (sym same);
   rooms = λ i z got. rooms i z got ∙ ap width (sym same);
 }
 
-begun_publisher : (m : World) (place : ℕ) (c : Call) (at : Option PublisherLaneState) → ReadsLie m → ReadsLie (publisher_begins m place c at)
+begun_publisher : (m : World) (place : ℕ) (c : Call) (at : Option PublisherLaneState) → ReadsLie m
+    → ReadsLie (publisher_begins m place c at)
 begun_publisher m place c None k = k
-begun_publisher m place c (Some lane) k = lies m (publisher_begins m place c (Some lane)) refl (record { each = k.each; all = k.all }) k.rooms
+begun_publisher m place c (Some lane) k
+    = lies m (publisher_begins m place c (Some lane)) refl (record { each = k.each; all = k.all }) k.rooms
 
-begun_subscriber : (m : World) (place : ℕ) (c : Call) (at : Option SubscriberLaneState) → slice_get m.subscribers place ≡ at → ReadsLie m → ReadsLie (subscriber_begins m place c at)
+begun_subscriber : (m : World) (place : ℕ) (c : Call) (at : Option SubscriberLaneState) → slice_get m.subscribers place ≡ at
+    → ReadsLie m → ReadsLie (subscriber_begins m place c at)
 begun_subscriber m place c None e k = k
 begun_subscriber m place c (Some lane) e k =
     lies m (subscriber_begins m place c (Some lane)) refl (record { each = k.each; all = k.all })
-    (rooms_set m.subscribers place (width m.table.sizes) lane (subscriber_begun m.moments c lane) e (ap (λ (ws : List ℕ). length ws) (begun_words m.moments c lane) ∙ k.rooms place lane e) k.rooms)
+    (rooms_set m.subscribers place (width m.table.sizes) lane (subscriber_begun m.moments c lane) e
+    (ap (λ (ws : List ℕ). length ws) (begun_words m.moments c lane) ∙ k.rooms place lane e) k.rooms)
 
-gone_publisher : (m : World) (place : ℕ) (orders : List (List Placed)) (at : Option PublisherLaneState) → ReadsLie m → ReadsLie (publisher_goes_on (record m { orders = orders }) place at)
+gone_publisher : (m : World) (place : ℕ) (orders : List (List Placed)) (at : Option PublisherLaneState) → ReadsLie m
+    → ReadsLie (publisher_goes_on (record m { orders = orders }) place at)
 gone_publisher m place orders None k = lies m (record m { orders = orders }) refl (record { each = k.each; all = k.all }) k.rooms
 gone_publisher m place orders (Some lane) k =
     let n : World = publisher_goes_on (record m { orders = orders }) place (Some lane) in
     let loan : Option LoanAnswer = (publisher_after (publisher_given m.table lane) lane).port.book.answer in
-    let g : Lie (width m.table.sizes) (m.finished ++ ended (Publisher place) lane.call lane.first m.moments (publisher_ending m.table lane)) (m.read ++ []) =
-    grown (width m.table.sizes) m.finished (Publisher place) lane.call lane.first m.moments (publisher_ending m.table lane) m.read [] (publisher_adds lane.fails (width m.table.sizes) lane.port.call loan)
+    let g : Lie (width m.table.sizes) (m.finished
+    ++ ended (Publisher place) lane.call lane.first m.moments (publisher_ending m.table lane)) (m.read ++ []) =
+    grown (width m.table.sizes) m.finished (Publisher place) lane.call lane.first m.moments (publisher_ending m.table lane) m.read []
+    (publisher_adds lane.fails (width m.table.sizes) lane.port.call loan)
     (λ from e. absurd (publisher_no_read lane.fails lane.port.call loan from e)) (record { each = k.each; all = k.all }) in
-    lies m n ((sizes_stay m.table (publisher_next lane.port.call)).0) (subst (Lie (width m.table.sizes) n.finished) (append-nil m.read) g) k.rooms
+    lies m n ((sizes_stay m.table (publisher_next lane.port.call)).0)
+    (subst (Lie (width m.table.sizes) n.finished) (append-nil m.read) g) k.rooms
 
-gone_subscriber : (m : World) (place : ℕ) (orders : List (List Placed)) (at : Option SubscriberLaneState) → slice_get m.subscribers place ≡ at → ReadsLie m → ReadsLie (subscriber_goes_on (record m { orders = orders }) place at)
+gone_subscriber : (m : World) (place : ℕ) (orders : List (List Placed)) (at : Option SubscriberLaneState)
+    → slice_get m.subscribers place ≡ at → ReadsLie m → ReadsLie (subscriber_goes_on (record m { orders = orders }) place at)
 gone_subscriber m place orders None e k = lies m (record m { orders = orders }) refl (record { each = k.each; all = k.all }) k.rooms
 gone_subscriber m place orders (Some lane) e k =
     lies m (subscriber_goes_on (record m { orders = orders }) place (Some lane)) ((sizes_stay m.table (subscriber_next lane.port.call)).0)
-    (grown (width m.table.sizes) m.finished (Subscriber place) lane.call lane.first m.moments (subscriber_answer lane.port.call (length m.read)) m.read (words_read lane.port.call lane.port.words)
-    (subscriber_adds (width m.table.sizes) lane.port.call (length m.read) lane.port.words (k.rooms place lane e)) (subscriber_from lane.port.call (length m.read)) (record { each = k.each; all = k.all }))
+    (grown (width m.table.sizes) m.finished (Subscriber place) lane.call lane.first m.moments
+    (subscriber_answer lane.port.call (length m.read)) m.read (words_read lane.port.call lane.port.words)
+    (subscriber_adds (width m.table.sizes) lane.port.call (length m.read) lane.port.words (k.rooms place lane e))
+    (subscriber_from lane.port.call (length m.read)) (record { each = k.each; all = k.all }))
     (rooms_set m.subscribers place (width m.table.sizes) lane (subscriber_after (subscriber_given m.table lane) lane) e
-    (changed_words (subscriber_change lane.port.call (subscriber_given m.table lane)) (record lane.port { call = subscriber_take lane.port.routes lane.port.borrowed lane.port.most_borrowed lane.port.call (subscriber_given m.table lane) }) ∙ k.rooms place lane e) k.rooms)
+    (changed_words (subscriber_change lane.port.call (subscriber_given m.table lane))
+    (record lane.port {
+      call
+          = subscriber_take lane.port.routes lane.port.borrowed lane.port.most_borrowed lane.port.call (subscriber_given m.table lane);
+    }) ∙ k.rooms place lane e) k.rooms)
 
 pub happens_reads : (m : World) (party : Party) (step : Move) → ReadsLie m → ReadsLie (happens m party step)
 happens_reads m (Publisher place) (Begin c) k = begun_publisher m place c (slice_get m.publishers place) k

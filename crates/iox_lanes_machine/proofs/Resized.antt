@@ -1,5 +1,6 @@
 -- A publisher that was found to have fewer slots, or other headers, leaves lanes as they are before their first step.
-use Rattle.std.proofs.Common.{ℕ, ◌≡◌, ◌+◌, ◌≤◌, if◌then◌else◌, Bool, true, false, nat_le, nat_lt, List, length, take, set, slice_get, Option, Some, None, refl, sym, ◌∙◌, ap, subst, inl, inr, arith}
+use Rattle.std.proofs.Common.{ℕ, ◌≡◌, ◌+◌, ◌≤◌, if◌then◌else◌, Bool, true, false, nat_le, nat_lt, List, length, take, set, slice_get}
+use Rattle.std.proofs.Common.{Option, Some, None, refl, sym, ◌∙◌, ap, subst, inl, inr, arith}
 use Rattle.std.proofs.lemmas.Bool.{leb-true}
 use Rattle.std.proofs.lemmas.List.{length-map, length-set, length-take-le}
 use Rattle.std.proofs.lemmas.List.Elements.{All-map, All-take, All-weaker}
@@ -14,7 +15,8 @@ use Rattle.iox_lanes_machine.specs.Findings.{resizes_of, is_there, resized_of, n
 use Rattle.iox_lanes_machine.specs.Fresh.{HasFound, IsFreshPublisher, IsFresh}
 use Rattle.iox_lanes_machine.specs.Kept.{IsWithin}
 use Rattle.iox_lanes_machine.specs.World.{World}
-use Rattle.iox_lanes_machine.proofs.FoundFresh.{set_cases, same_ends, after, PublisherAfter, fresh_after, link_stays, rows_within, rows_after}
+use Rattle.iox_lanes_machine.proofs.FoundFresh.{set_cases, same_ends, after, PublisherAfter, fresh_after, link_stays, rows_within}
+use Rattle.iox_lanes_machine.proofs.FoundFresh.{rows_after}
 use Rattle.iox_lanes_machine.proofs.Shrinking.{NoneFound, none_found, none_left, none_unlent, never_refers, resized_counted, resized_counts}
 use Rattle.iox_lanes_machine.proofs.Within.{publisher_within}
 
@@ -24,7 +26,8 @@ pub record MayShrink (slots : ℕ) (lane : PublisherLaneState) : Type 0 where
   pub unused : are_unused lane.port.book.uses ≡ true
   pub none : NoneFound lane.port.book
 
-pub may_shrink_is : (m : World) (who slots : ℕ) (lane : PublisherLaneState) → may_resize slots lane.port.book ≡ true → slice_get m.publishers who ≡ Some lane → IsFresh m → MayShrink slots lane
+pub may_shrink_is : (m : World) (who slots : ℕ) (lane : PublisherLaneState) → may_resize slots lane.port.book ≡ true
+    → slice_get m.publishers who ≡ Some lane → IsFresh m → MayShrink slots lane
 may_shrink_is m who slots lane may found h =
     let is = h.publishers who lane found in
     let book : BookState = lane.port.book in
@@ -36,7 +39,8 @@ may_shrink_is m who slots lane may found h =
     }
 
 -- a publisher of which nothing was found has just its first slots
-pub resized_fresh : (m : World) (who slots most : ℕ) (lane : PublisherLaneState) → MayShrink slots lane → slice_get m.publishers who ≡ Some lane → IsWithin m → IsFresh m
+pub resized_fresh : (m : World) (who slots most : ℕ) (lane : PublisherLaneState) → MayShrink slots lane
+    → slice_get m.publishers who ≡ Some lane → IsWithin m → IsFresh m
     → IsWithin (resized_of m who slots most (Some lane)) × IsFresh (resized_of m who slots most (Some lane))
 resized_fresh m who slots most lane may found w h = (within, fresh)
   where
@@ -67,15 +71,29 @@ resized_fresh m who slots most lane may found w h = (within, fresh)
         before = ap (slice_get m.publishers) here.0 ∙ found;
         call = ap (λ (l : PublisherLaneState). l.port.call) (sym here.1);
         routes = ap (λ (l : PublisherLaneState). l.port.routes) (sym here.1);
-        counted = subst (λ (l : PublisherLaneState). UsesCounted (length l.port.routes) l.port.book) here.1 (resized_counted (length lane.port.routes) slots most lane.port.book may.fits may.none own.counted);
-        counts = subst (λ (l : PublisherLaneState). CountsLoans l.port.book) here.1 (resized_counts (length lane.port.routes) slots most lane.port.book own.none_out may.none own.counts);
+        counted = subst (λ (l : PublisherLaneState). UsesCounted (length l.port.routes) l.port.book) here.1
+            (resized_counted (length lane.port.routes) slots most lane.port.book may.fits may.none own.counted);
+        counts = subst (λ (l : PublisherLaneState). CountsLoans l.port.book) here.1
+            (resized_counts (length lane.port.routes) slots most lane.port.book own.none_out may.none own.counts);
         none_out = ap (λ (l : PublisherLaneState). l.port.book.out) (sym here.1) ∙ own.none_out;
-        unlent = subst (λ (l : PublisherLaneState). (s : ℕ) → is_out (entry l.port.book.first l.port.book.loans s mark.No) ≡ false) here.1 (none_unlent now'.port.book left);
+        unlent = subst (λ (l : PublisherLaneState). (s : ℕ) → is_out (entry l.port.book.first l.port.book.loans s mark.No) ≡ false)
+            here.1 (none_unlent now'.port.book left);
         has = subst (HasFound world) here.1 has;
       }
       | inr off ↦
           let is = h.publishers other now off.1 in
-          record { was = now; before = off.1; call = refl; routes = refl; counted = is.counted; counts = is.counts; none_out = is.none_out; unlent = is.unlent; has = is.has }
+          record {
+            was = now;
+            before = off.1;
+            call = refl;
+            routes = refl;
+            counted = is.counted;
+            counts = is.counts;
+            none_out
+                = is.none_out;
+            unlent = is.unlent;
+            has = is.has;
+          }
     ]
 
     loans : length (take slots lane.port.book.loans) ≡ slots
@@ -84,12 +102,14 @@ resized_fresh m who slots most lane may found w h = (within, fresh)
     fresh : IsFresh world
     fresh = fresh_after m m.table.words m.links publishers' (same_ends m.links) h.spare h.named
         (λ d link e. link_stays m m.table.words m.links publishers' d link (length-set m.publishers who now') refl refl (h.links d link e))
-        lanes (rows_within m m.table.words m.links who lane now' found refl (omega (arith, loans, may.fits, own.counted.loans_each)) h.rows) h
+        lanes (rows_within m m.table.words m.links who lane now' found refl (omega (arith, loans, may.fits, own.counted.loans_each))
+        h.rows) h
 
     within : IsWithin world
     within =
         let port : IsPublisher m.table.sizes lane = all_at (IsPublisher m.table.sizes) m.publishers who lane found w.publishers in
-        let heads : length (take slots lane.heads) ≡ slots = length-take-le slots lane.heads (omega (arith, may.fits, own.counted.loans_each, port.heads)) in
+        let heads : length (take slots lane.heads) ≡ slots
+        = length-take-le slots lane.heads (omega (arith, may.fits, own.counted.loans_each, port.heads)) in
         let moved : IsPublisher m.table.sizes now' = record {
           routes = port.routes;
           call = port.call;
@@ -101,11 +121,14 @@ resized_fresh m who slots most lane may found w h = (within, fresh)
         } in
         publisher_within m world who lane now' found moved refl refl refl refl refl refl refl w
 
-pub resizes_keep : (m : World) (who slots most : ℕ) (at : Option PublisherLaneState) → slice_get m.publishers who ≡ at → resizes_of slots at ≡ true → IsWithin m → IsFresh m
-    → IsWithin (resized_of m who slots most (slice_get m.publishers who)) × IsFresh (resized_of m who slots most (slice_get m.publishers who))
+pub resizes_keep : (m : World) (who slots most : ℕ) (at : Option PublisherLaneState) → slice_get m.publishers who ≡ at
+    → resizes_of slots at ≡ true → IsWithin m → IsFresh m
+    → IsWithin (resized_of m who slots most (slice_get m.publishers who))
+    × IsFresh (resized_of m who slots most (slice_get m.publishers who))
 resizes_keep m who slots most None e fit w h = absurd (cc fit)
 resizes_keep m who slots most (Some lane) e fit w h =
-    subst (λ (n : World). IsWithin n × IsFresh n) (sym (ap (resized_of m who slots most) e)) (resized_fresh m who slots most lane (may_shrink_is m who slots lane fit e h) e w h)
+    subst (λ (n : World). IsWithin n × IsFresh n) (sym (ap (resized_of m who slots most) e))
+    (resized_fresh m who slots most lane (may_shrink_is m who slots lane fit e h) e w h)
 
 -- the headers of a publisher's messages say another node and publisher
 pub origin_length : (node publisher : ℕ) (head : List ℕ) → length (with_origin node publisher head) ≡ length head
@@ -115,7 +138,8 @@ origin_length node publisher head = by_test (nat_lt 1 (length head))
     by_test true = length-set (set head 0 node) 1 publisher ∙ length-set head 0 node
     by_test false = refl
 
-pub named_fresh : (m : World) (who node publisher : ℕ) (fails : Bool) (lane : PublisherLaneState) → slice_get m.publishers who ≡ Some lane → IsWithin m → IsFresh m
+pub named_fresh : (m : World) (who node publisher : ℕ) (fails : Bool) (lane : PublisherLaneState)
+    → slice_get m.publishers who ≡ Some lane → IsWithin m → IsFresh m
     → IsWithin (named_of m who node publisher fails (Some lane)) × IsFresh (named_of m who node publisher fails (Some lane))
 named_fresh m who node publisher fails lane found w h = (within, fresh)
   where
@@ -146,7 +170,18 @@ named_fresh m who node publisher fails lane found w h = (within, fresh)
       })
       | inr off ↦
           let is = h.publishers other now off.1 in
-          record { was = now; before = off.1; call = refl; routes = refl; counted = is.counted; counts = is.counts; none_out = is.none_out; unlent = is.unlent; has = is.has }
+          record {
+            was = now;
+            before = off.1;
+            call = refl;
+            routes = refl;
+            counted = is.counted;
+            counts = is.counts;
+            none_out
+                = is.none_out;
+            unlent = is.unlent;
+            has = is.has;
+          }
     ]
 
     fresh : IsFresh world
@@ -166,21 +201,27 @@ named_fresh m who node publisher fails lane found w h = (within, fresh)
           head = port.head;
           heads = length-map lane.heads (with_origin node publisher) ∙ port.heads;
           widths = All-map (λ (head : List ℕ). length head ≡ wide) (with_origin node publisher) lane.heads
-              (All-weaker (λ (head : List ℕ). length head ≡ wide) (λ (head : List ℕ). length (with_origin node publisher head) ≡ wide) (λ (head : List ℕ) is. origin_length node publisher head ∙ is) lane.heads port.widths);
+              (All-weaker (λ (head : List ℕ). length head ≡ wide) (λ (head : List ℕ). length (with_origin node publisher head) ≡ wide)
+              (λ (head : List ℕ) is. origin_length node publisher head ∙ is) lane.heads port.widths);
         } in
         publisher_within m world who lane now' found moved refl refl refl refl refl refl refl w
 
-pub names_keep : (m : World) (who node publisher : ℕ) (fails : Bool) (at : Option PublisherLaneState) → slice_get m.publishers who ≡ at → is_there at ≡ true → IsWithin m → IsFresh m
-    → IsWithin (named_of m who node publisher fails (slice_get m.publishers who)) × IsFresh (named_of m who node publisher fails (slice_get m.publishers who))
+pub names_keep : (m : World) (who node publisher : ℕ) (fails : Bool) (at : Option PublisherLaneState) → slice_get m.publishers who ≡ at
+    → is_there at ≡ true → IsWithin m → IsFresh m
+    → IsWithin (named_of m who node publisher fails (slice_get m.publishers who))
+    × IsFresh (named_of m who node publisher fails (slice_get m.publishers who))
 names_keep m who node publisher fails None e fit w h = absurd (cc fit)
 names_keep m who node publisher fails (Some lane) e fit w h =
-    subst (λ (n : World). IsWithin n × IsFresh n) (sym (ap (named_of m who node publisher fails) e)) (named_fresh m who node publisher fails lane e w h)
+    subst (λ (n : World). IsWithin n × IsFresh n) (sym (ap (named_of m who node publisher fails) e))
+    (named_fresh m who node publisher fails lane e w h)
 
 -- no step was made
-pub resized_moments : (m : World) (who slots most : ℕ) (at : Option PublisherLaneState) → (resized_of m who slots most at).moments ≡ m.moments
+pub resized_moments : (m : World) (who slots most : ℕ) (at : Option PublisherLaneState)
+    → (resized_of m who slots most at).moments ≡ m.moments
 resized_moments m who slots most None = refl
 resized_moments m who slots most (Some lane) = refl
 
-pub named_moments : (m : World) (who node publisher : ℕ) (fails : Bool) (at : Option PublisherLaneState) → (named_of m who node publisher fails at).moments ≡ m.moments
+pub named_moments : (m : World) (who node publisher : ℕ) (fails : Bool) (at : Option PublisherLaneState)
+    → (named_of m who node publisher fails at).moments ≡ m.moments
 named_moments m who node publisher fails None = refl
 named_moments m who node publisher fails (Some lane) = refl

@@ -1,5 +1,6 @@
 -- A step of a ring's end moves a value from place to place: no value comes or goes but by what the step puts, takes or hands out.
-use Rattle.std.proofs.Common.{ℕ, suc, ◌≡◌, ◌+◌, ◌-◌, ◌%◌, ◌<◌, ◌≤◌, ◌==◌, Bool, true, false, if◌then◌else◌, nat_lt, List, [], ◌∷◌, ◌++◌, length, drop, slice_index, Some, None, refl, sym, ◌∙◌, ap, subst, arith, append-nil}
+use Rattle.std.proofs.Common.{ℕ, suc, ◌≡◌, ◌+◌, ◌-◌, ◌%◌, ◌<◌, ◌≤◌, ◌==◌, Bool, true, false, if◌then◌else◌, nat_lt, List, [], ◌∷◌, ◌++◌}
+use Rattle.std.proofs.Common.{length, drop, slice_index, Some, None, refl, sym, ◌∙◌, ap, subst, arith, append-nil}
 use Rattle.std.proofs.lemmas.Bool.{ltb-true, ltb-false, eq-eqb, ne_eqb, eqb-true}
 use Rattle.iox_lanes_parties.specs.QueuesSteps.Access.{RingWords, successor, after_store, answer_of, after_access}
 use Rattle.iox_lanes_parties.specs.QueuesSteps.Kept.{Held}
@@ -21,7 +22,8 @@ use Rattle.iox_lanes_parties.specs.QueuesSteps.declared.rings.refusing.push.Push
 use Rattle.iox_lanes_parties.specs.QueuesSteps.declared.rings.refusing.push.Push.TheVariants as refusing_push
 use Rattle.iox_lanes_parties.specs.QueuesSteps.declared.rings.refusing.pop.Pop as refusing_pop_type
 use Rattle.iox_lanes_parties.specs.QueuesSteps.declared.rings.refusing.pop.Pop.TheVariants as refusing_pop
-use Rattle.iox_lanes_parties.specs.QueuesSteps.Ends.{overflows, placed_by_push, placed_by_pop, push_next, push_take, push_idle, push_begun, pop_next, Shape}
+use Rattle.iox_lanes_parties.specs.QueuesSteps.Ends.{overflows, placed_by_push, placed_by_pop, push_next, push_take, push_idle}
+use Rattle.iox_lanes_parties.specs.QueuesSteps.Ends.{push_begun, pop_next, Shape}
 use Rattle.iox_lanes_parties.specs.QueuesSteps.declared.rings.ends.RingKind.{RingKind}
 use Rattle.iox_lanes_parties.specs.QueuesSteps.declared.rings.ends.RingKind.TheVariants as kind
 use Rattle.iox_lanes_parties.specs.QueuesSteps.declared.rings.ends.Push.{Push}
@@ -53,22 +55,27 @@ given_out (Take (Got (Some value)) ∷ acts) = value ∷ given_out acts
 given_out (Take (Got None) ∷ acts) = given_out acts
 given_out (Take (Saw some) ∷ acts) = given_out acts
 
-put_count : (s : ℕ) (o : Bool) (limit : ℕ) (q : List ℕ) (value : ℕ) → count s (after_put o limit q value) + count s (handed (put_answer o limit q value)) ≡ count s q + count s (taken_in value (put_answer o limit q value))
+put_count : (s : ℕ) (o : Bool) (limit : ℕ) (q : List ℕ) (value : ℕ)
+    → count s (after_put o limit q value) + count s (handed (put_answer o limit q value))
+    ≡ count s q + count s (taken_in value (put_answer o limit q value))
 put_count s true limit q value = by_test (nat_lt (length q) limit) q
   where
-    by_test : (b : Bool) (q : List ℕ) → count s (if b then q ++ value ∷ [] else drop 1 (q ++ value ∷ [])) + count s (handed (if b then Kept else LeftOut (slice_index (q ++ value ∷ []) 0)))
+    by_test : (b : Bool) (q : List ℕ) → count s (if b then q ++ value ∷ [] else drop 1 (q ++ value ∷ [])) + count s
+        (handed (if b then Kept else LeftOut (slice_index (q ++ value ∷ []) 0)))
         ≡ count s q + count s (taken_in value (if b then Kept else LeftOut (slice_index (q ++ value ∷ []) 0)))
     by_test true q = omega (arith, count_append s q (value ∷ []))
     by_test false [] = omega arith
     by_test false (x ∷ q) = omega (arith, count_append s q (value ∷ []))
 put_count s false limit q value = by_test (nat_lt (length q) limit)
   where
-    by_test : (b : Bool) → count s (if b then q ++ value ∷ [] else q) + count s (handed (if b then Kept else Refused)) ≡ count s q + count s (taken_in value (if b then Kept else Refused))
+    by_test : (b : Bool) → count s (if b then q ++ value ∷ [] else q) + count s (handed (if b then Kept else Refused))
+        ≡ count s q + count s (taken_in value (if b then Kept else Refused))
     by_test true = omega (arith, count_append s q (value ∷ []))
     by_test false = omega arith
 
 -- what waits after some acts, what they hand out and what they give, are what waited and what was put in
-pub acts_count : (s : ℕ) (o : Bool) (limit : ℕ) (q : List ℕ) (acts : List Act) → Acts o limit q acts → count s (after_acts o limit q acts) + count s (handed_out acts) + count s (given_out acts) ≡ count s q + count s (put_in acts)
+pub acts_count : (s : ℕ) (o : Bool) (limit : ℕ) (q : List ℕ) (acts : List Act) → Acts o limit q acts
+    → count s (after_acts o limit q acts) + count s (handed_out acts) + count s (given_out acts) ≡ count s q + count s (put_in acts)
 acts_count s o limit q [] h = omega arith
 acts_count s o limit q (Put value answer ∷ acts) h =
     let more = acts_count s o limit (after_put o limit q value) acts h.1 in
@@ -136,8 +143,11 @@ abbrev late : ℕ → overflowing_push_type.Push → List ℕ
 late read p = put_in (overflowing_ring.late_put read p)
 
 -- a step of a push puts what lies aside, or what it stores, or lays that aside
-overflowing_aside : (limit : ℕ) (words : RingWords) (q : List ℕ) (p : overflowing_push_type.Push) (c : overflowing_pop_type.Pop) → overflowing_ring.Shape limit words q p c
-    → put_in (overflowing_ring.placed_by_push limit words.read p) ++ late (after_access words (overflowing.push_next p)).read (overflowing.push_take p (answer_of words (overflowing.push_next p))) ≡ late words.read p ++ storing p
+overflowing_aside : (limit : ℕ) (words : RingWords) (q : List ℕ) (p : overflowing_push_type.Push) (c : overflowing_pop_type.Pop)
+    → overflowing_ring.Shape limit words q p c
+    → put_in (overflowing_ring.placed_by_push limit words.read p)
+    ++ late (after_access words (overflowing.push_next p)).read
+    (overflowing.push_take p (answer_of words (overflowing.push_next p))) ≡ late words.read p ++ storing p
 overflowing_aside limit words q overflowing_push.Idle c s = refl
 overflowing_aside limit words q (overflowing_push.Begun l value) c s = refl
 overflowing_aside limit words q (overflowing_push.SawWrite l value write next) c s = refl
@@ -160,8 +170,11 @@ overflowing_aside limit words q (overflowing_push.Filled l value write next seen
     after : next ≡ write + 1
     after = k.3
 
-    by_tests : (behind full same : Bool) → nat_lt limit (next - words.read) ≡ behind → nat_lt l (next - seen) ≡ full → (words.read == seen) ≡ same
-        → put_in (if behind then [] else Put value Kept ∷ []) ++ put_in (overflowing_ring.late_put words.read (if full then overflowing_push.Full value seen (successor seen) else overflowing_push.Pushed value Kept)) ≡ value ∷ []
+    by_tests : (behind full same : Bool) → nat_lt limit (next - words.read) ≡ behind → nat_lt l (next - seen) ≡ full
+        → (words.read == seen) ≡ same
+        → put_in (if behind then [] else Put value Kept ∷ [])
+        ++ put_in (overflowing_ring.late_put words.read
+        (if full then overflowing_push.Full value seen (successor seen) else overflowing_push.Pushed value Kept)) ≡ value ∷ []
     by_tests true true true e f g = ap (λ (b : Bool). put_in (if b then Put value Kept ∷ [] else [])) g
     by_tests true true false e f g =
         let less : limit < next - words.read = ltb-true limit (next - words.read) e in
@@ -178,15 +191,18 @@ overflowing_aside limit words q (overflowing_push.Filled l value write next seen
         absurd (omega (arith, less, more, same, wide))
     by_tests false true false e f g = ap (λ (b : Bool). value ∷ put_in (if b then Put value Kept ∷ [] else [])) g
     by_tests false false same e f g = refl
-overflowing_aside limit words q (overflowing_push.Full value seen next) c s = sym (append-nil (late words.read (overflowing_push.Full value seen next)))
+overflowing_aside limit words q (overflowing_push.Full value seen next) c s
+    = sym (append-nil (late words.read (overflowing_push.Full value seen next)))
 overflowing_aside limit words q (overflowing_push.SawOldest value seen next oldest) c s = by_test (words.read == seen)
   where
-    by_test : (b : Bool) → put_in (if b then Put value (LeftOut oldest) ∷ [] else []) ++ [] ≡ put_in (if b then Put value Kept ∷ [] else []) ++ []
+    by_test : (b : Bool) → put_in (if b then Put value (LeftOut oldest) ∷ [] else []) ++ []
+        ≡ put_in (if b then Put value Kept ∷ [] else []) ++ []
     by_test true = refl
     by_test false = refl
 overflowing_aside limit words q (overflowing_push.Pushed value answer) c s = refl
 
-overflowing_hands : (limit read : ℕ) (p : overflowing_push_type.Push) → handed_out (overflowing_ring.placed_by_push limit read p) ≡ handing read p
+overflowing_hands : (limit read : ℕ) (p : overflowing_push_type.Push)
+    → handed_out (overflowing_ring.placed_by_push limit read p) ≡ handing read p
 overflowing_hands limit read overflowing_push.Idle = refl
 overflowing_hands limit read (overflowing_push.Begun l value) = refl
 overflowing_hands limit read (overflowing_push.SawWrite l value write next) = refl
@@ -260,8 +276,10 @@ refusing_gives read (refusing_push.Filled value next) = refl
 refusing_gives read (refusing_push.Pushed value answer) = refl
 
 -- a step of a push, counted
-pub push_counts : (s : ℕ) (k : RingKind) (limit : ℕ) (words : RingWords) (q : List ℕ) (p : Push) (c : Pop) → Shape k limit words q p c → Acts (overflows k) limit q (placed_by_push limit words.read p)
-    → count s (after_acts (overflows k) limit q (placed_by_push limit words.read p)) + count s (aside (after_access words (push_next p)).read (push_take p (answer_of words (push_next p)))) + count s (hands_now words.read p)
+pub push_counts : (s : ℕ) (k : RingKind) (limit : ℕ) (words : RingWords) (q : List ℕ) (p : Push) (c : Pop) → Shape k limit words q p c
+    → Acts (overflows k) limit q (placed_by_push limit words.read p)
+    → count s (after_acts (overflows k) limit q (placed_by_push limit words.read p)) + count s
+    (aside (after_access words (push_next p)).read (push_take p (answer_of words (push_next p)))) + count s (hands_now words.read p)
     ≡ count s q + count s (aside words.read p) + count s (stores_now p)
 push_counts s kind.Overflowing limit words q (push.Overflowing p) (pop.Overflowing c) h acts =
     let placed : List Act = overflowing_ring.placed_by_push limit words.read p in
@@ -271,7 +289,8 @@ push_counts s kind.Overflowing limit words q (push.Overflowing p) (pop.Overflowi
       ap (count s) (overflowing_hands limit words.read p),
       ap (count s) (overflowing_gives limit words.read p),
       ap (count s) (overflowing_aside limit words q p c h),
-      count_append s (put_in (overflowing_ring.placed_by_push limit words.read p)) (late (after_access words (overflowing.push_next p)).read (overflowing.push_take p (answer_of words (overflowing.push_next p)))),
+      count_append s (put_in (overflowing_ring.placed_by_push limit words.read p))
+          (late (after_access words (overflowing.push_next p)).read (overflowing.push_take p (answer_of words (overflowing.push_next p)))),
       count_append s (late words.read p) (storing p),
     )
 push_counts s kind.Overflowing limit words q (push.Overflowing p) (pop.Refusing c) h acts = absurd h
@@ -319,7 +338,8 @@ takes_now read (pop.Overflowing c) = taking read c
 takes_now read (pop.Refusing c) = taking_refusing c
 
 -- a put that waits hands nothing out, and gives nothing
-late_hands : (read : ℕ) (p : overflowing_push_type.Push) → (handed_out (overflowing_ring.late_put read p) ≡ []) × (given_out (overflowing_ring.late_put read p) ≡ [])
+late_hands : (read : ℕ) (p : overflowing_push_type.Push) → (handed_out (overflowing_ring.late_put read p) ≡ [])
+    × (given_out (overflowing_ring.late_put read p) ≡ [])
 late_hands read overflowing_push.Idle = (refl, refl)
 late_hands read (overflowing_push.Begun l value) = (refl, refl)
 late_hands read (overflowing_push.SawWrite l value write next) = (refl, refl)
@@ -327,27 +347,32 @@ late_hands read (overflowing_push.SawRead l value write next seen) = (refl, refl
 late_hands read (overflowing_push.Filled l value write next seen) = (refl, refl)
 late_hands read (overflowing_push.Full value seen next) = by_test (read == seen)
   where
-    by_test : (b : Bool) → (handed_out (if b then Put value Kept ∷ [] else []) ≡ []) × (given_out (if b then Put value Kept ∷ [] else []) ≡ [])
+    by_test : (b : Bool) → (handed_out (if b then Put value Kept ∷ [] else []) ≡ [])
+        × (given_out (if b then Put value Kept ∷ [] else []) ≡ [])
     by_test true = (refl, refl)
     by_test false = (refl, refl)
 late_hands read (overflowing_push.SawOldest value seen next oldest) = by_test (read == seen)
   where
-    by_test : (b : Bool) → (handed_out (if b then Put value Kept ∷ [] else []) ≡ []) × (given_out (if b then Put value Kept ∷ [] else []) ≡ [])
+    by_test : (b : Bool) → (handed_out (if b then Put value Kept ∷ [] else []) ≡ [])
+        × (given_out (if b then Put value Kept ∷ [] else []) ≡ [])
     by_test true = (refl, refl)
     by_test false = (refl, refl)
 late_hands read (overflowing_push.Pushed value answer) = (refl, refl)
 
 -- nothing lies aside once the read position moved on
-late_gone : (limit : ℕ) (words : RingWords) (q : List ℕ) (next : ℕ) (p : overflowing_push_type.Push) → next ≡ words.read + 1 → overflowing_ring.PushKnows limit words q p → late next p ≡ []
+late_gone : (limit : ℕ) (words : RingWords) (q : List ℕ) (next : ℕ) (p : overflowing_push_type.Push) → next ≡ words.read + 1
+    → overflowing_ring.PushKnows limit words q p → late next p ≡ []
 late_gone limit words q next overflowing_push.Idle e k = refl
 late_gone limit words q next (overflowing_push.Begun l value) e k = refl
 late_gone limit words q next (overflowing_push.SawWrite l value write at) e k = refl
 late_gone limit words q next (overflowing_push.SawRead l value write at seen) e k = refl
 late_gone limit words q next (overflowing_push.Filled l value write at seen) e k = refl
 late_gone limit words q next (overflowing_push.Full value seen at) e k =
-    ap (λ (b : Bool). put_in (if b then Put value Kept ∷ [] else [])) (ne_eqb next seen (λ same. absurd (omega (arith, same, e, (k.0).seen_before))))
+    ap (λ (b : Bool). put_in (if b then Put value Kept ∷ [] else []))
+    (ne_eqb next seen (λ same. absurd (omega (arith, same, e, (k.0).seen_before))))
 late_gone limit words q next (overflowing_push.SawOldest value seen at oldest) e k =
-    ap (λ (b : Bool). put_in (if b then Put value Kept ∷ [] else [])) (ne_eqb next seen (λ same. absurd (omega (arith, same, e, (k.0).seen_before))))
+    ap (λ (b : Bool). put_in (if b then Put value Kept ∷ [] else []))
+    (ne_eqb next seen (λ same. absurd (omega (arith, same, e, (k.0).seen_before))))
 late_gone limit words q next (overflowing_push.Pushed value answer) e k = refl
 
 -- what a step of a pop places: what it puts, what it hands out and what it gives
@@ -357,8 +382,10 @@ record Stands (placed : List Act) (rest before taken : List ℕ) : Type 0 where
   gives : given_out placed ≡ taken
 
 -- a step of a pop takes one from what waits, and puts what lies aside if it moves the read position
-pop_stands : (limit : ℕ) (words : RingWords) (q : List ℕ) (p : overflowing_push_type.Push) (c : overflowing_pop_type.Pop) → overflowing_ring.Shape limit words q p c
-    → Stands (overflowing_ring.placed_by_pop words p c) (late (after_access words (overflowing.pop_next c)).read p) (late words.read p) (taking words.read c)
+pop_stands : (limit : ℕ) (words : RingWords) (q : List ℕ) (p : overflowing_push_type.Push) (c : overflowing_pop_type.Pop)
+    → overflowing_ring.Shape limit words q p c
+    → Stands (overflowing_ring.placed_by_pop words p c) (late (after_access words (overflowing.pop_next c)).read p) (late words.read p)
+    (taking words.read c)
 pop_stands limit words q p overflowing_pop.Idle s = record { puts = refl; hands = refl; gives = refl }
 pop_stands limit words q p overflowing_pop.Begun s = record { puts = refl; hands = refl; gives = refl }
 pop_stands limit words q p (overflowing_pop.SawRead seen) s = by_test (words.write == seen)
@@ -370,9 +397,12 @@ pop_stands limit words q p (overflowing_pop.Nonempty seen next) s = record { put
 pop_stands limit words q p (overflowing_pop.SawCell seen next value) s = by_test (words.read == seen) refl
   where
     by_test : (b : Bool) → (words.read == seen) ≡ b
-        → Stands ((if b then Take (Got (Some value)) ∷ [] else []) ++ (if b then overflowing_ring.late_put words.read p else [])) (late (if b then after_store words Read next else words).read p) (late words.read p) (if b then value ∷ [] else [])
+        → Stands ((if b then Take (Got (Some value)) ∷ [] else []) ++ (if b then overflowing_ring.late_put words.read p else []))
+        (late (if b then after_store words Read next else words).read p) (late words.read p) (if b then value ∷ [] else [])
     by_test true e = record {
-      puts = ap (λ (xs : List ℕ). late words.read p ++ xs) (late_gone limit words q next p (omega (arith, (s.pop_knows).2, eqb-true words.read seen e)) s.push_knows) ∙ append-nil (late words.read p);
+      puts = ap (λ (xs : List ℕ). late words.read p ++ xs)
+          (late_gone limit words q next p (omega (arith, (s.pop_knows).2, eqb-true words.read seen e)) s.push_knows) ∙ append-nil
+          (late words.read p);
       hands = (late_hands words.read p).0;
       gives = ap (λ (xs : List ℕ). value ∷ xs) ((late_hands words.read p).1);
     }
@@ -398,8 +428,10 @@ refusing_stands write (refusing_pop.LookRead seen) = record { puts = refl; hands
 refusing_stands write (refusing_pop.Looked some) = record { puts = refl; hands = refl; gives = refl }
 
 -- a step of a pop, counted
-pub pop_counts : (s : ℕ) (k : RingKind) (limit : ℕ) (words : RingWords) (q : List ℕ) (p : Push) (c : Pop) → Shape k limit words q p c → Acts (overflows k) limit q (placed_by_pop words p c)
-    → count s (after_acts (overflows k) limit q (placed_by_pop words p c)) + count s (aside (after_access words (pop_next c)).read p) + count s (takes_now words.read c) ≡ count s q + count s (aside words.read p)
+pub pop_counts : (s : ℕ) (k : RingKind) (limit : ℕ) (words : RingWords) (q : List ℕ) (p : Push) (c : Pop) → Shape k limit words q p c
+    → Acts (overflows k) limit q (placed_by_pop words p c)
+    → count s (after_acts (overflows k) limit q (placed_by_pop words p c)) + count s (aside (after_access words (pop_next c)).read p) +
+    count s (takes_now words.read c) ≡ count s q + count s (aside words.read p)
 pop_counts s kind.Overflowing limit words q (push.Overflowing p) (pop.Overflowing c) h acts =
     let st = pop_stands limit words q p c h in
     omega (
@@ -417,7 +449,8 @@ pop_counts s kind.Refusing limit words q (push.Overflowing p) (pop.Overflowing c
 pop_counts s kind.Refusing limit words q (push.Overflowing p) (pop.Refusing c) h acts = absurd h
 pop_counts s kind.Refusing limit words q (push.Refusing p) (pop.Overflowing c) h acts = absurd h
 pop_counts s kind.Refusing limit words q (push.Refusing p) (pop.Refusing c) h acts =
-    let none : refusing.placed_by_pop words.write c ++ [] ≡ refusing.placed_by_pop words.write c = append-nil (refusing.placed_by_pop words.write c) in
+    let none : refusing.placed_by_pop words.write c ++ [] ≡ refusing.placed_by_pop words.write c
+    = append-nil (refusing.placed_by_pop words.write c) in
     let plain : Acts false limit q (refusing.placed_by_pop words.write c) = subst (Acts false limit q) none acts in
     let st = refusing_stands words.write c in
     omega (
@@ -461,7 +494,8 @@ cells_are words at [] h = refl
 cells_are words at (x ∷ q) h =
     let here : at + 0 ≡ at = omega arith in
     let first : slice_index words.cells ((at + 0) % length words.cells) ≡ x = h.each 0 (omega arith) in
-    let head : slice_index words.cells (at % length words.cells) ≡ x = subst (λ (n : ℕ). slice_index words.cells (n % length words.cells) ≡ x) here first in
+    let head : slice_index words.cells (at % length words.cells) ≡ x
+    = subst (λ (n : ℕ). slice_index words.cells (n % length words.cells) ≡ x) here first in
     let rest : cells_from words (at + 1) (length q) ≡ q = cells_are words (at + 1) q (record { each = λ k below. next k below }) in
     ap (λ (y : ℕ). y ∷ cells_from words (at + 1) (length q)) head ∙ ap (λ (ys : List ℕ). x ∷ ys) rest
   where
@@ -470,7 +504,8 @@ cells_are words at (x ∷ q) h =
         let same : at + suc k ≡ at + 1 + k = omega arith in
         subst (λ (n : ℕ). slice_index words.cells (n % length words.cells) ≡ slice_index q k) same (h.each (suc k) (omega (arith, below)))
 
-pub between_is : (cells : ℕ) (words : RingWords) (q : List ℕ) (p : refusing_push_type.Push) (c : refusing_pop_type.Pop) → refusing.Shape cells words q p c → between words ≡ q
+pub between_is : (cells : ℕ) (words : RingWords) (q : List ℕ) (p : refusing_push_type.Push) (c : refusing_pop_type.Pop)
+    → refusing.Shape cells words q p c → between words ≡ q
 between_is cells words q p c s =
     let size : words.write - words.read ≡ length q = omega (arith, s.level) in
     ap (cells_from words words.read) size ∙ cells_are words words.read q s.held

@@ -1,5 +1,6 @@
 -- What stands at a connection, and so what a call that takes back finds there, and a release.
-use Rattle.std.proofs.Common.{ℕ, ◌≡◌, ◌+◌, ◌-◌, ◌<◌, ◌≤◌, ◌==◌, true, false, List, [], length, get_or, slice_get, Option, Some, None, refl, sym, ◌∙◌, ap, subst, inl, inr, arith}
+use Rattle.std.proofs.Common.{ℕ, ◌≡◌, ◌+◌, ◌-◌, ◌<◌, ◌≤◌, ◌==◌, true, false, List, [], length, get_or, slice_get, Option, Some, None}
+use Rattle.std.proofs.Common.{refl, sym, ◌∙◌, ap, subst, inl, inr, arith}
 use Rattle.std.proofs.lemmas.Bool.{cases_lt, lt-ltb}
 use Rattle.std.proofs.lemmas.Bool.Decides.{eqb_tells}
 use Rattle.std.proofs.lemmas.Option.{slice_get_within}
@@ -55,7 +56,8 @@ use Rattle.iox_lanes_machine.proofs.SubscriberUses as subscribers
 use Rattle.iox_lanes_machine.proofs.SubscriberUses.{lane_there}
 
 -- no more messages wait than may
-pub few_wait : (k : RingKind) (limit : ℕ) (words : RingWords) (q : List ℕ) (p : ring_push_type.Push) (c : ring_pop_type.Pop) → Shape k limit words q p c → length q ≤ limit
+pub few_wait : (k : RingKind) (limit : ℕ) (words : RingWords) (q : List ℕ) (p : ring_push_type.Push) (c : ring_pop_type.Pop)
+    → Shape k limit words q p c → length q ≤ limit
 few_wait kind.Overflowing limit words q (ring_push.Overflowing p) (ring_pop.Overflowing c) s = s.room
 few_wait kind.Overflowing limit words q (ring_push.Overflowing p) (ring_pop.Refusing c) s = absurd s
 few_wait kind.Overflowing limit words q (ring_push.Refusing p) (ring_pop.Overflowing c) s = absurd s
@@ -66,7 +68,8 @@ few_wait kind.Refusing limit words q (ring_push.Refusing p) (ring_pop.Overflowin
 few_wait kind.Refusing limit words q (ring_push.Refusing p) (ring_pop.Refusing c) s = s.room
 
 -- nor are more samples borrowed of a connection
-pub few_borrowed : (m : World) (connection : ℕ) (link : LinkState) (at : Option SubscriberLaneState) → slice_get m.links connection ≡ Some link → slice_get m.subscribers link.subscriber ≡ at → UsesKept m → RoomsKept m
+pub few_borrowed : (m : World) (connection : ℕ) (link : LinkState) (at : Option SubscriberLaneState)
+    → slice_get m.links connection ≡ Some link → slice_get m.subscribers link.subscriber ≡ at → UsesKept m → RoomsKept m
     → total (λ s. borrows connection s at) m.table.sizes.slots ≤ may_borrow at
 few_borrowed m connection link None found e u r = omega (arith, total_zero (λ s. borrows connection s None) m.table.sizes.slots (λ s. refl))
 few_borrowed m connection link (Some lane) found e u r =
@@ -76,9 +79,12 @@ few_borrowed m connection link (Some lane) found e u r =
     omega (arith, number.1, ap (λ (c : ℕ). borrowed_of c lane) among.same, ap (total (λ s. borrows connection s (Some lane))) all)
 
 -- what a pop that takes back finds at its connection
-pub reclaim_finds : (m : World) (who : ℕ) (routes : List Route) (stored : List ℕ) (book : BookState) (c : PublisherCall) (at : ℕ) (route : Route) (p : Pop) → Setting m who routes stored c → slice_get routes at ≡ Some route
-    → reclaim_on route.connection c ≡ p → ((k : RingKind) → push_on route.connection k c ≡ push_idle k) → Balanced m routes book c → book.first + length book.uses ≤ m.table.sizes.slots → UsesKept m → RoomsKept m
-    → PopFinds m.table.sizes.completion_cells (slots_at book at) p (shared_answer m.table (on_ring route.connection Completion route.completion_cells (refusing.pop_next p)))
+pub reclaim_finds : (m : World) (who : ℕ) (routes : List Route) (stored : List ℕ) (book : BookState) (c : PublisherCall) (at : ℕ)
+    (route : Route) (p : Pop) → Setting m who routes stored c → slice_get routes at ≡ Some route
+    → reclaim_on route.connection c ≡ p → ((k : RingKind) → push_on route.connection k c ≡ push_idle k) → Balanced m routes book c
+    → book.first + length book.uses ≤ m.table.sizes.slots → UsesKept m → RoomsKept m
+    → PopFinds m.table.sizes.completion_cells (slots_at book at) p
+    (shared_answer m.table (on_ring route.connection Completion route.completion_cells (refusing.pop_next p)))
 reclaim_finds m who routes stored book c at route pop.Idle k here is idle b le u r = tt
 reclaim_finds m who routes stored book c at route pop.Begun k here is idle b le u r = tt
 reclaim_finds m who routes stored book c at route (pop.SawRead seen) k here is idle b le u r = (λ e. empty e, λ e. some e)
@@ -115,24 +121,35 @@ reclaim_finds m who routes stored book c at route (pop.SawRead seen) k here is i
     words = back_ring m.table route.connection cells
 
     shape : refusing.Shape cells words returning.list (release_on route.connection (subscriber_stage receiver_lane)) (pop.SawRead seen)
-    shape = subst (λ (x : Pop). refusing.Shape cells words returning.list (release_on route.connection (subscriber_stage receiver_lane)) x) is returning.shape
+    shape = subst (λ (x : Pop). refusing.Shape cells words returning.list (release_on route.connection (subscriber_stage receiver_lane))
+        x) is returning.shape
 
-    answered : words.write ≡ shared_answer m.table (on_ring route.connection Completion route.completion_cells (refusing.pop_next (pop.SawRead seen)))
-    answered = access_answer Completion m.table route.connection cells (refusing.pop_next (pop.SawRead seen)) (back_seat m route.connection link mine.found k.some k.within)
+    answered : words.write ≡ shared_answer m.table
+        (on_ring route.connection Completion route.completion_cells (refusing.pop_next (pop.SawRead seen)))
+    answered = access_answer Completion m.table route.connection cells (refusing.pop_next (pop.SawRead seen))
+        (back_seat m route.connection link mine.found k.some k.within)
 
     back : length (given_back m.table route.connection) ≡ length returning.list
-    back = ap (λ (xs : List ℕ). length xs) (between_is cells words returning.list (release_on route.connection (subscriber_stage receiver_lane)) (pop.SawRead seen) shape)
+    back = ap (λ (xs : List ℕ). length xs)
+        (between_is cells words returning.list (release_on route.connection (subscriber_stage receiver_lane)) (pop.SawRead seen) shape)
 
     nothing_aside : length (aside_at m.table route.connection link c) ≡ 0
-    nothing_aside = ap (λ (xs : List ℕ). length xs) (ap (aside (held_by m.table (sent_word route.connection Read))) (idle link.kind) ∙ idle_aside (held_by m.table (sent_word route.connection Read)) link.kind)
+    nothing_aside = ap (λ (xs : List ℕ). length xs)
+        (ap (aside (held_by m.table (sent_word route.connection Read))) (idle link.kind) ∙ idle_aside
+        (held_by m.table (sent_word route.connection Read)) link.kind)
 
-    empty : (shared_answer m.table (on_ring route.connection Completion route.completion_cells (refusing.pop_next (pop.SawRead seen))) == seen) ≡ true → slots_at book at < cells
+    empty : (shared_answer m.table (on_ring route.connection Completion route.completion_cells (refusing.pop_next (pop.SawRead seen)))
+        == seen) ≡ true → slots_at book at < cells
     empty e =
-        let same : shared_answer m.table (on_ring route.connection Completion route.completion_cells (refusing.pop_next (pop.SawRead seen))) ≡ seen = is_equal _ seen e in
+        let same : shared_answer m.table (on_ring route.connection Completion route.completion_cells
+        (refusing.pop_next (pop.SawRead seen))) ≡ seen = is_equal _ seen e in
         omega (
           arith,
-          slots_most book at m.table.sizes.slots (waiting link order) (aside_at m.table route.connection link c) (λ s. borrows route.connection s receiver_lane) (given_back m.table route.connection) le (λ s. b at route link order here mine.found got s),
-          few_wait link.kind link.limit (ring_in m.table route.connection (cells_of link.kind link.limit)) (waiting link order) (push_on route.connection link.kind c) (pop_on route.connection link.kind (subscriber_stage receiver_lane)) kept.shape,
+          slots_most book at m.table.sizes.slots (waiting link order) (aside_at m.table route.connection link c)
+              (λ s. borrows route.connection s receiver_lane) (given_back m.table route.connection) le
+              (λ s. b at route link order here mine.found got s),
+          few_wait link.kind link.limit (ring_in m.table route.connection (cells_of link.kind link.limit)) (waiting link order)
+              (push_on route.connection link.kind c) (pop_on route.connection link.kind (subscriber_stage receiver_lane)) kept.shape,
           nothing_aside,
           few_borrowed m route.connection link receiver_lane mine.found refl u r,
           r.cells route.connection link mine.found,
@@ -149,10 +166,13 @@ reclaim_finds m who routes stored book c at route (pop.SawRead seen) k here is i
           | inr other ↦ absurd (cc (sym h ∙ other.0))
         ]
 
-    some : (shared_answer m.table (on_ring route.connection Completion route.completion_cells (refusing.pop_next (pop.SawRead seen))) == seen) ≡ false → 0 < slots_at book at
+    some : (shared_answer m.table (on_ring route.connection Completion route.completion_cells (refusing.pop_next (pop.SawRead seen))) ==
+        seen) ≡ false → 0 < slots_at book at
     some e =
-        let apart : shared_answer m.table (on_ring route.connection Completion route.completion_cells (refusing.pop_next (pop.SawRead seen))) ≡ seen → ⊥ = is_apart _ seen e in
-        slots_back book at (waiting link order) (aside_at m.table route.connection link c) (λ s. borrows route.connection s receiver_lane) (given_back m.table route.connection)
+        let apart : shared_answer m.table (on_ring route.connection Completion route.completion_cells
+        (refusing.pop_next (pop.SawRead seen))) ≡ seen → ⊥ = is_apart _ seen e in
+        slots_back book at (waiting link order) (aside_at m.table route.connection link c)
+        (λ s. borrows route.connection s receiver_lane) (given_back m.table route.connection)
         (elim (cases_lt 0 (length returning.list)) [
           | inl lt ↦ omega (arith, lt, back)
           | inr none ↦ absurd (apart (omega (arith, none, shape.level, shape.pop_knows, answered)))
@@ -171,7 +191,8 @@ reclaim_finds m who routes stored book c at route (pop.LookRead seen) k here is 
 reclaim_finds m who routes stored book c at route (pop.Looked found) k here is idle b le u r = tt
 
 -- what a release finds: room, since its own sample is not among those given back
-pub release_finds : (m : World) (who : ℕ) (lane : SubscriberLaneState) (place : ℕ) (route : Route) (p : Push) → subscribers.Setting m who lane (subscribing.Releasing place route p) → RoomsKept m
+pub release_finds : (m : World) (who : ℕ) (lane : SubscriberLaneState) (place : ℕ) (route : Route) (p : Push)
+    → subscribers.Setting m who lane (subscribing.Releasing place route p) → RoomsKept m
     → PushFindsRoom p (subscribers.told m (subscribing.Releasing place route p))
 release_finds m who lane place route push.Idle k r = tt
 release_finds m who lane place route (push.Begun limit value) k r = tt
@@ -193,7 +214,8 @@ release_finds m who lane place route (push.SawWrite limit value write next) k r 
     got = order_there m route.connection link mine.found k.within
 
     owner : (z : PublisherLaneState) × (slice_get m.publishers link.publisher ≡ Some z)
-    owner = lane_there m.publishers link.publisher (slice_get m.publishers link.publisher) refl ((k.uses).senders route.connection link mine.found)
+    owner = lane_there m.publishers link.publisher (slice_get m.publishers link.publisher) refl
+        ((k.uses).senders route.connection link mine.found)
 
     among : IsAmong (owner.0).port.routes route.connection
     among = ((k.sends link.publisher owner.0 owner.1).connections).each route.connection link mine.found refl
@@ -204,28 +226,39 @@ release_finds m who lane place route (push.SawWrite limit value write next) k r 
     cells : ℕ
     cells = m.table.sizes.completion_cells
 
-    balanced : (s : ℕ) → stands_at m.table route.connection link order (owner.0).port.call (Some lane) s ≡ one_if (refers_to (owner.0).port.book among.place s)
+    balanced : (s : ℕ) → stands_at m.table route.connection link order (owner.0).port.call (Some lane) s
+        ≡ one_if (refers_to (owner.0).port.book among.place s)
     balanced s =
-        subst (λ (at : Option SubscriberLaneState). stands_at m.table route.connection link order (owner.0).port.call at s ≡ one_if (refers_to (owner.0).port.book among.place s)) there
-        (subst (λ (n : ℕ). stands_at m.table n link order (owner.0).port.call (slice_get m.subscribers link.subscriber) s ≡ one_if (refers_to (owner.0).port.book among.place s)) among.same
-        (((k.uses).publishers link.publisher owner.0 owner.1).balanced among.place among.route link order among.found (ap (slice_get m.links) among.same ∙ mine.found) (ap (slice_get m.orders) among.same ∙ got) s))
+        subst (λ (at : Option SubscriberLaneState). stands_at m.table route.connection link order (owner.0).port.call at s
+        ≡ one_if (refers_to (owner.0).port.book among.place s)) there
+        (subst (λ (n : ℕ). stands_at m.table n link order (owner.0).port.call (slice_get m.subscribers link.subscriber) s
+        ≡ one_if (refers_to (owner.0).port.book among.place s)) among.same
+        (((k.uses).publishers link.publisher owner.0 owner.1).balanced among.place among.route link order among.found
+        (ap (slice_get m.links) among.same ∙ mine.found) (ap (slice_get m.orders) among.same ∙ got) s))
 
     returning : IsReturning cells m.table m.moments route.connection (publisher_stage (slice_get m.publishers link.publisher)) call
     returning =
-        subst (λ (x : SubscriberCall). IsReturning cells m.table m.moments route.connection (publisher_stage (slice_get m.publishers link.publisher)) x)
+        subst (λ (x : SubscriberCall). IsReturning cells m.table m.moments route.connection
+        (publisher_stage (slice_get m.publishers link.publisher)) x)
         (subscribers.stage_here m who lane call link k mine.own) (k.returning route.connection link mine.found)
 
     words : RingWords
     words = back_ring m.table route.connection cells
 
-    shape : refusing.Shape cells words returning.list (push.SawWrite limit value write next) (reclaim_on route.connection (publisher_stage (slice_get m.publishers link.publisher)))
-    shape = subst (λ (x : Push). refusing.Shape cells words returning.list x (reclaim_on route.connection (publisher_stage (slice_get m.publishers link.publisher)))) (release_here place route (push.SawWrite limit value write next)) returning.shape
+    shape : refusing.Shape cells words returning.list (push.SawWrite limit value write next)
+        (reclaim_on route.connection (publisher_stage (slice_get m.publishers link.publisher)))
+    shape = subst (λ (x : Push). refusing.Shape cells words returning.list x
+        (reclaim_on route.connection (publisher_stage (slice_get m.publishers link.publisher))))
+        (release_here place route (push.SawWrite limit value write next)) returning.shape
 
     answered : words.read ≡ subscribers.told m call
-    answered = access_answer Completion m.table route.connection cells (refusing.push_next (push.SawWrite limit value write next)) (back_seat m route.connection link mine.found k.some k.within)
+    answered = access_answer Completion m.table route.connection cells (refusing.push_next (push.SawWrite limit value write next))
+        (back_seat m route.connection link mine.found k.some k.within)
 
     back : length (given_back m.table route.connection) ≡ length returning.list
-    back = ap (λ (xs : List ℕ). length xs) (between_is cells words returning.list (push.SawWrite limit value write next) (reclaim_on route.connection (publisher_stage (slice_get m.publishers link.publisher))) shape)
+    back = ap (λ (xs : List ℕ). length xs)
+        (between_is cells words returning.list (push.SawWrite limit value write next)
+        (reclaim_on route.connection (publisher_stage (slice_get m.publishers link.publisher))) shape)
 
     eqb_here : (n : ℕ) → (n == n) ≡ true
     eqb_here n = elim (eqb_tells n n) [
@@ -234,14 +267,19 @@ release_finds m who lane place route (push.SawWrite limit value write next) k r 
     ]
 
     borrowed : borrows route.connection value (Some lane) ≡ true
-    borrowed = borrows_is lane route.connection value (Some place) (subst (UsesBorrowed lane.port.samples) k.stage (k.own).borrowed) ∙ ap (is_at route.connection) k.call_is ∙ eqb_here route.connection
+    borrowed = borrows_is lane route.connection value (Some place) (subst (UsesBorrowed lane.port.samples) k.stage (k.own).borrowed) ∙
+        ap (is_at route.connection) k.call_is ∙ eqb_here route.connection
 
     room : write - subscribers.told m call < limit
     room =
-        let most : slots_at (owner.0).port.book among.place ≤ cells = (r.publishers link.publisher owner.0 owner.1).most among.place (slice_get_within (owner.0).port.routes among.place among.route among.found) in
+        let most : slots_at (owner.0).port.book among.place ≤ cells
+        = (r.publishers link.publisher owner.0 owner.1).most among.place
+        (slice_get_within (owner.0).port.routes among.place among.route among.found) in
         omega (
           arith,
-          slots_beside (owner.0).port.book among.place value (waiting link order) (aside_at m.table route.connection link (owner.0).port.call) (λ s. borrows route.connection s (Some lane)) (given_back m.table route.connection) borrowed balanced,
+          slots_beside (owner.0).port.book among.place value (waiting link order)
+              (aside_at m.table route.connection link (owner.0).port.call) (λ s. borrows route.connection s (Some lane))
+              (given_back m.table route.connection) borrowed balanced,
           most,
           back,
           shape.level,

@@ -12,8 +12,10 @@ use Rattle.iox_lanes_machine.specs.LanesParties.declared.call.Party.{Party}
 -- a step, and a run of the rest
 pub run_more : (m : World) (entry : Entry) (entries : List Entry) (r : Stepped) (m' n : World) (k made : ℕ)
     → StepsTo m entry.party entry.step r m' → made ≡ count_of r + k → RunsTo m' entries k n → RunsTo m (entry ∷ entries) made n
-run_more m entry entries stepped.Went m' n k made h e g = inr (inl (h.0, (k, omega arith, subst (λ (x : World). RunsTo x entries k n) h.2 g)))
-run_more m entry entries stepped.Finished m' n k made h e g = inr (inl (h.0, (k, omega arith, subst (λ (x : World). RunsTo x entries k n) h.2 g)))
+run_more m entry entries stepped.Went m' n k made h e g
+    = inr (inl (h.0, (k, omega arith, subst (λ (x : World). RunsTo x entries k n) h.2 g)))
+run_more m entry entries stepped.Finished m' n k made h e g
+    = inr (inl (h.0, (k, omega arith, subst (λ (x : World). RunsTo x entries k n) h.2 g)))
 run_more m entry entries stepped.Skipped m' n k made h e g =
     inl (h.0, subst (λ (i : ℕ). RunsTo m entries i n) (omega arith) (subst (λ (x : World). RunsTo x entries k n) h.1 g))
 run_more m entry entries stepped.NoMemory m' n k made h e g =
@@ -31,8 +33,10 @@ none_left [] h = refl
 none_left (x ∷ xs) h = absurd (omega arith)
 
 -- a run behind a run
-runs_on : (b : World) (entries : List Entry) (made : ℕ) (m : World) (more : List Entry) (k : ℕ) (n : World) → RunsTo b entries made m → RunsTo m more k n → RunsTo b (entries ++ more) (made + k) n
-runs_on b [] made m more k n h g = subst (λ (i : ℕ). RunsTo b more i n) (omega (arith, h.0)) (subst (λ (x : World). RunsTo x more k n) h.1 g)
+runs_on : (b : World) (entries : List Entry) (made : ℕ) (m : World) (more : List Entry) (k : ℕ) (n : World) → RunsTo b entries made m
+    → RunsTo m more k n → RunsTo b (entries ++ more) (made + k) n
+runs_on b [] made m more k n h g = subst (λ (i : ℕ). RunsTo b more i n) (omega (arith, h.0))
+    (subst (λ (x : World). RunsTo x more k n) h.1 g)
 runs_on b (e ∷ entries) made m more k n (inl h) g = inl (h.0, runs_on b entries made m more k n h.1 g)
 runs_on b (e ∷ entries) made m more k n (inr (inl h)) g =
     inr (inl (h.0, ((h.1).0 + k, omega (arith, (h.1).1), runs_on (happens b e.party e.step) entries (h.1).0 m more k n (h.1).2 g)))
@@ -55,7 +59,8 @@ runs_come_on m c entries made n run =
 
 -- a step that fits leads on
 pub came_on : (m : World) (party : Party) (step : Move) → CameTo m → fits m party step ≡ true → CameTo (happens m party step)
-came_on m party step c fit = runs_come_on m c (record { party = party; step = step } ∷ []) 1 (happens m party step) (inr (inl (fit, (0, omega arith, (refl, refl)))))
+came_on m party step c fit = runs_come_on m c (record { party = party; step = step } ∷ []) 1 (happens m party step)
+    (inr (inl (fit, (0, omega arith, (refl, refl)))))
 
 pub steps_come_on : StepsComeOn
 steps_come_on m c party step stepped.Went n h = subst CameTo (sym h.2) (came_on m party step c h.0)

@@ -1,5 +1,6 @@
 -- A publisher of which nothing was found keeps its record counted when it has fewer slots.
-use Rattle.std.proofs.Common.{ℕ, zero, suc, ◌≡◌, ◌+◌, ◌-◌, ◌*◌, ◌/◌, ◌%◌, ◌<◌, ◌≤◌, ◌^◌, ◌==◌, if◌then◌else◌, Bool, true, false, nat_lt, List, [], ◌∷◌, length, take, get_or, refl, sym, ◌∙◌, ap, inl, inr, arith}
+use Rattle.std.proofs.Common.{ℕ, zero, suc, ◌≡◌, ◌+◌, ◌-◌, ◌*◌, ◌/◌, ◌%◌, ◌<◌, ◌≤◌, ◌^◌, ◌==◌, if◌then◌else◌, Bool, true, false, nat_lt}
+use Rattle.std.proofs.Common.{List, [], ◌∷◌, length, take, get_or, refl, sym, ◌∙◌, ap, inl, inr, arith}
 use Rattle.std.proofs.lemmas.Bool.{ltb-true, ltb-false}
 use Rattle.std.proofs.lemmas.Bool.Decides.{eqb_tells}
 use Rattle.std.proofs.lemmas.List.{get_or-take, length-take-le, length-take}
@@ -63,7 +64,9 @@ uncounted (x ∷ xs) h = elim (eqb_tells x x) [
 ]
 
 -- rows of marks, none of which is set
-no_mark : (rows width : ℕ) (marks : List Bool) → length marks ≡ rows * width → ((row place : ℕ) → row < rows → place < width → get_or marks (row * width + place) false ≡ false) → (i : ℕ) → get_or marks i false ≡ false
+no_mark : (rows width : ℕ) (marks : List Bool) → length marks ≡ rows * width
+    → ((row place : ℕ) → row < rows → place < width → get_or marks (row * width + place) false ≡ false) → (i : ℕ)
+    → get_or marks i false ≡ false
 no_mark rows zero marks size none i = get_or-eq_default marks false (omega (arith, size))
 no_mark rows (suc v) marks size none i = by_test (nat_lt i (rows * suc v)) refl
   where
@@ -76,14 +79,16 @@ no_mark rows (suc v) marks size none i = by_test (nat_lt i (rows * suc v)) refl
         let is : i / suc v * suc v + i % suc v ≡ i = omega (arith, whole, mod-add-div i (suc v)) in
         ap (λ (n : ℕ). get_or marks n false) (sym is) ∙ none (i / suc v) (i % suc v) row (mod-lt i some)
 
-refers_no : (first width : ℕ) (marks : List Bool) (place slot : ℕ) → ((i : ℕ) → get_or marks i false ≡ false) → refers first width marks place slot ≡ false
+refers_no : (first width : ℕ) (marks : List Bool) (place slot : ℕ) → ((i : ℕ) → get_or marks i false ≡ false)
+    → refers first width marks place slot ≡ false
 refers_no first width marks place slot none = by_first (nat_lt slot first)
   where
     by_width : (b : Bool) → (if b then get_or marks (place * width + (slot - first)) false else false) ≡ false
     by_width true = none (place * width + (slot - first))
     by_width false = refl
 
-    by_first : (b : Bool) → (if b then false else if nat_lt (slot - first) width then get_or marks (place * width + (slot - first)) false else false) ≡ false
+    by_first : (b : Bool) → (if b then false else if nat_lt (slot - first) width then get_or marks (place * width + (slot - first))
+        false else false) ≡ false
     by_first true = refl
     by_first false = by_width (nat_lt (slot - first) width)
 
@@ -108,13 +113,15 @@ pub record NoneFound (book : BookState) : Type 0 where
 abbrev pub Unlent : BookState → Type 0
 Unlent book = (slot : ℕ) → is_out (entry book.first book.loans slot mark.No) ≡ false
 
-pub none_found : (connections : ℕ) (book : BookState) → UsesCounted connections book → Unlent book → are_unused book.uses ≡ true → NoneFound book
+pub none_found : (connections : ℕ) (book : BookState) → UsesCounted connections book → Unlent book → are_unused book.uses ≡ true
+    → NoneFound book
 none_found connections book k unlent h = record {
   history = uncounted book.history (λ x. omega (arith, (k.each x).counted, used x));
   marks = no_mark connections (length book.uses) book.referred k.rows (λ row place there within.
       let slot : ℕ = book.first + place in
       let back : place ≡ slot - book.first = omega arith in
-      let none : references book.first (length book.uses) book.referred connections slot ≡ 0 = omega (arith, (k.each slot).counted, used slot) in
+      let none : references book.first (length book.uses) book.referred connections slot ≡ 0
+      = omega (arith, (k.each slot).counted, used slot) in
       ap (λ (i : ℕ). get_or book.referred (row * length book.uses + i) false) back
       ∙ sym (refers_is book.first (length book.uses) book.referred row slot (omega arith) (omega (arith, within)))
       ∙ total_none (λ p. refers book.first (length book.uses) book.referred p slot) connections row none there);
@@ -126,7 +133,8 @@ none_found connections book k unlent h = record {
     used slot = all_entries book.first book.uses 0 (λ i. unused_at book.uses i h) slot
 
 -- none has a use where the history is empty and no connection has any slot
-pub all_unused : (connections : ℕ) (book : BookState) → UsesCounted connections book → Unlent book → book.history ≡ [] → ((place slot : ℕ) → place < connections → refers_to book place slot ≡ false) → are_unused book.uses ≡ true
+pub all_unused : (connections : ℕ) (book : BookState) → UsesCounted connections book → Unlent book → book.history ≡ []
+    → ((place slot : ℕ) → place < connections → refers_to book place slot ≡ false) → are_unused book.uses ≡ true
 all_unused connections book k unlent history lacks = unused_says book.uses (all_places book.first book.uses 0 (λ slot.
     let none : references book.first (length book.uses) book.referred connections slot ≡ 0 =
     total_below (λ p. refers book.first (length book.uses) book.referred p slot) connections (λ p below. lacks p slot below) in
@@ -150,7 +158,8 @@ none_unlent book none slot = ap is_out (all_entries book.first book.loans mark.N
 pub none_uses : (book : BookState) (slot : ℕ) → NoneFound book → entry book.first book.uses slot 0 ≡ 0
 none_uses book slot none = all_entries book.first book.uses 0 none.uses slot
 
-pub none_counted : (connections : ℕ) (book : BookState) → NoneFound book → length book.loans ≡ length book.uses → length book.referred ≡ connections * length book.uses → connections < 2 ^ 62 → UsesCounted connections book
+pub none_counted : (connections : ℕ) (book : BookState) → NoneFound book → length book.loans ≡ length book.uses
+    → length book.referred ≡ connections * length book.uses → connections < 2 ^ 62 → UsesCounted connections book
 none_counted connections book none loans rows few = record {
   loans_each = loans;
   uses_each = refl;
@@ -158,7 +167,8 @@ none_counted connections book none loans rows few = record {
   few = few;
   each = λ slot.
       let refs : references book.first (length book.uses) book.referred connections slot ≡ 0 =
-      total_zero (λ p. refers book.first (length book.uses) book.referred p slot) connections (λ p. refers_no book.first (length book.uses) book.referred p slot none.marks) in
+      total_zero (λ p. refers book.first (length book.uses) book.referred p slot) connections
+      (λ p. refers_no book.first (length book.uses) book.referred p slot none.marks) in
       let out : is_out (entry book.first book.loans slot mark.No) ≡ false = none_unlent book none slot in
       let past : count slot book.history ≡ 0 = ap (λ (xs : List ℕ). count slot xs) none.history in
       record {
@@ -168,16 +178,21 @@ none_counted connections book none loans rows few = record {
       };
 }
 
-pub resized_counted : (connections slots most : ℕ) (book : BookState) → slots ≤ length book.uses → NoneFound book → UsesCounted connections book → UsesCounted connections (resized connections slots most book)
+pub resized_counted : (connections slots most : ℕ) (book : BookState) → slots ≤ length book.uses → NoneFound book
+    → UsesCounted connections book → UsesCounted connections (resized connections slots most book)
 resized_counted connections slots most book fits none k =
     let wide : length (take slots book.uses) ≡ slots = length-take-le slots book.uses fits in
     let loans : length (take slots book.loans) ≡ slots = length-take-le slots book.loans (omega (arith, fits, k.loans_each)) in
     let less : connections * slots ≤ connections * length book.uses = mul-le-mul_left connections fits in
-    let rows : length (take (connections * slots) book.referred) ≡ connections * slots = length-take-le (connections * slots) book.referred (omega (arith, less, k.rows)) in
-    none_counted connections (resized connections slots most book) (none_left connections slots most book none) (loans ∙ sym wide) (rows ∙ ap (λ (n : ℕ). connections * n) (sym wide)) k.few
+    let rows : length (take (connections * slots) book.referred) ≡ connections * slots
+    = length-take-le (connections * slots) book.referred (omega (arith, less, k.rows)) in
+    none_counted connections (resized connections slots most book) (none_left connections slots most book none) (loans ∙ sym wide)
+    (rows ∙ ap (λ (n : ℕ). connections * n) (sym wide)) k.few
 
-pub resized_counts : (connections slots most : ℕ) (book : BookState) → book.out ≡ 0 → NoneFound book → CountsLoans book → CountsLoans (resized connections slots most book)
+pub resized_counts : (connections slots most : ℕ) (book : BookState) → book.out ≡ 0 → NoneFound book → CountsLoans book
+    → CountsLoans (resized connections slots most book)
 resized_counts connections slots most book out none k =
     let left : BookState = resized connections slots most book in
-    let lent : loans_out left ≡ 0 = total_zero (λ index. is_out (get_or left.loans index mark.No)) (length left.loans) (λ index. ap is_out ((none_left connections slots most book none).loans index)) in
+    let lent : loans_out left ≡ 0 = total_zero (λ index. is_out (get_or left.loans index mark.No)) (length left.loans)
+    (λ index. ap is_out ((none_left connections slots most book none).loans index)) in
     record { out = λ few. out ∙ sym lent; few = omega (arith, out); kept = k.kept }

@@ -71,7 +71,8 @@ same_one x y is = elim (eqb_tells x y) [
 ]
 
 point_above : (x first n : ℕ) → first + n ≤ x → sum (λ k. one_if (x == first + k)) n ≡ 0
-point_above x first n above = sum_none (λ k. one_if (x == first + k)) n (λ k lt. apart x (first + k) (λ e. absurd (omega (arith, above, lt, e))))
+point_above x first n above = sum_none (λ k. one_if (x == first + k)) n
+    (λ k lt. apart x (first + k) (λ e. absurd (omega (arith, above, lt, e))))
 
 pub sum_point : (x first n : ℕ) → first ≤ x → x < first + n → sum (λ k. one_if (x == first + k)) n ≡ 1
 sum_point x first zero above below = absurd (omega (arith, above, below))
@@ -99,7 +100,8 @@ one_here : (x : ℕ) (xs : List ℕ) → 0 < count x (x ∷ xs)
 one_here x xs = omega (arith, same_one x x refl)
 
 -- just as often, if they are all that stands there
-pub sum_count : (first n : ℕ) (xs : List ℕ) → ((x : ℕ) → 0 < count x xs → (first ≤ x) × (x < first + n)) → sum (λ k. count (first + k) xs) n ≡ length xs
+pub sum_count : (first n : ℕ) (xs : List ℕ) → ((x : ℕ) → 0 < count x xs → (first ≤ x) × (x < first + n))
+    → sum (λ k. count (first + k) xs) n ≡ length xs
 sum_count first n [] h = omega (arith, sum_none (λ k. count (first + k) []) n (λ k lt. refl))
 sum_count first n (x ∷ xs) h =
     let own = h x (one_here x xs) in

@@ -1,5 +1,6 @@
 -- A subscriber two of whose connections changed places leaves lanes as they are before their first step.
-use Rattle.std.proofs.Common.{ℕ, ◌≡◌, ◌<◌, ◌⊎◌, ◌==◌, if◌then◌else◌, true, nat_lt, List, [], ◌∷◌, length, set, get_or, slice_get, Option, Some, None, refl, sym, ◌∙◌, ap, subst, inl, inr, arith}
+use Rattle.std.proofs.Common.{ℕ, ◌≡◌, ◌<◌, ◌⊎◌, ◌==◌, if◌then◌else◌, true, nat_lt, List, [], ◌∷◌, length, set, get_or, slice_get, Option}
+use Rattle.std.proofs.Common.{Some, None, refl, sym, ◌∙◌, ap, subst, inl, inr, arith}
 use Rattle.std.specs.List.{All, swap}
 use Rattle.std.proofs.lemmas.Bool.{ltb-true}
 use Rattle.std.proofs.lemmas.Bool.Decides.{eqb_tells}
@@ -74,19 +75,24 @@ place_back : (one other k : ℕ) → other_place one other (other_place one othe
 place_back one other k = elim (which one other k) [
   | inl first ↦ ap (other_place one other) (ap (other_place one other) first ∙ place_one one other) ∙ place_second one other ∙ sym first
   | inr rest ↦ elim rest [
-    | inl second ↦ ap (other_place one other) (ap (other_place one other) second ∙ place_second one other) ∙ place_one one other ∙ sym second
+    | inl second ↦ ap (other_place one other) (ap (other_place one other) second ∙ place_second one other) ∙ place_one one other ∙ sym
+        second
     | inr off ↦ ap (other_place one other) (place_off one other k off.0 off.1) ∙ place_off one other k off.0 off.1
   ]
 ]
 
 -- what stands at a place of a list of which two elements changed places
-pub swapped_at : (xs : List Route) (one other k : ℕ) → one < length xs → other < length xs → slice_get (swap xs one other) k ≡ slice_get xs (other_place one other k)
+pub swapped_at : (xs : List Route) (one other k : ℕ) → one < length xs → other < length xs
+    → slice_get (swap xs one other) k ≡ slice_get xs (other_place one other k)
 swapped_at [] one other k low high = absurd (omega (arith, low))
 swapped_at (d ∷ ys) one other k low high = elim (which one other k) [
-  | inl first ↦ ap (slice_get (swap xs one other)) first ∙ ap (λ (l : List Route). slice_get l one) (sym is) ∙ at_one ∙ ap (slice_get xs) (sym (ap (other_place one other) first ∙ place_one one other))
+  | inl first ↦ ap (slice_get (swap xs one other)) first ∙ ap (λ (l : List Route). slice_get l one) (sym is) ∙ at_one ∙ ap
+      (slice_get xs) (sym (ap (other_place one other) first ∙ place_one one other))
   | inr rest ↦ elim rest [
-    | inl second ↦ ap (slice_get (swap xs one other)) second ∙ ap (λ (l : List Route). slice_get l other) (sym is) ∙ at_other ∙ sym was_one ∙ ap (slice_get xs) (sym (ap (other_place one other) second ∙ place_second one other))
-    | inr off ↦ ap (λ (l : List Route). slice_get l k) (sym is) ∙ set_other inner other k x1 off.1 ∙ set_other xs one k x2 off.0 ∙ ap (slice_get xs) (sym (place_off one other k off.0 off.1))
+    | inl second ↦ ap (slice_get (swap xs one other)) second ∙ ap (λ (l : List Route). slice_get l other) (sym is) ∙ at_other ∙ sym
+        was_one ∙ ap (slice_get xs) (sym (ap (other_place one other) second ∙ place_second one other))
+    | inr off ↦ ap (λ (l : List Route). slice_get l k) (sym is) ∙ set_other inner other k x1 off.1 ∙ set_other xs one k x2 off.0 ∙ ap
+        (slice_get xs) (sym (place_off one other k off.0 off.1))
   ]
 ]
   where
@@ -127,26 +133,38 @@ swapped_at (d ∷ ys) one other k low high = elim (which one other k) [
     ]
 
 -- what stood at a place stands at the other one
-pub swapped_there : (xs : List Route) (one other k : ℕ) → one < length xs → other < length xs → slice_get (swap xs one other) (other_place one other k) ≡ slice_get xs k
-swapped_there xs one other k low high = swapped_at xs one other (other_place one other k) low high ∙ ap (slice_get xs) (place_back one other k)
+pub swapped_there : (xs : List Route) (one other k : ℕ) → one < length xs → other < length xs
+    → slice_get (swap xs one other) (other_place one other k) ≡ slice_get xs k
+swapped_there xs one other k low high
+    = swapped_at xs one other (other_place one other k) low high ∙ ap (slice_get xs) (place_back one other k)
 
-all_swapped : (P : Route → Type 0) (xs : List Route) (one other : ℕ) → one < length xs → other < length xs → All P xs → All P (swap xs one other)
+all_swapped : (P : Route → Type 0) (xs : List Route) (one other : ℕ) → one < length xs → other < length xs → All P xs
+    → All P (swap xs one other)
 all_swapped P [] one other low high all = absurd (omega (arith, low))
 all_swapped P (d ∷ ys) one other low high all =
     let xs : List Route = d ∷ ys in
     let x1 : Route = get_or xs one d in
     let x2 : Route = get_or xs other d in
     subst (All P) (swap_is xs one other d low high)
-    (All-set P (set xs one x2) other x1 (all_at P xs one x1 (slice_get-get_or xs one d low) all) (All-set P xs one x2 (all_at P xs other x2 (slice_get-get_or xs other d high) all) all))
+    (All-set P (set xs one x2) other x1 (all_at P xs one x1 (slice_get-get_or xs one d low) all)
+    (All-set P xs one x2 (all_at P xs other x2 (slice_get-get_or xs other d high) all) all))
 
-received_swapped : (links : List LinkState) (who one other : ℕ) (routes : List Route) → one < length routes → other < length routes → HasReceived links who routes → HasReceived links who (swap routes one other)
+received_swapped : (links : List LinkState) (who one other : ℕ) (routes : List Route) → one < length routes → other < length routes
+    → HasReceived links who routes → HasReceived links who (swap routes one other)
 received_swapped links who one other routes low high has = record {
   each = λ connection link there own.
       let is = has.each connection link there own in
-      record { place = other_place one other is.place; route = is.route; found = swapped_there routes one other is.place low high ∙ is.found; same = is.same };
+      record {
+        place = other_place one other is.place;
+        route = is.route;
+        found
+            = swapped_there routes one other is.place low high ∙ is.found;
+        same = is.same;
+      };
   once = λ i j first second at there same.
       sym (place_back one other i)
-      ∙ ap (other_place one other) (has.once (other_place one other i) (other_place one other j) first second (sym (swapped_at routes one other i low high) ∙ at) (sym (swapped_at routes one other j low high) ∙ there) same)
+      ∙ ap (other_place one other) (has.once (other_place one other i) (other_place one other j) first second
+      (sym (swapped_at routes one other i low high) ∙ at) (sym (swapped_at routes one other j low high) ∙ there) same)
       ∙ place_back one other j;
 }
 
@@ -158,10 +176,12 @@ pub record MaySwap (one other : ℕ) (lane : SubscriberLaneState) : Type 0 where
 pub may_swap_is : (one other : ℕ) (lane : SubscriberLaneState) → swaps_of one other (Some lane) ≡ true → MaySwap one other lane
 may_swap_is one other lane h = record {
   low = ltb-true one (length lane.port.routes) (and_left (nat_lt one (length lane.port.routes)) (nat_lt other (length lane.port.routes)) h);
-  high = ltb-true other (length lane.port.routes) (and_right (nat_lt one (length lane.port.routes)) (nat_lt other (length lane.port.routes)) h);
+  high = ltb-true other (length lane.port.routes)
+      (and_right (nat_lt one (length lane.port.routes)) (nat_lt other (length lane.port.routes)) h);
 }
 
-swapped_fresh : (m : World) (who one other : ℕ) (lane : SubscriberLaneState) → MaySwap one other lane → slice_get m.subscribers who ≡ Some lane → IsWithin m → IsFresh m
+swapped_fresh : (m : World) (who one other : ℕ) (lane : SubscriberLaneState) → MaySwap one other lane
+    → slice_get m.subscribers who ≡ Some lane → IsWithin m → IsFresh m
     → IsWithin (swapped_of m who one other (Some lane)) × IsFresh (swapped_of m who one other (Some lane))
 swapped_fresh m who one other lane may found w h = (within, fresh)
   where
@@ -205,7 +225,8 @@ swapped_fresh m who one other lane may found w h = (within, fresh)
     moved = record {
       idle = own.idle;
       connections = received_swapped m.links who one other lane.port.routes may.low may.high own.connections;
-      round = all_swapped (λ (r : Route). r.completion_cells ≡ m.table.sizes.completion_cells) lane.port.routes one other may.low may.high own.round;
+      round = all_swapped (λ (r : Route). r.completion_cells ≡ m.table.sizes.completion_cells) lane.port.routes one other may.low
+          may.high own.round;
       all = own.all;
       none = own.none;
       borrowed = λ i below. own.borrowed i (omega (arith, below, length-swap lane.port.routes one other));
@@ -215,7 +236,8 @@ swapped_fresh m who one other lane may found w h = (within, fresh)
     borrow_same : (i : ℕ) → may_borrow (slice_get (set m.subscribers who now') i) ≡ may_borrow (slice_get m.subscribers i)
     borrow_same i = elim (eqb_tells i who) [
       | inl same ↦
-          let now : slice_get (set m.subscribers who now') i ≡ Some now' = ap (slice_get (set m.subscribers who now')) same.1 ∙ set_same m.subscribers who now' lane found in
+          let now : slice_get (set m.subscribers who now') i ≡ Some now'
+          = ap (slice_get (set m.subscribers who now')) same.1 ∙ set_same m.subscribers who now' lane found in
           let was : slice_get m.subscribers i ≡ Some lane = ap (slice_get m.subscribers) same.1 ∙ found in
           ap may_borrow now ∙ sym (ap may_borrow was)
       | inr off ↦ ap may_borrow (set_other m.subscribers who i now' off.1)
@@ -230,12 +252,31 @@ swapped_fresh m who one other lane may found w h = (within, fresh)
       small = h.small;
       publishers = λ place now e.
           let was = h.publishers place now e in
-          record { idle = was.idle; connections = was.connections; round = was.round; counted = was.counted; counts = was.counts; none_out = was.none_out; unlent = was.unlent; has = was.has };
+          record {
+            idle = was.idle;
+            connections = was.connections;
+            round = was.round;
+            counted = was.counted;
+            counts = was.counts;
+            none_out
+                = was.none_out;
+            unlent = was.unlent;
+            has = was.has;
+          };
       subscribers = λ place now e. elim (set_cases m.subscribers who lane now' found place now e) [
         | inl here ↦ subst (IsFreshSubscriber world place) here.1 (subst (λ (i : ℕ). IsFreshSubscriber world i now') (sym here.0) moved)
         | inr off ↦
             let was = h.subscribers place now off.1 in
-            record { idle = was.idle; connections = was.connections; round = was.round; all = was.all; none = was.none; borrowed = was.borrowed; words = was.words }
+            record {
+              idle = was.idle;
+              connections = was.connections;
+              round = was.round;
+              all = was.all;
+              none = was.none;
+              borrowed
+                  = was.borrowed;
+              words = was.words;
+            }
       ];
       links = λ d link e.
           let was = h.links d link e in
@@ -256,13 +297,17 @@ swapped_fresh m who one other lane may found w h = (within, fresh)
       named = h.named;
     }
 
-pub swaps_keep : (m : World) (who one other : ℕ) (at : Option SubscriberLaneState) → slice_get m.subscribers who ≡ at → swaps_of one other at ≡ true → IsWithin m → IsFresh m
-    → IsWithin (swapped_of m who one other (slice_get m.subscribers who)) × IsFresh (swapped_of m who one other (slice_get m.subscribers who))
+pub swaps_keep : (m : World) (who one other : ℕ) (at : Option SubscriberLaneState) → slice_get m.subscribers who ≡ at
+    → swaps_of one other at ≡ true → IsWithin m → IsFresh m
+    → IsWithin (swapped_of m who one other (slice_get m.subscribers who))
+    × IsFresh (swapped_of m who one other (slice_get m.subscribers who))
 swaps_keep m who one other None e fit w h = absurd (cc fit)
 swaps_keep m who one other (Some lane) e fit w h =
-    subst (λ (n : World). IsWithin n × IsFresh n) (sym (ap (swapped_of m who one other) e)) (swapped_fresh m who one other lane (may_swap_is one other lane fit) e w h)
+    subst (λ (n : World). IsWithin n × IsFresh n) (sym (ap (swapped_of m who one other) e))
+    (swapped_fresh m who one other lane (may_swap_is one other lane fit) e w h)
 
 -- no step was made
-pub swapped_moments : (m : World) (who one other : ℕ) (at : Option SubscriberLaneState) → (swapped_of m who one other at).moments ≡ m.moments
+pub swapped_moments : (m : World) (who one other : ℕ) (at : Option SubscriberLaneState)
+    → (swapped_of m who one other at).moments ≡ m.moments
 swapped_moments m who one other None = refl
 swapped_moments m who one other (Some lane) = refl

@@ -1,8 +1,9 @@
 -- What lanes take in stands at the end of what it is about, and it is taken in just where it may be.
-use Rattle.std.proofs.Common.{ℕ, zero, suc, ◌≡◌, ◌+◌, ◌-◌, ◌*◌, ◌<◌, ◌≤◌, ◌^◌, ◌==◌, ◌&&◌, not, Bool, if◌then◌else◌, true, false, nat_lt, nat_le, List, [], ◌∷◌, ◌++◌, length, map, take, set, get_or, slice_get, Option, Some, None, refl, sym, ◌∙◌, ap, subst, inl, inr, arith, length-append}
-use Rattle.std.proofs.lemmas.Bool.{lt-ltb, le-ltb, le-leb}
+use Rattle.std.proofs.Common.{ℕ, zero, suc, ◌≡◌, ◌+◌, ◌-◌, ◌<◌, ◌≤◌, ◌^◌, ◌==◌, ◌&&◌, not, Bool, true, false}
+use Rattle.std.proofs.Common.{List, [], ◌∷◌, ◌++◌, length, map, take, set, get_or, slice_get, Option, Some, None, refl, sym, ◌∙◌}
+use Rattle.std.proofs.Common.{ap, subst, inl, inr, arith, length-append}
 use Rattle.std.proofs.lemmas.Bool.Decides.{eqb_tells}
-use Rattle.std.proofs.lemmas.List.{append-nil, length-map, length-set, length-take-le, get_or-set_same, get_or-set_other}
+use Rattle.std.proofs.lemmas.List.{append-nil, length-set, get_or-set_same, get_or-set_other}
 use Rattle.std.proofs.lemmas.Option.{slice_get_within}
 use Rattle.iox_lanes_machine.specs.QueuesSteps.Access.{RingWords, successor}
 use Rattle.iox_lanes_machine.specs.QueuesSteps.declared.access.Word.TheVariants.{Write, Cell}
@@ -13,72 +14,82 @@ use Rattle.iox_lanes_machine.specs.QueuesSteps.declared.rings.ends.RingKind.TheV
 use Rattle.iox_lanes_machine.specs.LanesBase.Numbers.{IsWord, number_of}
 use Rattle.iox_lanes_machine.specs.LanesBase.Table.{TableWords, held_by, stored_in}
 use Rattle.iox_lanes_machine.specs.LanesBase.declared.words.access.SharedAccess.TheVariants.{Store}
-use Rattle.iox_lanes_machine.specs.LanesBase.declared.words.sizes.TableSizes.{TableSizes}
 use Rattle.iox_lanes_machine.specs.LanesBase.declared.words.word.ConnectionRing.{ConnectionRing}
 use Rattle.iox_lanes_machine.specs.LanesBase.declared.words.word.ConnectionRing.TheVariants.{Submission, Completion}
 use Rattle.iox_lanes_machine.specs.LanesBase.declared.words.word.SharedWord.{SharedWord}
 use Rattle.iox_lanes_machine.specs.LanesBase.declared.words.word.SharedWord.TheVariants.{Ring, Slot}
 use Rattle.iox_lanes_machine.specs.LanesBase.declared.words.word.SlotWord.{SlotWord}
-use Rattle.iox_lanes_machine.specs.LanesBase.declared.words.word.SlotWord.TheVariants.{Header, UserHeader, Payload}
 use Rattle.iox_lanes_machine.proofs.LanesBase.Numbering.{apart, within}
 use Rattle.iox_lanes_machine.specs.LanesBase.declared.calls.route.Route.{Route}
-use Rattle.iox_lanes_machine.specs.LanesParties.PublisherKeeping.{BookState, are_unused, is_own, may_have, may_remember, stands_in, counted_up, referred_at}
-use Rattle.iox_lanes_machine.specs.LanesParties.declared.publisher.slot_book.LoanMark.TheVariants as mark
-use Rattle.iox_lanes_machine.specs.LanesParties.Parties.{PublisherLaneState, with_origin, lane_found, lane_remembers, lane_resized, lane_named}
-use Rattle.iox_lanes_machine.specs.LanesParties.Within.{IsPublisher}
-use Rattle.iox_lanes_machine.proofs.LanesParties.Rings.{all_at, and_left, and_right}
+use Rattle.iox_lanes_machine.specs.LanesParties.PublisherKeeping.{BookState, may_remember}
+use Rattle.iox_lanes_machine.specs.LanesParties.PublisherKeeping.{counted_up, referred_at}
+use Rattle.iox_lanes_machine.specs.LanesParties.Parties.{PublisherLaneState, lane_found, lane_remembers}
 use Rattle.iox_lanes_machine.specs.Stored.{between}
 use Rattle.iox_lanes_machine.specs.LedgerUses.{one_if, count, entry, refers_to, IsOwn, UsesCounted, MayBeReferred}
 use Rattle.iox_lanes_machine.proofs.Books.{up_same, uses_few}
-use Rattle.iox_lanes_machine.proofs.Entries.{choose_one, choose_other, put_at_length, entry_other, refers_is}
+use Rattle.iox_lanes_machine.proofs.Entries.{put_at_length, entry_other}
 use Rattle.iox_lanes_machine.proofs.LedgerFindings.{lacks_is, newest_is, found_refers, found_refers_elsewhere, newest_refers}
-use Rattle.iox_lanes_machine.specs.Findings.{laid, back_found, takes_more, may_wait, may_be_back, waits_at, waits_of, back_at, back_of, newest_of, resizes_of, is_there, has_word, finds, finds_now, waiting_in, waiting_of, given_at, given_of, remembered_of, resized_of, named_of, with_found, FindsTo}
+use Rattle.iox_lanes_machine.specs.Findings.{laid, back_found}
+use Rattle.iox_lanes_machine.specs.Findings.{waiting_in}
+use Rattle.iox_lanes_machine.specs.Findings.{given_at, remembered_of}
 use Rattle.iox_lanes_machine.specs.Fresh.{IsFreshPublisher, IsFresh}
-use Rattle.iox_lanes_machine.specs.Kept.{IsLinkOf, sender, IsWithin, IsKept}
+use Rattle.iox_lanes_machine.specs.Kept.{IsWithin}
 use Rattle.iox_lanes_machine.specs.Links.{LinkState}
 use Rattle.iox_lanes_machine.specs.Rings.{ring_in}
-use Rattle.iox_lanes_machine.specs.TakenIn.{MayStand, MayBeNewest, MayBeMessage, MayBeFound, IsFirst, MayHaveSlots, HeadSays, slot_if, more_messages, more_samples, more_history, more_referred, more_uses, new_buffer, new_slots, new_loans, new_node, new_publisher, fails_behind, number_if, number_with, place_before, route_with, RoutesKnow, RingGrows, link_with, PublisherGrows, SubscriberKnows, IsTakenIn, TakesIn}
+use Rattle.iox_lanes_machine.specs.TakenIn.{slot_if}
+use Rattle.iox_lanes_machine.specs.TakenIn.{more_messages, more_samples, more_history, more_referred, more_uses, new_buffer, new_slots}
+use Rattle.iox_lanes_machine.specs.TakenIn.{new_loans, new_node, new_publisher, fails_behind, number_with, place_before}
+use Rattle.iox_lanes_machine.specs.TakenIn.{route_with, RoutesKnow, RingGrows, link_with, PublisherGrows, SubscriberKnows, IsTakenIn}
 use Rattle.iox_lanes_machine.specs.Uses.{given_back}
 use Rattle.iox_lanes_machine.specs.World.{World}
 use Rattle.iox_lanes_machine.specs.declared.found.Found.{Found}
 use Rattle.iox_lanes_machine.specs.declared.found.Found.TheVariants as found
-use Rattle.iox_lanes_machine.proofs.BuffersTaken.{first_refusing, between_first, link_same, itself, leads_is, both, head_stays, heads_stay, buffers_taken, buffers_may, buffers_say}
-use Rattle.iox_lanes_machine.proofs.SwapsTaken.{swaps_taken, swaps_may, swaps_say}
+use Rattle.iox_lanes_machine.proofs.BuffersTaken.{first_refusing, between_first, link_same, itself, leads_is}
+use Rattle.iox_lanes_machine.proofs.BuffersTaken.{heads_stay}
 use Rattle.iox_lanes_machine.proofs.Ends.{some_is}
 use Rattle.iox_lanes_machine.proofs.Fresh.{returned_is}
-use Rattle.iox_lanes_machine.proofs.Findings.{MayWait, may_wait_is, MayBeBack, may_be_back_is, cell_below}
+use Rattle.iox_lanes_machine.proofs.Findings.{MayWait, MayBeBack, cell_below}
 use Rattle.iox_lanes_machine.proofs.FoundFresh.{after}
-use Rattle.iox_lanes_machine.proofs.FoundKept.{back_seat, back_count, back_away, back_grows, found_both, waiting_is, given_is, word_there, finds_first}
+use Rattle.iox_lanes_machine.proofs.FoundKept.{back_seat, back_away, back_grows}
 use Rattle.iox_lanes_machine.proofs.InTable.{access_elsewhere}
-use Rattle.iox_lanes_machine.proofs.Resized.{MayShrink, may_shrink_is}
-use Rattle.iox_lanes_machine.proofs.Shrinking.{NoneFound, all_entries, uncounted, all_unused, none_left, none_uses, never_refers}
 use Rattle.iox_lanes_machine.proofs.Within.{set_same, set_other}
 
 -- a ring grows where its list does
-ring_grows : (k : RingKind) (limit : ℕ) (q more : List ℕ) (was now : RingWords) → ((list : List ℕ) → length list ≤ limit → between (first_words k limit list) ≡ list) → length (q ++ more) ≤ limit → was ≡ first_words k limit q → now ≡ first_words k limit (q ++ more)
+ring_grows : (k : RingKind) (limit : ℕ) (q more : List ℕ) (was now : RingWords)
+    → ((list : List ℕ) → length list ≤ limit → between (first_words k limit list) ≡ list) → length (q ++ more) ≤ limit
+    → was ≡ first_words k limit q → now ≡ first_words k limit (q ++ more)
     → RingGrows was now more
 ring_grows k limit q more was now stands room before behind =
     let size : length (q ++ more) ≡ length q + length more = length-append q more in
     record {
-      list = ap between behind ∙ stands (q ++ more) room ∙ ap (λ (xs : List ℕ). xs ++ more) (sym (ap between before ∙ stands q (omega (arith, room, size))));
+      list = ap between behind ∙ stands (q ++ more) room ∙ ap (λ (xs : List ℕ). xs ++ more)
+          (sym (ap between before ∙ stands q (omega (arith, room, size))));
       read = ap (λ (words : RingWords). words.read) behind ∙ sym (ap (λ (words : RingWords). words.read) before);
-      write = ap (λ (words : RingWords). words.write) behind ∙ size ∙ ap (λ (n : ℕ). n + length more) (sym (ap (λ (words : RingWords). words.write) before));
+      write = ap (λ (words : RingWords). words.write) behind ∙ size ∙ ap (λ (n : ℕ). n + length more)
+          (sym (ap (λ (words : RingWords). words.write) before));
     }
 
 -- the connections of a port stay where a finding is of no buffer
-routes_stay : (m : World) (f : Found) (routes : List Route) → ((c : ℕ) → new_buffer m f c ≡ None) → RoutesKnow m f (λ (at : ℕ). at) routes routes
+pub routes_stay : (m : World) (f : Found) (routes : List Route) → ((c : ℕ) → new_buffer m f c ≡ None)
+    → RoutesKnow m f (λ (at : ℕ). at) routes routes
 routes_stay m f routes none = record {
   each = λ place route e. e ∙ ap (λ (buffer : Option ℕ). Some (route_with buffer route)) (sym (none route.connection));
   as_many = refl;
 }
 
 -- what lanes take in, by the words, links and publishers that they have behind it
-taken_in : (m : World) (f : Found) (words : List ℕ) (links : List LinkState) (publishers : List PublisherLaneState) → ((c : ℕ) → new_buffer m f c ≡ None) → ((who place : ℕ) → place_before f who place ≡ place) → IsFresh m → IsFresh (after m words links publishers)
+pub taken_in : (m : World) (f : Found) (words : List ℕ) (links : List LinkState) (publishers : List PublisherLaneState)
+    → ((c : ℕ) → new_buffer m f c ≡ None) → ((who place : ℕ) → place_before f who place ≡ place) → IsFresh m
+    → IsFresh (after m words links publishers)
     → ((c : ℕ) → slice_get links c ≡ link_with (more_messages m f c) None (slice_get m.links c))
-    → ((c : ℕ) (link : LinkState) → slice_get m.links c ≡ Some link → given_back (record m.table { words = words }) c ≡ given_back m.table c ++ more_samples m f c)
-    → ((slot : ℕ) (word : SlotWord) (value : ℕ) → f ≡ found.Held slot word value → held_by (record m.table { words = words }) (Slot slot word) ≡ value)
-    → ((slot : ℕ) (word : SlotWord) → IsWord m.table.sizes (Slot slot word) → ((value : ℕ) → f ≡ found.Held slot word value → ⊥) → held_by (record m.table { words = words }) (Slot slot word) ≡ held_by m.table (Slot slot word))
-    → ((who : ℕ) (was now : PublisherLaneState) → slice_get m.publishers who ≡ Some was → slice_get publishers who ≡ Some now → PublisherGrows m f who was now)
+    → ((c : ℕ) (link : LinkState) → slice_get m.links c ≡ Some link
+    → given_back (record m.table { words = words }) c ≡ given_back m.table c ++ more_samples m f c)
+    → ((slot : ℕ) (word : SlotWord) (value : ℕ) → f ≡ found.Held slot word value
+    → held_by (record m.table { words = words }) (Slot slot word) ≡ value)
+    → ((slot : ℕ) (word : SlotWord) → IsWord m.table.sizes (Slot slot word) → ((value : ℕ) → f ≡ found.Held slot word value → ⊥)
+    → held_by (record m.table { words = words }) (Slot slot word) ≡ held_by m.table (Slot slot word))
+    → ((who : ℕ) (was now : PublisherLaneState) → slice_get m.publishers who ≡ Some was → slice_get publishers who ≡ Some now
+    → PublisherGrows m f who was now)
     → length publishers ≡ length m.publishers → IsTakenIn m f (after m words links publishers)
 taken_in m f words links publishers none places h h' linked given told kept grows size = record {
   links = λ c. linked c ∙ ap (λ (buffer : Option ℕ). link_with (more_messages m f c) buffer (slice_get m.links c)) (sym (none c));
@@ -87,8 +98,10 @@ taken_in m f words links publishers none places h h' linked given told kept grow
       let now : LinkState = record link { found = link.found ++ more } in
       let is = h.links c link there in
       let behind = h'.links c now (linked c ∙ ap (link_with more None) there) in
-      subst (λ (buffer : Option ℕ). RingGrows (ring_in m.table c (cells_of link.kind link.limit)) (ring_in (record m.table { words = words }) c (cells_of link.kind (number_with buffer link.limit))) more) (sym (none c))
-      (ring_grows link.kind link.limit link.found more _ _ (λ q room. between_first link.kind link.limit q (omega (arith, is.cells, h.small)) room) behind.room is.ring behind.ring);
+      subst (λ (buffer : Option ℕ). RingGrows (ring_in m.table c (cells_of link.kind link.limit))
+      (ring_in (record m.table { words = words }) c (cells_of link.kind (number_with buffer link.limit))) more) (sym (none c))
+      (ring_grows link.kind link.limit link.found more _ _
+      (λ q room. between_first link.kind link.limit q (omega (arith, is.cells, h.small)) room) behind.room is.ring behind.ring);
   samples = λ c link there.
       let more : List ℕ = more_samples m f c in
       let cells : ℕ = m.table.sizes.completion_cells in
@@ -96,15 +109,22 @@ taken_in m f words links publishers none places h h' linked given told kept grow
       let there' : slice_get links c ≡ Some now = linked c ∙ ap (link_with (more_messages m f c) None) there in
       let is = h.links c link there in
       let behind = h'.links c now there' in
-      let list : behind.back ≡ is.back ++ more = sym (returned_is (after m words links publishers) c now there' h') ∙ given c link there ∙ ap (λ (xs : List ℕ). xs ++ more) (returned_is m c link there h) in
-      ring_grows kind.Refusing cells is.back more _ _ (λ q room. first_refusing cells q h.small room) (omega (arith, behind.few, ap (λ (xs : List ℕ). length xs) list)) is.returned
+      let list : behind.back ≡ is.back ++ more
+      = sym (returned_is (after m words links publishers) c now there' h') ∙ given c link there ∙ ap (λ (xs : List ℕ). xs ++ more)
+      (returned_is m c link there h) in
+      ring_grows kind.Refusing cells is.back more _ _ (λ q room. first_refusing cells q h.small room)
+      (omega (arith, behind.few, ap (λ (xs : List ℕ). length xs) list)) is.returned
       (behind.returned ∙ ap (first_words kind.Refusing cells) list);
   word = told;
   words = kept;
   publishers = grows;
   as_many = size;
   subscribers = λ who was now before behind. subst (SubscriberKnows m f who was) (some_is was now (sym before ∙ behind)) (record {
-    routes = let stay = routes_stay m f was.port.routes none in record { each = λ place route e. stay.each place route (ap (slice_get was.port.routes) (sym (places who place)) ∙ e); as_many = stay.as_many };
+    routes = let stay = routes_stay m f was.port.routes none in record {
+      each = λ place route e. stay.each place route (ap (slice_get was.port.routes) (sym (places who place)) ∙ e);
+      as_many
+          = stay.as_many;
+    };
     same = refl;
   });
   as_many_receive = refl;
@@ -112,18 +132,25 @@ taken_in m f words links publishers none places h h' linked given told kept grow
 }
 
 -- a slot's words where another word is stored
-word_stays : (table : TableWords) (word : SharedWord) (value slot : ℕ) (own : SlotWord) → IsWord table.sizes word → IsWord table.sizes (Slot slot own) → (word ≡ Slot slot own → ⊥) → held_by (stored_in table word value) (Slot slot own) ≡ held_by table (Slot slot own)
+word_stays : (table : TableWords) (word : SharedWord) (value slot : ℕ) (own : SlotWord) → IsWord table.sizes word
+    → IsWord table.sizes (Slot slot own) → (word ≡ Slot slot own → ⊥)
+    → held_by (stored_in table word value) (Slot slot own) ≡ held_by table (Slot slot own)
 word_stays table word value slot own is there not =
-    get_or-set_other table.words (number_of table.sizes word) (number_of table.sizes (Slot slot own)) value 0 (λ same. not (apart table.sizes word (Slot slot own) is there (sym same)))
+    get_or-set_other table.words (number_of table.sizes word) (number_of table.sizes (Slot slot own)) value 0
+    (λ same. not (apart table.sizes word (Slot slot own) is there (sym same)))
 
-laid_elsewhere : (table : TableWords) (c : ℕ) (ring : ConnectionRing) (cell value slot : ℕ) (own : SlotWord) → IsWord table.sizes (Ring c ring (Cell cell)) → IsWord table.sizes (Slot slot own)
+laid_elsewhere : (table : TableWords) (c : ℕ) (ring : ConnectionRing) (cell value slot : ℕ) (own : SlotWord)
+    → IsWord table.sizes (Ring c ring (Cell cell)) → IsWord table.sizes (Slot slot own)
     → held_by (laid table c ring cell value) (Slot slot own) ≡ held_by table (Slot slot own)
 laid_elsewhere table c ring cell value slot own is there =
-    word_stays (stored_in table (Ring c ring (Cell cell)) value) (Ring c ring Write) (successor cell) slot own (is.0, tt) there (λ e. absurd (cc e))
+    word_stays (stored_in table (Ring c ring (Cell cell)) value) (Ring c ring Write) (successor cell) slot own (is.0, tt) there
+    (λ e. absurd (cc e))
     ∙ word_stays table (Ring c ring (Cell cell)) value slot own is there (λ e. absurd (cc e))
 
 -- one use more of a slot
-uses_grow : (connections first slots : ℕ) (uses : List ℕ) (slot : ℕ) → length uses ≡ slots → first ≤ slot → slot < first + slots → entry first uses slot 0 < 2 ^ 63 → (s : ℕ) → entry first (counted_up uses (slot - first)) s 0 ≡ entry first uses s 0 + count s (slot ∷ [])
+uses_grow : (connections first slots : ℕ) (uses : List ℕ) (slot : ℕ) → length uses ≡ slots → first ≤ slot → slot < first + slots
+    → entry first uses slot 0 < 2 ^ 63 → (s : ℕ)
+    → entry first (counted_up uses (slot - first)) s 0 ≡ entry first uses s 0 + count s (slot ∷ [])
 uses_grow connections first slots uses slot size above below few s = elim (eqb_tells slot s) [
   | inl same ↦ subst (λ (x : ℕ). entry first (counted_up uses (slot - first)) x 0 ≡ entry first uses x 0 + count x (slot ∷ [])) same.1
       (omega (arith, up_same first slots slot uses size above below few, ap one_if (itself slot)))
@@ -131,15 +158,17 @@ uses_grow connections first slots uses slot size above below few s = elim (eqb_t
 ]
 
 -- a finding gives a publisher no other slots, loans or headers, nor lets its sends fail or not fail
-record Stays (f : Found) (who : ℕ) : Type 0 where
-  slots : new_slots f who ≡ None
-  loans : new_loans f who ≡ None
-  node : new_node f who ≡ None
-  publisher : new_publisher f who ≡ None
-  fails : (was : Bool) → fails_behind f who was ≡ was
+pub record Stays (f : Found) (who : ℕ) : Type 0 where
+  pub slots : new_slots f who ≡ None
+  pub loans : new_loans f who ≡ None
+  pub node : new_node f who ≡ None
+  pub publisher : new_publisher f who ≡ None
+  pub fails : (was : Bool) → fails_behind f who was ≡ was
 
 -- a publisher of which nothing was found
-none_grows : (m : World) (f : Found) (who : ℕ) (lane : PublisherLaneState) → ((c : ℕ) → new_buffer m f c ≡ None) → more_history f who ≡ [] → ((place : ℕ) → more_referred f who place ≡ []) → more_uses f who ≡ [] → Stays f who → PublisherGrows m f who lane lane
+none_grows : (m : World) (f : Found) (who : ℕ) (lane : PublisherLaneState) → ((c : ℕ) → new_buffer m f c ≡ None)
+    → more_history f who ≡ [] → ((place : ℕ) → more_referred f who place ≡ []) → more_uses f who ≡ [] → Stays f who
+    → PublisherGrows m f who lane lane
 none_grows m f who lane none history referred uses stays = record {
   routes = routes_stay m f lane.port.routes none;
   history = sym (append-nil lane.port.book.history) ∙ ap (λ (xs : List ℕ). lane.port.book.history ++ xs) (sym history);
@@ -155,14 +184,22 @@ none_grows m f who lane none history referred uses stays = record {
 }
 
 -- a publisher one of whose connections was found to have a slot
-found_grows : (m : World) (f : Found) (who place slot : ℕ) (lane : PublisherLaneState) → ((c : ℕ) → new_buffer m f c ≡ None) → more_history f who ≡ [] → ((at : ℕ) → more_referred f who at ≡ slot_if (place == at) slot) → more_uses f who ≡ slot ∷ []
-    → Stays f who → MayBeReferred (length lane.port.routes) lane.port.book place slot → UsesCounted (length lane.port.routes) lane.port.book → PublisherGrows m f who lane (lane_found place slot lane)
+found_grows : (m : World) (f : Found) (who place slot : ℕ) (lane : PublisherLaneState) → ((c : ℕ) → new_buffer m f c ≡ None)
+    → more_history f who ≡ [] → ((at : ℕ) → more_referred f who at ≡ slot_if (place == at) slot) → more_uses f who ≡ slot ∷ []
+    → Stays f who → MayBeReferred (length lane.port.routes) lane.port.book place slot
+    → UsesCounted (length lane.port.routes) lane.port.book → PublisherGrows m f who lane (lane_found place slot lane)
 found_grows m f who place slot lane none history referred uses stays fits counted = record {
   routes = routes_stay m f lane.port.routes none;
   history = sym (append-nil lane.port.book.history) ∙ ap (λ (xs : List ℕ). lane.port.book.history ++ xs) (sym history);
   referred = λ at s. elim (eqb_tells place at) [
-    | inl same ↦ subst (λ (x : ℕ). one_if (refers_to (referred_at place slot lane.port.book) x s) ≡ one_if (refers_to lane.port.book x s) + count s (more_referred f who x)) same.1
-        (omega (arith, found_refers (length lane.port.routes) place slot lane.port.book fits counted s, ap (count s) (referred place ∙ ap (λ (b : Bool). slot_if b slot) (itself place))))
+    | inl same ↦ subst (λ (x : ℕ). one_if (refers_to (referred_at place slot lane.port.book) x s)
+        ≡ one_if (refers_to lane.port.book x s) + count s (more_referred f who x)) same.1
+        (omega (
+          arith,
+          found_refers (length lane.port.routes) place slot lane.port.book fits counted s,
+          ap (count s)
+              (referred place ∙ ap (λ (b : Bool). slot_if b slot) (itself place)),
+        ))
     | inr other ↦ omega (
       arith,
       ap one_if (found_refers_elsewhere (length lane.port.routes) place slot lane.port.book fits at s (λ same. other.1 (sym same))),
@@ -173,10 +210,14 @@ found_grows m f who place slot lane none history referred uses stays fits counte
       let book : BookState = lane.port.book in
       omega (
         arith,
-        uses_grow (length lane.port.routes) book.first (length book.uses) book.uses slot refl fits.own.above fits.own.below (uses_few (length lane.port.routes) book.first (length book.uses) book.loans book.history book.referred book.uses slot counted) s,
+        uses_grow (length lane.port.routes) book.first (length book.uses) book.uses slot refl fits.own.above fits.own.below
+            (uses_few (length lane.port.routes) book.first (length book.uses) book.loans book.history book.referred book.uses slot
+            counted) s,
         ap (count s) uses,
       );
-  slots = put_at_length lane.port.book.uses (slot - lane.port.book.first) (successor (get_or lane.port.book.uses (slot - lane.port.book.first) 0)) ∙ ap (λ (n : Option ℕ). number_with n (length lane.port.book.uses)) (sym stays.slots);
+  slots = put_at_length lane.port.book.uses (slot - lane.port.book.first)
+      (successor (get_or lane.port.book.uses (slot - lane.port.book.first) 0)) ∙ ap
+      (λ (n : Option ℕ). number_with n (length lane.port.book.uses)) (sym stays.slots);
   marks = ap (λ (n : Option ℕ). number_with n (length lane.port.book.loans)) (sym stays.slots);
   loans = λ s. refl;
   most = ap (λ (n : Option ℕ). number_with n lane.port.book.most_loans) (sym stays.loans);
@@ -186,8 +227,10 @@ found_grows m f who place slot lane none history referred uses stays fits counte
 }
 
 -- a publisher to whose history a slot was found to belong
-newest_grows : (m : World) (f : Found) (who slot : ℕ) (lane : PublisherLaneState) → ((c : ℕ) → new_buffer m f c ≡ None) → more_history f who ≡ slot ∷ [] → ((at : ℕ) → more_referred f who at ≡ []) → more_uses f who ≡ slot ∷ []
-    → Stays f who → IsOwn lane.port.book slot → UsesCounted (length lane.port.routes) lane.port.book → PublisherGrows m f who lane (lane_remembers slot lane)
+newest_grows : (m : World) (f : Found) (who slot : ℕ) (lane : PublisherLaneState) → ((c : ℕ) → new_buffer m f c ≡ None)
+    → more_history f who ≡ slot ∷ [] → ((at : ℕ) → more_referred f who at ≡ []) → more_uses f who ≡ slot ∷ []
+    → Stays f who → IsOwn lane.port.book slot → UsesCounted (length lane.port.routes) lane.port.book
+    → PublisherGrows m f who lane (lane_remembers slot lane)
 newest_grows m f who slot lane none history referred uses stays own counted = record {
   routes = routes_stay m f lane.port.routes none;
   history = ap (λ (xs : List ℕ). lane.port.book.history ++ xs) (sym history);
@@ -196,10 +239,14 @@ newest_grows m f who slot lane none history referred uses stays own counted = re
       let book : BookState = lane.port.book in
       omega (
         arith,
-        uses_grow (length lane.port.routes) book.first (length book.uses) book.uses slot refl own.above own.below (uses_few (length lane.port.routes) book.first (length book.uses) book.loans book.history book.referred book.uses slot counted) s,
+        uses_grow (length lane.port.routes) book.first (length book.uses) book.uses slot refl own.above own.below
+            (uses_few (length lane.port.routes) book.first (length book.uses) book.loans book.history book.referred book.uses slot
+            counted) s,
         ap (count s) uses,
       );
-  slots = put_at_length lane.port.book.uses (slot - lane.port.book.first) (successor (get_or lane.port.book.uses (slot - lane.port.book.first) 0)) ∙ ap (λ (n : Option ℕ). number_with n (length lane.port.book.uses)) (sym stays.slots);
+  slots = put_at_length lane.port.book.uses (slot - lane.port.book.first)
+      (successor (get_or lane.port.book.uses (slot - lane.port.book.first) 0)) ∙ ap
+      (λ (n : Option ℕ). number_with n (length lane.port.book.uses)) (sym stays.slots);
   marks = ap (λ (n : Option ℕ). number_with n (length lane.port.book.loans)) (sym stays.slots);
   loans = λ s. refl;
   most = ap (λ (n : Option ℕ). number_with n lane.port.book.most_loans) (sym stays.loans);
@@ -209,31 +256,48 @@ newest_grows m f who slot lane none history referred uses stays own counted = re
 }
 
 -- all publishers, where one changed
-others_grow : (m : World) (f : Found) (who : ℕ) (lane now : PublisherLaneState) → ((c : ℕ) → new_buffer m f c ≡ None) → slice_get m.publishers who ≡ Some lane → PublisherGrows m f who lane now
-    → ((other : ℕ) → (who == other) ≡ false → (more_history f other ≡ []) × ((place : ℕ) → more_referred f other place ≡ []) × (more_uses f other ≡ []) × Stays f other)
-    → (other : ℕ) (was behind : PublisherLaneState) → slice_get m.publishers other ≡ Some was → slice_get (set m.publishers who now) other ≡ Some behind → PublisherGrows m f other was behind
+pub others_grow : (m : World) (f : Found) (who : ℕ) (lane now : PublisherLaneState) → ((c : ℕ) → new_buffer m f c ≡ None)
+    → slice_get m.publishers who ≡ Some lane → PublisherGrows m f who lane now
+    → ((other : ℕ) → (who == other) ≡ false → (more_history f other ≡ []) × ((place : ℕ) → more_referred f other place ≡ [])
+    × (more_uses f other ≡ []) × Stays f other)
+    → (other : ℕ) (was behind : PublisherLaneState) → slice_get m.publishers other ≡ Some was
+    → slice_get (set m.publishers who now) other ≡ Some behind → PublisherGrows m f other was behind
 others_grow m f who lane now none e grows nothing_of other was behind before now_is = elim (eqb_tells who other) [
   | inl same ↦
       let was_is : lane ≡ was = some_is lane was (sym e ∙ ap (slice_get m.publishers) same.1 ∙ before) in
-      let behind_is : now ≡ behind = some_is now behind (sym (set_same m.publishers who now lane e) ∙ ap (slice_get (set m.publishers who now)) same.1 ∙ now_is) in
-      subst (λ (x : ℕ). PublisherGrows m f x was behind) same.1 (subst (PublisherGrows m f who was) behind_is (subst (λ (l : PublisherLaneState). PublisherGrows m f who l now) was_is grows))
+      let behind_is : now ≡ behind = some_is now behind
+      (sym (set_same m.publishers who now lane e) ∙ ap (slice_get (set m.publishers who now)) same.1 ∙ now_is) in
+      subst (λ (x : ℕ). PublisherGrows m f x was behind) same.1
+      (subst (PublisherGrows m f who was) behind_is (subst (λ (l : PublisherLaneState). PublisherGrows m f who l now) was_is grows))
   | inr off ↦
-      let stays : was ≡ behind = some_is was behind (sym before ∙ sym (set_other m.publishers who other now (λ same. off.1 (sym same))) ∙ now_is) in
+      let stays : was ≡ behind = some_is was behind
+      (sym before ∙ sym (set_other m.publishers who other now (λ same. off.1 (sym same))) ∙ now_is) in
       let nothing = nothing_of other off.0 in
       subst (PublisherGrows m f other was) stays (none_grows m f other was none nothing.0 nothing.1 nothing.2 nothing.3)
 ]
 
 -- a message more waits
-waiting_taken : (m : World) (who place slot : ℕ) (lane : PublisherLaneState) (is : MayWait m place slot lane) → slice_get m.publishers who ≡ Some lane → IsWithin m → IsFresh m → IsFresh (waiting_in m who place slot lane is.route.connection (Some is.link))
+pub waiting_taken : (m : World) (who place slot : ℕ) (lane : PublisherLaneState) (is : MayWait m place slot lane)
+    → slice_get m.publishers who ≡ Some lane → IsWithin m → IsFresh m
+    → IsFresh (waiting_in m who place slot lane is.route.connection (Some is.link))
     → IsTakenIn m (found.Waiting who place slot) (waiting_in m who place slot lane is.route.connection (Some is.link))
 waiting_taken m who place slot lane is stands w h h' =
-    taken_in m f (laid m.table c Submission n slot).words (set m.links c link') (set m.publishers who (lane_found place slot lane)) (λ d. refl) (λ other place. refl) h h' linked
-    (λ d link e. ap between (back_away m.table c d m.table.sizes.completion_cells n slot Submission (back_seat m d link e w h) cell (λ word. tt)) ∙ sym (append-nil (given_back m.table d)))
+    taken_in m f (laid m.table c Submission n slot).words (set m.links c link') (set m.publishers who (lane_found place slot lane))
+    (λ d. refl) (λ other place. refl) h h' linked
+    (λ d link e. ap between (back_away m.table c d m.table.sizes.completion_cells n slot Submission (back_seat m d link e w h) cell
+    (λ word. tt)) ∙ sym (append-nil (given_back m.table d)))
     (λ s word value e. absurd (cc e))
     (λ s word there not. laid_elsewhere m.table c Submission n slot s word cell there)
     (others_grow m f who lane (lane_found place slot lane) (λ d. refl) stands
-    (found_grows m f who place slot lane (λ d. refl) refl (λ at. ap (λ (b : Bool). slot_if (b && (place == at)) slot) (itself who)) (ap (λ (b : Bool). slot_if b slot) (itself who)) (record { slots = refl; loans = refl; node = refl; publisher = refl; fails = λ x. refl }) fits own.counted)
-    (λ other e. (refl, λ at. ap (λ (b : Bool). slot_if (b && (place == at)) slot) e, ap (λ (b : Bool). slot_if b slot) e, (record { slots = refl; loans = refl; node = refl; publisher = refl; fails = λ x. refl }))))
+    (found_grows m f who place slot lane (λ d. refl) refl (λ at. ap (λ (b : Bool). slot_if (b && (place == at)) slot) (itself who))
+    (ap (λ (b : Bool). slot_if b slot) (itself who))
+    (record { slots = refl; loans = refl; node = refl; publisher = refl; fails = λ x. refl }) fits own.counted)
+    (λ other e. (
+      refl,
+      λ at. ap (λ (b : Bool). slot_if (b && (place == at)) slot) e,
+      ap (λ (b : Bool). slot_if b slot) e,
+      (record { slots = refl; loans = refl; node = refl; publisher = refl; fails = λ x. refl }),
+    )))
     (length-set m.publishers who (lane_found place slot lane))
   where
     f : Found
@@ -252,33 +316,49 @@ waiting_taken m who place slot lane is stands w h h' =
     own = h.publishers who lane stands
 
     fits : MayBeReferred (length lane.port.routes) lane.port.book place slot
-    fits = lacks_is (length lane.port.routes) place slot lane.port.book is.lacks (slice_get_within lane.port.routes place is.route is.at) (own.unlent slot)
+    fits = lacks_is (length lane.port.routes) place slot lane.port.book is.lacks
+        (slice_get_within lane.port.routes place is.route is.at) (own.unlent slot)
 
     cell : IsWord m.table.sizes (Ring c Submission (Cell n))
-    cell = ((w.links c is.link is.found).connection_is, omega (arith, cell_below is.link.kind is.link.limit n is.room, (w.links c is.link is.found).cells))
+    cell = (
+      (w.links c is.link is.found).connection_is,
+      omega
+          (arith, cell_below is.link.kind is.link.limit n is.room, (w.links c is.link is.found).cells),
+    )
 
     linked : (d : ℕ) → slice_get (set m.links c link') d ≡ link_with (more_messages m f d) None (slice_get m.links d)
     linked d = elim (eqb_tells c d) [
       | inl same ↦ subst (λ (x : ℕ). slice_get (set m.links c link') x ≡ link_with (more_messages m f x) None (slice_get m.links x)) same.1
           (set_same m.links c link' is.link is.found
-          ∙ sym (ap (λ (b : Bool). link_with (slot_if b slot) None (slice_get m.links c)) (leads_is m who place lane is.route c stands is.at ∙ itself c) ∙ ap (link_with (slot ∷ []) None) is.found))
+          ∙ sym (ap (λ (b : Bool). link_with (slot_if b slot) None (slice_get m.links c))
+          (leads_is m who place lane is.route c stands is.at ∙ itself c) ∙ ap (link_with (slot ∷ []) None) is.found))
       | inr off ↦
           set_other m.links c d link' (λ same. off.1 (sym same))
           ∙ link_same (slice_get m.links d)
-          ∙ sym (ap (λ (b : Bool). link_with (slot_if b slot) None (slice_get m.links d)) (leads_is m who place lane is.route d stands is.at ∙ off.0))
+          ∙ sym (ap (λ (b : Bool). link_with (slot_if b slot) None (slice_get m.links d))
+          (leads_is m who place lane is.route d stands is.at ∙ off.0))
     ]
 
 -- a sample more was given back
-given_taken : (m : World) (who place slot : ℕ) (lane : PublisherLaneState) (is : MayBeBack m place slot lane) → slice_get m.publishers who ≡ Some lane → IsWithin m → IsFresh m → IsFresh (given_at m who place slot lane (Some is.route))
+pub given_taken : (m : World) (who place slot : ℕ) (lane : PublisherLaneState) (is : MayBeBack m place slot lane)
+    → slice_get m.publishers who ≡ Some lane → IsWithin m → IsFresh m → IsFresh (given_at m who place slot lane (Some is.route))
     → IsTakenIn m (found.GivenBack who place slot) (given_at m who place slot lane (Some is.route))
 given_taken m who place slot lane is stands w h h' =
-    taken_in m f (laid m.table c Completion n slot).words m.links (set m.publishers who (lane_found place slot lane)) (λ d. refl) (λ other place. refl) h h' (λ d. link_same (slice_get m.links d))
+    taken_in m f (laid m.table c Completion n slot).words m.links (set m.publishers who (lane_found place slot lane)) (λ d. refl)
+    (λ other place. refl) h h' (λ d. link_same (slice_get m.links d))
     given
     (λ s word value e. absurd (cc e))
     (λ s word there not. laid_elsewhere m.table c Completion n slot s word cell there)
     (others_grow m f who lane (lane_found place slot lane) (λ d. refl) stands
-    (found_grows m f who place slot lane (λ d. refl) refl (λ at. ap (λ (b : Bool). slot_if (b && (place == at)) slot) (itself who)) (ap (λ (b : Bool). slot_if b slot) (itself who)) (record { slots = refl; loans = refl; node = refl; publisher = refl; fails = λ x. refl }) fits own.counted)
-    (λ other e. (refl, λ at. ap (λ (b : Bool). slot_if (b && (place == at)) slot) e, ap (λ (b : Bool). slot_if b slot) e, (record { slots = refl; loans = refl; node = refl; publisher = refl; fails = λ x. refl }))))
+    (found_grows m f who place slot lane (λ d. refl) refl (λ at. ap (λ (b : Bool). slot_if (b && (place == at)) slot) (itself who))
+    (ap (λ (b : Bool). slot_if b slot) (itself who))
+    (record { slots = refl; loans = refl; node = refl; publisher = refl; fails = λ x. refl }) fits own.counted)
+    (λ other e. (
+      refl,
+      λ at. ap (λ (b : Bool). slot_if (b && (place == at)) slot) e,
+      ap (λ (b : Bool). slot_if b slot) e,
+      (record { slots = refl; loans = refl; node = refl; publisher = refl; fails = λ x. refl }),
+    )))
     (length-set m.publishers who (lane_found place slot lane))
   where
     f : Found
@@ -294,45 +374,62 @@ given_taken m who place slot lane is stands w h h' =
     own = h.publishers who lane stands
 
     fits : MayBeReferred (length lane.port.routes) lane.port.book place slot
-    fits = lacks_is (length lane.port.routes) place slot lane.port.book is.lacks (slice_get_within lane.port.routes place is.route is.at) (own.unlent slot)
+    fits = lacks_is (length lane.port.routes) place slot lane.port.book is.lacks
+        (slice_get_within lane.port.routes place is.route is.at) (own.unlent slot)
 
     cell : IsWord m.table.sizes (Ring c Completion (Cell n))
     cell = ((w.links c is.link is.found).connection_is, omega (arith, is.few))
 
-    given : (d : ℕ) (link : LinkState) → slice_get m.links d ≡ Some link → given_back (laid m.table c Completion n slot) d ≡ given_back m.table d ++ more_samples m f d
+    given : (d : ℕ) (link : LinkState) → slice_get m.links d ≡ Some link
+        → given_back (laid m.table c Completion n slot) d ≡ given_back m.table d ++ more_samples m f d
     given d link e = elim (eqb_tells c d) [
       | inl same ↦ subst (λ (x : ℕ). given_back (laid m.table c Completion n slot) x ≡ given_back m.table x ++ more_samples m f x) same.1
           (back_grows m c is.link slot is.found w h (omega (arith, is.few))
           ∙ sym (ap (λ (b : Bool). given_back m.table c ++ slot_if b slot) (leads_is m who place lane is.route c stands is.at ∙ itself c)))
       | inr off ↦
-          ap between (back_away m.table c d m.table.sizes.completion_cells n slot Completion (back_seat m d link e w h) cell (λ word same. off.1 same))
+          ap between (back_away m.table c d m.table.sizes.completion_cells n slot Completion (back_seat m d link e w h) cell
+          (λ word same. off.1 same))
           ∙ sym (append-nil (given_back m.table d))
           ∙ sym (ap (λ (b : Bool). given_back m.table d ++ slot_if b slot) (leads_is m who place lane is.route d stands is.at ∙ off.0))
     ]
 
 -- a slot is the newest of its publisher's history
-newest_taken : (m : World) (who slot : ℕ) (lane : PublisherLaneState) → may_remember slot lane.port.book ≡ true → slice_get m.publishers who ≡ Some lane → IsFresh m → IsFresh (remembered_of m who slot (Some lane))
+pub newest_taken : (m : World) (who slot : ℕ) (lane : PublisherLaneState) → may_remember slot lane.port.book ≡ true
+    → slice_get m.publishers who ≡ Some lane → IsFresh m → IsFresh (remembered_of m who slot (Some lane))
     → IsTakenIn m (found.Newest who slot) (remembered_of m who slot (Some lane))
 newest_taken m who slot lane may stands h h' =
     let f : Found = found.Newest who slot in
-    taken_in m f m.table.words m.links (set m.publishers who (lane_remembers slot lane)) (λ d. refl) (λ other place. refl) h h' (λ d. link_same (slice_get m.links d))
+    taken_in m f m.table.words m.links (set m.publishers who (lane_remembers slot lane)) (λ d. refl) (λ other place. refl) h h'
+    (λ d. link_same (slice_get m.links d))
     (λ d link e. sym (append-nil (given_back m.table d)))
     (λ s word value e. absurd (cc e))
     (λ s word there not. refl)
     (others_grow m f who lane (lane_remembers slot lane) (λ d. refl) stands
-    (newest_grows m f who slot lane (λ d. refl) (ap (λ (b : Bool). slot_if b slot) (itself who)) (λ at. refl) (ap (λ (b : Bool). slot_if b slot) (itself who)) (record { slots = refl; loans = refl; node = refl; publisher = refl; fails = λ x. refl }) (newest_is slot lane.port.book may).own (h.publishers who lane stands).counted)
-    (λ other e. (ap (λ (b : Bool). slot_if b slot) e, λ at. refl, ap (λ (b : Bool). slot_if b slot) e, (record { slots = refl; loans = refl; node = refl; publisher = refl; fails = λ x. refl }))))
+    (newest_grows m f who slot lane (λ d. refl) (ap (λ (b : Bool). slot_if b slot) (itself who)) (λ at. refl)
+    (ap (λ (b : Bool). slot_if b slot) (itself who))
+    (record { slots = refl; loans = refl; node = refl; publisher = refl; fails = λ x. refl })
+    (newest_is slot lane.port.book may).own (h.publishers who lane stands).counted)
+    (λ other e. (
+      ap (λ (b : Bool). slot_if b slot) e,
+      λ at. refl,
+      ap (λ (b : Bool). slot_if b slot) e,
+      (record { slots = refl; loans = refl; node = refl; publisher = refl; fails = λ x. refl }),
+    )))
     (length-set m.publishers who (lane_remembers slot lane))
 
 -- a word of a slot holds something
-held_taken : (m : World) (slot : ℕ) (word : SlotWord) (value : ℕ) → IsWord m.table.sizes (Slot slot word) → IsWithin m → IsFresh m → IsFresh (record m { table = stored_in m.table (Slot slot word) value })
+pub held_taken : (m : World) (slot : ℕ) (word : SlotWord) (value : ℕ) → IsWord m.table.sizes (Slot slot word) → IsWithin m → IsFresh m
+    → IsFresh (record m { table = stored_in m.table (Slot slot word) value })
     → IsTakenIn m (found.Held slot word value) (record m { table = stored_in m.table (Slot slot word) value })
 held_taken m slot word value is w h h' =
     taken_in m f table'.words m.links m.publishers (λ d. refl) (λ other place. refl) h h' (λ d. link_same (slice_get m.links d))
-    (λ d link e. ap between (access_elsewhere Completion m.table d m.table.sizes.completion_cells (Store (Slot slot word) value) (back_seat m d link e w h) (is, tt)) ∙ sym (append-nil (given_back m.table d)))
+    (λ d link e. ap between (access_elsewhere Completion m.table d m.table.sizes.completion_cells (Store (Slot slot word) value)
+    (back_seat m d link e w h) (is, tt)) ∙ sym (append-nil (given_back m.table d)))
     told
     (λ s other there not. word_stays m.table (Slot slot word) value s other is there (λ same. not value (cc same)))
-    (λ who was now before behind. subst (PublisherGrows m f who was) (some_is was now (sym before ∙ behind)) (none_grows m f who was (λ d. refl) refl (λ place. refl) refl (record { slots = refl; loans = refl; node = refl; publisher = refl; fails = λ x. refl })))
+    (λ who was now before behind. subst (PublisherGrows m f who was) (some_is was now (sym before ∙ behind))
+    (none_grows m f who was (λ d. refl) refl (λ place. refl) refl
+    (record { slots = refl; loans = refl; node = refl; publisher = refl; fails = λ x. refl })))
     refl
   where
     f : Found
@@ -346,338 +443,21 @@ held_taken m slot word value is w h h' =
         let there : slot ≡ s = cc e in
         let same : word ≡ other = cc e in
         let says : value ≡ v = cc e in
-        let below : number_of m.table.sizes (Slot slot word) < length m.table.words = omega (arith, (within m.table.sizes (Slot slot word) is).1, w.words) in
+        let below : number_of m.table.sizes (Slot slot word) < length m.table.words
+        = omega (arith, (within m.table.sizes (Slot slot word) is).1, w.words) in
         ap (λ (x : ℕ). held_by table' (Slot x other)) (sym there)
         ∙ ap (λ (x : SlotWord). held_by table' (Slot slot x)) (sym same)
         ∙ get_or-set_same m.table.words (number_of m.table.sizes (Slot slot word)) value 0 below ∙ says
 
 -- what stands at a place of a list's beginning, and of a list that was mapped
-taken_there : {X : Type 0} (n : ℕ) (xs : List X) (i : ℕ) (y : X) → slice_get (take n xs) i ≡ Some y → slice_get xs i ≡ Some y
+pub taken_there : {X : Type 0} (n : ℕ) (xs : List X) (i : ℕ) (y : X) → slice_get (take n xs) i ≡ Some y → slice_get xs i ≡ Some y
 taken_there zero [] i y e = absurd (cc)
 taken_there zero (x ∷ xs) i y e = absurd (cc)
 taken_there (suc n) [] i y e = absurd (cc)
 taken_there (suc n) (x ∷ xs) zero y e = e
 taken_there (suc n) (x ∷ xs) (suc i) y e = taken_there n xs i y e
 
-mapped_there : {X Y : Type 0} (g : X → Y) (xs : List X) (i : ℕ) (x : X) → slice_get xs i ≡ Some x → slice_get (map g xs) i ≡ Some (g x)
+pub mapped_there : {X Y : Type 0} (g : X → Y) (xs : List X) (i : ℕ) (x : X) → slice_get xs i ≡ Some x → slice_get (map g xs) i ≡ Some (g x)
 mapped_there g [] i x e = absurd (cc)
 mapped_there g (y ∷ ys) zero x e = ap (λ z. Some (g z)) (some_is y x e)
 mapped_there g (y ∷ ys) (suc i) x e = mapped_there g ys i x e
-
--- a publisher has just its first slots
-slots_taken : (m : World) (who slots most : ℕ) (lane : PublisherLaneState) → MayShrink slots lane → slice_get m.publishers who ≡ Some lane → IsWithin m → IsFresh m → IsFresh (resized_of m who slots most (Some lane))
-    → IsTakenIn m (found.Slots who slots most) (resized_of m who slots most (Some lane))
-slots_taken m who slots most lane may stands w h h' =
-    taken_in m f m.table.words m.links (set m.publishers who now') (λ d. refl) (λ other place. refl) h h' (λ d. link_same (slice_get m.links d))
-    (λ d link e. sym (append-nil (given_back m.table d)))
-    (λ s word value e. absurd (cc e))
-    (λ s word there not. refl)
-    (others_grow m f who lane now' (λ d. refl) stands grows
-    (λ other e. (refl, λ at. refl, refl, record { slots = ap (λ (b : Bool). number_if b slots) e; loans = ap (λ (b : Bool). number_if b most) e; node = refl; publisher = refl; fails = λ x. refl })))
-    (length-set m.publishers who now')
-  where
-    f : Found
-    f = found.Slots who slots most
-
-    now' : PublisherLaneState
-    now' = lane_resized slots most lane
-
-    book : BookState
-    book = lane.port.book
-
-    left : NoneFound now'.port.book
-    left = none_left (length lane.port.routes) slots most book may.none
-
-    port : IsPublisher m.table.sizes lane
-    port = all_at (IsPublisher m.table.sizes) m.publishers who lane stands w.publishers
-
-    given : (n : ℕ) → number_with (new_slots f who) n ≡ slots
-    given n = ap (λ (b : Bool). number_with (number_if b slots) n) (itself who)
-
-    each_loan : length book.loans ≡ length book.uses
-    each_loan = (h.publishers who lane stands).counted.loans_each
-
-    grows : PublisherGrows m f who lane now'
-    grows = record {
-      routes = routes_stay m f lane.port.routes (λ d. refl);
-      history = sym (append-nil book.history);
-      referred = λ at s. omega (arith, ap one_if (never_refers book at s may.none), ap one_if (never_refers now'.port.book at s left));
-      uses = λ s. omega (arith, none_uses book s may.none, none_uses now'.port.book s left);
-      slots = length-take-le slots book.uses may.fits ∙ sym (given (length book.uses));
-      marks = length-take-le slots book.loans (omega (arith, may.fits, each_loan)) ∙ sym (given (length book.loans));
-      loans = λ s. all_entries book.first (take slots book.loans) mark.No left.loans s ∙ sym (all_entries book.first book.loans mark.No may.none.loans s);
-      most = sym (ap (λ (b : Bool). number_with (number_if b most) book.most_loans) (itself who));
-      heads = record {
-        each = λ s before behind e e'. subst (HeadSays None None before) (some_is before behind (sym e ∙ taken_there slots lane.heads s behind e')) (head_stays before);
-        as_many = length-take-le slots lane.heads (omega (arith, may.fits, each_loan, port.heads)) ∙ sym (given (length lane.heads));
-      };
-      fails = refl;
-      same = refl;
-    }
-
--- the headers of a publisher's messages say another node and publisher
-named_says : (node publisher : ℕ) (head : List ℕ) → 1 < length head → HeadSays (Some node) (Some publisher) head (with_origin node publisher head)
-named_says node publisher head wide =
-    let one : List ℕ = set head 0 node in
-    subst (HeadSays (Some node) (Some publisher) head) (sym (choose_one (nat_lt 1 (length head)) (set one 1 publisher) head (lt-ltb 1 (length head) wide))) (record {
-      node = get_or-set_other one 1 0 publisher 0 (λ e. absurd (omega (arith, e))) ∙ get_or-set_same head 0 node 0 (omega (arith, wide));
-      publisher = get_or-set_same one 1 publisher 0 (omega (arith, wide, length-set head 0 node));
-      others = λ word high. get_or-set_other one 1 word publisher 0 (λ e. absurd (omega (arith, high, e))) ∙ get_or-set_other head 0 word node 0 (λ e. absurd (omega (arith, high, e)));
-      as_many = length-set one 1 publisher ∙ length-set head 0 node;
-    })
-
-sender_taken : (m : World) (who node publisher : ℕ) (fails : Bool) (lane : PublisherLaneState) → slice_get m.publishers who ≡ Some lane → IsWithin m → IsFresh m → IsFresh (named_of m who node publisher fails (Some lane))
-    → IsTakenIn m (found.Sender who node publisher fails) (named_of m who node publisher fails (Some lane))
-sender_taken m who node publisher fails lane stands w h h' =
-    taken_in m f m.table.words m.links (set m.publishers who now') (λ d. refl) (λ other place. refl) h h' (λ d. link_same (slice_get m.links d))
-    (λ d link e. sym (append-nil (given_back m.table d)))
-    (λ s word value e. absurd (cc e))
-    (λ s word there not. refl)
-    (others_grow m f who lane now' (λ d. refl) stands grows
-    (λ other e. (refl, λ at. refl, refl, record { slots = refl; loans = refl; node = ap (λ (b : Bool). number_if b node) e; publisher = ap (λ (b : Bool). number_if b publisher) e; fails = λ x. ap (λ (b : Bool). if b then fails else x) e })))
-    (length-set m.publishers who now')
-  where
-    f : Found
-    f = found.Sender who node publisher fails
-
-    now' : PublisherLaneState
-    now' = lane_named node publisher fails lane
-
-    port : IsPublisher m.table.sizes lane
-    port = all_at (IsPublisher m.table.sizes) m.publishers who lane stands w.publishers
-
-    says : (s : ℕ) (before behind : List ℕ) → slice_get lane.heads s ≡ Some before → slice_get now'.heads s ≡ Some behind → HeadSays (new_node f who) (new_publisher f who) before behind
-    says s before behind e e' =
-        let wide : length before ≡ 3 + m.table.sizes.user_header_words = all_at (λ (head : List ℕ). length head ≡ 3 + m.table.sizes.user_header_words) lane.heads s before e port.widths in
-        let is : with_origin node publisher before ≡ behind = some_is (with_origin node publisher before) behind (sym (mapped_there (with_origin node publisher) lane.heads s before e) ∙ e') in
-        subst (HeadSays (new_node f who) (new_publisher f who) before) is
-        (subst (λ (n : Option ℕ). HeadSays n (new_publisher f who) before (with_origin node publisher before)) (sym (ap (λ (b : Bool). number_if b node) (itself who)))
-        (subst (λ (p : Option ℕ). HeadSays (Some node) p before (with_origin node publisher before)) (sym (ap (λ (b : Bool). number_if b publisher) (itself who)))
-        (named_says node publisher before (omega (arith, wide)))))
-
-    grows : PublisherGrows m f who lane now'
-    grows = record {
-      routes = routes_stay m f lane.port.routes (λ d. refl);
-      history = sym (append-nil lane.port.book.history);
-      referred = λ at s. omega arith;
-      uses = λ s. omega arith;
-      slots = refl;
-      marks = refl;
-      loans = λ s. refl;
-      most = refl;
-      heads = record { each = says; as_many = length-map lane.heads (with_origin node publisher) };
-      fails = sym (ap (λ (b : Bool). if b then fails else lane.fails) (itself who));
-      same = refl;
-    }
-
--- what is taken in, of each kind
-waits_taken : (m : World) (who place slot : ℕ) (at : Option PublisherLaneState) → slice_get m.publishers who ≡ at → waits_of m place slot at ≡ true → IsWithin m → IsFresh m → IsFresh (waiting_of m who place slot (slice_get m.publishers who))
-    → IsTakenIn m (found.Waiting who place slot) (waiting_of m who place slot (slice_get m.publishers who))
-waits_taken m who place slot None e fit w h h' = absurd (cc fit)
-waits_taken m who place slot (Some lane) e fit w h h' =
-    let is = may_wait_is m place slot lane fit in
-    subst (IsTakenIn m (found.Waiting who place slot)) (waiting_is m who place slot lane is e) (waiting_taken m who place slot lane is e w h (subst IsFresh (sym (waiting_is m who place slot lane is e)) h'))
-
-backs_taken : (m : World) (who place slot : ℕ) (at : Option PublisherLaneState) → slice_get m.publishers who ≡ at → back_of m place slot at ≡ true → IsWithin m → IsFresh m → IsFresh (given_of m who place slot (slice_get m.publishers who))
-    → IsTakenIn m (found.GivenBack who place slot) (given_of m who place slot (slice_get m.publishers who))
-backs_taken m who place slot None e fit w h h' = absurd (cc fit)
-backs_taken m who place slot (Some lane) e fit w h h' =
-    let is = may_be_back_is m place slot lane fit in
-    subst (IsTakenIn m (found.GivenBack who place slot)) (given_is m who place slot lane is e) (given_taken m who place slot lane is e w h (subst IsFresh (sym (given_is m who place slot lane is e)) h'))
-
-lasts_taken : (m : World) (who slot : ℕ) (at : Option PublisherLaneState) → slice_get m.publishers who ≡ at → newest_of slot at ≡ true → IsFresh m → IsFresh (remembered_of m who slot (slice_get m.publishers who))
-    → IsTakenIn m (found.Newest who slot) (remembered_of m who slot (slice_get m.publishers who))
-lasts_taken m who slot None e fit h h' = absurd (cc fit)
-lasts_taken m who slot (Some lane) e fit h h' =
-    subst (IsTakenIn m (found.Newest who slot)) (sym (ap (remembered_of m who slot) e)) (newest_taken m who slot lane fit e h (subst IsFresh (ap (remembered_of m who slot) e) h'))
-
-sizes_taken : (m : World) (who slots most : ℕ) (at : Option PublisherLaneState) → slice_get m.publishers who ≡ at → resizes_of slots at ≡ true → IsWithin m → IsFresh m → IsFresh (resized_of m who slots most (slice_get m.publishers who))
-    → IsTakenIn m (found.Slots who slots most) (resized_of m who slots most (slice_get m.publishers who))
-sizes_taken m who slots most None e fit w h h' = absurd (cc fit)
-sizes_taken m who slots most (Some lane) e fit w h h' =
-    subst (IsTakenIn m (found.Slots who slots most)) (sym (ap (resized_of m who slots most) e))
-    (slots_taken m who slots most lane (may_shrink_is m who slots lane fit e h) e w h (subst IsFresh (ap (resized_of m who slots most) e) h'))
-
-names_taken : (m : World) (who node publisher : ℕ) (fails : Bool) (at : Option PublisherLaneState) → slice_get m.publishers who ≡ at → is_there at ≡ true → IsWithin m → IsFresh m → IsFresh (named_of m who node publisher fails (slice_get m.publishers who))
-    → IsTakenIn m (found.Sender who node publisher fails) (named_of m who node publisher fails (slice_get m.publishers who))
-names_taken m who node publisher fails None e fit w h h' = absurd (cc fit)
-names_taken m who node publisher fails (Some lane) e fit w h h' =
-    subst (IsTakenIn m (found.Sender who node publisher fails)) (sym (ap (named_of m who node publisher fails) e))
-    (sender_taken m who node publisher fails lane e w h (subst IsFresh (ap (named_of m who node publisher fails) e) h'))
-
-now_taken : (m : World) (f : Found) → finds_now m f ≡ true → IsWithin m → IsFresh m → IsFresh (with_found m f) → IsTakenIn m f (with_found m f)
-now_taken m (found.Waiting publisher place slot) fit w h h' = waits_taken m publisher place slot (slice_get m.publishers publisher) refl fit w h h'
-now_taken m (found.GivenBack publisher place slot) fit w h h' = backs_taken m publisher place slot (slice_get m.publishers publisher) refl fit w h h'
-now_taken m (found.Newest publisher slot) fit w h h' = lasts_taken m publisher slot (slice_get m.publishers publisher) refl fit h h'
-now_taken m (found.Held slot word value) fit w h h' =
-    held_taken m slot word value (word_there m.table.sizes slot word (and_left (nat_lt slot m.table.sizes.slots) (has_word m.table.sizes word) fit) (and_right (nat_lt slot m.table.sizes.slots) (has_word m.table.sizes word) fit)) w h h'
-now_taken m (found.Buffer publisher place messages) fit w h h' = buffers_taken m publisher place messages (slice_get m.publishers publisher) refl fit w h h'
-now_taken m (found.Slots publisher slots most_loans) fit w h h' = sizes_taken m publisher slots most_loans (slice_get m.publishers publisher) refl fit w h h'
-now_taken m (found.Sender publisher node_id publisher_id fails) fit w h h' = names_taken m publisher node_id publisher_id fails (slice_get m.publishers publisher) refl fit w h h'
-now_taken m (found.Swapped subscriber one other) fit w h h' = swaps_taken m subscriber one other (slice_get m.subscribers subscriber) refl fit
-
--- what the tests of a finding say: where it may be found
-stands_is : (m : World) (who place slot : ℕ) (lane : PublisherLaneState) (is : MayBeBack m place slot lane) → slice_get m.publishers who ≡ Some lane → IsFresh m → MayStand m who place slot
-stands_is m who place slot lane is found h =
-    let own = h.publishers who lane found in
-    let fits = lacks_is (length lane.port.routes) place slot lane.port.book is.lacks (slice_get_within lane.port.routes place is.route is.at) (own.unlent slot) in
-    let has = own.has place is.route is.link is.at is.found slot in
-    record {
-      lane = lane;
-      publisher = found;
-      route = is.route;
-      at = is.at;
-      link = is.link;
-      connection = is.found;
-      own = fits.own;
-      lacks = omega (arith, has, ap one_if fits.lacks);
-      room = omega (arith, is.few, back_count m is.route.connection is.link is.found h, ap (λ (xs : List ℕ). length xs) (returned_is m is.route.connection is.link is.found h));
-    }
-
-message_is : (m : World) (who place slot : ℕ) (lane : PublisherLaneState) (is : MayWait m place slot lane) → slice_get m.publishers who ≡ Some lane → IsFresh m → MayBeMessage m who place slot
-unfolding stands_is
-message_is m who place slot lane is found h = record {
-  stands = stands_is m who place slot lane (record { route = is.route; at = is.at; lacks = is.lacks; link = is.link; found = is.found; few = is.few }) found h;
-  fewer = is.room;
-}
-
-waits_may : (m : World) (who place slot : ℕ) (at : Option PublisherLaneState) → slice_get m.publishers who ≡ at → waits_of m place slot at ≡ true → IsFresh m → MayBeMessage m who place slot
-waits_may m who place slot None e fit h = absurd (cc fit)
-waits_may m who place slot (Some lane) e fit h = message_is m who place slot lane (may_wait_is m place slot lane fit) e h
-
-backs_may : (m : World) (who place slot : ℕ) (at : Option PublisherLaneState) → slice_get m.publishers who ≡ at → back_of m place slot at ≡ true → IsFresh m → MayStand m who place slot
-backs_may m who place slot None e fit h = absurd (cc fit)
-backs_may m who place slot (Some lane) e fit h = stands_is m who place slot lane (may_be_back_is m place slot lane fit) e h
-
-lasts_may : (m : World) (who slot : ℕ) (at : Option PublisherLaneState) → slice_get m.publishers who ≡ at → newest_of slot at ≡ true → MayBeNewest m who slot
-lasts_may m who slot None e fit = absurd (cc fit)
-lasts_may m who slot (Some lane) e fit =
-    let is = newest_is slot lane.port.book fit in
-    record { lane = lane; publisher = e; own = is.own; lacks = is.none; room = is.room }
-
-sizes_may : (m : World) (who slots : ℕ) (at : Option PublisherLaneState) → slice_get m.publishers who ≡ at → resizes_of slots at ≡ true → IsFresh m → MayHaveSlots m who slots
-sizes_may m who slots None e fit h = absurd (cc fit)
-sizes_may m who slots (Some lane) e fit h =
-    let is = may_shrink_is m who slots lane fit e h in
-    record {
-      lane = lane;
-      publisher = e;
-      fits = is.fits;
-      no_history = is.none.history;
-      empty = λ place route link at there.
-          let has = (h.publishers who lane e).has place route link at there in
-          let never : (x : ℕ) → one_if (refers_to lane.port.book place x) ≡ 0 = λ x. ap one_if (never_refers lane.port.book place x is.none) in
-          (uncounted link.found (λ x. omega (arith, has x, never x)), uncounted (given_back m.table route.connection) (λ x. omega (arith, has x, never x)));
-    }
-
-names_may : (m : World) (who : ℕ) (at : Option PublisherLaneState) → slice_get m.publishers who ≡ at → is_there at ≡ true → (lane : PublisherLaneState) × (slice_get m.publishers who ≡ Some lane)
-names_may m who None e fit = absurd (cc fit)
-names_may m who (Some lane) e fit = (lane, e)
-
-may_now : (m : World) (f : Found) → finds_now m f ≡ true → IsFresh m → MayBeFound m f
-may_now m (found.Waiting publisher place slot) fit h = waits_may m publisher place slot (slice_get m.publishers publisher) refl fit h
-may_now m (found.GivenBack publisher place slot) fit h = backs_may m publisher place slot (slice_get m.publishers publisher) refl fit h
-may_now m (found.Newest publisher slot) fit h = lasts_may m publisher slot (slice_get m.publishers publisher) refl fit
-may_now m (found.Held slot word value) fit h =
-    word_there m.table.sizes slot word (and_left (nat_lt slot m.table.sizes.slots) (has_word m.table.sizes word) fit) (and_right (nat_lt slot m.table.sizes.slots) (has_word m.table.sizes word) fit)
-may_now m (found.Buffer publisher place messages) fit h = buffers_may m publisher place messages (slice_get m.publishers publisher) refl fit h
-may_now m (found.Slots publisher slots most_loans) fit h = sizes_may m publisher slots (slice_get m.publishers publisher) refl fit h
-may_now m (found.Sender publisher node_id publisher_id fails) fit h = names_may m publisher (slice_get m.publishers publisher) refl fit
-may_now m (found.Swapped subscriber one other) fit h = swaps_may m subscriber one other (slice_get m.subscribers subscriber) refl fit
-
-pub may_first : (m : World) (f : Found) → finds m f ≡ true → IsKept m → IsFirst m f
-may_first m f fit k = let now = finds_first m f fit in record { first = now.0; may = may_now m f now.1 (k.fresh now.0) }
-
--- and where it may be found, they say so
-none_is : (b : Bool) → one_if b ≡ 0 → b ≡ false
-none_is true e = absurd (omega (arith, e))
-none_is false e = refl
-
-own_says : (slot : ℕ) (book : BookState) → IsOwn book slot → is_own slot book ≡ true
-own_says slot book is =
-    choose_other (nat_lt slot book.first) false (nat_lt (slot - book.first) (length book.uses)) (le-ltb slot book.first is.above)
-    ∙ lt-ltb (slot - book.first) (length book.uses) (omega (arith, is.above, is.below))
-
-none_stands : (slot : ℕ) (xs : List ℕ) → count slot xs ≡ 0 → stands_in slot xs ≡ false
-none_stands slot [] h = refl
-none_stands slot (x ∷ xs) h =
-    choose_other (x == slot) true (stands_in slot xs) (none_is (x == slot) (omega (arith, h))) ∙ none_stands slot xs (omega (arith, h))
-
-stands_says : (m : World) (who place slot : ℕ) (is : MayStand m who place slot) → IsFresh m → (may_have place slot is.lane.port.book ≡ true) × (takes_more m is.route.connection is.link ≡ true)
-stands_says m who place slot is h =
-    let book : BookState = is.lane.port.book in
-    let has = (h.publishers who is.lane is.publisher).has place is.route is.link is.at is.connection slot in
-    let lacks : refers_to book place slot ≡ false = none_is (refers_to book place slot) (omega (arith, has, is.lacks)) in (
-      both (is_own slot book) (not (get_or book.referred (place * length book.uses + (slot - book.first)) false)) (own_says slot book is.own)
-          (ap not (sym (refers_is book.first (length book.uses) book.referred place slot is.own.above is.own.below) ∙ lacks)),
-      lt-ltb (length is.link.found) (m.table.sizes.completion_cells - back_found m.table is.route.connection)
-          (omega (arith, is.room, back_count m is.route.connection is.link is.connection h, ap (λ (xs : List ℕ). length xs) (returned_is m is.route.connection is.link is.connection h))),
-    )
-
-waits_say : (m : World) (who place slot : ℕ) → MayBeMessage m who place slot → IsFresh m → waits_of m place slot (slice_get m.publishers who) ≡ true
-waits_say m who place slot is h =
-    let s = is.stands in
-    let says = stands_says m who place slot s h in
-    ap (waits_of m place slot) s.publisher
-    ∙ ap (waits_at m place slot s.lane) s.at
-    ∙ both (may_have place slot s.lane.port.book) (may_wait m s.route.connection (slice_get m.links s.route.connection)) says.0
-    (ap (may_wait m s.route.connection) s.connection ∙ both (nat_lt (length s.link.found) s.link.limit) (takes_more m s.route.connection s.link) (lt-ltb (length s.link.found) s.link.limit is.fewer) says.1)
-
-backs_say : (m : World) (who place slot : ℕ) → MayStand m who place slot → IsFresh m → back_of m place slot (slice_get m.publishers who) ≡ true
-backs_say m who place slot s h =
-    let says = stands_says m who place slot s h in
-    ap (back_of m place slot) s.publisher
-    ∙ ap (back_at m place slot s.lane) s.at
-    ∙ both (may_have place slot s.lane.port.book) (may_be_back m s.route.connection (slice_get m.links s.route.connection)) says.0 (ap (may_be_back m s.route.connection) s.connection ∙ says.1)
-
-lasts_say : (m : World) (who slot : ℕ) → MayBeNewest m who slot → newest_of slot (slice_get m.publishers who) ≡ true
-lasts_say m who slot is =
-    let book : BookState = is.lane.port.book in
-    ap (newest_of slot) is.publisher
-    ∙ both (is_own slot book && not (stands_in slot book.history)) (nat_lt (length book.history) book.kept)
-    (both (is_own slot book) (not (stands_in slot book.history)) (own_says slot book is.own) (ap not (none_stands slot book.history is.lacks)))
-    (lt-ltb (length book.history) book.kept is.room)
-
-word_says : (sizes : TableSizes) (slot : ℕ) (word : SlotWord) → IsWord sizes (Slot slot word) → has_word sizes word ≡ true
-word_says sizes slot (Header word) is = lt-ltb word 3 is.1
-word_says sizes slot (UserHeader word) is = lt-ltb word sizes.user_header_words is.1
-word_says sizes slot (Payload word) is = lt-ltb word sizes.payload_words is.1
-
-there_is : {X : Type 0} (xs : List X) (i : ℕ) → i < length xs → (x : X) × (slice_get xs i ≡ Some x)
-there_is [] i below = absurd (omega (arith, below))
-there_is (x ∷ xs) zero below = (x, refl)
-there_is (x ∷ xs) (suc i) below = there_is xs i (omega (arith, below))
-
-sizes_say : (m : World) (who slots : ℕ) → MayHaveSlots m who slots → IsWithin m → IsFresh m → resizes_of slots (slice_get m.publishers who) ≡ true
-sizes_say m who slots is w h =
-    let lane : PublisherLaneState = is.lane in
-    let book : BookState = lane.port.book in
-    let own = h.publishers who lane is.publisher in
-    ap (resizes_of slots) is.publisher
-    ∙ both (nat_le slots (length book.uses)) (are_unused book.uses) (le-leb slots (length book.uses) is.fits)
-    (all_unused (length lane.port.routes) book own.counted own.unlent is.no_history (λ place slot below.
-    let route = there_is lane.port.routes place below in
-    let link : IsLinkOf m.links sender who route.0 = all_at (IsLinkOf m.links sender who) lane.port.routes place route.0 route.1 (w.senders who lane is.publisher) in
-    let empty = is.empty place route.0 link.link route.1 link.found in
-    none_is (refers_to book place slot) (omega (arith, own.has place route.0 link.link route.1 link.found slot, ap (λ (xs : List ℕ). count slot xs) empty.0, ap (λ (xs : List ℕ). count slot xs) empty.1))))
-
-now_says : (m : World) (f : Found) → MayBeFound m f → IsWithin m → IsFresh m → finds_now m f ≡ true
-now_says m (found.Waiting publisher place slot) is w h = waits_say m publisher place slot is h
-now_says m (found.GivenBack publisher place slot) is w h = backs_say m publisher place slot is h
-now_says m (found.Newest publisher slot) is w h = lasts_say m publisher slot is
-now_says m (found.Held slot word value) is w h = both (nat_lt slot m.table.sizes.slots) (has_word m.table.sizes word) (lt-ltb slot m.table.sizes.slots is.0) (word_says m.table.sizes slot word is)
-now_says m (found.Buffer publisher place messages) is w h = buffers_say m publisher place messages is h
-now_says m (found.Slots publisher slots most_loans) is w h = sizes_say m publisher slots is w h
-now_says m (found.Sender publisher node_id publisher_id fails) is w h = ap is_there is.1
-now_says m (found.Swapped subscriber one other) is w h = swaps_say m subscriber one other is
-
-first_says : (m : World) (f : Found) → IsFirst m f → IsKept m → finds m f ≡ true
-first_says m f is k = both (m.moments == 0) (finds_now m f) (ap (λ (n : ℕ). n == 0) is.first) (now_says m f is.may k.within (k.fresh is.first))
-
--- the law
-pub takes_in : (m : World) (f : Found) (answer : Bool) (n : World) → FindsTo m f answer n → IsKept m → TakesIn m f answer n
-takes_in m f true n is k =
-    let now = finds_first m f is.0 in
-    let h = k.fresh now.0 in
-    (may_first m f is.0 k, subst (IsTakenIn m f) (sym is.1) (now_taken m f now.1 k.within h (found_both m f now.1 k.within h).1))
-takes_in m f false n is k = (λ first. absurd (cc (sym (first_says m f first k) ∙ is.0)), is.1)

@@ -13,8 +13,11 @@ use Rattle.iox_lanes_machine.specs.World.{World, fits, happens}
 use Rattle.iox_lanes_machine.proofs.PublisherUses.{begun_publisher, gone_publisher}
 use Rattle.iox_lanes_machine.proofs.SubscriberUses.{begun_subscriber, gone_subscriber}
 
-pub happens_uses : (m : World) (party : Party) (step : Move) → fits m party step ≡ true → m.moments < 2 ^ 63 → IsWithin m → AreKept m → ReturnsKept m → AreReturning m → AllSendsPut m → LoansStand m → UsesKept m → UsesKept (happens m party step)
+pub happens_uses : (m : World) (party : Party) (step : Move) → fits m party step ≡ true → m.moments < 2 ^ 63 → IsWithin m → AreKept m
+    → ReturnsKept m → AreReturning m → AllSendsPut m → LoansStand m → UsesKept m → UsesKept (happens m party step)
 happens_uses m (Publisher place) (Begin c) fit bound w k r b s l u = begun_publisher m place c (slice_get m.publishers place) refl fit u
 happens_uses m (Subscriber place) (Begin c) fit bound w k r b s l u = begun_subscriber m place c (slice_get m.subscribers place) refl fit u
-happens_uses m (Publisher place) GoOn fit bound w k r b s l u = gone_publisher m place (slice_get m.publishers place) refl fit bound w k r b s l u
-happens_uses m (Subscriber place) GoOn fit bound w k r b s l u = gone_subscriber m place (slice_get m.subscribers place) refl fit bound w k r b s l u
+happens_uses m (Publisher place) GoOn fit bound w k r b s l u
+    = gone_publisher m place (slice_get m.publishers place) refl fit bound w k r b s l u
+happens_uses m (Subscriber place) GoOn fit bound w k r b s l u
+    = gone_subscriber m place (slice_get m.subscribers place) refl fit bound w k r b s l u

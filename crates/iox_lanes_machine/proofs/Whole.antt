@@ -24,7 +24,8 @@ use Rattle.iox_lanes_machine.proofs.Steps.{happens_rings, happens_moments}
 use Rattle.iox_lanes_machine.proofs.Within.{happens_within}
 
 -- a step that fits is made
-pub step_made : (m : World) (party : Party) (step : Move) → fits m party step ≡ true → (b : Bool) → ends m party step ≡ b → (r : Stepped) × StepsTo m party step r (happens m party step)
+pub step_made : (m : World) (party : Party) (step : Move) → fits m party step ≡ true → (b : Bool) → ends m party step ≡ b
+    → (r : Stepped) × StepsTo m party step r (happens m party step)
 step_made m party step fit true e = (stepped.Finished, (fit, e, refl))
 step_made m party step fit false e = (stepped.Went, (fit, e, refl))
 
@@ -32,7 +33,9 @@ step_made m party step fit false e = (stepped.Went, (fit, e, refl))
 pub step_uses : (m : World) (party : Party) (step : Move) → fits m party step ≡ true → IsKept m → UsedSlotsStay m (happens m party step)
 step_uses m party step fit k =
     let made = step_made m party step fit (ends m party step) refl in
-    used_stay m party (happens m party step) k (slots_stay m party step made.0 (happens m party step) k.loans (steps_apart m party step made.0 (happens m party step) made.1 k.within))
+    used_stay m party (happens m party step) k
+    (slots_stay m party step made.0 (happens m party step) k.loans
+    (steps_apart m party step made.0 (happens m party step) made.1 k.within))
 
 pub happens_keeps : (m : World) (party : Party) (step : Move) → fits m party step ≡ true → IsKept m → IsKept (happens m party step)
 happens_keeps m party step fit k = record {
@@ -44,20 +47,25 @@ happens_keeps m party step fit k = record {
   calls = λ few. let bound : m.moments < 2 ^ 63 = omega (arith, happens_moments m party step fit, few) in
       happens_calls m party step fit bound (k.calls (omega (arith, bound)));
   sends = λ few. let bound : m.moments < 2 ^ 63 = omega (arith, happens_moments m party step fit, few) in
-      happens_sends m party step fit bound k.within (k.rings (omega (arith, bound))) (k.calls (omega (arith, bound))) (k.sends (omega (arith, bound)));
+      happens_sends m party step fit bound k.within (k.rings (omega (arith, bound))) (k.calls (omega (arith, bound)))
+      (k.sends (omega (arith, bound)));
   loans = happens_loans m party step fit k.loans;
   returns = happens_returns m party step fit (λ few. omega (arith, happens_moments m party step fit, few)) k.within k.returns;
   reads = happens_reads m party step k.reads;
   uses = λ few. let bound : m.moments < 2 ^ 63 = omega (arith, happens_moments m party step fit, few) in
-      happens_uses m party step fit bound k.within (k.rings (omega (arith, bound))) k.returns (k.returns.rings (omega (arith, bound))) (k.sends (omega (arith, bound))) k.loans (k.uses (omega (arith, bound)));
+      happens_uses m party step fit bound k.within (k.rings (omega (arith, bound))) k.returns (k.returns.rings (omega (arith, bound)))
+      (k.sends (omega (arith, bound))) k.loans (k.uses (omega (arith, bound)));
   held = λ few. let bound : m.moments < 2 ^ 63 = omega (arith, happens_moments m party step fit, few) in
-      happens_held m party step k.within (k.uses (omega (arith, bound))) k.reads (step_uses m party step fit k) (omega (arith, bound)) (k.held (omega (arith, bound)));
+      happens_held m party step k.within (k.uses (omega (arith, bound))) k.reads (step_uses m party step fit k) (omega (arith, bound))
+      (k.held (omega (arith, bound)));
   rooms = λ few. let bound : m.moments < 2 ^ 63 = omega (arith, happens_moments m party step fit, few) in
-      happens_rooms m party step fit bound k.within (k.rings (omega (arith, bound))) k.returns (k.returns.rings (omega (arith, bound))) (k.sends (omega (arith, bound))) k.loans (k.uses (omega (arith, bound))) (k.rooms (omega (arith, bound)));
+      happens_rooms m party step fit bound k.within (k.rings (omega (arith, bound))) k.returns (k.returns.rings (omega (arith, bound)))
+      (k.sends (omega (arith, bound))) k.loans (k.uses (omega (arith, bound))) (k.rooms (omega (arith, bound)));
   left = λ few. let bound : m.moments < 2 ^ 63 = omega (arith, happens_moments m party step fit, few) in
       let made = step_made m party step fit (ends m party step) refl in
       let apart = steps_apart m party step made.0 (happens m party step) made.1 k.within in
-      happens_left m party step fit k.within k.loans (k.uses (omega (arith, bound))) (slots_stay m party step made.0 (happens m party step) k.loans apart) (k.left (omega (arith, bound)));
+      happens_left m party step fit k.within k.loans (k.uses (omega (arith, bound)))
+      (slots_stay m party step made.0 (happens m party step) k.loans apart) (k.left (omega (arith, bound)));
   named = happens_named m party step fit k.within k.named;
   fresh = λ none. absurd (omega (arith, happens_moments m party step fit, none));
 }

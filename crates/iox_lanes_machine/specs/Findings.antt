@@ -1,6 +1,7 @@
 -- What lanes may find before their first step, and what that makes of them: messages that wait, samples given back, histories,
 -- what slots hold, buffers of connections, slots and headers of publishers, and places of connections.
-use Rattle.std.specs.Prelude.{ℕ, ◌≡◌, ◌-◌, ◌==◌, ◌&&◌, Bool, true, false, nat_lt, nat_le, List, [], ◌∷◌, ◌++◌, length, set, slice_get, Option, Some, None}
+use Rattle.std.specs.Prelude.{ℕ, ◌≡◌, ◌-◌, ◌==◌, ◌&&◌, Bool, true, false, nat_lt, nat_le, List, [], ◌∷◌, ◌++◌, length, set, slice_get}
+use Rattle.std.specs.Prelude.{Option, Some, None}
 use Rattle.iox_lanes_machine.specs.QueuesSteps.Access.{successor}
 use Rattle.iox_lanes_machine.specs.QueuesSteps.declared.access.Word.TheVariants.{Write, Cell}
 use Rattle.iox_lanes_machine.specs.QueuesSteps.Ends.{cells_of}
@@ -13,7 +14,8 @@ use Rattle.iox_lanes_machine.specs.LanesBase.declared.words.word.SlotWord.TheVar
 use Rattle.iox_lanes_machine.specs.LanesBase.declared.words.word.SharedWord.TheVariants.{Ring, Slot}
 use Rattle.iox_lanes_machine.specs.LanesBase.declared.calls.route.Route.{Route}
 use Rattle.iox_lanes_machine.specs.LanesParties.PublisherKeeping.{may_have, may_remember, may_resize}
-use Rattle.iox_lanes_machine.specs.LanesParties.Parties.{PublisherLaneState, SubscriberLaneState, lane_found, lane_remembers, lane_resized, lane_named, lane_meets, receiver_meets, receiver_swapped}
+use Rattle.iox_lanes_machine.specs.LanesParties.Parties.{PublisherLaneState, SubscriberLaneState, lane_found, lane_remembers}
+use Rattle.iox_lanes_machine.specs.LanesParties.Parties.{lane_resized, lane_named, lane_meets, receiver_meets, receiver_swapped}
 use Rattle.iox_lanes_machine.specs.Links.{LinkState}
 use Rattle.iox_lanes_machine.specs.World.{World}
 use Rattle.iox_lanes_machine.specs.declared.found.Found.{Found}

@@ -39,7 +39,9 @@ IsInUse m lane slot = (is_out (loan_of slot lane.port.book) ≡ true) ⊎ ((0 < 
 -- as at most 2^63 steps were made.
 abbrev pub LoansFindAllUsed : Type 0
 LoansFindAllUsed = (m : World) → CameTo m → (place : ℕ) (entries : List Entry) → fits m (Publisher place) (Begin call.LoanUninit) ≡ true
-    → (led (happens m (Publisher place) (Begin call.LoanUninit)) entries).moments ≤ 2 ^ 63 → IsInCall (led (happens m (Publisher place) (Begin call.LoanUninit)) entries) place m.moments
-    → (ended : FinishedCall) → (happens (led (happens m (Publisher place) (Begin call.LoanUninit)) entries) (Publisher place) GoOn).finished ≡ (led (happens m (Publisher place) (Begin call.LoanUninit)) entries).finished ++ ended ∷ []
+    → (led (happens m (Publisher place) (Begin call.LoanUninit)) entries).moments ≤ 2 ^ 63
+    → IsInCall (led (happens m (Publisher place) (Begin call.LoanUninit)) entries) place m.moments
+    → (ended : FinishedCall) → (happens (led (happens m (Publisher place) (Begin call.LoanUninit)) entries) (Publisher place)
+    GoOn).finished ≡ (led (happens m (Publisher place) (Begin call.LoanUninit)) entries).finished ++ ended ∷ []
     → ended.answer ≡ answer.Lent loan.OutOfMemory
     → (lane : PublisherLaneState) → slice_get m.publishers place ≡ Some lane → (slot : ℕ) → IsOwn lane.port.book slot → IsInUse m lane slot

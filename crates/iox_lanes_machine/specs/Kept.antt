@@ -85,7 +85,8 @@ pub record IsKeptAt (table : TableWords) (moments connection : ℕ) (link : Link
 abbrev pub AreKept : World → Type 0
 AreKept m = (connection : ℕ) (link : LinkState) (order : List Placed) → slice_get m.links connection ≡ Some link
     → slice_get m.orders connection ≡ Some order
-    → IsKeptAt m.table m.moments connection link order (publisher_stage (slice_get m.publishers link.publisher)) (subscriber_stage (slice_get m.subscribers link.subscriber))
+    → IsKeptAt m.table m.moments connection link order (publisher_stage (slice_get m.publishers link.publisher))
+    (subscriber_stage (slice_get m.subscribers link.subscriber))
 
 -- all of this; a position may not have wrapped while no more than 2^63 steps were made; and before the first step the lanes are
 -- as they begin

@@ -173,6 +173,7 @@ ReleasesOk (subscribing.Released done) = done ≡ true
 -- A subscriber counts the samples that it borrows of each of its connections, and borrows no more than it may.
 pub record CountsBorrowed (lane : SubscriberLaneState) : Type 0 where
   pub numbers : (place : ℕ) (route : Route) → slice_get lane.port.routes place ≡ Some route
-      → (slice_get lane.port.borrowed place ≡ Some (borrowed_of route.connection lane)) × (borrowed_of route.connection lane ≤ lane.port.most_borrowed)
+      → (slice_get lane.port.borrowed place ≡ Some (borrowed_of route.connection lane))
+      × (borrowed_of route.connection lane ≤ lane.port.most_borrowed)
   pub may : MayBorrow lane lane.port.call
   pub ok : ReleasesOk lane.port.call

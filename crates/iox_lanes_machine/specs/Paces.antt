@@ -48,7 +48,8 @@ abbrev pub LoansEndSoon : Type 0
 LoansEndSoon = (m : World) (came : CameTo m) (place : ℕ) (entries : List Entry) → fits m (Publisher place) (Begin call.LoanUninit) ≡ true
     → (led (happens m (Publisher place) (Begin call.LoanUninit)) entries).moments ≤ 2 ^ 63
     → IsInCall (led (happens m (Publisher place) (Begin call.LoanUninit)) entries) place m.moments
-    → 1 + own_steps (happens m (Publisher place) (Begin call.LoanUninit)) place entries + 1 ≤ 4 * came.sizes.subscribers * (came.sizes.buffer + came.sizes.most_borrowed + 2) + 2
+    → 1 + own_steps (happens m (Publisher place) (Begin call.LoanUninit)) place entries + 1
+    ≤ 4 * came.sizes.subscribers * (came.sizes.buffer + came.sizes.most_borrowed + 2) + 2
 
 -- Nor does a send take more than 4 * S * (B + R + 3) + U + 8, where a user header has U words, fewer than 2^61.
 abbrev pub SendsEndSoon : Type 0

@@ -27,7 +27,10 @@ pub record EndsAsBegun (m : World) (lane : PublisherLaneState) (given : LoanAnsw
 -- slots that have numbers below 2^64.
 abbrev pub LoansEndAsBegun : Type 0
 LoansEndAsBegun = (m : World) → CameTo m → (place : ℕ) (entries : List Entry) → fits m (Publisher place) (Begin call.LoanUninit) ≡ true
-    → (led (happens m (Publisher place) (Begin call.LoanUninit)) entries).moments ≤ 2 ^ 63 → IsInCall (led (happens m (Publisher place) (Begin call.LoanUninit)) entries) place m.moments
-    → (ended : FinishedCall) → (happens (led (happens m (Publisher place) (Begin call.LoanUninit)) entries) (Publisher place) GoOn).finished ≡ (led (happens m (Publisher place) (Begin call.LoanUninit)) entries).finished ++ ended ∷ []
+    → (led (happens m (Publisher place) (Begin call.LoanUninit)) entries).moments ≤ 2 ^ 63
+    → IsInCall (led (happens m (Publisher place) (Begin call.LoanUninit)) entries) place m.moments
+    → (ended : FinishedCall) → (happens (led (happens m (Publisher place) (Begin call.LoanUninit)) entries) (Publisher place)
+    GoOn).finished ≡ (led (happens m (Publisher place) (Begin call.LoanUninit)) entries).finished ++ ended ∷ []
     → (given : LoanAnswer) → ended.answer ≡ answer.Lent given
-    → (lane : PublisherLaneState) → slice_get m.publishers place ≡ Some lane → lane.port.book.first + length lane.port.book.loans < 2 ^ 64 → EndsAsBegun m lane given
+    → (lane : PublisherLaneState) → slice_get m.publishers place ≡ Some lane
+    → lane.port.book.first + length lane.port.book.loans < 2 ^ 64 → EndsAsBegun m lane given

@@ -30,8 +30,10 @@ abbrev pub QueueMoves : World → Party → World → ℕ → LinkState → Type
 QueueMoves m party n connection link =
     (given_back n.table connection ≡ given_back m.table connection)
     ⊎ (((sample : ℕ) × (party ≡ Subscriber link.subscriber) × (borrows connection sample (slice_get m.subscribers link.subscriber) ≡ true)
-    × (borrows connection sample (slice_get n.subscribers link.subscriber) ≡ false) × (given_back n.table connection ≡ given_back m.table connection ++ sample ∷ []))
-    ⊎ ((sample : ℕ) × (party ≡ Publisher link.publisher) × (given_back m.table connection ≡ sample ∷ given_back n.table connection) × IsTakenBack m n link.publisher connection sample))
+    × (borrows connection sample (slice_get n.subscribers link.subscriber) ≡ false)
+    × (given_back n.table connection ≡ given_back m.table connection ++ sample ∷ []))
+    ⊎ ((sample : ℕ) × (party ≡ Publisher link.publisher) × (given_back m.table connection ≡ sample ∷ given_back n.table connection)
+    × IsTakenBack m n link.publisher connection sample))
 
 -- so it is at each connection, as long as at most 2^63 steps were made
 abbrev pub GivenBackInTurn : World → Party → World → Type 0

@@ -79,7 +79,8 @@ routes_of (Some lane) = lane.port.routes
 -- the receives of a connection's subscriber gave the slots taken there, and no other of it
 abbrev pub ReceivesGive : List FinishedCall → ℕ → LinkState → List Placed → Option SubscriberLaneState → Type 0
 ReceivesGive finished connection link order lane =
-    slots_taken order ≡ given_calls (routes_of lane) connection link.subscriber finished ++ given_in_hand (routes_of lane) connection (subscriber_stage lane)
+    slots_taken order ≡ given_calls (routes_of lane) connection link.subscriber finished
+    ++ given_in_hand (routes_of lane) connection (subscriber_stage lane)
 
 -- so it is at each connection
 abbrev pub AllReceivesGive : World → Type 0

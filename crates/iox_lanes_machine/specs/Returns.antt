@@ -74,7 +74,8 @@ pub record IsReturning (cells : ℕ) (table : TableWords) (moments connection : 
 -- so it is at each connection
 abbrev pub AreReturning : World → Type 0
 AreReturning m = (connection : ℕ) (link : LinkState) → slice_get m.links connection ≡ Some link
-    → IsReturning m.table.sizes.completion_cells m.table m.moments connection (publisher_stage (slice_get m.publishers link.publisher)) (subscriber_stage (slice_get m.subscribers link.subscriber))
+    → IsReturning m.table.sizes.completion_cells m.table m.moments connection (publisher_stage (slice_get m.publishers link.publisher))
+    (subscriber_stage (slice_get m.subscribers link.subscriber))
 
 -- both ends go round as many cells as the ring has
 abbrev pub GoesRound : ℕ → List Route → Type 0

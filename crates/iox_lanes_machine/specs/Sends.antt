@@ -1,5 +1,6 @@
 -- The sends of a publisher put just what the orders of its connections say: each one put at each connection, of its slot, in its own time.
-use Rattle.std.specs.Prelude.{ℕ, ◌≡◌, ◌+◌, ◌≤◌, ◌^◌, ◌==◌, ◌&&◌, Bool, true, false, nat_lt, if◌then◌else◌, List, [], ◌∷◌, ◌++◌, length, map, take, drop, get_or, slice_get, Some}
+use Rattle.std.specs.Prelude.{ℕ, ◌≡◌, ◌+◌, ◌≤◌, ◌^◌, ◌==◌, ◌&&◌, Bool, true, false, nat_lt, if◌then◌else◌, List, [], ◌∷◌, ◌++◌, length}
+use Rattle.std.specs.Prelude.{map, take, drop, get_or, slice_get, Some}
 use Rattle.std.specs.List.{AllZip}
 use Rattle.iox_lanes_machine.specs.QueuesSteps.Order.{puts, push_call, IsInside, PutInside}
 use Rattle.iox_lanes_machine.specs.QueuesSteps.declared.access.Word.TheVariants.{Read}
@@ -60,7 +61,8 @@ pub record IsPutAt (orders : List (List Placed)) (number slot first last : ℕ) 
 abbrev pub PutsRise : List (List Placed) → ℕ → ℕ → List Route → ℕ → Type 0
 PutsRise orders number low [] high = low ≤ high
 PutsRise orders number low (route ∷ routes) high =
-    (put : PushCall) × (slice_get (puts_at orders route) number ≡ Some put) × (low ≤ put.first) × PutsRise orders number put.first routes high
+    (put : PushCall) × (slice_get (puts_at orders route) number ≡ Some put) × (low ≤ put.first)
+    × PutsRise orders number put.first routes high
 
 -- a slot has one put at each of some connections, all of one number and in the order of the connections, and the delivery counts
 -- how they were answered

@@ -1,7 +1,8 @@
 -- What it takes for lanes to take in a finding, and what it adds to what they hold: to the messages that wait at a connection,
 -- the samples given back there, a history, a word of a slot, the buffer of a connection, the slots or the headers of a publisher
 -- and whether its sends fail, or the places of a subscriber's connections.
-use Rattle.std.specs.Prelude.{ℕ, ◌≡◌, ◌+◌, ◌<◌, ◌≤◌, ◌==◌, ◌&&◌, if◌then◌else◌, Bool, true, false, List, [], ◌∷◌, ◌++◌, length, get_or, slice_get, Option, Some, None}
+use Rattle.std.specs.Prelude.{ℕ, ◌≡◌, ◌+◌, ◌<◌, ◌≤◌, ◌==◌, ◌&&◌, if◌then◌else◌, Bool, true, false, List, [], ◌∷◌, ◌++◌, length, get_or}
+use Rattle.std.specs.Prelude.{slice_get, Option, Some, None}
 use Rattle.iox_lanes_machine.specs.QueuesSteps.Access.{RingWords}
 use Rattle.iox_lanes_machine.specs.QueuesSteps.Ends.{cells_of}
 use Rattle.iox_lanes_machine.specs.LanesBase.Numbers.{IsWord}
@@ -317,7 +318,14 @@ pub record PublisherGrows (m : World) (f : Found) (who : ℕ) (was now : Publish
     heads = now.heads;
     port = record was.port {
       routes = now.port.routes;
-      book = record was.port.book { most_loans = now.port.book.most_loans; loans = now.port.book.loans; history = now.port.book.history; referred = now.port.book.referred; uses = now.port.book.uses };
+      book = record was.port.book {
+        most_loans = now.port.book.most_loans;
+        loans = now.port.book.loans;
+        history = now.port.book.history;
+        referred
+            = now.port.book.referred;
+        uses = now.port.book.uses;
+      };
     };
   }
 
@@ -332,9 +340,12 @@ pub record IsTakenIn (m : World) (f : Found) (n : World) : Type 0 where
   pub links : (connection : ℕ) → slice_get n.links connection
       ≡ link_with (more_messages m f connection) (new_buffer m f connection) (slice_get m.links connection)
   pub messages : (connection : ℕ) (link : LinkState) → slice_get m.links connection ≡ Some link
-      → RingGrows (ring_in m.table connection (cells_of link.kind link.limit)) (ring_in n.table connection (cells_of link.kind (number_with (new_buffer m f connection) link.limit))) (more_messages m f connection)
+      → RingGrows (ring_in m.table connection (cells_of link.kind link.limit))
+      (ring_in n.table connection (cells_of link.kind (number_with (new_buffer m f connection) link.limit)))
+      (more_messages m f connection)
   pub samples : (connection : ℕ) (link : LinkState) → slice_get m.links connection ≡ Some link
-      → RingGrows (back_ring m.table connection m.table.sizes.completion_cells) (back_ring n.table connection m.table.sizes.completion_cells) (more_samples m f connection)
+      → RingGrows (back_ring m.table connection m.table.sizes.completion_cells)
+      (back_ring n.table connection m.table.sizes.completion_cells) (more_samples m f connection)
   pub word : (slot : ℕ) (word : SlotWord) (value : ℕ) → f ≡ found.Held slot word value → held_by n.table (Slot slot word) ≡ value
   pub words : (slot : ℕ) (word : SlotWord) → IsWord m.table.sizes (Slot slot word) → ((value : ℕ) → f ≡ found.Held slot word value → ⊥)
       → held_by n.table (Slot slot word) ≡ held_by m.table (Slot slot word)
@@ -344,7 +355,8 @@ pub record IsTakenIn (m : World) (f : Found) (n : World) : Type 0 where
   pub subscribers : (who : ℕ) (was now : SubscriberLaneState) → slice_get m.subscribers who ≡ Some was
       → slice_get n.subscribers who ≡ Some now → SubscriberKnows m f who was now
   pub as_many_receive : length n.subscribers ≡ length m.subscribers
-  pub same : n ≡ record m { table = record m.table { words = n.table.words }; links = n.links; publishers = n.publishers; subscribers = n.subscribers }
+  pub same : n ≡ record m
+      { table = record m.table { words = n.table.words }; links = n.links; publishers = n.publishers; subscribers = n.subscribers }
 
 -- what a finding answers, and what it leaves: it is taken in just where it may be found
 abbrev pub TakesIn : World → Found → Bool → World → Type 0

@@ -26,13 +26,15 @@ given_back table connection = between (back_ring table connection table.sizes.co
 -- how often a slot stands at a connection: among the messages that wait, aside, borrowed, and given back
 abbrev pub stands_at : TableWords → ℕ → LinkState → List Placed → PublisherCall → Option SubscriberLaneState → ℕ → ℕ
 stands_at table connection link order call receiver slot =
-    count slot (waiting link order) + count slot (aside_at table connection link call) + one_if (borrows connection slot receiver) + count slot (given_back table connection)
+    count slot (waiting link order) + count slot (aside_at table connection link call) + one_if (borrows connection slot receiver) +
+    count slot (given_back table connection)
 
 -- what a publisher's record says of each of its connections stands there
 abbrev pub IsBalanced : World → PublisherLaneState → Type 0
 IsBalanced m lane = (place : ℕ) (route : Route) (link : LinkState) (order : List Placed) → slice_get lane.port.routes place ≡ Some route
     → slice_get m.links route.connection ≡ Some link → slice_get m.orders route.connection ≡ Some order
-    → (slot : ℕ) → stands_at m.table route.connection link order lane.port.call (slice_get m.subscribers link.subscriber) slot ≡ one_if (refers_to lane.port.book place slot)
+    → (slot : ℕ) → stands_at m.table route.connection link order lane.port.call (slice_get m.subscribers link.subscriber) slot
+    ≡ one_if (refers_to lane.port.book place slot)
 
 -- what every step keeps of a publisher's slots
 pub record PublisherUses (m : World) (lane : PublisherLaneState) : Type 0 where

@@ -55,7 +55,8 @@ UsedThrough slot m (entry ∷ entries) n =
 abbrev pub ReadsGiveWhatStood : Type 0
 ReadsGiveWhatStood = (m : World) → CameTo m → (slot : ℕ) (entries : List Entry) (n : World) → UsedThrough slot m entries n
     → n.moments ≤ 2 ^ 63
-    → (party : Party) (step : Move) (call : FinishedCall) → fits n party step ≡ true → (happens n party step).finished ≡ n.finished ++ call ∷ [] → call.call ≡ name.Read slot
+    → (party : Party) (step : Move) (call : FinishedCall) → fits n party step ≡ true
+    → (happens n party step).finished ≡ n.finished ++ call ∷ [] → call.call ≡ name.Read slot
     → (happens n party step).read ≡ n.read ++ slot_held m.table slot
 
 -- a list of steps leads from one place to another, and none of them that is made may change this word
@@ -63,13 +64,16 @@ abbrev pub UntouchedThrough : SharedWord → World → List Entry → World → 
 UntouchedThrough word m [] n = n ≡ m
 UntouchedThrough word m (entry ∷ entries) n =
     ((fits m entry.party entry.step ≡ false) × UntouchedThrough word m entries n)
-    ⊎ ((fits m entry.party entry.step ≡ true) × (MayChange (access_of m entry.party entry.step) word → ⊥) × UntouchedThrough word (happens m entry.party entry.step) entries n)
+    ⊎ ((fits m entry.party entry.step ≡ true) × (MayChange (access_of m entry.party entry.step) word → ⊥)
+    × UntouchedThrough word (happens m entry.party entry.step) entries n)
 
 -- However lanes came to where they are, and whatever steps follow of which none may change a word of a slot: a read of the slot
 -- that ends behind them gives, at the place of this word, just what it held at first, be it of the header, the user header or the
 -- payload. So it is as long as at most 2^63 steps were made.
 abbrev pub ReadsGiveWhatWasStored : Type 0
 ReadsGiveWhatWasStored = (m : World) → CameTo m → (slot place : ℕ) → place < width m.table.sizes
-    → (entries : List Entry) (n : World) → UntouchedThrough (Slot slot (word_at (extent_of m.table.sizes) place)) m entries n → n.moments ≤ 2 ^ 63
-    → (party : Party) (step : Move) (call : FinishedCall) → fits n party step ≡ true → (happens n party step).finished ≡ n.finished ++ call ∷ [] → call.call ≡ name.Read slot
+    → (entries : List Entry) (n : World) → UntouchedThrough (Slot slot (word_at (extent_of m.table.sizes) place)) m entries n
+    → n.moments ≤ 2 ^ 63
+    → (party : Party) (step : Move) (call : FinishedCall) → fits n party step ≡ true
+    → (happens n party step).finished ≡ n.finished ++ call ∷ [] → call.call ≡ name.Read slot
     → get_or (happens n party step).read (length n.read + place) 0 ≡ held_by m.table (Slot slot (word_at (extent_of m.table.sizes) place))

@@ -17,7 +17,9 @@ use Rattle.iox_lanes_machine.specs.LanesBase.declared.calls.publisher.PublisherC
 use Rattle.iox_lanes_machine.specs.LanesBase.declared.calls.publisher.PublisherCall.TheVariants as publishing
 use Rattle.iox_lanes_machine.specs.LanesBase.declared.calls.subscriber.SubscriberCall.{SubscriberCall}
 use Rattle.iox_lanes_machine.specs.LanesBase.declared.calls.subscriber.SubscriberCall.TheVariants as subscribing
-use Rattle.iox_lanes_machine.specs.LanesParties.Parties.{PublisherLaneState, SubscriberLaneState, publisher_fits, publisher_begun, publisher_after, publisher_answer, subscriber_fits, subscriber_begun, subscriber_after, subscriber_answer, words_read}
+use Rattle.iox_lanes_machine.specs.LanesParties.Parties.{PublisherLaneState, SubscriberLaneState, publisher_fits, publisher_begun}
+use Rattle.iox_lanes_machine.specs.LanesParties.Parties.{publisher_after, publisher_answer, subscriber_fits, subscriber_begun}
+use Rattle.iox_lanes_machine.specs.LanesParties.Parties.{subscriber_after, subscriber_answer, words_read}
 use Rattle.iox_lanes_machine.specs.LanesParties.declared.call.Answer.{Answer}
 use Rattle.iox_lanes_machine.specs.LanesParties.declared.call.Call.{Call}
 use Rattle.iox_lanes_machine.specs.LanesParties.declared.call.CallName.{CallName}

@@ -4,7 +4,11 @@ ghost use Rattle.iox_lanes_machine.specs.QueuesSteps.declared.access.Word.{Word}
 ghost use Rattle.iox_lanes_machine.specs.QueuesSteps.Ends.{cells_of};
 ghost use Rattle.iox_lanes_machine.specs.LanesBase.Numbers.{IsWord};
 ghost use Rattle.iox_lanes_machine.specs.LanesBase.Table.{stored_in};
-ghost use Rattle.iox_lanes_machine.specs.Findings.{back_at, back_found, back_of, buffered_at, buffered_in, buffered_of, buffers_at, buffers_of, finds, finds_now, given_at, given_of, has_word, laid, may_be_back, may_buffer, may_wait, is_there, named_of, newest_of, remembered_of, resized_of, resizes_of, subscribers_meet, swapped_of, swaps_of, takes_buffer, takes_more, waiting_at, waiting_in, waiting_of, waits_at, waits_of, with_buffer, with_found};
+ghost use Rattle.iox_lanes_machine.specs.Findings.{back_at, back_found, back_of, buffered_at, buffered_in, buffered_of, buffers_at};
+ghost use Rattle.iox_lanes_machine.specs.Findings.{buffers_of, finds, finds_now, given_at, given_of, has_word, laid, may_be_back};
+ghost use Rattle.iox_lanes_machine.specs.Findings.{may_buffer, may_wait, is_there, named_of, newest_of, remembered_of, resized_of};
+ghost use Rattle.iox_lanes_machine.specs.Findings.{resizes_of, subscribers_meet, swapped_of, swaps_of, takes_buffer, takes_more};
+ghost use Rattle.iox_lanes_machine.specs.Findings.{waiting_at, waiting_in, waiting_of, waits_at, waits_of, with_buffer, with_found};
 ghost use Rattle.iox_lanes_machine.specs.Kept.{IsWithin};
 ghost use Rattle.iox_lanes_machine.specs.State.{world_of};
 ghost use Rattle.iox_lanes_machine.specs.TakenIn.{IsAppended};
@@ -417,7 +421,10 @@ impl State {
 
     // A subscriber, if it is there, knows a connection anew.
     fn subscriber_meets(&mut self, subscriber: u64, route: Route)
-        ensures { world_of self.new ≡ record (world_of self.old) { subscribers = subscribers_meet self.old.subscribers.items subscriber route (slice_get self.old.subscribers.items subscriber) } }
+        ensures { world_of self.new
+            ≡ record (world_of self.old) {
+              subscribers = subscribers_meet self.old.subscribers.items subscriber route (slice_get self.old.subscribers.items subscriber);
+            } }
     {
         if let Some(lane) = self.subscribers.get_mut(subscriber as usize) {
             lane.meet(route);

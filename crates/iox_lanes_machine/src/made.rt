@@ -1,6 +1,7 @@
 //! The parts of lanes, as they are made.
 ghost use Rattle.std.specs.Prelude.{◌≡◌, ◌+◌, ◌*◌, [], replicate, IfOk};
-ghost use Rattle.iox_lanes_machine.specs.Made.{listed, link_at, publisher_at, subscriber_at, sending_routes, receiving_routes, first_head, route_to, table_sizes};
+ghost use Rattle.iox_lanes_machine.specs.Made.{listed, link_at, publisher_at, subscriber_at, sending_routes, receiving_routes};
+ghost use Rattle.iox_lanes_machine.specs.Made.{first_head, route_to, table_sizes};
 
 use crate::link::Link;
 use crate::order::Order;

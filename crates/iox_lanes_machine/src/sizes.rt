@@ -64,7 +64,14 @@ impl LaneSizes {
 
     /// A connection as its ports know it.
     pub(crate) fn route(&self, table: &TableSizes, connection: u64) -> Route
-        ensures { result ≡ record { connection = connection; kind = self.now.kind; limit = self.now.buffer; submission_cells = table.now.submission_cells; completion_cells = table.now.completion_cells } }
+        ensures { result ≡ record {
+          connection = connection;
+          kind = self.now.kind;
+          limit = self.now.buffer;
+          submission_cells
+              = table.now.submission_cells;
+          completion_cells = table.now.completion_cells;
+        } }
     {
         Route {
             connection,

@@ -1,12 +1,16 @@
 //! The state of lanes, and their steps.
-ghost use Rattle.std.specs.Prelude.{[], IfOk, get_or, ◌≡◌, ◌+◌, ◌≤◌, ◌<◌, ◌++◌, Some, OnOk, OnErr, true, false, length, slice_get, is_some, vec_len, vec_capacity};
+ghost use Rattle.std.specs.Prelude.{[], IfOk, get_or, ◌≡◌, ◌+◌, ◌≤◌, ◌<◌, ◌++◌, Some, OnOk, OnErr, true, false, length, slice_get};
+ghost use Rattle.std.specs.Prelude.{is_some, vec_len, vec_capacity};
 ghost use Rattle.std.specs.Option.{option_to_list};
 ghost use Rattle.iox_lanes_machine.specs.LanesBase.Numbers.{IsWord};
 ghost use Rattle.iox_lanes_machine.specs.LanesBase.Table.{held_by, shared_answer, after_shared, IsOfTable};
 ghost use Rattle.iox_lanes_machine.specs.LanesBase.Publishing.{publisher_next, publisher_is_over};
 ghost use Rattle.iox_lanes_machine.specs.LanesBase.Subscribing.{subscriber_next, subscriber_is_over};
 ghost use Rattle.iox_lanes_machine.specs.LanesParties.Parties.{publisher_after, subscriber_after, subscriber_answer};
-ghost use Rattle.iox_lanes_machine.specs.World.{StepsTo, added, acts_at, connection_at, ended, ends, party_ends, fits, goes_on, happens, placed, pop_acts, pops_from, push_acts, push_at, pushes_to, sender_stage, publisher_begins, publisher_given, publisher_ending, publisher_goes_on, subscriber_begins, subscriber_given, subscriber_goes_on, words_ending};
+ghost use Rattle.iox_lanes_machine.specs.World.{StepsTo, added, acts_at, connection_at, ended, ends, party_ends, fits, goes_on, happens};
+ghost use Rattle.iox_lanes_machine.specs.World.{placed, pop_acts, pops_from, push_acts, push_at, pushes_to, sender_stage};
+ghost use Rattle.iox_lanes_machine.specs.World.{publisher_begins, publisher_given, publisher_ending, publisher_goes_on};
+ghost use Rattle.iox_lanes_machine.specs.World.{subscriber_begins, subscriber_given, subscriber_goes_on, words_ending};
 
 use crate::link::{Link, Positions};
 use crate::made;
@@ -271,7 +275,11 @@ impl State {
 
     // Puts what stands at a step into its order.
     fn place(&mut self, placing: Placing) -> Result<(), AllocError>
-        ensures placed { OnOk result (world_of self.new ≡ record (world_of self.old) { orders = added self.old.orders.items placing.connection self.old.moments (option_to_list placing.first ++ option_to_list placing.second) }) }
+        ensures placed { OnOk result
+            (world_of self.new ≡ record (world_of self.old) {
+              orders = added self.old.orders.items placing.connection self.old.moments
+                  (option_to_list placing.first ++ option_to_list placing.second);
+            }) }
         ensures same { OnErr result (world_of self.new ≡ world_of self.old) }
         ensures some { OnErr result (0 < length (option_to_list placing.first ++ option_to_list placing.second)) }
         ensures finished { self.new.finished ≡ self.old.finished }

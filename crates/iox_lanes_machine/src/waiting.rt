@@ -44,8 +44,10 @@ impl State {
         requires { connection < self.now.table.sizes.connections }
         ensures few { (link : LinkState) → slice_get self.now.links.items connection ≡ Some link → result ≤ link.limit }
         ensures between { (link : LinkState) → slice_get self.now.links.items connection ≡ Some link
-            → (positions_of self.now.table connection).submission_write ≤ (positions_of self.now.table connection).submission_read + link.limit
-            → result ≡ (positions_of self.now.table connection).submission_write - (positions_of self.now.table connection).submission_read }
+            → (positions_of self.now.table connection).submission_write ≤ (positions_of self.now.table connection).submission_read +
+            link.limit
+            → result ≡ (positions_of self.now.table connection).submission_write -
+            (positions_of self.now.table connection).submission_read }
     {
         let positions = self.positions(connection);
         let between = positions

@@ -1,5 +1,6 @@
 -- The messages that lanes leave.
-use Rattle.std.proofs.Common.{◌≡◌, ◌-◌, ◌∷◌, [], ◌++◌, ℕ, zero, suc, Bool, true, false, nat_lt, if◌then◌else◌, List, length, get_or, refl, ap, ◌∙◌}
+use Rattle.std.proofs.Common.{◌≡◌, ◌-◌, ◌∷◌, [], ◌++◌, ℕ, zero, suc, Bool, true, false, nat_lt, if◌then◌else◌, List, length, get_or, refl}
+use Rattle.std.proofs.Common.{ap, ◌∙◌}
 use Rattle.std.specs.List.{All, list_any}
 use Rattle.std.proofs.Math.Dec.{eqb}
 use Rattle.std.proofs.lemmas.List.Elements.{All-nil, All-cons, All-head, All-tail, All-set, All-drop, All-push}
@@ -24,7 +25,8 @@ all_offered : {X : Type 0} (P : X → Type 0) (overflows : Bool) (limit : ℕ) (
     → All P (if overflows then put_over limit waiting message else put limit waiting message)
 all_offered P overflows limit waiting message all this = at overflows (nat_lt (length waiting) limit) refl
   where
-    at : (overflows room : Bool) → nat_lt (length waiting) limit ≡ room → All P (if overflows then put_over limit waiting message else put limit waiting message)
+    at : (overflows room : Bool) → nat_lt (length waiting) limit ≡ room
+        → All P (if overflows then put_over limit waiting message else put limit waiting message)
     at true true is = rw is (All-push P waiting message all this)
     at true false is = rw is (All-drop P 1 (waiting ++ message ∷ []) (All-push P waiting message all this))
     at false true is = rw is (All-push P waiting message all this)
@@ -36,39 +38,58 @@ module _ {T U : Type 0} (value_of : List ℕ → T) (header_of : List ℕ → U)
 
   -- the messages of a connection are those that lie in their slots
   abbrev LeftAt : Connection (Message T U) → Type 0
-  LeftAt connection = All (IsLeft value_of header_of table first) connection.waiting × All (IsLeft value_of header_of table first) connection.borrowed
+  LeftAt connection = All (IsLeft value_of header_of table first) connection.waiting
+      × All (IsLeft value_of header_of table first) connection.borrowed
 
   -- a message that lies in its slot stands there alone, among such messages
   pub left_alone : (uses : Uses (Loan T U) (Message T U)) (slot : ℕ) → uses.loans ≡ [] → AreLeft value_of header_of table first uses
       → StandsAlone (message_in value_of header_of table first slot) uses
   left_alone uses slot unlent are = record {
     loans = ap (λ loans. list_any (λ loan. eqb slot loan.slot) loans) unlent;
-    history = all_weak (IsLeft value_of header_of table first) (IsIfInSlot (message_in value_of header_of table first slot)) same uses.history are.history;
-    connections = all_weak LeftAt (λ c. All (IsIfInSlot (message_in value_of header_of table first slot)) c.waiting × All (IsIfInSlot (message_in value_of header_of table first slot)) c.borrowed)
-        (λ c both. (all_weak (IsLeft value_of header_of table first) (IsIfInSlot (message_in value_of header_of table first slot)) same c.waiting both.0, all_weak (IsLeft value_of header_of table first) (IsIfInSlot (message_in value_of header_of table first slot)) same c.borrowed both.1))
+    history = all_weak (IsLeft value_of header_of table first) (IsIfInSlot (message_in value_of header_of table first slot)) same
+        uses.history are.history;
+    connections = all_weak LeftAt (λ c. All (IsIfInSlot (message_in value_of header_of table first slot)) c.waiting
+        × All (IsIfInSlot (message_in value_of header_of table first slot)) c.borrowed)
+        (λ c both. (
+          all_weak (IsLeft value_of header_of table first) (IsIfInSlot (message_in value_of header_of table first slot)) same
+              c.waiting both.0,
+          all_weak (IsLeft value_of header_of table first) (IsIfInSlot (message_in value_of header_of table first slot)) same c.borrowed
+              both.1,
+        ))
         uses.connections are.connections;
   }
     where
-      same : (other : Message T U) → IsLeft value_of header_of table first other → IsIfInSlot (message_in value_of header_of table first slot) other
+      same : (other : Message T U) → IsLeft value_of header_of table first other
+          → IsIfInSlot (message_in value_of header_of table first slot) other
       same other is = λ at. is ∙ ap (message_in value_of header_of table first) at
 
   -- so they are once one more waits
   pub left_put : (uses : Uses (Loan T U) (Message T U)) (index slot : ℕ) (overflows : Bool) → AreLeft value_of header_of table first uses
-      → AreLeft value_of header_of table first (with_connection index (offered overflows (message_in value_of header_of table first slot) (connection_at index uses)) uses)
+      → AreLeft value_of header_of table first
+      (with_connection index (offered overflows (message_in value_of header_of table first slot) (connection_at index uses)) uses)
   left_put uses index slot overflows are =
-      let here : LeftAt (connection_at index uses) = all_get LeftAt uses.connections index nobody are.connections (All-nil (IsLeft value_of header_of table first), All-nil (IsLeft value_of header_of table first)) in
+      let here : LeftAt (connection_at index uses)
+      = all_get LeftAt uses.connections index nobody are.connections
+      (All-nil (IsLeft value_of header_of table first), All-nil (IsLeft value_of header_of table first)) in
       record {
         history = are.history;
-        connections = All-set LeftAt uses.connections index (offered overflows (message_in value_of header_of table first slot) (connection_at index uses))
-            (all_offered (IsLeft value_of header_of table first) overflows (connection_at index uses).limit (connection_at index uses).waiting (message_in value_of header_of table first slot) here.0 refl, here.1)
+        connections = All-set LeftAt uses.connections index
+            (offered overflows (message_in value_of header_of table first slot) (connection_at index uses)) (
+              all_offered (IsLeft value_of header_of table first) overflows (connection_at index uses).limit
+                  (connection_at index uses).waiting (message_in value_of header_of table first slot) here.0 refl,
+              here.1,
+            )
             are.connections;
       }
 
   -- so they are once one more is remembered
   pub left_remembered : (uses : Uses (Loan T U) (Message T U)) (slot : ℕ) → AreLeft value_of header_of table first uses
-      → AreLeft value_of header_of table first (record uses { history = newest uses.kept (uses.history ++ message_in value_of header_of table first slot ∷ []) })
+      → AreLeft value_of header_of table first
+      (record uses { history = newest uses.kept (uses.history ++ message_in value_of header_of table first slot ∷ []) })
   left_remembered uses slot are = record {
-    history = All-drop (IsLeft value_of header_of table first) (length (uses.history ++ message_in value_of header_of table first slot ∷ []) - uses.kept) (uses.history ++ message_in value_of header_of table first slot ∷ [])
+    history = All-drop (IsLeft value_of header_of table first)
+        (length (uses.history ++ message_in value_of header_of table first slot ∷ []) - uses.kept)
+        (uses.history ++ message_in value_of header_of table first slot ∷ [])
         (All-push (IsLeft value_of header_of table first) uses.history (message_in value_of header_of table first slot) are.history refl);
     connections = are.connections;
   }

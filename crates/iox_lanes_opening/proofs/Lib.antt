@@ -2,6 +2,7 @@
 mod Listing
 mod Going
 mod Slicing
+pub mod Again
 pub mod SlotWords
 pub mod Losing
 pub mod Left

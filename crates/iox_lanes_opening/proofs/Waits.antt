@@ -1,5 +1,6 @@
 -- What waits at a connection while messages come back to it.
-use Rattle.std.proofs.Common.{arith, ◌≡◌, ◌<◌, ◌≤◌, ◌∷◌, [], ℕ, zero, suc, rules, Bool, List, length, get_or, set, refl, sym, subst, ap, inl, inr, ◌∙◌}
+use Rattle.std.proofs.Common.{arith, ◌≡◌, ◌<◌, ◌≤◌, ◌∷◌, [], ℕ, zero, suc, rules, Bool, List, length, get_or, set, refl, sym, subst, ap}
+use Rattle.std.proofs.Common.{inl, inr, ◌∙◌}
 use Rattle.std.proofs.lemmas.Bool.{cases_lt}
 use Rattle.std.proofs.lemmas.List.{get_or-set_same, set-get_or}
 use Rattle.iox_domain_ports.specs.DomainSlots.declared.stage.Stage.TheVariants as stage
@@ -26,30 +27,40 @@ pub waits_same : {T U : Type 0} (index : ℕ) (sender : SenderState T U) → Onl
 waits_same index sender = ap (with_connections sender) (sym (set-get_or sender.uses.connections index nobody))
 
 -- a message was put into the mailbox
-pub waits_put : {T U : Type 0} (index : ℕ) (overflows : Bool) (message : Message T U) (old new : SenderState T U) → (connection_at index old.uses).stage ≡ stage.Live
-    → new ≡ with_uses (with_connection index (offered overflows message (connection_at index old.uses)) old.uses) old → OnlyWaits index old new
+pub waits_put : {T U : Type 0} (index : ℕ) (overflows : Bool) (message : Message T U) (old new : SenderState T U)
+    → (connection_at index old.uses).stage ≡ stage.Live
+    → new ≡ with_uses (with_connection index (offered overflows message (connection_at index old.uses)) old.uses) old
+    → OnlyWaits index old new
 waits_put index overflows message old new live is =
     let there : connection_at index new.uses ≡ offered overflows message (connection_at index old.uses) =
-    ap (λ s. connection_at index s.uses) is ∙ get_or-set_same old.uses.connections index (offered overflows message (connection_at index old.uses)) nobody (within_is old.uses.connections index live) in
+    ap (λ s. connection_at index s.uses) is ∙ get_or-set_same old.uses.connections index
+    (offered overflows message (connection_at index old.uses)) nobody (within_is old.uses.connections index live) in
     is ∙ ap (λ c. with_connections old (set old.uses.connections index (with_waiting (connection_at index old.uses) c.waiting))) (sym there)
   where
-    within_is : {X : Type 0} (connections : List (Connection X)) (i : ℕ) → (get_or connections i nobody).stage ≡ stage.Live → i < length connections
+    within_is : {X : Type 0} (connections : List (Connection X)) (i : ℕ) → (get_or connections i nobody).stage ≡ stage.Live
+        → i < length connections
     within_is [] i on = search (rules, on)
     within_is (x ∷ xs) zero on = omega arith
     within_is (x ∷ xs) (suc i) on = omega (arith, within_is xs i on)
 
 -- one change after the other
-pub waits_on : {T U : Type 0} (index : ℕ) (old mid new : SenderState T U) → OnlyWaits index old mid → OnlyWaits index mid new → OnlyWaits index old new
+pub waits_on : {T U : Type 0} (index : ℕ) (old mid new : SenderState T U) → OnlyWaits index old mid → OnlyWaits index mid new
+    → OnlyWaits index old new
 waits_on index old mid new first second = elim (cases_lt index (length old.uses.connections)) [
   | inl below ↦
       let there : connection_at index mid.uses ≡ with_waiting (connection_at index old.uses) (connection_at index mid.uses).waiting =
-      ap (λ s. connection_at index s.uses) first ∙ get_or-set_same old.uses.connections index (with_waiting (connection_at index old.uses) (connection_at index mid.uses).waiting) nobody below in
+      ap (λ s. connection_at index s.uses) first ∙ get_or-set_same old.uses.connections index
+      (with_waiting (connection_at index old.uses) (connection_at index mid.uses).waiting) nobody below in
       second
       ∙ ap (λ c. with_connections mid (set mid.uses.connections index (with_waiting c (connection_at index new.uses).waiting))) there
-      ∙ ap (λ s. with_connections s (set s.uses.connections index (with_waiting (connection_at index old.uses) (connection_at index new.uses).waiting))) first
-      ∙ ap (with_connections old) (set_twice old.uses.connections index (with_waiting (connection_at index old.uses) (connection_at index mid.uses).waiting) (with_waiting (connection_at index old.uses) (connection_at index new.uses).waiting))
+      ∙ ap (λ s. with_connections s (set s.uses.connections index
+      (with_waiting (connection_at index old.uses) (connection_at index new.uses).waiting))) first
+      ∙ ap (with_connections old) (set_twice old.uses.connections index
+      (with_waiting (connection_at index old.uses) (connection_at index mid.uses).waiting)
+      (with_waiting (connection_at index old.uses) (connection_at index new.uses).waiting))
   | inr beyond ↦
-      let still : mid ≡ old = first ∙ ap (with_connections old) (past old.uses.connections index (with_waiting (connection_at index old.uses) (connection_at index mid.uses).waiting) beyond) in
+      let still : mid ≡ old = first ∙ ap (with_connections old)
+      (past old.uses.connections index (with_waiting (connection_at index old.uses) (connection_at index mid.uses).waiting) beyond) in
       subst (λ s. OnlyWaits index s new) still second
 ]
   where

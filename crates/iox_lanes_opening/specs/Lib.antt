@@ -5,6 +5,7 @@ pub mod UpToDate
 pub mod Deciding
 pub mod Lingering
 pub mod Slices
+pub mod Soundness
 pub mod Refusals
 pub mod Leaving
 pub mod Clearing

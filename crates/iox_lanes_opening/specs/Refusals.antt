@@ -12,6 +12,7 @@ use Rattle.iox_lanes_opening.specs.UpToDate.{is_up_to_date}
 use Rattle.iox_lanes_opening.specs.Deciding.{has_handlers, is_retrying}
 use Rattle.iox_lanes_opening.specs.Lingering.{is_lingering}
 use Rattle.iox_lanes_opening.specs.Slices.{has_slices}
+use Rattle.iox_lanes_opening.specs.Soundness.{is_unsound}
 use Rattle.iox_lanes_opening.specs.declared.refusals.into_lanes_error.IntoLanesError.{IntoLanesError}
 use Rattle.iox_lanes_opening.specs.declared.refusals.into_lanes_error.IntoLanesError.TheVariants as reason
 
@@ -40,4 +41,5 @@ first_reason domain =
     else if is_retrying domain then Some reason.Retrying
     else if is_lingering domain.state.ports then Some reason.Lingering
     else if has_slices domain then Some reason.HasSlices
+    else if is_unsound domain.state.ports then Some reason.Unsound
     else None

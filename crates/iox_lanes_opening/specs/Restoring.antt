@@ -44,7 +44,8 @@ pub record IsOwn {L X : Type 0} (first slot slots : ℕ) (uses : Uses L X) : Typ
 -- only what waits at the connection of an index has changed
 abbrev pub OnlyWaits : {T U : Type 0} → ℕ → SenderState T U → SenderState T U → Type 0
 OnlyWaits index old new =
-    new ≡ with_uses (with_connection index (record (connection_at index old.uses) { waiting = (connection_at index new.uses).waiting }) old.uses) old
+    new ≡ with_uses (with_connection index (record (connection_at index old.uses) { waiting = (connection_at index new.uses).waiting })
+    old.uses) old
 
 -- only the history has changed
 abbrev pub OnlyRemembers : {T U : Type 0} → SenderState T U → SenderState T U → Type 0

@@ -57,7 +57,8 @@ is_connected place number port subscribers other entry
 abbrev pub is_current_port : {T U : Type 0} → ServicePorts T U → ℕ → ℕ → Option (PublisherPort T U) → Bool
 is_current_port ports place number None = false
 is_current_port ports place number (Some port) =
-    (port.seen == ports.subscriber_list.changes) && of_each_listed (is_connected place number port ports.subscribers) 0 ports.subscriber_list.places
+    (port.seen == ports.subscriber_list.changes)
+    && of_each_listed (is_connected place number port ports.subscribers) 0 ports.subscriber_list.places
 
 -- the same of the publisher that is listed at a place
 abbrev pub is_current_publisher : {T U : Type 0} → ServicePorts T U → ℕ → PublisherEntry → Bool

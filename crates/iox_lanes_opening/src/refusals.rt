@@ -5,6 +5,7 @@
 //! - [`deciding`]: who decides by an object, and who waits or fails at a full mailbox.
 //! - [`lingering`]: what is still out, and who left and isn't gone.
 //! - [`slices`]: what isn't one value.
+//! - [`soundness`]: what no calls leave.
 //! - [`reasons`]: the first reason that applies.
 //!
 //! First calls, of a domain:
@@ -19,6 +20,7 @@ pub mod into_lanes_error;
 pub mod lingering;
 pub mod reasons;
 pub mod slices;
+pub mod soundness;
 pub mod up_to_date;
 
 pub use into_lanes_error::IntoLanesError;

@@ -6,7 +6,7 @@ use iox_describe_settings::publish_subscribe::StaticConfig;
 use iox_describe_settings::{Description, Settings};
 use iox_domain::ports::{PublisherConfig, SubscriberConfig};
 use iox_domain::{Domain, DomainId};
-use iox_domain_ports::{Member, Sent, Taken, Ties};
+use iox_domain_ports::{Member, PublisherEntry, Sent, Taken, Ties};
 use iox_domain_values::{
     AllocationStrategy, BackpressureAction, BackpressureFn, BackpressureHandler, BackpressureInfo,
     BackpressureStrategy, ConnectionFailure, DegradationAction, DegradationCause, DegradationFn,
@@ -107,6 +107,8 @@ pub(crate) enum Step {
     Leave(u64),
     /// A subscriber leaves.
     Depart(u64),
+    /// A publisher is listed once more, as no call lists it.
+    Relist(u64),
     /// This is why the domain can't become lanes.
     Refused(IntoLanesError),
     /// Nothing forbids it.
@@ -471,6 +473,12 @@ fn follows(answer: Option<Result<(), ConnectionFailure>>) -> Result<bool, AllocE
     }
 }
 
+// Whether a publisher is listed at one place more.
+fn relist(domain: &mut Numbers, number: u64) -> bool {
+    let entry = PublisherEntry { publisher: number };
+    domain.state.ports.publisher_list.enter(entry).is_some()
+}
+
 // Whether a step goes so of those that take no memory.
 fn stands(domain: &mut Numbers, kept: &mut Kept, step: &Step) -> bool {
     match *step {
@@ -479,6 +487,7 @@ fn stands(domain: &mut Numbers, kept: &mut Kept, step: &Step) -> bool {
         Step::Spare(number) => kept.sample.is_some() && !release(domain, kept, number),
         Step::Leave(number) => domain.state.leave_publisher(number),
         Step::Depart(number) => domain.state.leave_subscriber(number),
+        Step::Relist(number) => relist(domain, number),
         Step::Refused(reason) => refusal(domain) == Some(reason),
         Step::May => refusal(domain).is_none(),
         _ => false,

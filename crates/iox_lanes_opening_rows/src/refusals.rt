@@ -247,7 +247,18 @@ const EMPTY: [Step; 6] = [
     Step::Refused(IntoLanesError::HasSlices),
 ];
 
-const CASES: [Case; 14] = [
+// A publisher that is listed at two places.
+const RELISTED: [Step; 4] = [
+    Step::Come(1, PLAIN),
+    Step::May,
+    Step::Relist(1),
+    Step::Refused(IntoLanesError::Unsound),
+];
+
+// It is listed so still where it is handed back.
+const STILL_RELISTED: [Step; 1] = [Step::Refused(IntoLanesError::Unsound)];
+
+const CASES: [Case; 15] = [
     Case {
         name: "a send that waits",
         service: &REFUSING,
@@ -332,6 +343,12 @@ const CASES: [Case; 14] = [
         steps: &EMPTY,
         then: Then::Rests,
     },
+    Case {
+        name: "a publisher that is listed twice",
+        service: &OVERFLOWING,
+        steps: &RELISTED,
+        then: Then::Stays(IntoLanesError::Unsound, &STILL_RELISTED),
+    },
 ];
 
 #[test]
@@ -339,7 +356,7 @@ fn each_reason_is_told_where_it_applies(rt: HostRuntime) -> Result<(), AllocErro
     go_all(&rt, rt.alloc(), &CASES)
 }
 
-const TEXTS: [(IntoLanesError, &str); 8] = [
+const TEXTS: [(IntoLanesError, &str); 9] = [
     (IntoLanesError::Blocked, "IntoLanesError::Blocked"),
     (
         IntoLanesError::ConnectionsNotUpToDate,
@@ -350,6 +367,7 @@ const TEXTS: [(IntoLanesError, &str); 8] = [
     (IntoLanesError::Retrying, "IntoLanesError::Retrying"),
     (IntoLanesError::Lingering, "IntoLanesError::Lingering"),
     (IntoLanesError::HasSlices, "IntoLanesError::HasSlices"),
+    (IntoLanesError::Unsound, "IntoLanesError::Unsound"),
     (IntoLanesError::OutOfMemory, "IntoLanesError::OutOfMemory"),
 ];
 

@@ -32,9 +32,12 @@ round_within cells most Read some room = tt
 round_within cells most (Cell position) some room = omega (arith, mod_below position cells some)
 
 -- an access of a ring's end is one to words of the service
-pub ring_within : (sizes : TableSizes) (connection : ℕ) (ring : ConnectionRing) (cells : ℕ) (access : Access) → connection < sizes.connections → 0 < cells → cells ≤ most_cells sizes ring
+pub ring_within : (sizes : TableSizes) (connection : ℕ) (ring : ConnectionRing) (cells : ℕ) (access : Access)
+    → connection < sizes.connections → 0 < cells → cells ≤ most_cells sizes ring
     → IsOfTable sizes (on_ring connection ring cells access)
 ring_within sizes connection ring cells (own.Load word) there some room = (there, round_within cells (most_cells sizes ring) word some room)
-ring_within sizes connection ring cells (own.Store word value) there some room = (there, round_within cells (most_cells sizes ring) word some room)
-ring_within sizes connection ring cells (own.Exchange word old new) there some room = (there, round_within cells (most_cells sizes ring) word some room)
+ring_within sizes connection ring cells (own.Store word value) there some room
+    = (there, round_within cells (most_cells sizes ring) word some room)
+ring_within sizes connection ring cells (own.Exchange word old new) there some room
+    = (there, round_within cells (most_cells sizes ring) word some room)
 ring_within sizes connection ring cells own.Local there some room = tt

@@ -1,5 +1,6 @@
 -- A publisher and a subscriber with the call that each is in: which calls fit, what a step leaves, what a call answers.
-use Rattle.std.specs.Prelude.{ℕ, ◌+◌, ◌-◌, Bool, true, false, not, ◌&&◌, ◌==◌, if◌then◌else◌, nat_lt, List, [], ◌++◌, length, map, take, set, get_or, slice_get, Option, Some, None}
+use Rattle.std.specs.Prelude.{ℕ, ◌+◌, ◌-◌, Bool, true, false, not, ◌&&◌, ◌==◌, if◌then◌else◌, nat_lt, List, [], ◌++◌, length, map, take}
+use Rattle.std.specs.Prelude.{set, get_or, slice_get, Option, Some, None}
 use Rattle.iox_lanes_parties.specs.LanesBase.Publishing.{publisher_is_idle}
 use Rattle.iox_lanes_parties.specs.LanesBase.Subscribing.{subscriber_is_idle}
 use Rattle.iox_lanes_parties.specs.LanesBase.declared.calls.publisher.PublisherCall.{PublisherCall}

@@ -1,8 +1,10 @@
 -- What the slots of a publisher are used for, and what a step changes of it.
-use Rattle.std.specs.Prelude.{ℕ, ◌+◌, ◌-◌, ◌*◌, ◌^◌, min, List, [], ◌∷◌, ◌++◌, length, take, set, get_or, remove, replicate, Option, None, Some, Bool, true, false, not, ◌&&◌, if◌then◌else◌, ◌==◌, nat_lt, nat_le}
+use Rattle.std.specs.Prelude.{ℕ, ◌+◌, ◌-◌, ◌*◌, ◌^◌, min, List, [], ◌∷◌, ◌++◌, length, take, set, get_or, remove, replicate, Option, None}
+use Rattle.std.specs.Prelude.{Some, Bool, true, false, not, ◌&&◌, if◌then◌else◌, ◌==◌, nat_lt, nat_le}
 use Rattle.iox_lanes_base.specs.QueuesSteps.Access.{successor}
 use Rattle.iox_lanes_base.specs.declared.calls.publisher.PublisherChange.{PublisherChange}
-use Rattle.iox_lanes_base.specs.declared.calls.publisher.PublisherChange.TheVariants.{Nothing, Lend, Mark, Remember, TakenBack, Put, LeftOut, DropLoan}
+use Rattle.iox_lanes_base.specs.declared.calls.publisher.PublisherChange.TheVariants.{Nothing, Lend, Mark, Remember, TakenBack, Put}
+use Rattle.iox_lanes_base.specs.declared.calls.publisher.PublisherChange.TheVariants.{LeftOut, DropLoan}
 use Rattle.iox_lanes_parties.specs.declared.publisher.slot_book.LoanMark.{LoanMark}
 use Rattle.iox_lanes_parties.specs.declared.publisher.slot_book.LoanMark.TheVariants as mark
 use Rattle.iox_lanes_parties.specs.declared.publisher.slot_book.LoanAnswer.{LoanAnswer}

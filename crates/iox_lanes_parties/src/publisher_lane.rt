@@ -4,7 +4,9 @@ ghost use Rattle.std.specs.List.{All};
 ghost use Rattle.iox_lanes_parties.specs.LanesBase.Publishing.{publisher_next, publisher_is_idle, publisher_is_over};
 ghost use Rattle.iox_lanes_parties.specs.PublisherKeeping.{may_have, may_remember, may_resize};
 ghost use Rattle.iox_lanes_parties.specs.Publishers.{words_of};
-ghost use Rattle.iox_lanes_parties.specs.Parties.{lane_found, lane_meets, lane_named, lane_remembers, lane_resized, name_of, is_out, is_written, publisher_may, publisher_fits, publisher_begun, publisher_after, publisher_answer, lent, index_of, head_of, kept, send_begun};
+ghost use Rattle.iox_lanes_parties.specs.Parties.{lane_found, lane_meets, lane_named, lane_remembers, lane_resized, name_of, is_out};
+ghost use Rattle.iox_lanes_parties.specs.Parties.{is_written, publisher_may, publisher_fits, publisher_begun, publisher_after};
+ghost use Rattle.iox_lanes_parties.specs.Parties.{publisher_answer, lent, index_of, head_of, kept, send_begun};
 
 use crate::call::{Answer, Call, CallName, Move, SendAnswer};
 use crate::head::Head;

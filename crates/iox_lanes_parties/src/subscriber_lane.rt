@@ -3,7 +3,9 @@ ghost use Rattle.std.specs.Prelude.{◌≡◌, ◌<◌, ◌&&◌, true, false, l
 ghost use Rattle.iox_lanes_parties.specs.LanesBase.Subscribing.{subscriber_next, subscriber_is_idle, subscriber_is_over};
 ghost use Rattle.iox_lanes_parties.specs.LanesBase.declared.calls.subscriber.SubscriberChange.TheVariants as SubscriberChange;
 ghost use Rattle.iox_lanes_parties.specs.Keeping.{changed};
-ghost use Rattle.iox_lanes_parties.specs.Parties.{receiver_meets, receiver_swapped, subscriber_may, subscriber_fits, subscriber_begun, subscriber_after, subscriber_answer, words_read, place_of, route_at, is_route, is_borrowed, release_begun};
+ghost use Rattle.iox_lanes_parties.specs.Parties.{receiver_meets, receiver_swapped, subscriber_may, subscriber_fits, subscriber_begun};
+ghost use Rattle.iox_lanes_parties.specs.Parties.{subscriber_after, subscriber_answer, words_read, place_of, route_at, is_route};
+ghost use Rattle.iox_lanes_parties.specs.Parties.{is_borrowed, release_begun};
 
 use crate::call::{Answer, Call, CallName, Move};
 use crate::subscriber::LaneSubscriber;

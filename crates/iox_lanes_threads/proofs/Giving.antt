@@ -1,5 +1,6 @@
 -- A table that starts from lanes keeps the rule of words, and so does giving a port a seat of its own.
-use Rattle.std.proofs.Common.{ℕ, zero, suc, ◌≡◌, ◌+◌, ◌==◌, Bool, if◌then◌else◌, List, [], ◌∷◌, ◌++◌, length, length-set, set, refl, sym, ◌∙◌, ap, subst, inl, inr, arith}
+use Rattle.std.proofs.Common.{ℕ, zero, suc, ◌≡◌, ◌+◌, ◌==◌, Bool, if◌then◌else◌, List, [], ◌∷◌, ◌++◌, length, length-set, set, refl, sym}
+use Rattle.std.proofs.Common.{◌∙◌, ap, subst, inl, inr, arith}
 use Rattle.std.proofs.lemmas.Bool.Decides.{eqb_tells}
 use mathlib.Core.Option.{some, some-injective}
 use lib.ListN.{get_elem?}
@@ -10,7 +11,8 @@ use Rattle.iox_lanes_threads_ports.specs.LanesThreadsRule.Rule.{Sits, Ruled, one
 use Rattle.iox_lanes_threads_ports.specs.LanesThreadsRule.Acts.{FitSome, Holds, first_port}
 use Rattle.iox_lanes_threads_ports.specs.LanesThreadsRule.declared.view.Port.{Port}
 use Rattle.iox_lanes_threads_ports.specs.LanesThreadsRule.declared.view.View.{View}
-use Rattle.iox_lanes_threads.specs.Opening.{service_of, ports_of, waits, behind_first, others_wait, first_waits, first_view, Fitting, IsWaiting}
+use Rattle.iox_lanes_threads.specs.Opening.{service_of, ports_of, waits, behind_first, others_wait, first_waits, first_view, Fitting}
+use Rattle.iox_lanes_threads.specs.Opening.{IsWaiting}
 use Rattle.iox_lanes_threads.proofs.Lists.{none_there, in_either}
 
 -- a list of one has it alone
@@ -34,7 +36,8 @@ opens m fit = record {
       absurd (none_there p i (ap (λ (u : View). get_elem? u.ports i) is.1 ∙ there));
 }
 
-module _ (id from : ℕ) (p : Port) (ps : List Port) (state : State ℕ View) (ruled : Ruled FitSome state) (mine : get_elem? state.views id ≡ some (waits from (p ∷ ps))) where
+module _ (id from : ℕ) (p : Port) (ps : List Port) (state : State ℕ View) (ruled : Ruled FitSome state)
+    (mine : get_elem? state.views id ≡ some (waits from (p ∷ ps))) where
   first_is : (p.number ≡ from + 0) × Sits ruled.owner ruled.ports id p
   first_is = ruled.waiting id (waits from (p ∷ ps)) 0 p mine refl
 
@@ -73,7 +76,8 @@ module _ (id from : ℕ) (p : Port) (ps : List Port) (state : State ℕ View) (r
   off_seat : (seat : ℕ) (q : Port) → (seat ≡ id → ⊥) → Sits ruled.owner ruled.ports seat q → q.number ≡ p.number → ⊥
   off_seat seat q off sits e = off (sym sits.0 ∙ ap ruled.owner e ∙ first_is.1.0)
 
-  now_waiting : (seat : ℕ) (v : View) (i : ℕ) (q : Port) → get_elem? after seat ≡ some v → get_elem? v.waiting i ≡ some q → (q.number ≡ v.from + i) × Sits owner ruled.ports seat q
+  now_waiting : (seat : ℕ) (v : View) (i : ℕ) (q : Port) → get_elem? after seat ≡ some v → get_elem? v.waiting i ≡ some q
+      → (q.number ≡ v.from + i) × Sits owner ruled.ports seat q
   now_waiting seat v i q got there = elim (in_either (set state.views id (waits (from + 1) ps)) (one p ∷ []) seat v got) [
     | inl old ↦ elim (at_set state.views id seat (waits (from + 1) ps) v old) [
       | inl here ↦
@@ -92,7 +96,8 @@ module _ (id from : ℕ) (p : Port) (ps : List Port) (state : State ℕ View) (r
         absurd (none_there q i (ap (λ (u : View). get_elem? u.waiting i) is.1 ∙ there))
   ]
 
-  now_seated : (seat : ℕ) (v : View) (i : ℕ) (q : Port) → get_elem? after seat ≡ some v → get_elem? v.ports i ≡ some q → Sits owner ruled.ports seat q
+  now_seated : (seat : ℕ) (v : View) (i : ℕ) (q : Port) → get_elem? after seat ≡ some v → get_elem? v.ports i ≡ some q
+      → Sits owner ruled.ports seat q
   now_seated seat v i q got there = elim (in_either (set state.views id (waits (from + 1) ps)) (one p ∷ []) seat v got) [
     | inl old ↦ elim (at_set state.views id seat (waits (from + 1) ps) v old) [
       | inl here ↦ absurd (none_there q i (ap (λ (u : View). get_elem? u.ports i) here.1 ∙ there))
@@ -108,7 +113,8 @@ module _ (id from : ℕ) (p : Port) (ps : List Port) (state : State ℕ View) (r
         subst (λ (z : ℕ × Port). Sits owner ruled.ports z.0 z.1) (λ k. (seat_is k, same.1 k)) first_sits
   ]
 
-pub gives : (id from : ℕ) (p : Port) (ps : List Port) → Splits Holds id (waits from (p ∷ ps)) (others_wait (waits from (p ∷ ps))) (first_waits (waits from (p ∷ ps)))
+pub gives : (id from : ℕ) (p : Port) (ps : List Port)
+    → Splits Holds id (waits from (p ∷ ps)) (others_wait (waits from (p ∷ ps))) (first_waits (waits from (p ∷ ps)))
 gives id from p ps state ruled mine = record {
   ports = ruled.ports;
   owner = owner id from p ps state ruled mine;
@@ -118,7 +124,8 @@ gives id from p ps state ruled mine = record {
 }
 
 -- the same, as words and lanes are handed in
-pub opens_with : (m seen : World) (words : List ℕ) → seen ≡ m → words ≡ m.table.words → Fitting m → Holds (opening words [] (first_view seen))
+pub opens_with : (m seen : World) (words : List ℕ) → seen ≡ m → words ≡ m.table.words → Fitting m
+    → Holds (opening words [] (first_view seen))
 opens_with m seen words same equal fit =
     subst (λ (z : List ℕ × World). Holds (opening z.0 [] (first_view z.1))) (λ i. (sym equal i, sym same i)) (opens m fit)
 
@@ -126,4 +133,5 @@ opens_with m seen words same equal fit =
 pub gives_with : (id : ℕ) (me : Me ℕ View) → IsWaiting me → Splits Holds id me.0 (others_wait me.0) (first_waits me.0)
 gives_with id me is =
     let v : me.0 ≡ waits me.0.from (first_port me.0.waiting ∷ behind_first me.0.waiting) = ap (λ (z : Me ℕ View). z.0) is in
-    subst (λ (u : View). Splits Holds id u (others_wait u) (first_waits u)) (sym v) (gives id me.0.from (first_port me.0.waiting) (behind_first me.0.waiting))
+    subst (λ (u : View). Splits Holds id u (others_wait u) (first_waits u)) (sym v)
+    (gives id me.0.from (first_port me.0.waiting) (behind_first me.0.waiting))

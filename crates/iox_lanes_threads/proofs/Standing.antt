@@ -1,5 +1,6 @@
 -- Lanes between calls keep what threads need: their words fit their ports, and each port stands where it knows what its next step needs.
-use Rattle.std.proofs.Common.{ℕ, zero, suc, ◌≡◌, ◌+◌, ◌<◌, ◌≤◌, ◌^◌, true, List, [], ◌∷◌, length, slice_get, Some, refl, sym, ◌∙◌, ap, subst, inl, inr, arith}
+use Rattle.std.proofs.Common.{ℕ, zero, suc, ◌≡◌, ◌+◌, ◌<◌, ◌≤◌, ◌^◌, true, List, [], ◌∷◌, length, slice_get, Some, refl, sym, ◌∙◌, ap}
+use Rattle.std.proofs.Common.{subst, inl, inr, arith}
 use Rattle.std.specs.List.{All}
 use Rattle.std.proofs.lemmas.List.Elements.{All-weaker, All-head, All-tail}
 use Rattle.std.proofs.lemmas.List.{length-map}
@@ -33,7 +34,8 @@ use Rattle.iox_lanes_threads_ports.specs.LanesThreadsRule.declared.service.SlotR
 use Rattle.iox_lanes_threads_ports.specs.LanesThreadsRule.declared.view.Port.{Port}
 use Rattle.iox_lanes_threads_ports.specs.LanesThreadsRule.declared.view.PortParty.{PortParty}
 use Rattle.iox_lanes_threads_ports.specs.LanesThreadsRule.declared.view.PortParty.TheVariants as party
-use Rattle.iox_lanes_threads_ports.specs.Ports.{sender_of, receiver_of, EachOnce, IsEnd, PublisherKnows, SubscriberKnows, PublisherStands, SubscriberStands}
+use Rattle.iox_lanes_threads_ports.specs.Ports.{sender_of, receiver_of, EachOnce, IsEnd, PublisherKnows, SubscriberKnows, PublisherStands}
+use Rattle.iox_lanes_threads_ports.specs.Ports.{SubscriberStands}
 use Rattle.iox_lanes_threads.specs.Opening.{line_of, range_of, service_of, opened, publishers_from, subscribers_from, ports_of, Fitting}
 use Rattle.iox_lanes_threads.specs.Standing.{PublishersStand, SubscribersStand}
 use Rattle.iox_lanes_threads.proofs.Lists.{none_there, in_either, mapped_is, mapped_at}
@@ -51,7 +53,8 @@ Apart m = (who : ℕ) (lane : PublisherLaneState) → slice_get m.publishers who
 
 -- each subscriber has room for the words of a read
 abbrev pub HaveRoom : World → Type 0
-HaveRoom m = (place : ℕ) (lane : SubscriberLaneState) → slice_get m.subscribers place ≡ Some lane → length lane.port.words ≡ width m.table.sizes
+HaveRoom m = (place : ℕ) (lane : SubscriberLaneState) → slice_get m.subscribers place ≡ Some lane
+    → length lane.port.words ≡ width m.table.sizes
 
 -- a port at its number that knows each word
 record IsOpened (m : World) (at : ℕ) (p : Port) : Type 0 where
@@ -65,13 +68,21 @@ module _ (m : World) (k : Sound m) where
     knows = refl;
   }
 
-  opened_subscriber : (place at : ℕ) (own : PortParty) → length m.publishers + place ≡ at → IsOpened m at (opened m (length m.publishers + place) (Subscriber place) own)
+  opened_subscriber : (place at : ℕ) (own : PortParty) → length m.publishers + place ≡ at
+      → IsOpened m at (opened m (length m.publishers + place) (Subscriber place) own)
   opened_subscriber place at own e = record {
-    port = record { service = refl; number = e; name = ap (λ (n : ℕ). n + place) (length-map m.publishers range_of) ∙ e; wide = k.within.words };
+    port = record {
+      service = refl;
+      number = e;
+      name = ap (λ (n : ℕ). n + place) (length-map m.publishers range_of) ∙ e;
+      wide
+          = k.within.words;
+    };
     knows = refl;
   }
 
-  publisher_at : (lanes : List PublisherLaneState) (place i : ℕ) (p : Port) → get_elem? (publishers_from m place lanes) i ≡ some p → IsOpened m (place + i) p
+  publisher_at : (lanes : List PublisherLaneState) (place i : ℕ) (p : Port) → get_elem? (publishers_from m place lanes) i ≡ some p
+      → IsOpened m (place + i) p
   publisher_at [] place i p e = absurd (none_there p i e)
   publisher_at (lane ∷ lanes) place zero p e =
       subst (IsOpened m (place + 0)) (some-injective _ p e) (opened_publisher place (place + 0) (party.Publisher lane) (omega arith))
@@ -79,10 +90,12 @@ module _ (m : World) (k : Sound m) where
       let same : place + 1 + i ≡ place + suc i = omega arith in
       subst (λ (n : ℕ). IsOpened m n p) same (publisher_at lanes (place + 1) i p e)
 
-  subscriber_at : (lanes : List SubscriberLaneState) (place i : ℕ) (p : Port) → get_elem? (subscribers_from m place lanes) i ≡ some p → IsOpened m (length m.publishers + place + i) p
+  subscriber_at : (lanes : List SubscriberLaneState) (place i : ℕ) (p : Port) → get_elem? (subscribers_from m place lanes) i ≡ some p
+      → IsOpened m (length m.publishers + place + i) p
   subscriber_at [] place i p e = absurd (none_there p i e)
   subscriber_at (lane ∷ lanes) place zero p e =
-      subst (IsOpened m (length m.publishers + place + 0)) (some-injective _ p e) (opened_subscriber place (length m.publishers + place + 0) (party.Subscriber lane) (omega arith))
+      subst (IsOpened m (length m.publishers + place + 0)) (some-injective _ p e)
+      (opened_subscriber place (length m.publishers + place + 0) (party.Subscriber lane) (omega arith))
   subscriber_at (lane ∷ lanes) place (suc i) p e =
       let same : length m.publishers + (place + 1) + i ≡ length m.publishers + place + suc i = omega arith in
       subst (λ (n : ℕ). IsOpened m n p) same (subscriber_at lanes (place + 1) i p e)
@@ -99,7 +112,8 @@ module _ (m : World) (k : Sound m) where
         subst (λ (n : ℕ). IsOpened m n p) same (subscriber_at m.subscribers 0 there.0 p there.2)
   ]
 
-  cell_named : (w : SharedWord) → IsWord m.table.sizes w → IsCell w → 0 < m.table.sizes.slots → held (service_of m) m.table.words w < m.table.sizes.slots
+  cell_named : (w : SharedWord) → IsWord m.table.sizes w → IsCell w → 0 < m.table.sizes.slots
+      → held (service_of m) m.table.words w < m.table.sizes.slots
   cell_named (Ring connection ring Write) is cell some_slot = absurd cell
   cell_named (Ring connection ring Read) is cell some_slot = absurd cell
   cell_named (Ring connection ring (Cell at)) is cell some_slot = k.named.cells some_slot connection ring at is
@@ -111,17 +125,26 @@ module _ (m : World) (k : Sound m) where
         let here = mapped_is range_of m.publishers one range found in
         let there = mapped_is range_of m.publishers other behind found' in
         let apart = k.rows one other here.0 there.0 here.1 there.1 less in
-        omega (arith, apart, ap (λ (r : SlotRange). r.first) here.2, ap (λ (r : SlotRange). r.count) here.2, ap (λ (r : SlotRange). r.first) there.2);
+        omega (
+          arith,
+          apart,
+          ap (λ (r : SlotRange). r.first) here.2,
+          ap (λ (r : SlotRange). r.count) here.2,
+          ap
+              (λ (r : SlotRange). r.first) there.2,
+        );
     spare = k.named.spare;
     wide = k.within.words;
     ports = λ number p at. (port_at number p at).port;
     copied = λ number p w at is own. ap (λ (words : List ℕ). held (service_of m) words w) (port_at number p at).knows;
-    grows = λ number p w at is position. let same : held (service_of m) p.known w ≡ held (service_of m) m.table.words w = ap (λ (words : List ℕ). held (service_of m) words w) (port_at number p at).knows in omega (arith, same);
+    grows = λ number p w at is position. let same : held (service_of m) p.known w ≡ held (service_of m) m.table.words w
+        = ap (λ (words : List ℕ). held (service_of m) words w) (port_at number p at).knows in omega (arith, same);
     cells = cell_named;
     shared = λ connection line ring.
         let there = mapped_is line_of m.links connection line ring.found in
         (k.near connection few there.0 there.1).behind;
-    moved = λ connection line number p ring at name differs. absurd (differs (ap (λ (words : List ℕ). held (service_of m) words (read_word connection)) (port_at number p at).knows));
+    moved = λ connection line number p ring at name differs. absurd
+        (differs (ap (λ (words : List ℕ). held (service_of m) words (read_word connection)) (port_at number p at).knows));
   }
 
   sending_end : (place : ℕ) (route : Route) → IsLinkOf m.links sender place route → IsEnd (service_of m) sender_of (Publisher place) route
@@ -133,7 +156,8 @@ module _ (m : World) (k : Sound m) where
     room = let some_room : 0 < is.link.limit = k.named.room route.connection is.link is.found in omega (arith, some_room, is.limit);
   }
 
-  receiving_end : (place : ℕ) (route : Route) → IsLinkOf m.links receiver place route → IsEnd (service_of m) receiver_of (Subscriber place) route
+  receiving_end : (place : ℕ) (route : Route) → IsLinkOf m.links receiver place route
+      → IsEnd (service_of m) receiver_of (Subscriber place) route
   receiving_end place route is = record {
     line = line_of is.link;
     found = mapped_at line_of m.links route.connection is.link is.found;
@@ -164,14 +188,16 @@ module _ (m : World) (k : Sound m) where
   idle_subscriber p (subscribing.Releasing place route push) h = absurd (cc h)
   idle_subscriber p (subscribing.Released done) h = absurd (cc h)
 
-  pub publisher_stands : Apart m → (place : ℕ) (lane : PublisherLaneState) → slice_get m.publishers place ≡ Some lane → publisher_is_idle lane.port.call ≡ true → PublisherStands (opened m place (Publisher place) (party.Publisher lane)) lane
+  pub publisher_stands : Apart m → (place : ℕ) (lane : PublisherLaneState) → slice_get m.publishers place ≡ Some lane
+      → publisher_is_idle lane.port.call ≡ true → PublisherStands (opened m place (Publisher place) (party.Publisher lane)) lane
   publisher_stands apart place lane found idle = record {
     place = place;
     range = range_of lane;
     name = refl;
     wide = k.within.words;
     within = all_at (IsPublisher m.table.sizes) m.publishers place lane found k.within.publishers;
-    routes = All-weaker (IsLinkOf m.links sender place) (IsEnd (service_of m) sender_of (Publisher place)) (sending_end place) lane.port.routes (k.within.senders place lane found);
+    routes = All-weaker (IsLinkOf m.links sender place) (IsEnd (service_of m) sender_of (Publisher place)) (sending_end place)
+        lane.port.routes (k.within.senders place lane found);
     once = apart place lane found;
     found = mapped_at range_of m.publishers place lane found;
     first = refl;
@@ -179,13 +205,15 @@ module _ (m : World) (k : Sound m) where
     knows = idle_publisher (opened m place (Publisher place) (party.Publisher lane)) lane.port.book lane.port.call idle;
   }
 
-  pub subscriber_stands : HaveRoom m → (place : ℕ) (lane : SubscriberLaneState) → slice_get m.subscribers place ≡ Some lane → subscriber_is_idle lane.port.call ≡ true
+  pub subscriber_stands : HaveRoom m → (place : ℕ) (lane : SubscriberLaneState) → slice_get m.subscribers place ≡ Some lane
+      → subscriber_is_idle lane.port.call ≡ true
       → SubscriberStands (opened m (length m.publishers + place) (Subscriber place) (party.Subscriber lane)) lane
   subscriber_stands rooms place lane found idle = record {
     wide = k.within.words;
     room = rooms place lane found;
     within = all_at (IsSubscriber m.table.sizes) m.subscribers place lane found k.within.subscribers;
-    routes = All-weaker (IsLinkOf m.links receiver place) (IsEnd (service_of m) receiver_of (Subscriber place)) (receiving_end place) lane.port.routes (k.within.receivers place lane found);
+    routes = All-weaker (IsLinkOf m.links receiver place) (IsEnd (service_of m) receiver_of (Subscriber place)) (receiving_end place)
+        lane.port.routes (k.within.receivers place lane found);
     knows = idle_subscriber (opened m (length m.publishers + place) (Subscriber place) (party.Subscriber lane)) lane.port.call idle;
   }
 
@@ -204,31 +232,49 @@ IdlePublisher lane = publisher_is_idle lane.port.call ≡ true
 abbrev IdleSubscriber : SubscriberLaneState → Type 0
 IdleSubscriber lane = subscriber_is_idle lane.port.call ≡ true
 
-pub publishers_stand : (m : World) → Sound m → Apart m → (lanes : List PublisherLaneState) (place : ℕ) → ((i : ℕ) (lane : PublisherLaneState) → slice_get lanes i ≡ Some lane → slice_get m.publishers (place + i) ≡ Some lane)
+pub publishers_stand : (m : World) → Sound m → Apart m → (lanes : List PublisherLaneState) (place : ℕ)
+    → ((i : ℕ) (lane : PublisherLaneState) → slice_get lanes i ≡ Some lane → slice_get m.publishers (place + i) ≡ Some lane)
     → All IdlePublisher lanes → PublishersStand m place lanes
 publishers_stand m k apart [] place there idle = tt
 publishers_stand m k apart (lane ∷ lanes) place there idle =
     let here : place ≡ place + 0 = omega arith in (
       publisher_stands m k apart place lane (ap (slice_get m.publishers) here ∙ there 0 lane refl) (All-head IdlePublisher lane lanes idle),
-      publishers_stand m k apart lanes (place + 1) (λ i x e. let next : place + 1 + i ≡ place + suc i = omega arith in ap (slice_get m.publishers) next ∙ there (suc i) x e) (All-tail IdlePublisher lane lanes idle),
+      publishers_stand m k apart lanes (place + 1)
+          (λ i x e. let next : place + 1 + i ≡ place + suc i = omega arith in ap (slice_get m.publishers) next ∙ there (suc i) x e)
+          (All-tail IdlePublisher lane lanes idle),
     )
 
-pub subscribers_stand : (m : World) → Sound m → HaveRoom m → (lanes : List SubscriberLaneState) (place : ℕ) → ((i : ℕ) (lane : SubscriberLaneState) → slice_get lanes i ≡ Some lane → slice_get m.subscribers (place + i) ≡ Some lane)
+pub subscribers_stand : (m : World) → Sound m → HaveRoom m → (lanes : List SubscriberLaneState) (place : ℕ)
+    → ((i : ℕ) (lane : SubscriberLaneState) → slice_get lanes i ≡ Some lane → slice_get m.subscribers (place + i) ≡ Some lane)
     → All IdleSubscriber lanes → SubscribersStand m place lanes
 subscribers_stand m k rooms [] place there idle = tt
 subscribers_stand m k rooms (lane ∷ lanes) place there idle =
     let here : place ≡ place + 0 = omega arith in (
-      (subscriber_stands m k rooms place lane (ap (slice_get m.subscribers) here ∙ there 0 lane refl) (All-head IdleSubscriber lane lanes idle), idle_is lane.port.call (All-head IdleSubscriber lane lanes idle)),
-      subscribers_stand m k rooms lanes (place + 1) (λ i x e. let next : place + 1 + i ≡ place + suc i = omega arith in ap (slice_get m.subscribers) next ∙ there (suc i) x e) (All-tail IdleSubscriber lane lanes idle),
+      (
+        subscriber_stands m k rooms place lane (ap (slice_get m.subscribers) here ∙ there 0 lane refl)
+            (All-head IdleSubscriber lane lanes idle),
+        idle_is lane.port.call (All-head IdleSubscriber lane lanes idle),
+      ),
+      subscribers_stand m k rooms lanes (place + 1)
+          (λ i x e. let next : place + 1 + i ≡ place + suc i = omega arith in ap (slice_get m.subscribers) next ∙ there (suc i) x e)
+          (All-tail IdleSubscriber lane lanes idle),
     )
 
 -- those of lanes between calls, as they are handed in
-pub all_publishers_stand : (m seen : World) (lanes : List PublisherLaneState) → Sound m → Apart m → All IdlePublisher m.publishers → seen ≡ m → lanes ≡ m.publishers → (lanes ≡ seen.publishers) × PublishersStand seen 0 lanes
+pub all_publishers_stand : (m seen : World) (lanes : List PublisherLaneState) → Sound m → Apart m → All IdlePublisher m.publishers
+    → seen ≡ m → lanes ≡ m.publishers → (lanes ≡ seen.publishers) × PublishersStand seen 0 lanes
 all_publishers_stand m seen lanes k apart idle same are =
-    let stand : PublishersStand m 0 m.publishers = publishers_stand m k apart m.publishers 0 (λ i lane e. let here : 0 + i ≡ i = omega arith in ap (slice_get m.publishers) here ∙ e) idle in
-    subst (λ (z : World × List PublisherLaneState). (z.1 ≡ z.0.publishers) × PublishersStand z.0 0 z.1) (λ i. (sym same i, sym are i)) (refl, stand)
+    let stand : PublishersStand m 0 m.publishers
+    = publishers_stand m k apart m.publishers 0
+    (λ i lane e. let here : 0 + i ≡ i = omega arith in ap (slice_get m.publishers) here ∙ e) idle in
+    subst (λ (z : World × List PublisherLaneState). (z.1 ≡ z.0.publishers) × PublishersStand z.0 0 z.1) (λ i. (sym same i, sym are i))
+    (refl, stand)
 
-pub all_subscribers_stand : (m seen : World) (lanes : List SubscriberLaneState) → Sound m → HaveRoom m → All IdleSubscriber m.subscribers → seen ≡ m → lanes ≡ m.subscribers → (lanes ≡ seen.subscribers) × SubscribersStand seen 0 lanes
+pub all_subscribers_stand : (m seen : World) (lanes : List SubscriberLaneState) → Sound m → HaveRoom m
+    → All IdleSubscriber m.subscribers → seen ≡ m → lanes ≡ m.subscribers → (lanes ≡ seen.subscribers) × SubscribersStand seen 0 lanes
 all_subscribers_stand m seen lanes k rooms idle same are =
-    let stand : SubscribersStand m 0 m.subscribers = subscribers_stand m k rooms m.subscribers 0 (λ i lane e. let here : 0 + i ≡ i = omega arith in ap (slice_get m.subscribers) here ∙ e) idle in
-    subst (λ (z : World × List SubscriberLaneState). (z.1 ≡ z.0.subscribers) × SubscribersStand z.0 0 z.1) (λ i. (sym same i, sym are i)) (refl, stand)
+    let stand : SubscribersStand m 0 m.subscribers
+    = subscribers_stand m k rooms m.subscribers 0
+    (λ i lane e. let here : 0 + i ≡ i = omega arith in ap (slice_get m.subscribers) here ∙ e) idle in
+    subst (λ (z : World × List SubscriberLaneState). (z.1 ≡ z.0.subscribers) × SubscribersStand z.0 0 z.1)
+    (λ i. (sym same i, sym are i)) (refl, stand)

@@ -40,14 +40,30 @@ StaysSubscriber old new = (new.board ≡ old.board) × (new.place ≡ old.place)
 abbrev pub opened_publishers : ℕ → TableId → World → ℕ → List PublisherLaneState → List BoardPublisher
 opened_publishers board table m place [] = []
 opened_publishers board table m place (lane ∷ lanes) =
-    record { board = board; place = place; own = record { table = table; port = opened m place (Publisher place) (party.Publisher lane); lane = lane } }
+    record {
+      board = board;
+      place = place;
+      own
+          = record { table = table; port = opened m place (Publisher place) (party.Publisher lane); lane = lane };
+    }
     ∷ opened_publishers board table m (place + 1) lanes
 
 -- the subscribers likewise
 abbrev pub opened_subscribers : ℕ → TableId → World → ℕ → List SubscriberLaneState → List BoardSubscriber
 opened_subscribers board table m place [] = []
 opened_subscribers board table m place (lane ∷ lanes) =
-    record { board = board; place = place; own = record { table = table; port = opened m (length m.publishers + place) (Subscriber place) (party.Subscriber lane); lane = lane; words = [] } }
+    record {
+      board = board;
+      place = place;
+      own
+          = record {
+            table = table;
+            port = opened m (length m.publishers + place) (Subscriber place) (party.Subscriber lane);
+            lane
+                = lane;
+            words = [];
+          };
+    }
     ∷ opened_subscribers board table m (place + 1) lanes
 
 -- lanes that threads may take over

@@ -18,4 +18,5 @@ PublishersStand m place (lane ∷ lanes) = PublisherStands (opened m place (Publ
 abbrev pub SubscribersStand : World → ℕ → List SubscriberLaneState → Type 0
 SubscribersStand m place [] = Unit {0}
 SubscribersStand m place (lane ∷ lanes) =
-    (SubscriberStands (opened m (length m.publishers + place) (Subscriber place) (party.Subscriber lane)) lane × (lane.port.call ≡ subscribing.Idle)) × SubscribersStand m (place + 1) lanes
+    (SubscriberStands (opened m (length m.publishers + place) (Subscriber place) (party.Subscriber lane)) lane
+    × (lane.port.call ≡ subscribing.Idle)) × SubscribersStand m (place + 1) lanes

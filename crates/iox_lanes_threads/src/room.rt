@@ -7,7 +7,8 @@ ghost use Rattle.iox_lanes_threads_ports.specs.LanesThreadsRule.Acts.{first_port
 ghost use Rattle.iox_lanes_threads_ports.specs.LanesThreadsRule.declared.view.Port.{Port};
 ghost use Rattle.iox_lanes_threads_ports.specs.Ports.{PublisherStands, SubscriberStands};
 ghost use Rattle.iox_lanes_threads_ports.specs.Values.{HasRoom};
-ghost use Rattle.iox_lanes_threads.specs.Opening.{others_wait, waits, publishers_from, subscribers_from, ports_of, first_view, Fitting, IsWaiting, WaitsFor};
+ghost use Rattle.iox_lanes_threads.specs.Opening.{others_wait, waits, publishers_from, subscribers_from, ports_of, first_view, Fitting};
+ghost use Rattle.iox_lanes_threads.specs.Opening.{IsWaiting, WaitsFor};
 ghost use Rattle.iox_lanes_threads.specs.Ports.{opened_publishers, opened_subscribers, MayOpen};
 ghost use Rattle.iox_lanes_threads.specs.Threads.{OpenedAs};
 ghost use Rattle.iox_lanes_threads.specs.Room.{IsRoomFor};
@@ -83,7 +84,13 @@ fn seat_publisher(
     requires service { (first_port home.old.me.0.waiting).service.sizes ≡ sizes }
     requires room { HasRoom sizes asked }
     ensures home { (home.new.table_id ≡ home.old.table_id) × (home.new.me ≡ (others_wait home.old.me.0, [])) }
-    ensures value { result ≡ record { board = board; place = place; own = record { table = home.old.table_id; port = first_port home.old.me.0.waiting; lane = lane } } }
+    ensures value { result
+        ≡ record {
+          board = board;
+          place = place;
+          own
+              = record { table = home.old.table_id; port = first_port home.old.me.0.waiting; lane = lane };
+        } }
 {
     let seat = next_seat(&share, home);
     let port = ThreadedPublisher::new(seat, sizes, lane, asked);
@@ -105,7 +112,13 @@ fn seat_subscriber(
     requires service { (first_port home.old.me.0.waiting).service.sizes ≡ sizes }
     requires idle { lane.port.call ≡ subscribing.Idle }
     ensures home { (home.new.table_id ≡ home.old.table_id) × (home.new.me ≡ (others_wait home.old.me.0, [])) }
-    ensures value { result ≡ record { board = board; place = place; own = record { table = home.old.table_id; port = first_port home.old.me.0.waiting; lane = lane; words = [] } } }
+    ensures value { result
+        ≡ record {
+          board = board;
+          place = place;
+          own
+              = record { table = home.old.table_id; port = first_port home.old.me.0.waiting; lane = lane; words = [] };
+        } }
 {
     let seat = next_seat(&share, home);
     let port = ThreadedSubscriber::new(seat, sizes, lane);

@@ -1,5 +1,6 @@
 -- A subscriber between calls, and its calls that end after a number of steps that is known.
-use Rattle.std.proofs.Common.{ℕ, ◌≡◌, ◌+◌, ◌-◌, ◌<◌, ◌||◌, ◌&&◌, Bool, true, false, if◌then◌else◌, nat_lt, List, slice_get, Option, Some, None, refl, sym, ◌∙◌, ap, subst, arith}
+use Rattle.std.proofs.Common.{ℕ, ◌≡◌, ◌+◌, ◌-◌, ◌<◌, ◌||◌, ◌&&◌, Bool, true, false, if◌then◌else◌, nat_lt, List, slice_get, Option, Some}
+use Rattle.std.proofs.Common.{None, refl, sym, ◌∙◌, ap, subst, arith}
 use Rattle.std.proofs.lemmas.Bool.{ltb-true}
 use Rattle.iox_lanes_machine.specs.QueuesSteps.Access.{successor}
 use Rattle.iox_lanes_machine.specs.QueuesSteps.declared.order.PopAnswer.{PopAnswer}
@@ -14,13 +15,16 @@ use Rattle.iox_lanes_machine.specs.QueuesSteps.declared.rings.ends.Pop.{Pop}
 use Rattle.iox_lanes_machine.specs.LanesBase.Numbers.{IsSmall}
 use Rattle.iox_lanes_machine.specs.LanesBase.declared.words.sizes.TableSizes.{TableSizes}
 use Rattle.iox_lanes_machine.specs.LanesBase.Answers.{pop_answer, refusing_push_answer}
-use Rattle.iox_lanes_machine.specs.LanesBase.Subscribing.{subscriber_is_idle, subscriber_is_over, subscriber_take, subscriber_change, is_full_at, receive_from, received, released}
+use Rattle.iox_lanes_machine.specs.LanesBase.Subscribing.{subscriber_is_idle, subscriber_is_over, subscriber_take, subscriber_change}
+use Rattle.iox_lanes_machine.specs.LanesBase.Subscribing.{is_full_at, receive_from, received, released}
 use Rattle.iox_lanes_machine.specs.LanesBase.declared.calls.route.Route.{Route}
 use Rattle.iox_lanes_machine.specs.LanesBase.declared.calls.subscriber.Receipt.{Receipt}
 use Rattle.iox_lanes_machine.specs.LanesBase.declared.calls.subscriber.SlotExtent.{SlotExtent}
 use Rattle.iox_lanes_machine.specs.LanesBase.declared.calls.subscriber.SubscriberCall.{SubscriberCall}
 use Rattle.iox_lanes_machine.specs.LanesBase.declared.calls.subscriber.SubscriberCall.TheVariants as subscribing
-use Rattle.iox_lanes_machine.specs.LanesParties.Parties.{SubscriberLaneState, subscriber_may, subscriber_fits, subscriber_begun, subscriber_after, subscriber_answer, words_read, release_begun, place_of, route_at, is_route}
+use Rattle.iox_lanes_machine.specs.LanesParties.Parties.{SubscriberLaneState, subscriber_may, subscriber_fits, subscriber_begun}
+use Rattle.iox_lanes_machine.specs.LanesParties.Parties.{subscriber_after, subscriber_answer, words_read, release_begun, place_of}
+use Rattle.iox_lanes_machine.specs.LanesParties.Parties.{route_at, is_route}
 use Rattle.iox_lanes_machine.specs.LanesParties.Within.{IsSubscribing, IsSubscriber}
 use Rattle.iox_lanes_machine.specs.LanesParties.declared.call.Answer.{Answer}
 use Rattle.iox_lanes_machine.specs.LanesParties.declared.call.Answer.TheVariants as answer
@@ -37,12 +41,14 @@ use Rattle.iox_lanes_threads_rule.specs.declared.view.View.{View}
 use Rattle.iox_lanes_threads_ports.specs.Courses.{SubscriberGoes, SubscriberEnds}
 use Rattle.iox_lanes_threads_ports.specs.Courses.SubscriberGoes.{stays, goes}
 use Rattle.iox_lanes_threads_ports.specs.Ports.{SubscriberStands}
-use Rattle.iox_lanes_threads_ports.specs.Values.{SubscriberPort, IsSeated, settled, IsBetween, IsShort, steps_left, Unmoved, received_of, released_of, Releases, Reads}
+use Rattle.iox_lanes_threads_ports.specs.Values.{SubscriberPort, IsSeated, settled, IsBetween, IsShort, steps_left, Unmoved, received_of}
+use Rattle.iox_lanes_threads_ports.specs.Values.{released_of, Releases, Reads}
 use Rattle.iox_lanes_threads_ports.proofs.SubscriberSteps.{changed_stays, begins}
 use Rattle.iox_lanes_threads_ports.proofs.Running.{subscriber_last}
 
 -- after the last step no call is under way
-over_idle : (routes : List Route) (borrowed : List ℕ) (most : ℕ) (c : SubscriberCall) → subscriber_is_over c ≡ true → subscriber_is_idle (subscriber_take routes borrowed most c 0) ≡ true
+over_idle : (routes : List Route) (borrowed : List ℕ) (most : ℕ) (c : SubscriberCall) → subscriber_is_over c ≡ true
+    → subscriber_is_idle (subscriber_take routes borrowed most c 0) ≡ true
 over_idle routes borrowed most subscribing.Idle h = absurd (cc h)
 over_idle routes borrowed most (subscribing.Receiving place route pop waits) h = absurd (cc h)
 over_idle routes borrowed most (subscribing.Received receipt) h = refl
@@ -52,11 +58,15 @@ over_idle routes borrowed most (subscribing.Releasing place route push) h = absu
 over_idle routes borrowed most (subscribing.Released done) h = refl
 
 -- where a step leads
-pub call_after : (lane : SubscriberLaneState) (n : ℕ) → (subscriber_after n lane).port.call ≡ subscriber_take lane.port.routes lane.port.borrowed lane.port.most_borrowed lane.port.call n
-call_after lane n = (changed_stays (subscriber_change lane.port.call n) (record lane.port { call = subscriber_take lane.port.routes lane.port.borrowed lane.port.most_borrowed lane.port.call n })).1
+pub call_after : (lane : SubscriberLaneState) (n : ℕ)
+    → (subscriber_after n lane).port.call ≡ subscriber_take lane.port.routes lane.port.borrowed lane.port.most_borrowed lane.port.call n
+call_after lane n = (changed_stays (subscriber_change lane.port.call n)
+    (record lane.port { call = subscriber_take lane.port.routes lane.port.borrowed lane.port.most_borrowed lane.port.call n })).1
 
-pub after_idle : (lane : SubscriberLaneState) → subscriber_is_over lane.port.call ≡ true → subscriber_is_idle (subscriber_after 0 lane).port.call ≡ true
-after_idle lane over = ap subscriber_is_idle (call_after lane 0) ∙ over_idle lane.port.routes lane.port.borrowed lane.port.most_borrowed lane.port.call over
+pub after_idle : (lane : SubscriberLaneState) → subscriber_is_over lane.port.call ≡ true
+    → subscriber_is_idle (subscriber_after 0 lane).port.call ≡ true
+after_idle lane over = ap subscriber_is_idle (call_after lane 0) ∙ over_idle lane.port.routes lane.port.borrowed lane.port.most_borrowed
+    lane.port.call over
 
 pub settled_idle : (lane : SubscriberLaneState) → IsBetween lane.port.call → subscriber_is_idle (settled lane).port.call ≡ true
 settled_idle lane between = by_test (subscriber_is_over lane.port.call) refl
@@ -65,7 +75,8 @@ settled_idle lane between = by_test (subscriber_is_over lane.port.call) refl
     only_idle true b e h = refl
     only_idle false b e h = absurd (cc (e, h))
 
-    by_test : (b : Bool) → subscriber_is_over lane.port.call ≡ b → subscriber_is_idle (if b then subscriber_after 0 lane else lane).port.call ≡ true
+    by_test : (b : Bool) → subscriber_is_over lane.port.call ≡ b
+        → subscriber_is_idle (if b then subscriber_after 0 lane else lane).port.call ≡ true
     by_test true over = after_idle lane over
     by_test false over = only_idle (subscriber_is_idle lane.port.call) (subscriber_is_over lane.port.call) over between
 
@@ -111,20 +122,25 @@ record Nearer (c next : SubscriberCall) : Type 0 where
   short : IsShort next
   fewer : steps_left next < steps_left c
 
-read_nearer : (slot word : ℕ) (extent : SlotExtent) (b : Bool) → word < 3 + extent.user_header_words + extent.payload_words → successor word ≡ word + 1 → nat_lt (successor word) (3 + extent.user_header_words + extent.payload_words) ≡ b
-    → Nearer (subscribing.Reading slot word extent) (if b then subscribing.Reading slot (successor word) extent else subscribing.WasRead slot)
+read_nearer : (slot word : ℕ) (extent : SlotExtent) (b : Bool) → word < 3 + extent.user_header_words + extent.payload_words
+    → successor word ≡ word + 1 → nat_lt (successor word) (3 + extent.user_header_words + extent.payload_words) ≡ b
+    → Nearer (subscribing.Reading slot word extent)
+    (if b then subscribing.Reading slot (successor word) extent else subscribing.WasRead slot)
 read_nearer slot word extent true less next e =
-    let more : successor word < 3 + extent.user_header_words + extent.payload_words = ltb-true (successor word) (3 + extent.user_header_words + extent.payload_words) e in
+    let more : successor word < 3 + extent.user_header_words + extent.payload_words
+    = ltb-true (successor word) (3 + extent.user_header_words + extent.payload_words) e in
     record { short = more; fewer = omega (arith, more, next, less) }
 read_nearer slot word extent false less next e = record { short = tt; fewer = omega (arith, less) }
 
 measured_nearer : (place : ℕ) (route : Route) (limit value write next read : ℕ) (b : Bool)
     → Nearer (subscribing.Releasing place route (push.SawWrite limit value write next))
-    (released place route (if b then push.SawRoom value write next else push.Pushed value Refused) (refusing_push_answer (if b then push.SawRoom value write next else push.Pushed value Refused)))
+    (released place route (if b then push.SawRoom value write next else push.Pushed value Refused)
+    (refusing_push_answer (if b then push.SawRoom value write next else push.Pushed value Refused)))
 measured_nearer place route limit value write next read true = record { short = tt; fewer = omega arith }
 measured_nearer place route limit value write next read false = record { short = tt; fewer = omega arith }
 
-take_nearer : (sizes : TableSizes) (routes : List Route) (borrowed : List ℕ) (most : ℕ) (c : SubscriberCall) (n : ℕ) → IsSmall sizes → IsSubscribing sizes routes c → IsShort c → subscriber_is_over c ≡ false
+take_nearer : (sizes : TableSizes) (routes : List Route) (borrowed : List ℕ) (most : ℕ) (c : SubscriberCall) (n : ℕ) → IsSmall sizes
+    → IsSubscribing sizes routes c → IsShort c → subscriber_is_over c ≡ false
     → Nearer c (subscriber_take routes borrowed most c n)
 take_nearer sizes routes borrowed most subscribing.Idle n small within short over = absurd short
 take_nearer sizes routes borrowed most (subscribing.Receiving place route pop waits) n small within short over = absurd short
@@ -132,22 +148,31 @@ take_nearer sizes routes borrowed most (subscribing.Received receipt) n small wi
 take_nearer sizes routes borrowed most (subscribing.Reading slot word extent) n small within short over =
     let u : extent.user_header_words ≡ sizes.user_header_words = within.2.user_header in
     let v : extent.payload_words ≡ sizes.payload_words = within.2.payload in
-    read_nearer slot word extent (nat_lt (successor word) (3 + extent.user_header_words + extent.payload_words)) short (omega (arith, short, u, v, small.slot)) refl
+    read_nearer slot word extent (nat_lt (successor word) (3 + extent.user_header_words + extent.payload_words)) short
+    (omega (arith, short, u, v, small.slot)) refl
 take_nearer sizes routes borrowed most (subscribing.WasRead slot) n small within short over = absurd (cc over)
 take_nearer sizes routes borrowed most (subscribing.Releasing place route push.Idle) n small within short over = absurd short
-take_nearer sizes routes borrowed most (subscribing.Releasing place route (push.Begun limit value)) n small within short over = record { short = tt; fewer = omega arith }
-take_nearer sizes routes borrowed most (subscribing.Releasing place route (push.SawWrite limit value write next)) n small within short over =
+take_nearer sizes routes borrowed most (subscribing.Releasing place route (push.Begun limit value)) n small within short over
+    = record { short = tt; fewer = omega arith }
+take_nearer sizes routes borrowed most (subscribing.Releasing place route (push.SawWrite limit value write next)) n small within short
+    over =
     measured_nearer place route limit value write next n (nat_lt (write - n) limit)
-take_nearer sizes routes borrowed most (subscribing.Releasing place route (push.SawRoom value write next)) n small within short over = record { short = tt; fewer = omega arith }
-take_nearer sizes routes borrowed most (subscribing.Releasing place route (push.Filled value next)) n small within short over = record { short = tt; fewer = omega arith }
-take_nearer sizes routes borrowed most (subscribing.Releasing place route (push.Pushed value given)) n small within short over = absurd short
+take_nearer sizes routes borrowed most (subscribing.Releasing place route (push.SawRoom value write next)) n small within short over
+    = record { short = tt; fewer = omega arith }
+take_nearer sizes routes borrowed most (subscribing.Releasing place route (push.Filled value next)) n small within short over
+    = record { short = tt; fewer = omega arith }
+take_nearer sizes routes borrowed most (subscribing.Releasing place route (push.Pushed value given)) n small within short over
+    = absurd short
 take_nearer sizes routes borrowed most (subscribing.Released done) n small within short over = absurd (cc over)
 
-pub nearer : (sizes : TableSizes) (lane : SubscriberLaneState) (n : ℕ) → IsSmall sizes → IsSubscriber sizes lane → IsShort lane.port.call → subscriber_is_over lane.port.call ≡ false
+pub nearer : (sizes : TableSizes) (lane : SubscriberLaneState) (n : ℕ) → IsSmall sizes → IsSubscriber sizes lane
+    → IsShort lane.port.call → subscriber_is_over lane.port.call ≡ false
     → IsShort (subscriber_after n lane).port.call × (steps_left (subscriber_after n lane).port.call < steps_left lane.port.call)
 nearer sizes lane n small within short over =
-    let next = take_nearer sizes lane.port.routes lane.port.borrowed lane.port.most_borrowed lane.port.call n small within.call short over in
-    subst (λ (c : SubscriberCall). IsShort c × (steps_left c < steps_left lane.port.call)) (sym (call_after lane n)) (next.short, next.fewer)
+    let next = take_nearer sizes lane.port.routes lane.port.borrowed lane.port.most_borrowed lane.port.call n small within.call short
+    over in
+    subst (λ (c : SubscriberCall). IsShort c × (steps_left c < steps_left lane.port.call)) (sym (call_after lane n))
+    (next.short, next.fewer)
 
 -- the stages that a receive goes through, and where it leads to
 abbrev pub InReceive : SubscriberCall → Type 0
@@ -183,30 +208,38 @@ receive_in : (place : ℕ) (full waits : Bool) (at : Option Route) → InReceive
 receive_in place full waits None = tt
 receive_in place full waits (Some route) = tt
 
-received_in : (routes : List Route) (borrowed : List ℕ) (most place : ℕ) (route : Route) (pop : Pop) (waits : Bool) (a : Option PopAnswer) → InReceive (received routes borrowed most place route pop waits a)
+received_in : (routes : List Route) (borrowed : List ℕ) (most place : ℕ) (route : Route) (pop : Pop) (waits : Bool)
+    (a : Option PopAnswer) → InReceive (received routes borrowed most place route pop waits a)
 received_in routes borrowed most place route pop waits None = tt
 received_in routes borrowed most place route pop waits (Some (Got (Some slot))) = tt
-received_in routes borrowed most place route pop waits (Some (Got None)) = receive_in (successor place) (is_full_at borrowed most (successor place)) waits (slice_get routes (successor place))
-received_in routes borrowed most place route pop waits (Some (Saw some)) = receive_in (successor place) (is_full_at borrowed most (successor place)) (waits || some) (slice_get routes (successor place))
+received_in routes borrowed most place route pop waits (Some (Got None))
+    = receive_in (successor place) (is_full_at borrowed most (successor place)) waits (slice_get routes (successor place))
+received_in routes borrowed most place route pop waits (Some (Saw some))
+    = receive_in (successor place) (is_full_at borrowed most (successor place)) (waits || some) (slice_get routes (successor place))
 
-receive_takes : (routes : List Route) (borrowed : List ℕ) (most n : ℕ) (c : SubscriberCall) → InReceive c → InReceive (subscriber_take routes borrowed most c n)
+receive_takes : (routes : List Route) (borrowed : List ℕ) (most n : ℕ) (c : SubscriberCall) → InReceive c
+    → InReceive (subscriber_take routes borrowed most c n)
 receive_takes routes borrowed most n subscribing.Idle h = tt
-receive_takes routes borrowed most n (subscribing.Receiving place route pop waits) h = received_in routes borrowed most place route (pop_take pop n) waits (pop_answer (pop_take pop n))
+receive_takes routes borrowed most n (subscribing.Receiving place route pop waits) h
+    = received_in routes borrowed most place route (pop_take pop n) waits (pop_answer (pop_take pop n))
 receive_takes routes borrowed most n (subscribing.Received receipt) h = tt
 receive_takes routes borrowed most n (subscribing.Reading slot word extent) h = absurd h
 receive_takes routes borrowed most n (subscribing.WasRead slot) h = absurd h
 receive_takes routes borrowed most n (subscribing.Releasing place route push) h = absurd h
 receive_takes routes borrowed most n (subscribing.Released done) h = absurd h
 
-read_in : (sample slot word : ℕ) (extent : SlotExtent) (b : Bool) → slot ≡ sample → InRead sample (if b then subscribing.Reading slot word extent else subscribing.WasRead slot)
+read_in : (sample slot word : ℕ) (extent : SlotExtent) (b : Bool) → slot ≡ sample
+    → InRead sample (if b then subscribing.Reading slot word extent else subscribing.WasRead slot)
 read_in sample slot word extent true e = e
 read_in sample slot word extent false e = e
 
-read_takes : (sample : ℕ) (routes : List Route) (borrowed : List ℕ) (most n : ℕ) (c : SubscriberCall) → InRead sample c → InRead sample (subscriber_take routes borrowed most c n)
+read_takes : (sample : ℕ) (routes : List Route) (borrowed : List ℕ) (most n : ℕ) (c : SubscriberCall) → InRead sample c
+    → InRead sample (subscriber_take routes borrowed most c n)
 read_takes sample routes borrowed most n subscribing.Idle h = tt
 read_takes sample routes borrowed most n (subscribing.Receiving place route pop waits) h = absurd h
 read_takes sample routes borrowed most n (subscribing.Received receipt) h = absurd h
-read_takes sample routes borrowed most n (subscribing.Reading slot word extent) h = read_in sample slot (successor word) extent (nat_lt (successor word) (3 + extent.user_header_words + extent.payload_words)) h
+read_takes sample routes borrowed most n (subscribing.Reading slot word extent) h
+    = read_in sample slot (successor word) extent (nat_lt (successor word) (3 + extent.user_header_words + extent.payload_words)) h
 read_takes sample routes borrowed most n (subscribing.WasRead slot) h = tt
 read_takes sample routes borrowed most n (subscribing.Releasing place route push) h = absurd h
 read_takes sample routes borrowed most n (subscribing.Released done) h = absurd h
@@ -217,21 +250,26 @@ released_in place route push (Some Kept) = tt
 released_in place route push (Some (LeftOut oldest)) = tt
 released_in place route push (Some Refused) = tt
 
-release_takes : (routes : List Route) (borrowed : List ℕ) (most n : ℕ) (c : SubscriberCall) → InRelease c → InRelease (subscriber_take routes borrowed most c n)
+release_takes : (routes : List Route) (borrowed : List ℕ) (most n : ℕ) (c : SubscriberCall) → InRelease c
+    → InRelease (subscriber_take routes borrowed most c n)
 release_takes routes borrowed most n subscribing.Idle h = tt
 release_takes routes borrowed most n (subscribing.Receiving place route pop waits) h = absurd h
 release_takes routes borrowed most n (subscribing.Received receipt) h = absurd h
 release_takes routes borrowed most n (subscribing.Reading slot word extent) h = absurd h
 release_takes routes borrowed most n (subscribing.WasRead slot) h = absurd h
-release_takes routes borrowed most n (subscribing.Releasing place route push) h = released_in place route (refusing.push_take push n) (refusing_push_answer (refusing.push_take push n))
+release_takes routes borrowed most n (subscribing.Releasing place route push) h
+    = released_in place route (refusing.push_take push n) (refusing_push_answer (refusing.push_take push n))
 release_takes routes borrowed most n (subscribing.Released done) h = tt
 
 -- what each step keeps of the stage, a run keeps
-along : (P : SubscriberCall → Type 0) → ((routes : List Route) (borrowed : List ℕ) (most n : ℕ) (c : SubscriberCall) → P c → P (subscriber_take routes borrowed most c n))
-    → (p : Port) (lane : SubscriberLaneState) (q : Port) (now : SubscriberLaneState) → SubscriberGoes p lane q now → P lane.port.call → P now.port.call
+along : (P : SubscriberCall → Type 0)
+    → ((routes : List Route) (borrowed : List ℕ) (most n : ℕ) (c : SubscriberCall) → P c → P (subscriber_take routes borrowed most c n))
+    → (p : Port) (lane : SubscriberLaneState) (q : Port) (now : SubscriberLaneState) → SubscriberGoes p lane q now → P lane.port.call
+    → P now.port.call
 along P takes p lane _ _ stays h = h
 along P takes p lane _ _ (goes q now n run told) h =
-    subst P (sym (call_after now n)) (takes now.port.routes now.port.borrowed now.port.most_borrowed n now.port.call (along P takes p lane q now run h))
+    subst P (sym (call_after now n)) (takes now.port.routes now.port.borrowed now.port.most_borrowed n now.port.call
+    (along P takes p lane q now run h))
 
 -- a receive that only lacks its last step has its receipt
 receive_over : (c : SubscriberCall) → InReceive c → subscriber_is_over c ≡ true → (receipt : Receipt) × (c ≡ subscribing.Received receipt)
@@ -243,7 +281,8 @@ receive_over (subscribing.WasRead slot) h over = absurd h
 receive_over (subscribing.Releasing place route push) h over = absurd h
 receive_over (subscribing.Released done) h over = absurd h
 
-pub received_at : (p : Port) (lane : SubscriberLaneState) (q : Port) (now : SubscriberLaneState) → SubscriberGoes p (subscriber_begun 0 call.Receive lane) q now → subscriber_is_over now.port.call ≡ true
+pub received_at : (p : Port) (lane : SubscriberLaneState) (q : Port) (now : SubscriberLaneState)
+    → SubscriberGoes p (subscriber_begun 0 call.Receive lane) q now → subscriber_is_over now.port.call ≡ true
     → (receipt : Receipt) × (now.port.call ≡ subscribing.Received receipt)
 received_at p lane q now run over =
     receive_over now.port.call (along InReceive receive_takes p (subscriber_begun 0 call.Receive lane) q now run
@@ -258,11 +297,13 @@ read_over sample (subscribing.WasRead slot) h over = ap (λ (s : ℕ). subscribi
 read_over sample (subscribing.Releasing place route push) h over = absurd h
 read_over sample (subscribing.Released done) h over = absurd h
 
-pub read_at_end : (p : Port) (lane : SubscriberLaneState) (sample : ℕ) (q : Port) (now : SubscriberLaneState) → SubscriberGoes p (subscriber_begun 0 (call.Read sample) lane) q now → subscriber_is_over now.port.call ≡ true
+pub read_at_end : (p : Port) (lane : SubscriberLaneState) (sample : ℕ) (q : Port) (now : SubscriberLaneState)
+    → SubscriberGoes p (subscriber_begun 0 (call.Read sample) lane) q now → subscriber_is_over now.port.call ≡ true
     → now.port.call ≡ subscribing.WasRead sample
 read_at_end p lane sample q now run over =
     read_over sample now.port.call (along (InRead sample) (read_takes sample) p (subscriber_begun 0 (call.Read sample) lane) q now run
-    (read_in sample sample 0 lane.port.extent (nat_lt 0 (3 + lane.port.extent.user_header_words + lane.port.extent.payload_words)) refl)) over
+    (read_in sample sample 0 lane.port.extent (nat_lt 0 (3 + lane.port.extent.user_header_words + lane.port.extent.payload_words))
+    refl)) over
 
 release_over : (c : SubscriberCall) → InRelease c → subscriber_is_over c ≡ true → (done : Bool) × (c ≡ subscribing.Released done)
 release_over subscribing.Idle h over = absurd (cc over)
@@ -282,7 +323,8 @@ idle_in (subscribing.WasRead slot) h = absurd (cc h)
 idle_in (subscribing.Releasing place route push) h = tt
 idle_in (subscribing.Released done) h = tt
 
-release_begins : (lane : SubscriberLaneState) (sample : ℕ) (place : Option ℕ) (route : Option Route) → is_route route ≡ true → place_of sample lane ≡ place → route_at place lane ≡ route
+release_begins : (lane : SubscriberLaneState) (sample : ℕ) (place : Option ℕ) (route : Option Route) → is_route route ≡ true
+    → place_of sample lane ≡ place → route_at place lane ≡ route
     → IsShort (release_begun 0 sample place route lane).port.call × InRelease (release_begun 0 sample place route lane).port.call
 release_begins lane sample None None h e f = absurd (cc h)
 release_begins lane sample None (Some route) h e f = absurd (cc f)
@@ -290,28 +332,36 @@ release_begins lane sample (Some place) None h e f = absurd (cc h)
 release_begins lane sample (Some place) (Some route) h e f = (tt, tt)
 
 pub release_is_short : (lane : SubscriberLaneState) (sample : ℕ) → subscriber_fits lane (Begin (call.Release sample)) ≡ true
-    → IsShort (subscriber_begun 0 (call.Release sample) lane).port.call × InRelease (subscriber_begun 0 (call.Release sample) lane).port.call
+    → IsShort (subscriber_begun 0 (call.Release sample) lane).port.call
+    × InRelease (subscriber_begun 0 (call.Release sample) lane).port.call
 release_is_short lane sample fit =
-    release_begins lane sample (place_of sample lane) (route_at (place_of sample lane) lane) (and_right (subscriber_is_idle lane.port.call) (subscriber_may lane (call.Release sample)) fit) refl refl
+    release_begins lane sample (place_of sample lane) (route_at (place_of sample lane) lane)
+    (and_right (subscriber_is_idle lane.port.call) (subscriber_may lane (call.Release sample)) fit) refl refl
 
-pub released_at : (p : Port) (lane : SubscriberLaneState) (sample : ℕ) (q : Port) (now : SubscriberLaneState) → subscriber_fits lane (Begin (call.Release sample)) ≡ true
-    → SubscriberGoes p (subscriber_begun 0 (call.Release sample) lane) q now → subscriber_is_over now.port.call ≡ true → (done : Bool) × (now.port.call ≡ subscribing.Released done)
+pub released_at : (p : Port) (lane : SubscriberLaneState) (sample : ℕ) (q : Port) (now : SubscriberLaneState)
+    → subscriber_fits lane (Begin (call.Release sample)) ≡ true
+    → SubscriberGoes p (subscriber_begun 0 (call.Release sample) lane) q now → subscriber_is_over now.port.call ≡ true → (done : Bool)
+    × (now.port.call ≡ subscribing.Released done)
 released_at p lane sample q now fit run over =
-    release_over now.port.call (along InRelease release_takes p (subscriber_begun 0 (call.Release sample) lane) q now run (release_is_short lane sample fit).1) over
+    release_over now.port.call (along InRelease release_takes p (subscriber_begun 0 (call.Release sample) lane) q now run
+    (release_is_short lane sample fit).1) over
 
-read_short : (slot : ℕ) (extent : SlotExtent) (b : Bool) → nat_lt 0 (3 + extent.user_header_words + extent.payload_words) ≡ b → IsShort (if b then subscribing.Reading slot 0 extent else subscribing.WasRead slot)
+read_short : (slot : ℕ) (extent : SlotExtent) (b : Bool) → nat_lt 0 (3 + extent.user_header_words + extent.payload_words) ≡ b
+    → IsShort (if b then subscribing.Reading slot 0 extent else subscribing.WasRead slot)
 read_short slot extent true e = ltb-true 0 (3 + extent.user_header_words + extent.payload_words) e
 read_short slot extent false e = tt
 
 pub read_is_short : (lane : SubscriberLaneState) (sample : ℕ) → IsShort (subscriber_begun 0 (call.Read sample) lane).port.call
-read_is_short lane sample = read_short sample lane.port.extent (nat_lt 0 (3 + lane.port.extent.user_header_words + lane.port.extent.payload_words)) refl
+read_is_short lane sample = read_short sample lane.port.extent
+    (nat_lt 0 (3 + lane.port.extent.user_header_words + lane.port.extent.payload_words)) refl
 
 -- the words that a read lends
 pub words_at_end : (c : SubscriberCall) (words : List ℕ) (sample : ℕ) → c ≡ subscribing.WasRead sample → words_read c words ≡ words
 words_at_end c words sample e = ap (λ (d : SubscriberCall). words_read d words) e
 
 -- a seat that goes on stays the seat of its port
-pub seated_on : (table table' : TableId) (me me' : Me ℕ View) (sizes : TableSizes) → IsSeated table me sizes → table' ≡ table → me' ≡ single (port_of me') → (port_of me').service ≡ (port_of me).service → IsSeated table' me' sizes
+pub seated_on : (table table' : TableId) (me me' : Me ℕ View) (sizes : TableSizes) → IsSeated table me sizes → table' ≡ table
+    → me' ≡ single (port_of me') → (port_of me').service ≡ (port_of me).service → IsSeated table' me' sizes
 seated_on table table' me me' sizes seat same alone service = record {
   alone = alone;
   sizes_are = ap (λ (s : Service). s.sizes) service ∙ seat.sizes_are;
@@ -320,7 +370,8 @@ seated_on table table' me me' sizes seat same alone service = record {
 }
 
 -- what a subscriber begins that fits
-pub begun_stands : (p : Port) (lane mine begun : SubscriberLaneState) (c : Call) → SubscriberStands p lane → mine ≡ settled lane → begun ≡ subscriber_begun 0 c mine → subscriber_fits mine (Begin c) ≡ true → SubscriberStands p begun
+pub begun_stands : (p : Port) (lane mine begun : SubscriberLaneState) (c : Call) → SubscriberStands p lane → mine ≡ settled lane
+    → begun ≡ subscriber_begun 0 c mine → subscriber_fits mine (Begin c) ≡ true → SubscriberStands p begun
 begun_stands p lane mine begun c stands is begins_is fit =
     subst (SubscriberStands p) (sym begins_is) (begins p mine 0 c (subst (SubscriberStands p) (sym is) (settled_stands p lane stands)) fit)
 
@@ -328,26 +379,34 @@ and_true : (b : Bool) → b ≡ true → (b && true) ≡ true
 and_true true e = refl
 and_true false e = absurd (cc e)
 
-pub receive_fits : (lane : SubscriberLaneState) → subscriber_is_idle lane.port.call ≡ true → subscriber_fits lane (Begin call.Receive) ≡ true
+pub receive_fits : (lane : SubscriberLaneState) → subscriber_is_idle lane.port.call ≡ true
+    → subscriber_fits lane (Begin call.Receive) ≡ true
 receive_fits lane idle = and_true (subscriber_is_idle lane.port.call) idle
 
 -- after the last step
-pub last_stands : (p : Port) (last now : SubscriberLaneState) → SubscriberStands p last → subscriber_is_over last.port.call ≡ true → now ≡ subscriber_after 0 last → SubscriberStands p now
+pub last_stands : (p : Port) (last now : SubscriberLaneState) → SubscriberStands p last → subscriber_is_over last.port.call ≡ true
+    → now ≡ subscriber_after 0 last → SubscriberStands p now
 last_stands p last now stands over is = subst (SubscriberStands p) (sym is) (subscriber_last p last stands over)
 
-pub last_between : (last now : SubscriberLaneState) → subscriber_is_over last.port.call ≡ true → now ≡ subscriber_after 0 last → IsBetween now.port.call
-last_between last now over is = subst (λ (lane : SubscriberLaneState). IsBetween lane.port.call) (sym is) (between_idle (subscriber_after 0 last).port.call (after_idle last over))
+pub last_between : (last now : SubscriberLaneState) → subscriber_is_over last.port.call ≡ true → now ≡ subscriber_after 0 last
+    → IsBetween now.port.call
+last_between last now over is = subst (λ (lane : SubscriberLaneState). IsBetween lane.port.call) (sym is)
+    (between_idle (subscriber_after 0 last).port.call (after_idle last over))
 
-pub last_settled : (last now : SubscriberLaneState) → subscriber_is_over last.port.call ≡ true → now ≡ subscriber_after 0 last → settled now ≡ subscriber_after 0 last
+pub last_settled : (last now : SubscriberLaneState) → subscriber_is_over last.port.call ≡ true → now ≡ subscriber_after 0 last
+    → settled now ≡ subscriber_after 0 last
 last_settled last now over is = ap settled is ∙ settled_is (subscriber_after 0 last) (after_idle last over)
 
 -- a receive from its begin to its last step
-pub receive_done : (old : SubscriberPort) (p q : Port) (mine begun last now : SubscriberLaneState) (given : Option Answer) → old.port ≡ p → old.lane ≡ mine → begun ≡ subscriber_begun 0 call.Receive mine
-    → SubscriberGoes p begun q last → subscriber_is_over last.port.call ≡ true → now ≡ subscriber_after 0 last → given ≡ subscriber_answer last.port.call 0
+pub receive_done : (old : SubscriberPort) (p q : Port) (mine begun last now : SubscriberLaneState) (given : Option Answer)
+    → old.port ≡ p → old.lane ≡ mine → begun ≡ subscriber_begun 0 call.Receive mine
+    → SubscriberGoes p begun q last → subscriber_is_over last.port.call ≡ true → now ≡ subscriber_after 0 last
+    → given ≡ subscriber_answer last.port.call 0
     → SubscriberEnds old.port (subscriber_begun 0 call.Receive old.lane) q (settled now) (answer.Received (received_of given))
 receive_done old p q mine begun last now given port lane begins_is run over is answers =
     let from : begun ≡ subscriber_begun 0 call.Receive old.lane = begins_is ∙ ap (subscriber_begun 0 call.Receive) (sym lane) in
-    let whole : SubscriberGoes old.port (subscriber_begun 0 call.Receive old.lane) q last = subst (λ (z : Port × SubscriberLaneState). SubscriberGoes z.0 z.1 q last) (λ i. (sym port i, from i)) run in
+    let whole : SubscriberGoes old.port (subscriber_begun 0 call.Receive old.lane) q last
+    = subst (λ (z : Port × SubscriberLaneState). SubscriberGoes z.0 z.1 q last) (λ i. (sym port i, from i)) run in
     let got = received_at old.port old.lane q last whole over in
     let told : given ≡ Some (answer.Received got.0) = answers ∙ ap (λ (c : SubscriberCall). subscriber_answer c 0) got.1 in
     record {
@@ -359,13 +418,18 @@ receive_done old p q mine begun last now given port lane begins_is run over is a
     }
 
 -- a release likewise
-pub release_done : (old new : SubscriberPort) (p : Port) (sample : ℕ) (mine begun last now : SubscriberLaneState) (given : Option Answer) → old.port ≡ p → old.lane ≡ mine → subscriber_fits mine (Begin (call.Release sample)) ≡ true
-    → begun ≡ subscriber_begun 0 (call.Release sample) mine → SubscriberGoes p begun new.port last → subscriber_is_over last.port.call ≡ true → now ≡ subscriber_after 0 last → new.lane ≡ settled now
+pub release_done : (old new : SubscriberPort) (p : Port) (sample : ℕ) (mine begun last now : SubscriberLaneState)
+    (given : Option Answer) → old.port ≡ p → old.lane ≡ mine → subscriber_fits mine (Begin (call.Release sample)) ≡ true
+    → begun ≡ subscriber_begun 0 (call.Release sample) mine → SubscriberGoes p begun new.port last
+    → subscriber_is_over last.port.call ≡ true → now ≡ subscriber_after 0 last → new.lane ≡ settled now
     → given ≡ subscriber_answer last.port.call 0 → Releases old sample new (released_of given)
 release_done old new p sample mine begun last now given port lane fit begins_is run over is new_is answers =
-    let fits : subscriber_fits old.lane (Begin (call.Release sample)) ≡ true = ap (λ (l : SubscriberLaneState). subscriber_fits l (Begin (call.Release sample))) lane ∙ fit in
-    let from : begun ≡ subscriber_begun 0 (call.Release sample) old.lane = begins_is ∙ ap (subscriber_begun 0 (call.Release sample)) (sym lane) in
-    let whole : SubscriberGoes old.port (subscriber_begun 0 (call.Release sample) old.lane) new.port last = subst (λ (z : Port × SubscriberLaneState). SubscriberGoes z.0 z.1 new.port last) (λ i. (sym port i, from i)) run in
+    let fits : subscriber_fits old.lane (Begin (call.Release sample)) ≡ true
+    = ap (λ (l : SubscriberLaneState). subscriber_fits l (Begin (call.Release sample))) lane ∙ fit in
+    let from : begun ≡ subscriber_begun 0 (call.Release sample) old.lane
+    = begins_is ∙ ap (subscriber_begun 0 (call.Release sample)) (sym lane) in
+    let whole : SubscriberGoes old.port (subscriber_begun 0 (call.Release sample) old.lane) new.port last
+    = subst (λ (z : Port × SubscriberLaneState). SubscriberGoes z.0 z.1 new.port last) (λ i. (sym port i, from i)) run in
     let got = released_at old.port old.lane sample new.port last fits whole over in
     let told : given ≡ Some (answer.Released got.0) = answers ∙ ap (λ (c : SubscriberCall). subscriber_answer c 0) got.1 in
     subst (Releases old sample new) (sym (ap released_of told)) (
@@ -374,12 +438,15 @@ release_done old new p sample mine begun last now given port lane fit begins_is 
     )
 
 -- and a read, which lacks its last step still
-pub read_done : (old new : SubscriberPort) (p : Port) (sample : ℕ) (mine begun last : SubscriberLaneState) → old.port ≡ p → old.lane ≡ mine → subscriber_fits mine (Begin (call.Read sample)) ≡ true
-    → begun ≡ subscriber_begun 0 (call.Read sample) mine → SubscriberGoes p begun new.port last → subscriber_is_over last.port.call ≡ true → new.lane ≡ settled last
+pub read_done : (old new : SubscriberPort) (p : Port) (sample : ℕ) (mine begun last : SubscriberLaneState) → old.port ≡ p
+    → old.lane ≡ mine → subscriber_fits mine (Begin (call.Read sample)) ≡ true
+    → begun ≡ subscriber_begun 0 (call.Read sample) mine → SubscriberGoes p begun new.port last
+    → subscriber_is_over last.port.call ≡ true → new.lane ≡ settled last
     → new.words ≡ words_read last.port.call last.port.words → Reads old sample new true
 read_done old new p sample mine begun last port lane fit begins_is run over new_is words_are =
     let from : begun ≡ subscriber_begun 0 (call.Read sample) old.lane = begins_is ∙ ap (subscriber_begun 0 (call.Read sample)) (sym lane) in
-    let whole : SubscriberGoes old.port (subscriber_begun 0 (call.Read sample) old.lane) new.port last = subst (λ (z : Port × SubscriberLaneState). SubscriberGoes z.0 z.1 new.port last) (λ i. (sym port i, from i)) run in
+    let whole : SubscriberGoes old.port (subscriber_begun 0 (call.Read sample) old.lane) new.port last
+    = subst (λ (z : Port × SubscriberLaneState). SubscriberGoes z.0 z.1 new.port last) (λ i. (sym port i, from i)) run in
     let ends : last.port.call ≡ subscribing.WasRead sample = read_at_end old.port old.lane sample new.port last whole over in
     record {
       last = last;
@@ -391,6 +458,7 @@ read_done old new p sample mine begun last port lane fit begins_is run over new_
     }
 
 -- a call that does not fit leaves the port as it is
-pub unmoved : (old new : SubscriberPort) (p : Port) (lane mine : SubscriberLaneState) → new.table ≡ old.table → old.port ≡ p → new.port ≡ p → old.lane ≡ settled lane → mine ≡ settled lane → subscriber_is_idle mine.port.call ≡ true
+pub unmoved : (old new : SubscriberPort) (p : Port) (lane mine : SubscriberLaneState) → new.table ≡ old.table → old.port ≡ p
+    → new.port ≡ p → old.lane ≡ settled lane → mine ≡ settled lane → subscriber_is_idle mine.port.call ≡ true
     → new.lane ≡ settled mine → Unmoved old new
 unmoved old new p lane mine table port same was is idle now = (table, same ∙ sym port, now ∙ settled_is mine idle ∙ is ∙ sym was)

@@ -1,5 +1,6 @@
 -- A publisher has no more connections than its service.
-use Rattle.std.proofs.Common.{ℕ, suc, ◌≡◌, ◌+◌, ◌*◌, ◌<◌, ◌≤◌, ◌^◌, ◌||◌, Bool, true, false, List, [], ◌∷◌, length, map, slice_get, Some, eqb, refl, sym, inl, inr, arith}
+use Rattle.std.proofs.Common.{ℕ, suc, ◌≡◌, ◌+◌, ◌*◌, ◌<◌, ◌≤◌, ◌^◌, ◌||◌, Bool, true, false, List, [], ◌∷◌, length, map, slice_get, Some}
+use Rattle.std.proofs.Common.{eqb, refl, sym, inl, inr, arith}
 use Rattle.std.specs.List.{All, AllByRecursion, IsDistinct, list_any}
 use Rattle.std.proofs.lemmas.Bool.{eqb-true}
 use Rattle.std.proofs.lemmas.Bool.Decides.{eqb_tells}
@@ -16,7 +17,8 @@ use Rattle.iox_lanes_threads_ports.specs.Ports.{EachOnce}
 abbrev connection_of : Route → ℕ
 connection_of route = route.connection
 
-none_later : (x : ℕ) (routes : List Route) → ((i : ℕ) (route : Route) → slice_get routes i ≡ Some route → route.connection ≡ x → ⊥) → AllByRecursion (λ y. eqb x y ≡ false) (map connection_of routes)
+none_later : (x : ℕ) (routes : List Route) → ((i : ℕ) (route : Route) → slice_get routes i ≡ Some route → route.connection ≡ x → ⊥)
+    → AllByRecursion (λ y. eqb x y ≡ false) (map connection_of routes)
 none_later x [] off = tt
 none_later x (route ∷ routes) off = (
   elim (eqb_tells x route.connection) [
@@ -34,20 +36,25 @@ distinct (route ∷ routes) once = (
   distinct routes (λ i j one other a b e. let same : suc i ≡ suc j = once (suc i) (suc j) one other a b e in omega (arith, same)),
 )
 
-below : (sizes : TableSizes) (routes : List Route) → All (IsRoute sizes) routes → (q : ℕ) → list_any (eqb q) (map connection_of routes) ≡ true → q < sizes.connections
+below : (sizes : TableSizes) (routes : List Route) → All (IsRoute sizes) routes → (q : ℕ)
+    → list_any (eqb q) (map connection_of routes) ≡ true → q < sizes.connections
 below sizes [] all q e = absurd (cc e)
-below sizes (route ∷ routes) all q e = by_test (eqb q route.connection) refl e (below sizes routes (All-tail (IsRoute sizes) route routes all) q)
+below sizes (route ∷ routes) all q e
+    = by_test (eqb q route.connection) refl e (below sizes routes (All-tail (IsRoute sizes) route routes all) q)
   where
-    by_test : (b : Bool) → eqb q route.connection ≡ b → (b || list_any (eqb q) (map connection_of routes)) ≡ true → (list_any (eqb q) (map connection_of routes) ≡ true → q < sizes.connections) → q < sizes.connections
+    by_test : (b : Bool) → eqb q route.connection ≡ b → (b || list_any (eqb q) (map connection_of routes)) ≡ true
+        → (list_any (eqb q) (map connection_of routes) ≡ true → q < sizes.connections) → q < sizes.connections
     by_test true same f rest =
         let is : q ≡ route.connection = eqb-true q route.connection same in
         let there : route.connection < sizes.connections = (All-head (IsRoute sizes) route routes all).connection in
         omega (arith, is, there)
     by_test false same f rest = rest f
 
-pub few_connections : (sizes : TableSizes) (routes : List Route) → EachOnce routes → All (IsRoute sizes) routes → length routes ≤ sizes.connections
+pub few_connections : (sizes : TableSizes) (routes : List Route) → EachOnce routes → All (IsRoute sizes) routes
+    → length routes ≤ sizes.connections
 few_connections sizes routes once all =
-    let few : length (map connection_of routes) ≤ sizes.connections = length-le_from_distinct_below (map connection_of routes) sizes.connections (distinct routes once) (below sizes routes all) in
+    let few : length (map connection_of routes) ≤ sizes.connections
+    = length-le_from_distinct_below (map connection_of routes) sizes.connections (distinct routes once) (below sizes routes all) in
     omega (arith, few, length-map routes connection_of)
 
 -- and far fewer than numbers have

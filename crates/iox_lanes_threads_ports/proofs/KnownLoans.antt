@@ -43,7 +43,8 @@ begins_loan : (place : ℕ) (at : Option Route) → InLoan (loan_from place at)
 begins_loan place None = tt
 begins_loan place (Some route) = tt
 
-reclaims_loan : (routes : List Route) (place : ℕ) (route : Route) (pop : Pop) (a : Option PopAnswer) → InLoan (loan_reclaimed routes place route pop a)
+reclaims_loan : (routes : List Route) (place : ℕ) (route : Route) (pop : Pop) (a : Option PopAnswer)
+    → InLoan (loan_reclaimed routes place route pop a)
 reclaims_loan routes place route pop None = tt
 reclaims_loan routes place route pop (Some (Got (Some slot))) = tt
 reclaims_loan routes place route pop (Some (Got None)) = begins_loan (successor place) (slice_get routes (successor place))
@@ -51,7 +52,8 @@ reclaims_loan routes place route pop (Some (Saw some)) = begins_loan (successor 
 
 loan_goes : (routes : List Route) (words : List ℕ) (c : PublisherCall) (n : ℕ) → InLoan c → InLoan (publisher_take routes words c n)
 loan_goes routes words publishing.Idle n h = tt
-loan_goes routes words (publishing.LoanReclaims place route pop) n h = reclaims_loan routes place route (refusing.pop_take pop n) (refusing_pop_answer (refusing.pop_take pop n))
+loan_goes routes words (publishing.LoanReclaims place route pop) n h
+    = reclaims_loan routes place route (refusing.pop_take pop n) (refusing_pop_answer (refusing.pop_take pop n))
 loan_goes routes words publishing.Lending n h = tt
 loan_goes routes words (publishing.Writing slot word value) n h = absurd h
 loan_goes routes words (publishing.Written slot) n h = absurd h
@@ -66,7 +68,8 @@ lends : (loan : Option LoanAnswer) (a : Answer) → Some (lent loan) ≡ Some a 
 lends None a e = (loan_answer.OutOfMemory, cc e)
 lends (Some given) a e = (given, cc e)
 
-over_answer : (fails : Bool) (c : PublisherCall) (loan : Option LoanAnswer) (a : Answer) → InLoan c → publisher_is_over c ≡ true → publisher_answer fails c loan ≡ Some a → (given : LoanAnswer) × (a ≡ answer.Lent given)
+over_answer : (fails : Bool) (c : PublisherCall) (loan : Option LoanAnswer) (a : Answer) → InLoan c → publisher_is_over c ≡ true
+    → publisher_answer fails c loan ≡ Some a → (given : LoanAnswer) × (a ≡ answer.Lent given)
 over_answer fails publishing.Idle loan a h over e = absurd (cc e)
 over_answer fails (publishing.LoanReclaims place route pop) loan a h over e = absurd (cc over)
 over_answer fails publishing.Lending loan a h over e = lends loan a e
@@ -79,16 +82,21 @@ over_answer fails (publishing.Pushing slot place route push delivery) loan a h o
 over_answer fails (publishing.Sent slot delivery) loan a h over e = absurd h
 over_answer fails (publishing.Dropping slot) loan a h over e = absurd h
 
-loan_ends : (most : ℕ) (p : Port) (lane : PublisherLaneState) (q : Port) (now : PublisherLaneState) (a : Answer) → PublisherStands p lane → publisher_fits lane (Begin call.LoanUninit) ≡ true → PublisherEnds most p (publisher_begun 0 call.LoanUninit lane) q now a
+loan_ends : (most : ℕ) (p : Port) (lane : PublisherLaneState) (q : Port) (now : PublisherLaneState) (a : Answer)
+    → PublisherStands p lane → publisher_fits lane (Begin call.LoanUninit) ≡ true
+    → PublisherEnds most p (publisher_begun 0 call.LoanUninit lane) q now a
     → (given : LoanAnswer) × (a ≡ answer.Lent given)
 loan_ends most p lane q now a stands fit run =
-    let end = publisher_along (λ z l. InLoan l.port.call) (λ z l n there told h. loan_goes l.port.routes (call_words l.port) l.port.call n h) p (publisher_begun 0 call.LoanUninit lane) q run.last run.goes
+    let end = publisher_along (λ z l. InLoan l.port.call)
+    (λ z l n there told h. loan_goes l.port.routes (call_words l.port) l.port.call n h) p (publisher_begun 0 call.LoanUninit lane) q
+    run.last run.goes
     (publisher_begun_stands p lane (Begin call.LoanUninit) stands fit) (begins_loan 0 (slice_get lane.port.routes 0)) in
     over_answer run.last.fails run.last.port.call now.port.book.answer a end.1 run.ends run.answers
 
 -- what a loan does
 pub loan_called : (old new : PublisherPort) (given : Option Answer) → PublisherStands old.port old.lane → new.table ≡ old.table
-    → PublisherDoes (loan_steps old.port.service.sizes) old.port old.lane (Begin call.LoanUninit) new.port new.lane given → Loans old new (lent_of given)
+    → PublisherDoes (loan_steps old.port.service.sizes) old.port old.lane (Begin call.LoanUninit) new.port new.lane given
+    → Loans old new (lent_of given)
 loan_called old new None stands table does = elim does [
   | inl none ↦ inl (none.0, (table, none.2, none.3))
   | inr inside ↦ inr inside
@@ -97,6 +105,9 @@ loan_called old new (Some a) stands table does = elim does [
   | inl none ↦ absurd (cc none.1)
   | inr done ↦
       let told = loan_ends (loan_steps old.port.service.sizes) old.port old.lane new.port new.lane a stands done.0 done.1 in
-      subst (λ (x : Answer). Loans old new (lent_of (Some x))) (sym told.1)
-      (done.0, subst (λ (x : Answer). PublisherEnds (loan_steps old.port.service.sizes) old.port (publisher_begun 0 call.LoanUninit old.lane) new.port new.lane x) told.1 done.1)
+      subst (λ (x : Answer). Loans old new (lent_of (Some x))) (sym told.1) (
+        done.0,
+        subst (λ (x : Answer). PublisherEnds (loan_steps old.port.service.sizes) old.port
+            (publisher_begun 0 call.LoanUninit old.lane) new.port new.lane x) told.1 done.1,
+      )
 ]

@@ -17,20 +17,31 @@ use Rattle.iox_lanes_threads_ports.proofs.Pacing.{loan_left, write_left, head_le
 from_first : (most connections : ℕ) → sweeps_left most (connections - 0) ≡ sweeps_left most connections
 from_first most connections = let all : connections - 0 ≡ connections = omega arith in ap (sweeps_left most) all
 
-starts_here : (p : Port) (lane : PublisherLaneState) (step : Move) (most : ℕ) → PublisherStands p lane → IsSmall p.service.sizes → HasSteps p.service.sizes step most → StartsWithin p.service.sizes most (publisher_begins step lane).port.call
+starts_here : (p : Port) (lane : PublisherLaneState) (step : Move) (most : ℕ) → PublisherStands p lane → IsSmall p.service.sizes
+    → HasSteps p.service.sizes step most → StartsWithin p.service.sizes most (publisher_begins step lane).port.call
 starts_here p lane GoOn most stands small enough = absurd enough
 starts_here p lane (Begin call.LoanUninit) most stands small enough =
     let wide = few_connections p.service.sizes lane.port.routes stands.once stands.within.routes in
-    let left = loan_left p.service.sizes (p.service.sizes.completion_cells + 1) p.service.sizes.connections 0 lane.port.routes wide (small_connections p.service.sizes small) (λ place. 0) 0 (slice_get lane.port.routes 0) refl in
-    record { words = 0; going = left.going; few = omega (arith, left.few, enough, from_first (p.service.sizes.completion_cells + 1) p.service.sizes.connections) }
+    let left = loan_left p.service.sizes (p.service.sizes.completion_cells + 1) p.service.sizes.connections 0 lane.port.routes wide
+    (small_connections p.service.sizes small) (λ place. 0) 0 (slice_get lane.port.routes 0) refl in
+    record {
+      words = 0;
+      going = left.going;
+      few
+          = omega (arith, left.few, enough, from_first (p.service.sizes.completion_cells + 1) p.service.sizes.connections);
+    }
 starts_here p lane (Begin (call.Write loan payload user_header)) most stands small enough =
     let wide = few_connections p.service.sizes lane.port.routes stands.once stands.within.routes in
-    let left = write_left p.service.sizes (p.service.sizes.completion_cells + 1) p.service.sizes.connections p.service.sizes.payload_words lane.port.routes wide (small_connections p.service.sizes small) payload.items (λ place. 0) (λ place. 0) loan 0
+    let left = write_left p.service.sizes (p.service.sizes.completion_cells + 1) p.service.sizes.connections
+    p.service.sizes.payload_words lane.port.routes wide (small_connections p.service.sizes small) payload.items (λ place. 0)
+    (λ place. 0) loan 0
     (slice_get payload.items 0) (omega arith) in
     record { words = p.service.sizes.payload_words; going = left.going; few = omega (arith, left.few, enough) }
 starts_here p lane (Begin (call.Send loan)) most stands small enough =
     let wide = few_connections p.service.sizes lane.port.routes stands.once stands.within.routes in
-    let left = head_left p.service.sizes (p.service.sizes.completion_cells + 1) p.service.sizes.connections (3 + p.service.sizes.user_header_words) lane.port.routes wide (small_connections p.service.sizes small) (head_of loan lane) (λ place. 0) (λ place. 0)
+    let left = head_left p.service.sizes (p.service.sizes.completion_cells + 1) p.service.sizes.connections
+    (3 + p.service.sizes.user_header_words) lane.port.routes wide (small_connections p.service.sizes small) (head_of loan lane)
+    (λ place. 0) (λ place. 0)
     loan 0 (slice_get (head_of loan lane) 0) (omega arith) in
     record { words = 3 + p.service.sizes.user_header_words; going = left.going; few = omega (arith, left.few, enough) }
 starts_here p lane (Begin (call.DropLoan loan)) most stands small enough = absurd enough
@@ -38,7 +49,9 @@ starts_here p lane (Begin call.Receive) most stands small enough = absurd enough
 starts_here p lane (Begin (call.Read sample)) most stands small enough = absurd enough
 starts_here p lane (Begin (call.Release sample)) most stands small enough = absurd enough
 
-pub starts : (p : Port) (lane : PublisherLaneState) (sizes : TableSizes) (step : Move) (most : ℕ) → PublisherStands p lane → p.service.sizes ≡ sizes → IsSmall sizes → HasSteps sizes step most → StartsWithin sizes most (publisher_begins step lane).port.call
+pub starts : (p : Port) (lane : PublisherLaneState) (sizes : TableSizes) (step : Move) (most : ℕ) → PublisherStands p lane
+    → p.service.sizes ≡ sizes → IsSmall sizes → HasSteps sizes step most → StartsWithin sizes most (publisher_begins step lane).port.call
 starts p lane sizes step most stands same small enough =
     subst (λ (z : TableSizes). StartsWithin z most (publisher_begins step lane).port.call) same
-    (starts_here p lane step most stands (subst IsSmall (sym same) small) (subst (λ (z : TableSizes). HasSteps z step most) (sym same) enough))
+    (starts_here p lane step most stands (subst IsSmall (sym same) small)
+    (subst (λ (z : TableSizes). HasSteps z step most) (sym same) enough))

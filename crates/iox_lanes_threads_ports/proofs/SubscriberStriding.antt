@@ -31,34 +31,45 @@ subscriber_goes_ahead = record {
 }
 
 -- steps that were made are those of a subscriber under way
-pub strode_subscribes : (p : Port) (lane : SubscriberLaneState) (me : Me ℕ View) (now : SubscriberLaneState) → SubscriberStrode p lane me now → Subscribes p lane me now
-strode_subscribes p lane me now run = record { seat = record { alone = run.alone; service = run.service; name = run.name }; stands = run.stands; goes = run.strides }
+pub strode_subscribes : (p : Port) (lane : SubscriberLaneState) (me : Me ℕ View) (now : SubscriberLaneState)
+    → SubscriberStrode p lane me now → Subscribes p lane me now
+strode_subscribes p lane me now run
+    = record { seat = record { alone = run.alone; service = run.service; name = run.name }; stands = run.stands; goes = run.strides }
 
 -- a call that stands there
-pub at_first : (lane : SubscriberLaneState) (call there : SubscriberCall) → lane.port.call ≡ call → there ≡ call → lane ≡ subscriber_called there lane
+pub at_first : (lane : SubscriberLaneState) (call there : SubscriberCall) → lane.port.call ≡ call → there ≡ call
+    → lane ≡ subscriber_called there lane
 at_first lane call there is same = ap (λ (c : SubscriberCall). subscriber_called c lane) (is ∙ sym same)
 
-read_by : (slot k : ℕ) (extent : SlotExtent) (b : Bool) → b ≡ true → (if b then subscribing.Reading slot k extent else subscribing.WasRead slot) ≡ subscribing.Reading slot k extent
+read_by : (slot k : ℕ) (extent : SlotExtent) (b : Bool) → b ≡ true
+    → (if b then subscribing.Reading slot k extent else subscribing.WasRead slot) ≡ subscribing.Reading slot k extent
 read_by slot k extent true e = refl
 read_by slot k extent false e = absurd (cc e)
 
 -- a read stands at a word of its sample
-pub reads_at : (slot k : ℕ) (extent : SlotExtent) → k < 3 + extent.user_header_words + extent.payload_words → read_at slot extent k ≡ subscribing.Reading slot k extent
-reads_at slot k extent less = read_by slot k extent (nat_lt k (3 + extent.user_header_words + extent.payload_words)) (lt-ltb k (3 + extent.user_header_words + extent.payload_words) less)
+pub reads_at : (slot k : ℕ) (extent : SlotExtent) → k < 3 + extent.user_header_words + extent.payload_words
+    → read_at slot extent k ≡ subscribing.Reading slot k extent
+reads_at slot k extent less = read_by slot k extent (nat_lt k (3 + extent.user_header_words + extent.payload_words))
+    (lt-ltb k (3 + extent.user_header_words + extent.payload_words) less)
 
 -- one step
-pub strode_once : (me me' : Me ℕ View) (lane lane' : SubscriberLaneState) → me ≡ single (port_of me) → SubscriberStands (port_of me) lane → SubscriberSteps (port_of me) lane me' lane' → SubscriberStrode (port_of me) lane me' lane'
+pub strode_once : (me me' : Me ℕ View) (lane lane' : SubscriberLaneState) → me ≡ single (port_of me)
+    → SubscriberStands (port_of me) lane → SubscriberSteps (port_of me) lane me' lane' → SubscriberStrode (port_of me) lane me' lane'
 strode_once me me' lane lane' alone stands step =
     subst (SubscriberStrode (port_of me) lane me') (sym step.3)
-    (strode_moved SubscriberStands (SubscriberGoes (port_of me) lane) (SubscriberGoes (port_of me) lane) (port_of me) me me' lane (subscriber_after step.0 lane) (subscriber_next lane.port.call) step.0 (subscriber_party lane)
-    (strode_none subscriber_goes_ahead me lane alone stands) (steps.goes_on (port_of me) lane stands step.0 step.1) (goes (port_of me) lane step.0 stays step.1) step.2)
+    (strode_moved SubscriberStands (SubscriberGoes (port_of me) lane) (SubscriberGoes (port_of me) lane) (port_of me) me me' lane
+    (subscriber_after step.0 lane) (subscriber_next lane.port.call) step.0 (subscriber_party lane)
+    (strode_none subscriber_goes_ahead me lane alone stands) (steps.goes_on (port_of me) lane stands step.0 step.1)
+    (goes (port_of me) lane step.0 stays step.1) step.2)
 
 -- steps behind steps
-goes_along : (p : Port) (lane : SubscriberLaneState) (q : Port) (now : SubscriberLaneState) (q' : Port) (now' : SubscriberLaneState) → SubscriberGoes p lane q now → SubscriberGoes q now q' now' → SubscriberGoes p lane q' now'
+goes_along : (p : Port) (lane : SubscriberLaneState) (q : Port) (now : SubscriberLaneState) (q' : Port) (now' : SubscriberLaneState)
+    → SubscriberGoes p lane q now → SubscriberGoes q now q' now' → SubscriberGoes p lane q' now'
 goes_along p lane q now q' now' before stays = before
 goes_along p lane q now q' now' before (goes r mid answer more told) = goes r mid answer (goes_along p lane q now r mid before more) told
 
-pub subscribes_along : (p : Port) (lane : SubscriberLaneState) (me : Me ℕ View) (now : SubscriberLaneState) (me' : Me ℕ View) (now' : SubscriberLaneState) → Subscribes p lane me now → SubscriberStrode (port_of me) now me' now' → Subscribes p lane me' now'
+pub subscribes_along : (p : Port) (lane : SubscriberLaneState) (me : Me ℕ View) (now : SubscriberLaneState) (me' : Me ℕ View)
+    (now' : SubscriberLaneState) → Subscribes p lane me now → SubscriberStrode (port_of me) now me' now' → Subscribes p lane me' now'
 subscribes_along p lane me now me' now' run strode = record {
   seat = record { alone = strode.alone; service = strode.service ∙ run.seat.service; name = strode.name ∙ run.seat.name };
   stands = strode.stands;

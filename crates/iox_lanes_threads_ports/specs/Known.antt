@@ -35,7 +35,8 @@ KnowsHead p slot head = (k : ℕ) → k < length head → knows p (Slot slot (he
 -- the words are those of header, user header and payload of the slot, as far as they go
 abbrev pub KnowsRead : Port → SlotExtent → ℕ → List ℕ → Type 0
 KnowsRead p extent slot words =
-    (k : ℕ) → k < length words → k < 3 + extent.user_header_words + extent.payload_words → knows p (Slot slot (word_at extent k)) ≡ slice_index words k
+    (k : ℕ) → k < length words → k < 3 + extent.user_header_words + extent.payload_words
+    → knows p (Slot slot (word_at extent k)) ≡ slice_index words k
 
 -- Something was put into a ring that the port writes: it stands in the cell of the write position that the port knew, which is
 -- one higher now; positions stop at the largest number.
@@ -51,7 +52,8 @@ KeepsWrite old new connection ring = knows new (Ring connection ring Write) ≡ 
 -- a sample was given back at the connection that it was borrowed of
 abbrev pub KnowsGivenBack : Port → Port → SubscriberLaneState → ℕ → Type 0
 KnowsGivenBack old new lane sample =
-    (place : ℕ) (route : Route) → place_of sample lane ≡ Some place → slice_get lane.port.routes place ≡ Some route → KnowsPut old new route.connection Completion route.completion_cells sample
+    (place : ℕ) (route : Route) → place_of sample lane ≡ Some place → slice_get lane.port.routes place ≡ Some route
+    → KnowsPut old new route.connection Completion route.completion_cells sample
 
 -- a slot's payload is as it was
 abbrev pub KeepsPayload : Port → Port → ℕ → Type 0
@@ -61,7 +63,8 @@ KeepsPayload old new slot = (k : ℕ) → k < old.service.sizes.payload_words
 -- a sample was not given back: the ring at the connection that it is borrowed of is as it was
 abbrev pub KeepsGivenBack : Port → Port → SubscriberLaneState → ℕ → Type 0
 KeepsGivenBack old new lane sample =
-    (place : ℕ) (route : Route) → place_of sample lane ≡ Some place → slice_get lane.port.routes place ≡ Some route → KeepsWrite old new route.connection Completion
+    (place : ℕ) (route : Route) → place_of sample lane ≡ Some place → slice_get lane.port.routes place ≡ Some route
+    → KeepsWrite old new route.connection Completion
 
 -- What a send did, by the places of its connections: those that got the slot have it in their rings of messages, and they are as
 -- many as took it; the others refuse, and their rings are as they were. It tells so: it is unable to deliver just where the

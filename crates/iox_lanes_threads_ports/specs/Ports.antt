@@ -14,7 +14,8 @@ use Rattle.iox_lanes_machine.specs.LanesBase.declared.calls.subscriber.Subscribe
 use Rattle.iox_lanes_machine.specs.LanesParties.PublisherKeeping.{BookState}
 use Rattle.iox_lanes_machine.specs.LanesBase.Publishing.{publisher_next}
 use Rattle.iox_lanes_machine.specs.LanesBase.Subscribing.{subscriber_next}
-use Rattle.iox_lanes_machine.specs.LanesParties.Parties.{PublisherLaneState, SubscriberLaneState, publisher_fits, publisher_begun, publisher_after, subscriber_fits, subscriber_begun, subscriber_after}
+use Rattle.iox_lanes_machine.specs.LanesParties.Parties.{PublisherLaneState, SubscriberLaneState, publisher_fits, publisher_begun}
+use Rattle.iox_lanes_machine.specs.LanesParties.Parties.{publisher_after, subscriber_fits, subscriber_begun, subscriber_after}
 use Rattle.iox_lanes_machine.specs.LanesParties.declared.call.Call.{Call}
 use Rattle.iox_lanes_machine.specs.LanesParties.declared.call.Move.TheVariants.{Begin}
 use Rattle.iox_lanes_threads_rule.specs.Acts.{MayAct, ToldBy}
@@ -113,11 +114,13 @@ abbrev pub PublishersGoOn : Type 0
 PublishersGoOn = (p : Port) (lane : PublisherLaneState) → PublisherStands p lane
     → ((moment : ℕ) (call : Call) → publisher_fits lane (Begin call) ≡ true → PublisherStands p (publisher_begun moment call lane))
     × MayAct p (publisher_next lane.port.call)
-    × ((answer : ℕ) → ToldBy p (publisher_next lane.port.call) answer → PublisherStands (publisher_stepped p lane answer) (publisher_after answer lane))
+    × ((answer : ℕ) → ToldBy p (publisher_next lane.port.call) answer
+    → PublisherStands (publisher_stepped p lane answer) (publisher_after answer lane))
 
 -- a subscriber's likewise
 abbrev pub SubscribersGoOn : Type 0
 SubscribersGoOn = (p : Port) (lane : SubscriberLaneState) → SubscriberStands p lane
     → ((moment : ℕ) (call : Call) → subscriber_fits lane (Begin call) ≡ true → SubscriberStands p (subscriber_begun moment call lane))
     × MayAct p (subscriber_next lane.port.call)
-    × ((answer : ℕ) → ToldBy p (subscriber_next lane.port.call) answer → SubscriberStands (subscriber_stepped p lane answer) (subscriber_after answer lane))
+    × ((answer : ℕ) → ToldBy p (subscriber_next lane.port.call) answer
+    → SubscriberStands (subscriber_stepped p lane answer) (subscriber_after answer lane))

@@ -1,5 +1,6 @@
 -- A port in threads as its callers see it, and what its calls leave.
-use Rattle.std.specs.Prelude.{ℕ, ◌≡◌, ◌+◌, ◌-◌, ◌<◌, ◌⊎◌, ◌==◌, Bool, true, false, ◌&&◌, ◌||◌, if◌then◌else◌, List, length, Option, None, Some}
+use Rattle.std.specs.Prelude.{ℕ, ◌≡◌, ◌+◌, ◌-◌, ◌<◌, ◌⊎◌, ◌==◌, Bool, true, false, ◌&&◌, ◌||◌, if◌then◌else◌, List, length, Option, None}
+use Rattle.std.specs.Prelude.{Some}
 use Rattle.atomic_table.specs.Seated.{TableId}
 use Rattle.atomic_table.specs.Table.{Me}
 use Rattle.iox_lanes_machine.specs.LanesBase.Numbers.{words_of, IsSmall}
@@ -13,7 +14,8 @@ use Rattle.iox_lanes_machine.specs.LanesBase.declared.calls.subscriber.Receipt.{
 use Rattle.iox_lanes_machine.specs.LanesBase.declared.calls.subscriber.Receipt.TheVariants as receipt
 use Rattle.iox_lanes_machine.specs.LanesParties.PublisherKeeping.{loan_of}
 use Rattle.iox_lanes_machine.specs.LanesParties.declared.publisher.slot_book.LoanAnswer.{LoanAnswer}
-use Rattle.iox_lanes_machine.specs.LanesParties.Parties.{PublisherLaneState, SubscriberLaneState, is_out, publisher_fits, publisher_begun, write_begun, subscriber_fits, subscriber_begun, subscriber_after}
+use Rattle.iox_lanes_machine.specs.LanesParties.Parties.{PublisherLaneState, SubscriberLaneState, is_out, publisher_fits, publisher_begun}
+use Rattle.iox_lanes_machine.specs.LanesParties.Parties.{write_begun, subscriber_fits, subscriber_begun, subscriber_after}
 use Rattle.iox_lanes_machine.specs.LanesParties.declared.call.SendAnswer.{SendAnswer}
 use Rattle.iox_lanes_machine.specs.LanesParties.declared.call.Answer.{Answer}
 use Rattle.iox_lanes_machine.specs.LanesParties.declared.call.Answer.TheVariants as answer
@@ -138,7 +140,8 @@ as_lent (Some given) = Some (answer.Lent given)
 -- a loan
 abbrev pub Loans : PublisherPort → PublisherPort → Option LoanAnswer → Type 0
 Loans old new given =
-    Publishes old new (publisher_fits old.lane (Begin call.LoanUninit)) (publisher_begun 0 call.LoanUninit old.lane) (loan_steps old.port.service.sizes) (as_lent given)
+    Publishes old new (publisher_fits old.lane (Begin call.LoanUninit)) (publisher_begun 0 call.LoanUninit old.lane)
+    (loan_steps old.port.service.sizes) (as_lent given)
 
 -- a send's answer
 abbrev pub as_sent : Option SendAnswer → Option Answer
@@ -148,13 +151,15 @@ as_sent (Some told) = Some (answer.Sent told)
 -- a send
 abbrev pub Sends : PublisherPort → ℕ → PublisherPort → Option SendAnswer → Type 0
 Sends old loan new given =
-    Publishes old new (publisher_fits old.lane (Begin (call.Send loan))) (publisher_begun 0 (call.Send loan) old.lane) (send_steps old.port.service.sizes) (as_sent given)
+    Publishes old new (publisher_fits old.lane (Begin (call.Send loan))) (publisher_begun 0 (call.Send loan) old.lane)
+    (send_steps old.port.service.sizes) (as_sent given)
 
 -- a write fits between calls, of a loan of the port, with as many words as a payload and a user header have
 abbrev pub write_fits : PublisherLaneState → ℕ → List ℕ → List ℕ → Bool
 write_fits lane loan payload user_header =
     publisher_is_idle lane.port.call
-    && (is_out (loan_of loan lane.port.book) && (length payload == length lane.port.payload) && (3 + length user_header == length lane.port.head))
+    && (is_out (loan_of loan lane.port.book) && (length payload == length lane.port.payload)
+    && (3 + length user_header == length lane.port.head))
 
 -- the lane when it begins
 abbrev pub write_begins : PublisherLaneState → ℕ → List ℕ → List ℕ → PublisherLaneState
@@ -165,7 +170,8 @@ abbrev pub Writes : PublisherPort → ℕ → List ℕ → List ℕ → Publishe
 Writes old loan payload user_header new false = (write_fits old.lane loan payload user_header ≡ false) × StaysPut old new
 Writes old loan payload user_header new true =
     (write_fits old.lane loan payload user_header ≡ true)
-    × PublisherEnds (write_steps old.port.service.sizes) old.port (write_begins old.lane loan payload user_header) new.port new.lane answer.Written
+    × PublisherEnds (write_steps old.port.service.sizes) old.port (write_begins old.lane loan payload user_header) new.port new.lane
+    answer.Written
 
 -- a subscriber whose call only lacks its last step, which touches no shared word, stands as if it were made
 abbrev pub settled : SubscriberLaneState → SubscriberLaneState
@@ -235,7 +241,8 @@ released_of (Some (answer.Released done)) = Some done
 abbrev pub Releases : SubscriberPort → ℕ → SubscriberPort → Option Bool → Type 0
 Releases old sample new None = (subscriber_fits old.lane (Begin (call.Release sample)) ≡ false) × Unmoved old new
 Releases old sample new (Some done) =
-    (subscriber_fits old.lane (Begin (call.Release sample)) ≡ true) × SubscriberEnds old.port (subscriber_begun 0 (call.Release sample) old.lane) new.port new.lane (answer.Released done)
+    (subscriber_fits old.lane (Begin (call.Release sample)) ≡ true)
+    × SubscriberEnds old.port (subscriber_begun 0 (call.Release sample) old.lane) new.port new.lane (answer.Released done)
 
 -- a read that fits makes its steps, and keeps the words that they loaded
 pub record ReadsWords (old new : SubscriberPort) (sample : ℕ) : Type 0 where

@@ -8,7 +8,8 @@ ghost use Rattle.iox_lanes_threads_ports.specs.Known.{KeepsPayload, KnowsHead, K
 ghost use Rattle.iox_lanes_threads_ports.specs.Ports.{PublisherStands};
 ghost use Rattle.iox_lanes_threads_ports.specs.Pace.{HasSteps};
 ghost use Rattle.iox_lanes_threads_ports.specs.Paces.{sweep_steps, loan_steps, write_steps, send_steps};
-ghost use Rattle.iox_lanes_threads_ports.specs.Values.{IsSeated, HasRoom, Asks, PublisherDoes, publisher_begins, SamePublisher, lent_of, sent_of, Loans, Sends, Writes};
+ghost use Rattle.iox_lanes_threads_ports.specs.Values.{IsSeated, HasRoom, Asks, PublisherDoes, publisher_begins, SamePublisher, lent_of};
+ghost use Rattle.iox_lanes_threads_ports.specs.Values.{sent_of, Loans, Sends, Writes};
 
 use crate::publishing::run;
 use iox_lanes_base::words::TableSizes;

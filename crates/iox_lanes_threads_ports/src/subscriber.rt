@@ -6,7 +6,8 @@ ghost use Rattle.iox_lanes_threads_rule.specs.Acts.{single, port_of};
 ghost use Rattle.iox_lanes_threads_ports.specs.Courses.{SubscriberEnds};
 ghost use Rattle.iox_lanes_threads_ports.specs.Known.{KnowsRead, KnowsGivenBack, KeepsGivenBack};
 ghost use Rattle.iox_lanes_threads_ports.specs.Ports.{SubscriberStands};
-ghost use Rattle.iox_lanes_threads_ports.specs.Values.{IsSeated, IsBetween, SameSubscriber, received_of, released_of, settled, Releases, Reads};
+ghost use Rattle.iox_lanes_threads_ports.specs.Values.{IsSeated, IsBetween, SameSubscriber, received_of, released_of, settled, Releases};
+ghost use Rattle.iox_lanes_threads_ports.specs.Values.{Reads};
 
 use crate::subscribing::{finish, run_on};
 use iox_lanes_base::calls::Receipt;
@@ -33,7 +34,13 @@ impl Model for ThreadedSubscriber {
 
     ghost Value = { SubscriberPort };
 
-    ghost view = { λ t. record { table = t.seat.table_id; port = port_of t.seat.me; lane = settled t.lane; words = words_read t.lane.port.call t.lane.port.words } };
+    ghost view = { λ t. record {
+      table = t.seat.table_id;
+      port = port_of t.seat.me;
+      lane = settled t.lane;
+      words
+          = words_read t.lane.port.call t.lane.port.words;
+    } };
 
     ghost invariant = { λ t. IsSeated t.seat.table_id t.seat.me t.sizes × SubscriberStands (port_of t.seat.me) t.lane
         × IsBetween t.lane.port.call };
@@ -74,7 +81,8 @@ impl ThreadedSubscriber {
         requires seat { IsSeated seat.table_id seat.me sizes }
         requires stands { SubscriberStands (port_of seat.me) lane }
         requires idle { subscriber_is_idle lane.port.call ≡ true }
-        ensures { result ≡ record { table = seat.table_id; port = port_of seat.me; lane = settled lane; words = words_read lane.port.call lane.port.words } }
+        ensures { result ≡ record
+            { table = seat.table_id; port = port_of seat.me; lane = settled lane; words = words_read lane.port.call lane.port.words } }
     {
         ThreadedSubscriber { seat, sizes, lane }
     }

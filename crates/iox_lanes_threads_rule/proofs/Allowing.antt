@@ -1,5 +1,6 @@
 -- A step of a port that keeps the rule of words and ports is one that its seat may make.
-use Rattle.std.proofs.Common.{ℕ, zero, suc, ◌≡◌, ◌+◌, ◌<◌, ◌≤◌, ◌^◌, ◌==◌, Bool, true, false, if◌then◌else◌, List, [], ◌∷◌, length, set, slice_index, refl, sym, ◌∙◌, ap, subst, inl, inr, arith}
+use Rattle.std.proofs.Common.{ℕ, zero, suc, ◌≡◌, ◌+◌, ◌<◌, ◌≤◌, ◌^◌, ◌==◌, Bool, true, false, if◌then◌else◌, List, [], ◌∷◌, length, set}
+use Rattle.std.proofs.Common.{slice_index, refl, sym, ◌∙◌, ap, subst, inl, inr, arith}
 use mathlib.Core.Option.{some, none, some-injective, some-ne-none}
 use lib.ListN.{get_elem?}
 use prog.Atomic.{either}
@@ -22,8 +23,10 @@ use Rattle.iox_lanes_threads_rule.proofs.Exchanging.{exchanges}
 
 -- what a step of a port owes to the rule of words and ports
 abbrev pub Moves : (List ℕ → List Port → Type 0) → Port → ℕ → (ℕ → ℕ) → (ℕ → Port → Type 0) → Type 0
-Moves fits p i f shows = (words : List ℕ) (ports : List Port) → fits words ports → get_elem? ports p.number ≡ some p → slice_index words i < 2 ^ 64
-    → (q : Port) × (q.number ≡ p.number) × fits (set words i (f (slice_index words i))) (set ports p.number q) × shows (slice_index words i) q
+Moves fits p i f shows = (words : List ℕ) (ports : List Port) → fits words ports → get_elem? ports p.number ≡ some p
+    → slice_index words i < 2 ^ 64
+    → (q : Port) × (q.number ≡ p.number) × fits (set words i (f (slice_index words i))) (set ports p.number q)
+    × shows (slice_index words i) q
 
 only : (q r : Port) (j : ℕ) → get_elem? (q ∷ []) j ≡ some r → q ≡ r
 only q r zero e = some-injective q r e
@@ -37,7 +40,8 @@ within_list [] n p e = absurd (some-ne-none p (sym e))
 within_list (q ∷ qs) zero p e = omega arith
 within_list (q ∷ qs) (suc n) p e = omega (arith, within_list qs n p e)
 
-module _ (fits : List ℕ → List Port → Type 0) (state : State ℕ View) (ruled : Ruled fits state) (id : ℕ) (p q : Port) (mine : get_elem? state.views id ≡ some (one p)) (same : q.number ≡ p.number) where
+module _ (fits : List ℕ → List Port → Type 0) (state : State ℕ View) (ruled : Ruled fits state) (id : ℕ) (p q : Port)
+    (mine : get_elem? state.views id ≡ some (one p)) (same : q.number ≡ p.number) where
   abbrev ports : List Port
   ports = set ruled.ports p.number q
 
@@ -45,13 +49,19 @@ module _ (fits : List ℕ → List Port → Type 0) (state : State ℕ View) (ru
   my_seat = ruled.seated id (one p) 0 p mine refl
 
   q_sits : Sits ruled.owner ports id q
-  q_sits = (ap ruled.owner same ∙ my_seat.0, ap (get_elem? ports) same ∙ set_here ruled.ports p.number q (within_list ruled.ports p.number p my_seat.1))
+  q_sits = (
+    ap ruled.owner same ∙ my_seat.0,
+    ap (get_elem? ports) same ∙ set_here ruled.ports p.number q
+        (within_list ruled.ports p.number p my_seat.1),
+  )
 
   -- a port with another seat stays
   else_sits : (seat : ℕ) (r : Port) → (seat ≡ id → ⊥) → Sits ruled.owner ruled.ports seat r → Sits ruled.owner ports seat r
-  else_sits seat r off sits = (sits.0, set_else ruled.ports p.number r.number q (λ e. off (sym sits.0 ∙ ap ruled.owner e ∙ my_seat.0)) ∙ sits.1)
+  else_sits seat r off sits
+      = (sits.0, set_else ruled.ports p.number r.number q (λ e. off (sym sits.0 ∙ ap ruled.owner e ∙ my_seat.0)) ∙ sits.1)
 
-  now_seated : (seat : ℕ) (v : View) (j : ℕ) (r : Port) → get_elem? (set state.views id (one q)) seat ≡ some v → get_elem? v.ports j ≡ some r → Sits ruled.owner ports seat r
+  now_seated : (seat : ℕ) (v : View) (j : ℕ) (r : Port) → get_elem? (set state.views id (one q)) seat ≡ some v
+      → get_elem? v.ports j ≡ some r → Sits ruled.owner ports seat r
   now_seated seat v j r got there = elim (at_set state.views id seat (one q) v got) [
     | inl here ↦
         let e : q ≡ r = only q r j (ap (λ (u : View). get_elem? u.ports j) here.1 ∙ there) in
@@ -59,13 +69,15 @@ module _ (fits : List ℕ → List Port → Type 0) (state : State ℕ View) (ru
     | inr old ↦ else_sits seat r old.0 (ruled.seated seat v j r old.1 there)
   ]
 
-  now_waiting : (seat : ℕ) (v : View) (j : ℕ) (r : Port) → get_elem? (set state.views id (one q)) seat ≡ some v → get_elem? v.waiting j ≡ some r → (r.number ≡ v.from + j) × Sits ruled.owner ports seat r
+  now_waiting : (seat : ℕ) (v : View) (j : ℕ) (r : Port) → get_elem? (set state.views id (one q)) seat ≡ some v
+      → get_elem? v.waiting j ≡ some r → (r.number ≡ v.from + j) × Sits ruled.owner ports seat r
   now_waiting seat v j r got there = elim (at_set state.views id seat (one q) v got) [
     | inl here ↦ absurd (none_waits r j (ap (λ (u : View). get_elem? u.waiting j) here.1 ∙ there))
     | inr old ↦ let was = ruled.waiting seat v j r old.1 there in (was.0, else_sits seat r old.0 was.1)
   ]
 
-pub lifts : (fits : List ℕ → List Port → Type 0) (slots id : ℕ) (p : Port) (i : ℕ) (f : ℕ → ℕ) (shows : ℕ → Port → Type 0) (tell : ℕ → Me ℕ View → Type 0)
+pub lifts : (fits : List ℕ → List Port → Type 0) (slots id : ℕ) (p : Port) (i : ℕ) (f : ℕ → ℕ) (shows : ℕ → Port → Type 0)
+    (tell : ℕ → Me ℕ View → Type 0)
     → Moves fits p i f shows → ((n : ℕ) (q : Port) → shows n q → tell n (single q)) → Allows (Ruled fits) slots id (single p) i f tell
 lifts fits slots id p i f shows tell moves tells state ruled homes mine small =
     let sits = my_seat fits state ruled id p p mine refl in
@@ -84,28 +96,44 @@ lifts fits slots id p i f shows tell moves tells state ruled homes mine small =
     )
 
 -- the service is the port's
-own_fit : (words : List ℕ) (ports : List Port) (p : Port) → FitSome words ports → get_elem? ports p.number ≡ some p → Fits p.service words ports
+own_fit : (words : List ℕ) (ports : List Port) (p : Port) → FitSome words ports → get_elem? ports p.number ≡ some p
+    → Fits p.service words ports
 own_fit words ports p fit at = subst (λ (s : Service). Fits s words ports) (sym (fit.1.ports p.number p at).service) fit.1
 
 -- what is told of a word is told of the word of its number
-at_number : (p : Port) (w v : SharedWord) (T : SharedWord → Type 0) → IsWord p.service.sizes w → IsWord p.service.sizes v → number_of p.service.sizes v ≡ number_of p.service.sizes w → T w → T v
+at_number : (p : Port) (w v : SharedWord) (T : SharedWord → Type 0) → IsWord p.service.sizes w → IsWord p.service.sizes v
+    → number_of p.service.sizes v ≡ number_of p.service.sizes w → T w → T v
 at_number p w v T is there e h = subst T (sym (apart p.service.sizes v w there is e)) h
 
 pub load_allowed : (slots id : ℕ) (p : Port) (after : ℕ → PortParty) (w : SharedWord) → IsWord p.service.sizes w
-    → Allows Holds slots id (single p) (number_of p.service.sizes w) (λ n. n) (loaded p after (step slots (number_of p.service.sizes w) 0 0 none) (single p))
+    → Allows Holds slots id (single p) (number_of p.service.sizes w) (λ n. n)
+    (loaded p after (step slots (number_of p.service.sizes w) 0 0 none) (single p))
 load_allowed slots id p after w is =
-    lifts FitSome slots id p (number_of p.service.sizes w) (λ n. n) (λ n q. (q ≡ learned p (set p.known (number_of p.service.sizes w) n) (after n)) × Told p.service p w n) (loaded p after (step slots (number_of p.service.sizes w) 0 0 none) (single p))
+    lifts FitSome slots id p (number_of p.service.sizes w) (λ n. n)
+    (λ n q. (q ≡ learned p (set p.known (number_of p.service.sizes w) n) (after n)) × Told p.service p w n)
+    (loaded p after (step slots (number_of p.service.sizes w) 0 0 none) (single p))
     (λ words ports fit at small.
-    let done = loads p.service words ports p w (after (held p.service words w)) (own_fit words ports p fit at) at is small in
-    (learned p (set p.known (number_of p.service.sizes w) (held p.service words w)) (after (held p.service words w)), refl, (p.service, done.1), (refl, done.0)))
+    let done = loads p.service words ports p w (after (held p.service words w)) (own_fit words ports p fit at) at is small in (
+      learned p (set p.known (number_of p.service.sizes w) (held p.service words w)) (after (held p.service words w)),
+      refl,
+      (p.service, done.1),
+      (refl, done.0),
+    ))
     (λ n q told. (ap single told.0, (λ v there e. at_number p w v (λ u. Told p.service p u n) is there e told.1)))
 
 pub store_allowed : (slots id : ℕ) (p : Port) (after : ℕ → PortParty) (w : SharedWord) (new : ℕ) → MayStore p.service p w new
-    → Allows Holds slots id (single p) (number_of p.service.sizes w) (λ _. new) (λ _. stored p after (step slots (number_of p.service.sizes w) new 0 none) (single p) new)
+    → Allows Holds slots id (single p) (number_of p.service.sizes w) (λ _. new)
+    (λ _. stored p after (step slots (number_of p.service.sizes w) new 0 none) (single p) new)
 store_allowed slots id p after w new may =
-    lifts FitSome slots id p (number_of p.service.sizes w) (λ _. new) (λ n q. q ≡ learned p (set p.known (number_of p.service.sizes w) new) (after 0)) (λ _. stored p after (step slots (number_of p.service.sizes w) new 0 none) (single p) new)
-    (λ words ports fit at small.
-    (learned p (set p.known (number_of p.service.sizes w) new) (after 0), refl, (p.service, stores p.service words ports p w new (after 0) (own_fit words ports p fit at) at may), refl))
+    lifts FitSome slots id p (number_of p.service.sizes w) (λ _. new)
+    (λ n q. q ≡ learned p (set p.known (number_of p.service.sizes w) new) (after 0))
+    (λ _. stored p after (step slots (number_of p.service.sizes w) new 0 none) (single p) new)
+    (λ words ports fit at small. (
+      learned p (set p.known (number_of p.service.sizes w) new) (after 0),
+      refl,
+      (p.service, stores p.service words ports p w new (after 0) (own_fit words ports p fit at) at may),
+      refl,
+    ))
     (λ n q told. ap single told)
 
 same_either : (b : Bool) (x y : ℕ) → (if b then x else y) ≡ either b x y
@@ -113,44 +141,64 @@ same_either true x y = refl
 same_either false x y = refl
 
 pub exchange_allowed : (slots id : ℕ) (p : Port) (after : ℕ → PortParty) (w : SharedWord) (old new : ℕ) → MayExchange p.service p w old new
-    → Allows Holds slots id (single p) (number_of p.service.sizes w) (λ n. either (n == old) new n) (exchanged p after (step slots (number_of p.service.sizes w) old new none) (single p))
+    → Allows Holds slots id (single p) (number_of p.service.sizes w) (λ n. either (n == old) new n)
+    (exchanged p after (step slots (number_of p.service.sizes w) old new none) (single p))
 exchange_allowed slots id p after w old new may =
-    let is : IsWord p.service.sizes w = subst (IsWord p.service.sizes) (sym may.word) (is_read p.service may.connection may.line may.ring) in
+    let is : IsWord p.service.sizes w = subst (IsWord p.service.sizes) (sym may.word)
+    (is_read p.service may.connection may.line may.ring) in
     lifts FitSome slots id p (number_of p.service.sizes w) (λ n. either (n == old) new n)
-    (λ n q. (q ≡ learned p (known_exchanged p.name p.known (number_of p.service.sizes w) old new n) (after n)) × (n < 2 ^ 64) × (held p.service p.known w ≤ n)) (exchanged p after (step slots (number_of p.service.sizes w) old new none) (single p))
+    (λ n q. (q ≡ learned p (known_exchanged p.name p.known (number_of p.service.sizes w) old new n) (after n)) × (n < 2 ^ 64)
+    × (held p.service p.known w ≤ n)) (exchanged p after (step slots (number_of p.service.sizes w) old new none) (single p))
     (λ words ports fit at small.
     let found : ℕ = held p.service words w in
     let done = exchanges p.service words ports p w old new (after found) (own_fit words ports p fit at) at may in
-    let q : Port = learned p (known_exchanged p.name p.known (number_of p.service.sizes w) old new found) (after found) in
-    (q, refl, (p.service, subst (λ (x : ℕ). Fits p.service (set words (number_of p.service.sizes w) x) (set ports p.number q)) (same_either (found == old) new found) done.1), (refl, small, done.0)))
+    let q : Port = learned p (known_exchanged p.name p.known (number_of p.service.sizes w) old new found) (after found) in (
+      q,
+      refl,
+      (
+        p.service,
+        subst (λ (x : ℕ). Fits p.service (set words (number_of p.service.sizes w) x) (set ports p.number q))
+            (same_either (found == old) new found) done.1,
+      ),
+      (refl, small, done.0),
+    ))
     (λ n q told. (ap single told.0, told.1, (λ v there e. at_number p w v (λ u. held p.service p.known u ≤ n) is there e told.2)))
 
 -- the same, as a seat and a number are handed in
-module _ (slots id words : ℕ) (sizes : TableSizes) (p : Port) (after : ℕ → PortParty) (me : Me ℕ View) (i : ℕ) (w : SharedWord) (mine : me ≡ single p) (same : p.service.sizes ≡ sizes)
+module _ (slots id words : ℕ) (sizes : TableSizes) (p : Port) (after : ℕ → PortParty) (me : Me ℕ View) (i : ℕ) (w : SharedWord)
+    (mine : me ≡ single p) (same : p.service.sizes ≡ sizes)
     (at : i ≡ number_of sizes w) (wide : words ≡ words_of sizes) where
   at_own : number_of p.service.sizes w ≡ i
   at_own = ap (λ (z : TableSizes). number_of z w) same ∙ sym at
 
   in_table : IsWord p.service.sizes w → i < words
-  in_table is = let less : number_of sizes w < words_of sizes = subst (λ (z : TableSizes). number_of z w < words_of z) same (within p.service.sizes w is).1 in omega (arith, less, at, wide)
+  in_table is = let less : number_of sizes w < words_of sizes
+      = subst (λ (z : TableSizes). number_of z w < words_of z) same (within p.service.sizes w is).1 in omega (arith, less, at, wide)
 
-  pub load_granted : IsWord p.service.sizes w → (i < words) × Allows Holds slots id me i (λ n. n) (loaded p after (step slots i 0 0 none) me)
+  pub load_granted : IsWord p.service.sizes w → (i < words)
+      × Allows Holds slots id me i (λ n. n) (loaded p after (step slots i 0 0 none) me)
   load_granted is = (
     in_table is,
     subst (λ (m : Me ℕ View). Allows Holds slots id m i (λ n. n) (loaded p after (step slots i 0 0 none) m)) (sym mine)
-        (subst (λ (n : ℕ). Allows Holds slots id (single p) n (λ n. n) (loaded p after (step slots n 0 0 none) (single p))) at_own (load_allowed slots id p after w is)),
+        (subst (λ (n : ℕ). Allows Holds slots id (single p) n (λ n. n) (loaded p after (step slots n 0 0 none) (single p))) at_own
+        (load_allowed slots id p after w is)),
   )
 
-  pub store_granted : (new : ℕ) → MayStore p.service p w new → (i < words) × Allows Holds slots id me i (λ _. new) (λ _. stored p after (step slots i new 0 none) me new)
+  pub store_granted : (new : ℕ) → MayStore p.service p w new → (i < words)
+      × Allows Holds slots id me i (λ _. new) (λ _. stored p after (step slots i new 0 none) me new)
   store_granted new may = (
     in_table may.word,
     subst (λ (m : Me ℕ View). Allows Holds slots id m i (λ _. new) (λ _. stored p after (step slots i new 0 none) m new)) (sym mine)
-        (subst (λ (n : ℕ). Allows Holds slots id (single p) n (λ _. new) (λ _. stored p after (step slots n new 0 none) (single p) new)) at_own (store_allowed slots id p after w new may)),
+        (subst (λ (n : ℕ). Allows Holds slots id (single p) n (λ _. new) (λ _. stored p after (step slots n new 0 none) (single p) new))
+        at_own (store_allowed slots id p after w new may)),
   )
 
-  pub exchange_granted : (old new : ℕ) → MayExchange p.service p w old new → (i < words) × Allows Holds slots id me i (λ n. either (n == old) new n) (exchanged p after (step slots i old new none) me)
+  pub exchange_granted : (old new : ℕ) → MayExchange p.service p w old new → (i < words)
+      × Allows Holds slots id me i (λ n. either (n == old) new n) (exchanged p after (step slots i old new none) me)
   exchange_granted old new may = (
     in_table (subst (IsWord p.service.sizes) (sym may.word) (is_read p.service may.connection may.line may.ring)),
-    subst (λ (m : Me ℕ View). Allows Holds slots id m i (λ n. either (n == old) new n) (exchanged p after (step slots i old new none) m)) (sym mine)
-        (subst (λ (n : ℕ). Allows Holds slots id (single p) n (λ n. either (n == old) new n) (exchanged p after (step slots n old new none) (single p))) at_own (exchange_allowed slots id p after w old new may)),
+    subst (λ (m : Me ℕ View). Allows Holds slots id m i (λ n. either (n == old) new n)
+        (exchanged p after (step slots i old new none) m)) (sym mine)
+        (subst (λ (n : ℕ). Allows Holds slots id (single p) n (λ n. either (n == old) new n)
+        (exchanged p after (step slots n old new none) (single p))) at_own (exchange_allowed slots id p after w old new may)),
   )

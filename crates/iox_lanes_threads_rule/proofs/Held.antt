@@ -18,20 +18,29 @@ use Rattle.iox_lanes_threads_rule.specs.declared.service.Service.{Service}
 
 -- after one word changed, a word is that one and holds the new value, or another that holds what it did
 pub word_at : (s : Service) (xs : List ℕ) (w v : SharedWord) (x : ℕ) → length xs ≡ words_of s.sizes → IsWord s.sizes w → IsWord s.sizes v
-    → ((v ≡ w) × (held s (set xs (number_of s.sizes w) x) v ≡ x)) ⊎ ((v ≡ w → ⊥) × (held s (set xs (number_of s.sizes w) x) v ≡ held s xs v))
+    → ((v ≡ w) × (held s (set xs (number_of s.sizes w) x) v ≡ x))
+    ⊎ ((v ≡ w → ⊥) × (held s (set xs (number_of s.sizes w) x) v ≡ held s xs v))
 word_at s xs w v x wide is there = elim (eqb_tells (number_of s.sizes v) (number_of s.sizes w)) [
-  | inl same ↦ inl (apart s.sizes v w there is same.1, ap (λ (n : ℕ). slice_index (set xs (number_of s.sizes w) x) n) same.1 ∙ get_or-set_same xs (number_of s.sizes w) x 0 (omega (arith, (within s.sizes w is).1, wide)))
+  | inl same ↦ inl (
+    apart s.sizes v w there is same.1,
+    ap (λ (n : ℕ). slice_index (set xs (number_of s.sizes w) x) n) same.1 ∙
+        get_or-set_same xs (number_of s.sizes w) x 0 (omega (arith, (within s.sizes w is).1, wide)),
+  )
   | inr other ↦ inr ((λ e. other.1 (ap (number_of s.sizes) e)), get_or-set_other xs (number_of s.sizes w) (number_of s.sizes v) x 0 other.1)
 ]
 
-pub at_same : (s : Service) (xs : List ℕ) (w : SharedWord) (x : ℕ) → length xs ≡ words_of s.sizes → IsWord s.sizes w → held s (set xs (number_of s.sizes w) x) w ≡ x
+pub at_same : (s : Service) (xs : List ℕ) (w : SharedWord) (x : ℕ) → length xs ≡ words_of s.sizes → IsWord s.sizes w
+    → held s (set xs (number_of s.sizes w) x) w ≡ x
 at_same s xs w x wide is = get_or-set_same xs (number_of s.sizes w) x 0 (omega (arith, (within s.sizes w is).1, wide))
 
-pub at_other : (s : Service) (xs : List ℕ) (w v : SharedWord) (x : ℕ) → IsWord s.sizes w → IsWord s.sizes v → (v ≡ w → ⊥) → held s (set xs (number_of s.sizes w) x) v ≡ held s xs v
-at_other s xs w v x is there off = get_or-set_other xs (number_of s.sizes w) (number_of s.sizes v) x 0 (λ e. off (apart s.sizes v w there is e))
+pub at_other : (s : Service) (xs : List ℕ) (w v : SharedWord) (x : ℕ) → IsWord s.sizes w → IsWord s.sizes v → (v ≡ w → ⊥)
+    → held s (set xs (number_of s.sizes w) x) v ≡ held s xs v
+at_other s xs w v x is there off = get_or-set_other xs (number_of s.sizes w) (number_of s.sizes v) x 0
+    (λ e. off (apart s.sizes v w there is e))
 
 -- a word that was set to what it held changed nothing
-pub at_kept : (s : Service) (xs : List ℕ) (w v : SharedWord) → length xs ≡ words_of s.sizes → IsWord s.sizes w → IsWord s.sizes v → held s (set xs (number_of s.sizes w) (held s xs w)) v ≡ held s xs v
+pub at_kept : (s : Service) (xs : List ℕ) (w v : SharedWord) → length xs ≡ words_of s.sizes → IsWord s.sizes w → IsWord s.sizes v
+    → held s (set xs (number_of s.sizes w) (held s xs w)) v ≡ held s xs v
 at_kept s xs w v wide is there = elim (word_at s xs w v (held s xs w) wide is there) [
   | inl here ↦ here.1 ∙ ap (held s xs) (sym here.0)
   | inr other ↦ other.1

@@ -1,5 +1,6 @@
 -- Loads and stores keep the rule.
-use Rattle.std.proofs.Common.{ℕ, ◌≡◌, ◌<◌, ◌≤◌, ◌^◌, List, length, length-set, set, slice_get, Option, None, Some, refl, sym, ◌∙◌, ap, subst, inl, inr, arith}
+use Rattle.std.proofs.Common.{ℕ, ◌≡◌, ◌<◌, ◌≤◌, ◌^◌, List, length, length-set, set, slice_get, Option, None, Some, refl, sym, ◌∙◌, ap}
+use Rattle.std.proofs.Common.{subst, inl, inr, arith}
 use Rattle.std.proofs.lemmas.List.{get_or-set_other}
 use mathlib.Core.Option.{some}
 use lib.ListN.{get_elem?}
@@ -21,7 +22,8 @@ use Rattle.iox_lanes_threads_rule.specs.declared.view.PortParty.{PortParty}
 use Rattle.iox_lanes_threads_rule.proofs.Held.{word_at, at_same, at_other, at_kept, one_writer}
 
 -- a port that learned something is at its number still
-pub same_port : (s : Service) (p : Port) (known : List ℕ) (party : PortParty) → IsPort s p.number p → length known ≡ length p.known → IsPort s p.number (learned p known party)
+pub same_port : (s : Service) (p : Port) (known : List ℕ) (party : PortParty) → IsPort s p.number p → length known ≡ length p.known
+    → IsPort s p.number (learned p known party)
 same_port s p known party k e = record { service = k.service; number = refl; name = k.name; wide = e ∙ k.wide }
 
 -- What a step changes: one word, what its port knows. It lowers no position, puts the number of a slot into a cell, and stores
@@ -39,7 +41,8 @@ pub record Change (s : Service) (words : List ℕ) (p : Port) (known : List ℕ)
 pub one_number : (s : Service) (n m : ℕ) (p q : Port) → IsPort s n p → IsPort s m q → p.name ≡ q.name → n ≡ m
 one_number s n m p q k l e = sym k.name ∙ ap (number_among s) e ∙ l.name
 
-module _ (s : Service) (words : List ℕ) (ports : List Port) (p : Port) (known : List ℕ) (party : PortParty) (w : SharedWord) (x : ℕ) (fit : Fits s words ports) (at : get_elem? ports p.number ≡ some p)
+module _ (s : Service) (words : List ℕ) (ports : List Port) (p : Port) (known : List ℕ) (party : PortParty) (w : SharedWord) (x : ℕ)
+    (fit : Fits s words ports) (at : get_elem? ports p.number ≡ some p)
     (change : Change s words p known w x) where
   abbrev after : List ℕ
   after = set words (number_of s.sizes w) x
@@ -59,22 +62,27 @@ module _ (s : Service) (words : List ℕ) (ports : List Port) (p : Port) (known 
   other_name : (n : ℕ) (r : Port) → get_elem? ports n ≡ some r → (n ≡ p.number → ⊥) → r.name ≡ p.name → ⊥
   other_name n r got off e = off (one_number s n p.number r p (fit.ports n r got) mine e)
 
-  copied : (n : ℕ) (r : Port) (v : SharedWord) → get_elem? (set ports p.number new) n ≡ some r → IsWord s.sizes v → Stores s r.name v → held s r.known v ≡ held s after v
+  copied : (n : ℕ) (r : Port) (v : SharedWord) → get_elem? (set ports p.number new) n ≡ some r → IsWord s.sizes v → Stores s r.name v
+      → held s r.known v ≡ held s after v
   copied n r v got is stores = elim (at_set ports p.number n new r got) [
-    | inl here ↦ subst (λ (z : Port). held s z.known v ≡ held s after v) here.1 (change.own v is (subst (λ (z : Port). Stores s z.name v) (sym here.1) stores))
+    | inl here ↦ subst (λ (z : Port). held s z.known v ≡ held s after v) here.1
+        (change.own v is (subst (λ (z : Port). Stores s z.name v) (sym here.1) stores))
     | inr there ↦ elim (word_at s words w v x fit.wide change.word is) [
       | inl same ↦ fit.copied n r v there.1 is stores ∙ ap (held s words) same.0
-          ∙ sym (change.others r.name (subst (λ (u : SharedWord). Stores s r.name u) same.0 stores) (other_name n r there.1 there.0)) ∙ sym same.1
+          ∙ sym (change.others r.name (subst (λ (u : SharedWord). Stores s r.name u) same.0 stores) (other_name n r there.1 there.0)) ∙
+          sym same.1
       | inr other ↦ fit.copied n r v there.1 is stores ∙ sym other.1
     ]
   ]
 
-  grows : (n : ℕ) (r : Port) (v : SharedWord) → get_elem? (set ports p.number new) n ≡ some r → IsWord s.sizes v → IsPosition v → held s r.known v ≤ held s after v
+  grows : (n : ℕ) (r : Port) (v : SharedWord) → get_elem? (set ports p.number new) n ≡ some r → IsWord s.sizes v → IsPosition v
+      → held s r.known v ≤ held s after v
   grows n r v got is position = elim (at_set ports p.number n new r got) [
     | inl here ↦ subst (λ (z : Port). held s z.known v ≤ held s after v) here.1 (change.seen v is position)
     | inr there ↦ elim (word_at s words w v x fit.wide change.word is) [
       | inl same ↦
-          let more : held s words v ≤ x = subst (λ (u : SharedWord). held s words u ≤ x) (sym same.0) (change.grows (subst IsPosition same.0 position)) in
+          let more : held s words v ≤ x = subst (λ (u : SharedWord). held s words u ≤ x) (sym same.0)
+          (change.grows (subst IsPosition same.0 position)) in
           omega (arith, fit.grows n r v there.1 is position, more, same.1)
       | inr other ↦ omega (arith, fit.grows n r v there.1 is position, other.1)
     ]
@@ -87,13 +95,17 @@ module _ (s : Service) (words : List ℕ) (ports : List Port) (p : Port) (known 
   ]
 
   -- the rule holds after a change, if it does of the rings that overflow
-  pub kept : ((connection : ℕ) (line : Line) → Overflows s connection line → held s after (read_word connection) ≤ held s after (write_word connection))
-      → ((connection : ℕ) (line : Line) (number : ℕ) (r : Port) → Overflows s connection line → get_elem? (set ports p.number new) number ≡ some r → r.name ≡ Subscriber line.subscriber
-      → (held s r.known (read_word connection) ≡ held s after (read_word connection) → ⊥) → held s after (read_word connection) < held s after (write_word connection))
+  pub kept : ((connection : ℕ) (line : Line) → Overflows s connection line
+      → held s after (read_word connection) ≤ held s after (write_word connection))
+      → ((connection : ℕ) (line : Line) (number : ℕ) (r : Port) → Overflows s connection line
+      → get_elem? (set ports p.number new) number ≡ some r → r.name ≡ Subscriber line.subscriber
+      → (held s r.known (read_word connection) ≡ held s after (read_word connection) → ⊥)
+      → held s after (read_word connection) < held s after (write_word connection))
       → Fits s after (set ports p.number new)
   kept shared moved = record {
     rows = fit.rows;
-    spare = get_or-set_other words (number_of s.sizes w) 0 x 0 (λ e. absurd (omega (arith, e, (within s.sizes w change.word).0))) ∙ fit.spare;
+    spare = get_or-set_other words (number_of s.sizes w) 0 x 0 (λ e. absurd (omega (arith, e, (within s.sizes w change.word).0))) ∙
+        fit.spare;
     wide = length-set words (number_of s.sizes w) x ∙ fit.wide;
     ports = is_port;
     copied = copied;
@@ -121,22 +133,26 @@ lone_reader (Some other) line name e kind h = overflowing_refuses other.kind (ap
     same f = cc f
 
 -- no port alone moves the read position of a ring that overflows
-pub nobody_stores : (s : Service) (connection : ℕ) (line : Line) (name : Party) → Overflows s connection line → Stores s name (read_word connection) → ⊥
+pub nobody_stores : (s : Service) (connection : ℕ) (line : Line) (name : Party) → Overflows s connection line
+    → Stores s name (read_word connection) → ⊥
 nobody_stores s connection line name ring h = lone_reader (slice_get s.lines connection) line name ring.found ring.kind h
 
-pub told : (s : Service) (words : List ℕ) (ports : List Port) (p : Port) (w : SharedWord) → Fits s words ports → get_elem? ports p.number ≡ some p → IsWord s.sizes w → held s words w < 2 ^ 64 → Told s p w (held s words w)
+pub told : (s : Service) (words : List ℕ) (ports : List Port) (p : Port) (w : SharedWord) → Fits s words ports
+    → get_elem? ports p.number ≡ some p → IsWord s.sizes w → held s words w < 2 ^ 64 → Told s p w (held s words w)
 told s words ports p w fit at is small = record {
   small = small;
   own = λ stores. fit.copied p.number p w at is stores;
   grows = λ position. fit.grows p.number p w at is position;
   cell = λ cell some_slot. fit.cells w is cell some_slot;
   above = λ connection line ring e.
-      let below : held s p.known (read_word connection) ≤ held s words (read_word connection) = fit.grows p.number p (read_word connection) at (is_read s connection line ring) tt in
+      let below : held s p.known (read_word connection) ≤ held s words (read_word connection)
+      = fit.grows p.number p (read_word connection) at (is_read s connection line ring) tt in
       let same : held s words w ≡ held s words (write_word connection) = ap (held s words) e in
       omega (arith, below, fit.shared connection line ring, same);
 }
 
-module _ (s : Service) (words : List ℕ) (ports : List Port) (p : Port) (party : PortParty) (w : SharedWord) (fit : Fits s words ports) (at : get_elem? ports p.number ≡ some p)
+module _ (s : Service) (words : List ℕ) (ports : List Port) (p : Port) (party : PortParty) (w : SharedWord) (fit : Fits s words ports)
+    (at : get_elem? ports p.number ≡ some p)
     (is : IsWord s.sizes w) where
   abbrev i : ℕ
   i = number_of s.sizes w
@@ -173,21 +189,33 @@ module _ (s : Service) (words : List ℕ) (ports : List Port) (p : Port) (party 
     seen = loaded_seen;
   }
 
-  load_shared : (connection : ℕ) (line : Line) → Overflows s connection line → held s (set words i found) (read_word connection) ≤ held s (set words i found) (write_word connection)
+  load_shared : (connection : ℕ) (line : Line) → Overflows s connection line
+      → held s (set words i found) (read_word connection) ≤ held s (set words i found) (write_word connection)
   load_shared connection line ring =
-      omega (arith, stay (read_word connection) (is_read s connection line ring), stay (write_word connection) (is_write s connection line ring), fit.shared connection line ring)
+      omega (
+        arith,
+        stay (read_word connection) (is_read s connection line ring),
+        stay (write_word connection)
+            (is_write s connection line ring),
+        fit.shared connection line ring,
+      )
 
   -- the words are as they were, and the port knows the read position if it knew it before
-  load_moved : (connection : ℕ) (line : Line) (number : ℕ) (r : Port) → Overflows s connection line → get_elem? (set ports p.number (learned p (set p.known i found) party)) number ≡ some r
-      → r.name ≡ Subscriber line.subscriber → (held s r.known (read_word connection) ≡ held s (set words i found) (read_word connection) → ⊥)
+  load_moved : (connection : ℕ) (line : Line) (number : ℕ) (r : Port) → Overflows s connection line
+      → get_elem? (set ports p.number (learned p (set p.known i found) party)) number ≡ some r
+      → r.name ≡ Subscriber line.subscriber
+      → (held s r.known (read_word connection) ≡ held s (set words i found) (read_word connection) → ⊥)
       → held s (set words i found) (read_word connection) < held s (set words i found) (write_word connection)
   load_moved connection line number r ring got name off =
       let there = is_read s connection line ring in
-      let less : held s words (read_word connection) < held s words (write_word connection) = elim (at_set ports p.number number (learned p (set p.known i found) party) r got) [
+      let less : held s words (read_word connection) < held s words (write_word connection)
+      = elim (at_set ports p.number number (learned p (set p.known i found) party) r got) [
         | inl here ↦ elim (word_at s p.known w (read_word connection) found wide is there) [
-          | inl same ↦ absurd (off (ap (λ (z : Port). held s z.known (read_word connection)) (sym here.1) ∙ same.1 ∙ sym (ap (held s words) same.0) ∙ sym (stay (read_word connection) there)))
+          | inl same ↦ absurd (off (ap (λ (z : Port). held s z.known (read_word connection)) (sym here.1) ∙ same.1 ∙ sym
+              (ap (held s words) same.0) ∙ sym (stay (read_word connection) there)))
           | inr other ↦ fit.moved connection line p.number p ring at (ap (λ (z : Port). z.name) here.1 ∙ name)
-              (λ e. off (ap (λ (z : Port). held s z.known (read_word connection)) (sym here.1) ∙ other.1 ∙ e ∙ sym (stay (read_word connection) there)))
+              (λ e. off (ap (λ (z : Port). held s z.known (read_word connection)) (sym here.1) ∙ other.1 ∙ e ∙ sym
+              (stay (read_word connection) there)))
         ]
         | inr old ↦ fit.moved connection line number r ring old.1 name (λ e. off (e ∙ sym (stay (read_word connection) there)))
       ] in
@@ -199,7 +227,8 @@ module _ (s : Service) (words : List ℕ) (ports : List Port) (p : Port) (party 
 pub loads : LoadsKeep
 loads s words ports p w party fit at is small = (told s words ports p w fit at is small, load_fits s words ports p party w fit at is)
 
-module _ (s : Service) (words : List ℕ) (ports : List Port) (p : Port) (party : PortParty) (w : SharedWord) (x : ℕ) (fit : Fits s words ports) (at : get_elem? ports p.number ≡ some p)
+module _ (s : Service) (words : List ℕ) (ports : List Port) (p : Port) (party : PortParty) (w : SharedWord) (x : ℕ)
+    (fit : Fits s words ports) (at : get_elem? ports p.number ≡ some p)
     (may : MayStore s p w x) where
   abbrev j : ℕ
   j = number_of s.sizes w
@@ -218,7 +247,8 @@ module _ (s : Service) (words : List ℕ) (ports : List Port) (p : Port) (party 
 
   stored_seen : (v : SharedWord) → IsWord s.sizes v → IsPosition v → held s (set p.known j x) v ≤ held s (set words j x) v
   stored_seen v there position = elim (word_at s p.known w v x known_wide may.word there) [
-    | inl same ↦ let e : held s (set words j x) v ≡ x = ap (held s (set words j x)) same.0 ∙ at_same s words w x fit.wide may.word in omega (arith, same.1, e)
+    | inl same ↦ let e : held s (set words j x) v ≡ x
+        = ap (held s (set words j x)) same.0 ∙ at_same s words w x fit.wide may.word in omega (arith, same.1, e)
     | inr other ↦ omega (arith, other.1, fit.grows p.number p v at there position, at_other s words w v x may.word there other.0)
   ]
 
@@ -237,29 +267,38 @@ module _ (s : Service) (words : List ℕ) (ports : List Port) (p : Port) (party 
   no_read : (connection : ℕ) (line : Line) → Overflows s connection line → read_word connection ≡ w → ⊥
   no_read connection line ring e = nobody_stores s connection line p.name ring (subst (Stores s p.name) (sym e) may.own)
 
-  read_stays : (connection : ℕ) (line : Line) → Overflows s connection line → held s (set words j x) (read_word connection) ≡ held s words (read_word connection)
-  read_stays connection line ring = at_other s words w (read_word connection) x may.word (is_read s connection line ring) (no_read connection line ring)
+  read_stays : (connection : ℕ) (line : Line) → Overflows s connection line
+      → held s (set words j x) (read_word connection) ≡ held s words (read_word connection)
+  read_stays connection line ring = at_other s words w (read_word connection) x may.word (is_read s connection line ring)
+      (no_read connection line ring)
 
-  write_grows : (connection : ℕ) (line : Line) → Overflows s connection line → held s words (write_word connection) ≤ held s (set words j x) (write_word connection)
-  write_grows connection line ring = elim (word_at s words w (write_word connection) x fit.wide may.word (is_write s connection line ring)) [
-    | inl same ↦
-        let up : held s p.known w ≤ x = may.grows (subst IsPosition same.0 tt) in
-        let e : held s words (write_word connection) ≡ held s words w = ap (held s words) same.0 in
-        omega (arith, up, same_own, e, same.1)
-    | inr other ↦ omega (arith, other.1)
-  ]
+  write_grows : (connection : ℕ) (line : Line) → Overflows s connection line
+      → held s words (write_word connection) ≤ held s (set words j x) (write_word connection)
+  write_grows connection line ring = elim
+      (word_at s words w (write_word connection) x fit.wide may.word (is_write s connection line ring)) [
+        | inl same ↦
+            let up : held s p.known w ≤ x = may.grows (subst IsPosition same.0 tt) in
+            let e : held s words (write_word connection) ≡ held s words w = ap (held s words) same.0 in
+            omega (arith, up, same_own, e, same.1)
+        | inr other ↦ omega (arith, other.1)
+      ]
 
-  store_shared : (connection : ℕ) (line : Line) → Overflows s connection line → held s (set words j x) (read_word connection) ≤ held s (set words j x) (write_word connection)
-  store_shared connection line ring = omega (arith, read_stays connection line ring, write_grows connection line ring, fit.shared connection line ring)
+  store_shared : (connection : ℕ) (line : Line) → Overflows s connection line
+      → held s (set words j x) (read_word connection) ≤ held s (set words j x) (write_word connection)
+  store_shared connection line ring = omega
+      (arith, read_stays connection line ring, write_grows connection line ring, fit.shared connection line ring)
 
-  store_moved : (connection : ℕ) (line : Line) (number : ℕ) (r : Port) → Overflows s connection line → get_elem? (set ports p.number (learned p (set p.known j x) party)) number ≡ some r
+  store_moved : (connection : ℕ) (line : Line) (number : ℕ) (r : Port) → Overflows s connection line
+      → get_elem? (set ports p.number (learned p (set p.known j x) party)) number ≡ some r
       → r.name ≡ Subscriber line.subscriber → (held s r.known (read_word connection) ≡ held s (set words j x) (read_word connection) → ⊥)
       → held s (set words j x) (read_word connection) < held s (set words j x) (write_word connection)
   store_moved connection line number r ring got name off =
       let there = is_read s connection line ring in
-      let less : held s words (read_word connection) < held s words (write_word connection) = elim (at_set ports p.number number (learned p (set p.known j x) party) r got) [
+      let less : held s words (read_word connection) < held s words (write_word connection)
+      = elim (at_set ports p.number number (learned p (set p.known j x) party) r got) [
         | inl here ↦ fit.moved connection line p.number p ring at (ap (λ (z : Port). z.name) here.1 ∙ name)
-            (λ e. off (ap (λ (z : Port). held s z.known (read_word connection)) (sym here.1) ∙ at_other s p.known w (read_word connection) x may.word there (no_read connection line ring) ∙ e ∙ sym (read_stays connection line ring)))
+            (λ e. off (ap (λ (z : Port). held s z.known (read_word connection)) (sym here.1) ∙ at_other s p.known w
+            (read_word connection) x may.word there (no_read connection line ring) ∙ e ∙ sym (read_stays connection line ring)))
         | inr old ↦ fit.moved connection line number r ring old.1 name (λ e. off (e ∙ sym (read_stays connection line ring)))
       ] in
       omega (arith, less, read_stays connection line ring, write_grows connection line ring)

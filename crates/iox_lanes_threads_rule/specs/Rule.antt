@@ -47,7 +47,8 @@ pub record Fits (s : Service) (words : List ℕ) (all : List Port) : Type 0 wher
       → held s words (read_word connection) ≤ held s words (write_word connection)
   pub moved : (connection : ℕ) (line : Line) (number : ℕ) (p : Port) → Overflows s connection line → get_elem? all number ≡ some p
       → p.name ≡ Subscriber line.subscriber
-      → (held s p.known (read_word connection) ≡ held s words (read_word connection) → ⊥) → held s words (read_word connection) < held s words (write_word connection)
+      → (held s p.known (read_word connection) ≡ held s words (read_word connection) → ⊥)
+      → held s words (read_word connection) < held s words (write_word connection)
 
 -- the seat has the port, which is the one at its number
 abbrev pub Sits : (ℕ → ℕ) → List Port → ℕ → Port → Type 0

@@ -65,7 +65,8 @@ LoadsKeep = (s : Service) (words : List ℕ) (ports : List Port) (p : Port) (w :
     → get_elem? ports p.number ≡ some p → IsWord s.sizes w
     → held s words w < 2 ^ 64
     → Told s p w (held s words w)
-    × Fits s (set words (number_of s.sizes w) (held s words w)) (set ports p.number (learned p (set p.known (number_of s.sizes w) (held s words w)) party))
+    × Fits s (set words (number_of s.sizes w) (held s words w))
+    (set ports p.number (learned p (set p.known (number_of s.sizes w) (held s words w)) party))
 
 -- a store that a port may make keeps the rule
 abbrev pub StoresKeep : Type 0

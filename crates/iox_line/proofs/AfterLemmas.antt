@@ -1,5 +1,6 @@
 -- What follows a key in a word.
-use Rattle.std.proofs.Common.{◌≡◌, ℕ, ◌+◌, ◌==◌, Bool, true, false, ◌&&◌, nat_eq, List, [], ◌∷◌, ◌++◌, Option, None, Some, MatchOption, Bor, refl, cond, sym, ap, ◌∙◌, arith, length, take, drop, eqb-true}
+use Rattle.std.proofs.Common.{◌≡◌, ℕ, ◌+◌, ◌==◌, Bool, true, false, ◌&&◌, nat_eq, List, [], ◌∷◌, ◌++◌, Option, None, Some, MatchOption}
+use Rattle.std.proofs.Common.{Bor, refl, cond, sym, ap, ◌∙◌, arith, length, take, drop, eqb-true}
 use Rattle.std.specs.Cmp.Lexicographic.{pointwise}
 use Rattle.std.specs.Option.{option_map}
 use Rattle.std.proofs.lemmas.Grind.{common_steps}
@@ -15,7 +16,8 @@ and_right true b h = h
 and_right false b h = cc
 
 yes_at : (k b : ℕ) (ks bs : List ℕ) (t : Bool) → (t && pointwise nat_eq (take (length ks) bs) ks) ≡ true
-    → (pointwise nat_eq (take (length ks) bs) ks ≡ true → after ks bs ≡ Some (drop (length ks) bs)) → cond t (after ks bs) None ≡ Some (drop (length ks) bs)
+    → (pointwise nat_eq (take (length ks) bs) ks ≡ true → after ks bs ≡ Some (drop (length ks) bs))
+    → cond t (after ks bs) None ≡ Some (drop (length ks) bs)
 yes_at k b ks bs true h more = more h
 yes_at k b ks bs false h more = cc
 
@@ -36,12 +38,15 @@ after_no (k ∷ ks) (b ∷ bs) h = no_at k b ks bs (b == k) h (after_no ks bs)
 
 -- what `strip_prefix` gives
 pub stripped : (key word : List ℕ) (r : Option (Bor (List ℕ)))
-    → MatchOption r (pointwise nat_eq (take (length key) word) key ≡ false) (λ x. (pointwise nat_eq (take (length key) word) key ≡ true) × (x.now ≡ drop (length key) word) × (length x.now + length key ≡ length word))
+    → MatchOption r (pointwise nat_eq (take (length key) word) key ≡ false)
+    (λ x. (pointwise nat_eq (take (length key) word) key ≡ true) × (x.now ≡ drop (length key) word)
+    × (length x.now + length key ≡ length word))
     → option_map (λ text. text.now) r ≡ after key word
 stripped key word None h = sym (after_no key word h)
 stripped key word (Some x) h = ap (λ l. Some l) h.1 ∙ sym (after_yes key word h.0)
 
-some_at : (k b : ℕ) (ks bs t : List ℕ) (same : Bool) → (b == k) ≡ same → cond same (after ks bs) None ≡ Some t → (after ks bs ≡ Some t → bs ≡ ks ++ t)
+some_at : (k b : ℕ) (ks bs t : List ℕ) (same : Bool) → (b == k) ≡ same → cond same (after ks bs) None ≡ Some t
+    → (after ks bs ≡ Some t → bs ≡ ks ++ t)
     → b ∷ bs ≡ k ∷ (ks ++ t)
 some_at k b ks bs t true e h more = ap (λ x. x ∷ bs) (eqb-true b k e) ∙ ap (λ l. k ∷ l) (more h)
 some_at k b ks bs t false e h more = cc
@@ -57,7 +62,8 @@ pub after_own : (key t : List ℕ) → after key (key ++ t) ≡ Some t
 after_own [] t = refl
 after_own (k ∷ ks) t = grind (arith, common_steps, after_own ks t)
 
-differ_at : (a b : ℕ) (as' bs t : List ℕ) (same : Bool) → cond same (differ as' bs) true ≡ true → (differ as' bs ≡ true → after bs (as' ++ t) ≡ None)
+differ_at : (a b : ℕ) (as' bs t : List ℕ) (same : Bool) → cond same (differ as' bs) true ≡ true
+    → (differ as' bs ≡ true → after bs (as' ++ t) ≡ None)
     → cond same (after bs (as' ++ t)) None ≡ None
 differ_at a b as' bs t true h more = more h
 differ_at a b as' bs t false h more = refl

@@ -15,9 +15,11 @@ onto_required done (Some r) = Some (required (done.pairs ++ r.pairs) (done.keys 
 -- pairs
 
 -- one more pair
-pub pair_more : (done : List Attribute) (all : Option (List Attribute)) (w : List ℕ) (ws rest : List (List ℕ)) (a : Attribute) → all ≡ onto done (pairs_of rest) → rest ≡ w ∷ ws → Some a ≡ pair_of w
+pub pair_more : (done : List Attribute) (all : Option (List Attribute)) (w : List ℕ) (ws rest : List (List ℕ)) (a : Attribute)
+    → all ≡ onto done (pairs_of rest) → rest ≡ w ∷ ws → Some a ≡ pair_of w
     → all ≡ onto (done ++ a ∷ []) (pairs_of ws)
-pair_more done all w ws rest a h e s = h ∙ ap (λ l. onto done (pairs_of l)) e ∙ ap (λ o. onto done (prepend o (pairs_of ws))) (sym s) ∙ onto_more done a (pairs_of ws)
+pair_more done all w ws rest a h e s
+    = h ∙ ap (λ l. onto done (pairs_of l)) e ∙ ap (λ o. onto done (prepend o (pairs_of ws))) (sym s) ∙ onto_more done a (pairs_of ws)
 
 -- requirements
 
@@ -29,25 +31,31 @@ with_pair done a = required (done.pairs ++ a ∷ []) done.keys
 abbrev pub with_key : Required → List ℕ → Required
 with_key done k = required done.pairs (done.keys ++ k ∷ [])
 
-onto_pair : (done : Required) (a : Attribute) (k : Option (List ℕ)) (rest : Option Required) → onto_required done (require (Some a) k rest) ≡ onto_required (with_pair done a) rest
+onto_pair : (done : Required) (a : Attribute) (k : Option (List ℕ)) (rest : Option Required)
+    → onto_required done (require (Some a) k rest) ≡ onto_required (with_pair done a) rest
 onto_pair done a k None = refl
 onto_pair done a k (Some r) = ap (λ l. Some (required l (done.keys ++ r.keys))) (sym (append_assoc done.pairs (a ∷ []) r.pairs))
 
-onto_key : (done : Required) (k : List ℕ) (rest : Option Required) → onto_required done (require None (Some k) rest) ≡ onto_required (with_key done k) rest
+onto_key : (done : Required) (k : List ℕ) (rest : Option Required)
+    → onto_required done (require None (Some k) rest) ≡ onto_required (with_key done k) rest
 onto_key done k None = refl
 onto_key done k (Some r) = ap (λ l. Some (required (done.pairs ++ r.pairs) l)) (sym (append_assoc done.keys (k ∷ []) r.keys))
 
 -- what the words after the first are read as, where the first is a pair
-pub required_pair : (done : Required) (all : Option Required) (w : List ℕ) (ws rest : List (List ℕ)) (a : Attribute) → all ≡ onto_required done (requirements_of rest) → rest ≡ w ∷ ws → Some a ≡ pair_of w
+pub required_pair : (done : Required) (all : Option Required) (w : List ℕ) (ws rest : List (List ℕ)) (a : Attribute)
+    → all ≡ onto_required done (requirements_of rest) → rest ≡ w ∷ ws → Some a ≡ pair_of w
     → all ≡ onto_required (with_pair done a) (requirements_of ws)
 required_pair done all w ws rest a h e s =
-    h ∙ ap (λ l. onto_required done (requirements_of l)) e ∙ ap (λ o. onto_required done (require o (key_of w) (requirements_of ws))) (sym s) ∙ onto_pair done a (key_of w) (requirements_of ws)
+    h ∙ ap (λ l. onto_required done (requirements_of l)) e ∙ ap (λ o. onto_required done (require o (key_of w) (requirements_of ws)))
+    (sym s) ∙ onto_pair done a (key_of w) (requirements_of ws)
 
 -- and where it is a key
-pub required_key : (done : Required) (all : Option Required) (w : List ℕ) (ws rest : List (List ℕ)) (k : List ℕ) → all ≡ onto_required done (requirements_of rest) → rest ≡ w ∷ ws → None ≡ pair_of w → Some k ≡ key_of w
+pub required_key : (done : Required) (all : Option Required) (w : List ℕ) (ws rest : List (List ℕ)) (k : List ℕ)
+    → all ≡ onto_required done (requirements_of rest) → rest ≡ w ∷ ws → None ≡ pair_of w → Some k ≡ key_of w
     → all ≡ onto_required (with_key done k) (requirements_of ws)
 required_key done all w ws rest k h e n s =
-    h ∙ ap (λ l. onto_required done (requirements_of l)) e ∙ ap (λ o. onto_required done (require o (key_of w) (requirements_of ws))) (sym n)
+    h ∙ ap (λ l. onto_required done (requirements_of l)) e ∙ ap (λ o. onto_required done (require o (key_of w) (requirements_of ws)))
+    (sym n)
     ∙ ap (λ o. onto_required done (require None o (requirements_of ws))) (sym s) ∙ onto_key done k (requirements_of ws)
 
 some_pair : (done : List Attribute) (a : Attribute) → some (done ++ a ∷ []) ≡ true
@@ -62,11 +70,13 @@ or_second : (a b : Bool) → b ≡ true → (a || b) ≡ true
 or_second true b h = refl
 or_second false b h = h
 
-kept_pair : (done : Required) (a : Attribute) (lacking : Bool) (old new : Required) → Gathers requires_some done lacking old → lacking ≡ false → new ≡ with_pair old a → new ≡ with_pair done a
+kept_pair : (done : Required) (a : Attribute) (lacking : Bool) (old new : Required) → Gathers requires_some done lacking old
+    → lacking ≡ false → new ≡ with_pair old a → new ≡ with_pair done a
 kept_pair done a true old new g l n = cc
 kept_pair done a false old new g l n = n ∙ ap (λ x. with_pair x a) g
 
-kept_key : (done : Required) (k : List ℕ) (lacking : Bool) (old new : Required) → Gathers requires_some done lacking old → lacking ≡ false → new ≡ with_key old k → new ≡ with_key done k
+kept_key : (done : Required) (k : List ℕ) (lacking : Bool) (old new : Required) → Gathers requires_some done lacking old
+    → lacking ≡ false → new ≡ with_key old k → new ≡ with_key done k
 kept_key done k true old new g l n = cc
 kept_key done k false old new g l n = n ∙ ap (λ x. with_key x k) g
 

@@ -13,7 +13,8 @@ abbrev pub onto : {A : Type 0} → List A → Option (List A) → Option (List A
 onto done None = None
 onto done (Some rest) = Some (done ++ rest)
 
-pub onto_more : {A : Type 0} (done : List A) (a : A) (rest : Option (List A)) → onto done (prepend (Some a) rest) ≡ onto (done ++ a ∷ []) rest
+pub onto_more : {A : Type 0} (done : List A) (a : A) (rest : Option (List A))
+    → onto done (prepend (Some a) rest) ≡ onto (done ++ a ∷ []) rest
 onto_more done a None = refl
 onto_more done a (Some rest) = ap (λ l. Some l) (sym (append_assoc done (a ∷ []) rest))
 
@@ -21,7 +22,8 @@ some_more : {A : Type 0} (done : List A) (a : A) → some (done ++ a ∷ []) ≡
 some_more [] a = refl
 some_more (d ∷ ds) a = refl
 
-kept_more : {A : Type 0} (done : List A) (a : A) (lacking : Bool) (old new : List A) → Gathers some done lacking old → lacking ≡ false → new ≡ old ++ a ∷ [] → new ≡ done ++ a ∷ []
+kept_more : {A : Type 0} (done : List A) (a : A) (lacking : Bool) (old new : List A) → Gathers some done lacking old → lacking ≡ false
+    → new ≡ old ++ a ∷ [] → new ≡ done ++ a ∷ []
 kept_more done a true old new g l n = cc
 kept_more done a false old new g l n = n ∙ ap (λ x. x ++ a ∷ []) g
 

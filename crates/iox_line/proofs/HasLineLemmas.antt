@@ -18,22 +18,27 @@ use Rattle.iox_line.specs.Words.{AreWords, has_no_space, spaced}
 use Rattle.iox_line.specs.Numbers.{IfNumber, tag}
 use Rattle.iox_line.specs.Values.{strategy_word, allocation_word, handler_word, degradation_word}
 use Rattle.iox_line.proofs.NumberLemmas.{decimal_no_space}
-use Rattle.iox_line.proofs.NoSpaceLemmas.{any_own, options_lack, number_lacks, text_lacks, pattern_no_space, named_words, named_so, named_are_words}
+use Rattle.iox_line.proofs.NoSpaceLemmas.{any_own, options_lack, number_lacks, text_lacks, pattern_no_space, named_words, named_so}
+use Rattle.iox_line.proofs.NoSpaceLemmas.{named_are_words}
 use Rattle.iox_line.specs.Services.{pattern_word}
 use Rattle.iox_line.specs.Attributes.{pair_word}
 use Rattle.iox_line.proofs.SpellingLemmas.{pairs_are_words, requirement_words, requirements_so, requirements_are_words}
 use Rattle.iox_line.proofs.WrittenLemmas.{foreign_words, foreign_so, foreign_are_words, list_words, lists_so, lists_are_words}
 use Rattle.iox_command.specs.Patterns.{pattern_of}
 use Rattle.iox_line.proofs.VisibleLemmas.{visible_no_space}
-use Rattle.iox_line.specs.PortOptions.{PublisherFits, publisher_keys, publisher_values, publisher_words, subscriber_keys, subscriber_values, subscriber_words}
+use Rattle.iox_line.specs.PortOptions.{PublisherFits, publisher_keys, publisher_values, publisher_words, subscriber_keys}
+use Rattle.iox_line.specs.PortOptions.{subscriber_values, subscriber_words}
 use Rattle.iox_line.specs.Spelling.{AreNumbers, port_word, IsPort, Fits, Writes, Spells}
 
 -- words that write a command, with its options in their order
 abbrev pub written : Command ℕ → List (List ℕ)
 written command.Node = codes "node" ∷ []
-written (command.Create node name options attributes steps) = codes "create" ∷ named_words node name options (map pair_word attributes) (list_words 0 steps)
-written (command.Open node name options requirements steps) = codes "open" ∷ named_words node name options (requirement_words requirements) (list_words 0 steps)
-written (command.OpenOrCreate node name options requirements steps) = codes "open_or_create" ∷ named_words node name options (requirement_words requirements) (list_words 0 steps)
+written (command.Create node name options attributes steps) = codes "create"
+    ∷ named_words node name options (map pair_word attributes) (list_words 0 steps)
+written (command.Open node name options requirements steps) = codes "open"
+    ∷ named_words node name options (requirement_words requirements) (list_words 0 steps)
+written (command.OpenOrCreate node name options requirements steps) = codes "open_or_create"
+    ∷ named_words node name options (requirement_words requirements) (list_words 0 steps)
 written (command.Foreign pattern name steps) = codes "foreign" ∷ pattern_word pattern ∷ name ∷ foreign_words steps
 written (command.Close factory) = codes "close" ∷ tag 102 factory ∷ []
 written (command.Publisher factory options) = codes "publisher" ∷ tag 102 factory ∷ publisher_words options
@@ -56,12 +61,35 @@ written (command.Has subscriber) = codes "has" ∷ tag 115 subscriber ∷ []
 
 writes_so : (c : Command ℕ) → Fits c → Writes c (written c)
 writes_so command.Node f = refl
-writes_so (command.Create node name options attributes steps) f =
-    (map pair_word attributes, list_words 0 steps, named_words node name options (map pair_word attributes) (list_words 0 steps), refl, lists_so 0 steps, named_so node name options (map pair_word attributes) (list_words 0 steps), refl)
-writes_so (command.Open node name options requirements steps) f =
-    (requirement_words requirements, list_words 0 steps, named_words node name options (requirement_words requirements) (list_words 0 steps), requirements_so requirements f.3, lists_so 0 steps, named_so node name options (requirement_words requirements) (list_words 0 steps), refl)
-writes_so (command.OpenOrCreate node name options requirements steps) f =
-    (requirement_words requirements, list_words 0 steps, named_words node name options (requirement_words requirements) (list_words 0 steps), requirements_so requirements f.3, lists_so 0 steps, named_so node name options (requirement_words requirements) (list_words 0 steps), refl)
+writes_so (command.Create node name options attributes steps) f = (
+  map pair_word attributes,
+  list_words 0 steps,
+  named_words node name options (map pair_word attributes) (list_words 0 steps),
+  refl,
+  lists_so 0 steps,
+  named_so node name options (map pair_word attributes) (list_words 0 steps),
+  refl,
+)
+writes_so (command.Open node name options requirements steps) f = (
+  requirement_words requirements,
+  list_words 0 steps,
+  named_words node name options (requirement_words requirements)
+      (list_words 0 steps),
+  requirements_so requirements f.3,
+  lists_so 0 steps,
+  named_so node name options (requirement_words requirements) (list_words 0 steps),
+  refl,
+)
+writes_so (command.OpenOrCreate node name options requirements steps) f = (
+  requirement_words requirements,
+  list_words 0 steps,
+  named_words node name options (requirement_words requirements)
+      (list_words 0 steps),
+  requirements_so requirements f.3,
+  lists_so 0 steps,
+  named_so node name options (requirement_words requirements) (list_words 0 steps),
+  refl,
+)
 writes_so (command.Foreign pattern name steps) f = (foreign_words steps, foreign_so steps, refl)
 writes_so (command.Close factory) f = refl
 writes_so (command.Publisher factory options) f = (publisher_words options, any_own (publisher_words options), refl)
@@ -121,7 +149,10 @@ publisher_are_words o f = options_lack 32 publisher_keys (publisher_values o) re
         number_lacks 32 o.initial_max_slice_len refl f.2,
         (
           text_lacks 32 allocation_word allocation_no_space o.allocation_strategy,
-          (text_lacks 32 handler_word handler_no_space o.backpressure_handler, (text_lacks 32 degradation_word degradation_no_space o.degradation_handler, tt)),
+          (
+            text_lacks 32 handler_word handler_no_space o.backpressure_handler,
+            (text_lacks 32 degradation_word degradation_no_space o.degradation_handler, tt),
+          ),
         ),
       ),
     ),
@@ -134,19 +165,30 @@ subscriber_are_words o f = options_lack 32 subscriber_keys (subscriber_values o)
 
 words_so : (c : Command ℕ) → Fits c → AreWords (written c)
 words_so command.Node f = (refl, tt)
-words_so (command.Create node name options attributes steps) f =
-    (refl, named_are_words node name options (map pair_word attributes) (list_words 0 steps) f.0 f.1 f.2 (pairs_are_words attributes f.3.1) (lists_are_words (pattern_of options) 0 steps f.4))
-words_so (command.Open node name options requirements steps) f =
-    (refl, named_are_words node name options (requirement_words requirements) (list_words 0 steps) f.0 f.1 f.2 (requirements_are_words requirements f.3) (lists_are_words (pattern_of options) 0 steps f.4))
-words_so (command.OpenOrCreate node name options requirements steps) f =
-    (refl, named_are_words node name options (requirement_words requirements) (list_words 0 steps) f.0 f.1 f.2 (requirements_are_words requirements f.3) (lists_are_words (pattern_of options) 0 steps f.4))
-words_so (command.Foreign pattern name steps) f = (refl, (pattern_no_space pattern, (visible_no_space 1 255 name f.0, foreign_are_words pattern steps f.2)))
+words_so (command.Create node name options attributes steps) f = (
+  refl,
+  named_are_words node name options (map pair_word attributes) (list_words 0 steps) f.0 f.1 f.2
+      (pairs_are_words attributes f.3.1) (lists_are_words (pattern_of options) 0 steps f.4),
+)
+words_so (command.Open node name options requirements steps) f = (
+  refl,
+  named_are_words node name options (requirement_words requirements) (list_words 0 steps) f.0 f.1 f.2
+      (requirements_are_words requirements f.3) (lists_are_words (pattern_of options) 0 steps f.4),
+)
+words_so (command.OpenOrCreate node name options requirements steps) f = (
+  refl,
+  named_are_words node name options (requirement_words requirements) (list_words 0 steps) f.0 f.1 f.2
+      (requirements_are_words requirements f.3) (lists_are_words (pattern_of options) 0 steps f.4),
+)
+words_so (command.Foreign pattern name steps) f
+    = (refl, (pattern_no_space pattern, (visible_no_space 1 255 name f.0, foreign_are_words pattern steps f.2)))
 words_so (command.Close factory) f = (refl, (decimal_no_space factory f, tt))
 words_so (command.Publisher factory options) f = (refl, (decimal_no_space factory f.0, publisher_are_words options f.1))
 words_so (command.Subscriber factory options) f = (refl, (decimal_no_space factory f.0, subscriber_are_words options f.1))
 words_so (command.Loan publisher long) f = (refl, (decimal_no_space publisher f.0, (decimal_no_space long f.1, tt)))
 words_so (command.LoanUninit publisher long) f = (refl, (decimal_no_space publisher f.0, (decimal_no_space long f.1, tt)))
-words_so (command.Set loan place value) f = (refl, (decimal_no_space loan f.0, (decimal_no_space place f.1, (decimal_no_space value f.2, tt))))
+words_so (command.Set loan place value) f
+    = (refl, (decimal_no_space loan f.0, (decimal_no_space place f.1, (decimal_no_space value f.2, tt))))
 words_so (command.Fill loan values) f = (refl, (decimal_no_space loan f.0, values_are_words values f.1))
 words_so (command.Drop loan) f = (refl, (decimal_no_space loan f, tt))
 words_so (command.Send loan) f = (refl, (decimal_no_space loan f, tt))

@@ -11,7 +11,8 @@ onto_length : (b : ℕ) (ws : List (List ℕ)) → length (onto_first b ws) ≤ 
 onto_length b [] = omega arith
 onto_length b (w ∷ ws) = omega arith
 
-length_at : (b : ℕ) (bs : List ℕ) (t : Bool) → length (words_of bs) ≤ 1 + length bs → length (cond t ([] ∷ words_of bs) (onto_first b (words_of bs))) ≤ 1 + length (b ∷ bs)
+length_at : (b : ℕ) (bs : List ℕ) (t : Bool) → length (words_of bs) ≤ 1 + length bs
+    → length (cond t ([] ∷ words_of bs) (onto_first b (words_of bs))) ≤ 1 + length (b ∷ bs)
 length_at b bs true h = omega (arith, h)
 length_at b bs false h = omega (arith, h, onto_length b (words_of bs))
 
@@ -32,7 +33,8 @@ own_words (w ∷ ws) c a h = ap of_words (words_of-spaced w ws a) ∙ h
 
 -- a line that spells a command is read as it
 pub line_complete : (line : List ℕ) (c : Command ℕ) → Spells line c → of_words (words_of line) ≡ Some c
-line_complete line c s = ap (λ l. of_words (words_of l)) s.spaced_so ∙ own_words s.words c s.are_words (words_complete c s.words s.fits s.writes)
+line_complete line c s = ap (λ l. of_words (words_of l)) s.spaced_so ∙ own_words s.words c s.are_words
+    (words_complete c s.words s.fits s.writes)
 
 -- no line spells two commands
 pub one_command : (line : List ℕ) (c d : Command ℕ) → Spells line c → Spells line d → c ≡ d

@@ -1,8 +1,10 @@
 -- A word is read as the number that it writes, and as no other.
-use Rattle.std.proofs.Common.{◌≡◌, ℕ, zero, suc, ◌+◌, ◌-◌, ◌*◌, ◌^◌, ◌==◌, ◌<◌, Bool, true, false, not, ◌&&◌, List, [], ◌∷◌, Option, None, Some, refl, cond, sym, ap, ◌∙◌, rules, arith, length, get_or, nat_lt, decimal, eqb-true}
+use Rattle.std.proofs.Common.{◌≡◌, ℕ, zero, suc, ◌+◌, ◌-◌, ◌*◌, ◌^◌, ◌==◌, ◌<◌, Bool, true, false, not, ◌&&◌, List, [], ◌∷◌, Option, None}
+use Rattle.std.proofs.Common.{Some, refl, cond, sym, ap, ◌∙◌, rules, arith, length, get_or, nat_lt, decimal, eqb-true}
 use Rattle.std.proofs.lemmas.Grind.{common_steps}
 use Rattle.std.proofs.lemmas.Str.Parse.{IsNumeralModel, numerals_by_fold}
-use Rattle.std.proofs.lemmas.Fmt.{digits_decimal, digits_value-decimal, decimal-digits_value, decimal_nonempty, first_decimal, length-decimal-le_succ}
+use Rattle.std.proofs.lemmas.Fmt.{digits_decimal, digits_value-decimal, decimal-digits_value, decimal_nonempty, first_decimal}
+use Rattle.std.proofs.lemmas.Fmt.{length-decimal-le_succ}
 use Rattle.iox_line.specs.Words.{has_no_space, lacks}
 use Rattle.iox_line.proofs.AfterLemmas.{and_left, and_right}
 use Rattle.iox_line.specs.Numbers.{is_digit, digits_from, below_limit, number_of, tagged, tag, IsNumber}
@@ -20,7 +22,8 @@ read_on n (b ∷ bs) = read_on (n * 10 + (b - 48)) bs
 own : IsNumeralModel (λ ds. all_digits ds ≡ true) (read_on 0)
 own = numerals_by_fold (λ ds. all_digits ds ≡ true) (search rules) read_on (search rules)
 
-digits_at : (front b : ℕ) (bs : List ℕ) (t : Bool) → digits_from (front * 10 + (b - 48)) bs ≡ cond (all_digits bs) (Some (read_on (front * 10 + (b - 48)) bs)) None
+digits_at : (front b : ℕ) (bs : List ℕ) (t : Bool)
+    → digits_from (front * 10 + (b - 48)) bs ≡ cond (all_digits bs) (Some (read_on (front * 10 + (b - 48)) bs)) None
     → cond t (digits_from (front * 10 + (b - 48)) bs) None ≡ cond (t && all_digits bs) (Some (read_on (front * 10 + (b - 48)) bs)) None
 digits_at front b bs true h = h
 digits_at front b bs false h = refl
@@ -42,9 +45,11 @@ limit_some : (ds : List ℕ) (n : ℕ) → below_limit (digits_from 0 ds) ≡ So
 limit_some ds n h = limit_at ds n (all_digits ds) refl (ap below_limit (sym (digits_read 0 ds)) ∙ h)
 
 limit_own : (ds : List ℕ) → all_digits ds ≡ true → read_on 0 ds < 2 ^ 64 → below_limit (digits_from 0 ds) ≡ Some (read_on 0 ds)
-limit_own ds a small = ap below_limit (digits_read 0 ds ∙ ap (λ t. cond t (Some (read_on 0 ds)) None) a) ∙ grind (arith, common_steps, small)
+limit_own ds a small = ap below_limit (digits_read 0 ds ∙ ap (λ t. cond t (Some (read_on 0 ds)) None) a) ∙ grind
+    (arith, common_steps, small)
 
-written : (ds : List ℕ) (n : ℕ) → 0 < length ds → (get_or ds 0 0 ≡ 48 → length ds ≡ 1) → below_limit (digits_from 0 ds) ≡ Some n → IsNumber n × (ds ≡ decimal n)
+written : (ds : List ℕ) (n : ℕ) → 0 < length ds → (get_or ds 0 0 ≡ 48 → length ds ≡ 1) → below_limit (digits_from 0 ds) ≡ Some n
+    → IsNumber n × (ds ≡ decimal n)
 written ds n some first h =
     let l = limit_some ds n h in
     let small : read_on 0 ds < 2 ^ 64 = rw l.1 l.2 in
@@ -79,9 +84,11 @@ pub number_own : (n : ℕ) → IsNumber n → number_of (decimal n) ≡ Some n
 number_own n small =
     let v : read_on 0 (decimal n) ≡ n = digits_value-decimal own n small in
     let below : read_on 0 (decimal n) < 2 ^ 64 = rw v small in
-    number_whole (decimal n) (decimal_nonempty n small) (first_zero n small) ∙ limit_own (decimal n) (digits_decimal own n small) below ∙ ap (λ m. Some m) v
+    number_whole (decimal n) (decimal_nonempty n small) (first_zero n small) ∙ limit_own (decimal n) (digits_decimal own n small) below
+    ∙ ap (λ m. Some m) v
 
-tagged_at : (letter b : ℕ) (bs : List ℕ) (n : ℕ) (t : Bool) → (b == letter) ≡ t → cond t (number_of bs) None ≡ Some n → IsNumber n × (b ∷ bs ≡ tag letter n)
+tagged_at : (letter b : ℕ) (bs : List ℕ) (n : ℕ) (t : Bool) → (b == letter) ≡ t → cond t (number_of bs) None ≡ Some n → IsNumber n
+    × (b ∷ bs ≡ tag letter n)
 tagged_at letter b bs n true e h = let s = number_some bs n h in (s.0, ap (λ x. x ∷ bs) (eqb-true b letter e) ∙ ap (λ l. letter ∷ l) s.1)
 tagged_at letter b bs n false e h = cc
 

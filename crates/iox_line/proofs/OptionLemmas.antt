@@ -1,5 +1,6 @@
 -- Options are found exactly where they stand among the words, in any order.
-use Rattle.std.proofs.Common.{◌≡◌, ℕ, ◌+◌, Bool, true, ◌&&◌, List, [], ◌∷◌, ◌++◌, Option, None, Some, refl, sym, ap, ◌∙◌, arith, length, subst}
+use Rattle.std.proofs.Common.{◌≡◌, ℕ, ◌+◌, Bool, true, ◌&&◌, List, [], ◌∷◌, ◌++◌, Option, None, Some, refl, sym, ap, ◌∙◌, arith, length}
+use Rattle.std.proofs.Common.{subst}
 use Rattle.std.specs.List.{list_all}
 use Rattle.std.proofs.lemmas.List.{length-append}
 use Rattle.iox_line.specs.Options.{after, differ, are_apart, or_else, find, count, option_words, AnyOrder}
@@ -28,12 +29,14 @@ find_at key w ws t (Some u) e h more = ([], ws, ap (λ x. x ∷ ws) (after_some 
 find_at key w ws t None e h more = let r = more h in (w ∷ r.0, r.1, ap (λ l. w ∷ l) r.2)
 
 -- what is found stands among the words
-pub find_some : (key : List ℕ) (ws : List (List ℕ)) (t : List ℕ) → find key ws ≡ Some t → (front : List (List ℕ)) × (back : List (List ℕ)) × (ws ≡ front ++ (key ++ t) ∷ back)
+pub find_some : (key : List ℕ) (ws : List (List ℕ)) (t : List ℕ) → find key ws ≡ Some t → (front : List (List ℕ))
+    × (back : List (List ℕ)) × (ws ≡ front ++ (key ++ t) ∷ back)
 find_some key [] t h = cc
 find_some key (w ∷ ws) t h = find_at key w ws t (after key w) refl h (find_some key ws t)
 
 -- a word that doesn't begin with the key is passed over
-find_removed : (key : List ℕ) (front back : List (List ℕ)) (w : List ℕ) → after key w ≡ None → find key (front ++ w ∷ back) ≡ find key (front ++ back)
+find_removed : (key : List ℕ) (front back : List (List ℕ)) (w : List ℕ) → after key w ≡ None
+    → find key (front ++ w ∷ back) ≡ find key (front ++ back)
 find_removed key [] back w h = ap (λ r. or_else r (find key back)) h
 find_removed key (f ∷ fs) back w h = ap (λ r. or_else (after key f) r) (find_removed key fs back w h)
 
@@ -46,59 +49,76 @@ find_only : (key t : List ℕ) (front back : List (List ℕ)) → NoneAfter key 
 find_only key t [] back n = ap (λ r. or_else r (find key back)) (after_own key t)
 find_only key t (f ∷ fs) back n = ap (λ r. or_else r (find key (fs ++ (key ++ t) ∷ back))) n.0 ∙ find_only key t fs back n.1
 
-none_inserted : (key : List ℕ) (front back : List (List ℕ)) (w : List ℕ) → NoneAfter key (front ++ back) → after key w ≡ None → NoneAfter key (front ++ w ∷ back)
+none_inserted : (key : List ℕ) (front back : List (List ℕ)) (w : List ℕ) → NoneAfter key (front ++ back) → after key w ≡ None
+    → NoneAfter key (front ++ w ∷ back)
 none_inserted key [] back w n h = (h, n)
 none_inserted key (f ∷ fs) back w n h = (n.0, none_inserted key fs back w n.1 h)
 
 none_anyhow : (key : List ℕ) (words ws : List (List ℕ)) → AnyOrder words ws → NoneAfter key ws → NoneAfter key words
 none_anyhow key words [] o n = subst (λ l. NoneAfter key l) (sym o) tt
-none_anyhow key words (w ∷ ws) o n = subst (λ l. NoneAfter key l) (sym o.2) (none_inserted key o.0 o.1 w (none_anyhow key (o.0 ++ o.1) ws o.3 n.1) n.0)
+none_anyhow key words (w ∷ ws) o n = subst (λ l. NoneAfter key l) (sym o.2)
+    (none_inserted key o.0 o.1 w (none_anyhow key (o.0 ++ o.1) ws o.3 n.1) n.0)
 
-none_of_others : (key : List ℕ) (keys : List (List ℕ)) (values : List (Option (List ℕ))) → differs key keys ≡ true → NoneAfter key (option_words keys values)
+none_of_others : (key : List ℕ) (keys : List (List ℕ)) (values : List (Option (List ℕ))) → differs key keys ≡ true
+    → NoneAfter key (option_words keys values)
 none_of_others key [] values d = tt
 none_of_others key (k ∷ ks) [] d = tt
 none_of_others key (k ∷ ks) (None ∷ vs) d = none_of_others key ks vs (and_right (differ key k && differ k key) (differs key ks) d)
 none_of_others key (k ∷ ks) (Some v ∷ vs) d =
-    let both = and_left (differ key k && differ k key) (differs key ks) d in
-    (after_differ k key v (and_right (differ key k) (differ k key) both), none_of_others key ks vs (and_right (differ key k && differ k key) (differs key ks) d))
+    let both = and_left (differ key k && differ k key) (differs key ks) d in (
+      after_differ k key v (and_right (differ key k) (differ k key) both),
+      none_of_others key ks vs
+          (and_right (differ key k && differ k key) (differs key ks) d),
+    )
 
 -- a word of another key neither hides nor brings a value
-found_without : (key t : List ℕ) (front back : List (List ℕ)) (keys : List (List ℕ)) (values : List (Option (List ℕ))) → differs key keys ≡ true
+found_without : (key t : List ℕ) (front back : List (List ℕ)) (keys : List (List ℕ)) (values : List (Option (List ℕ)))
+    → differs key keys ≡ true
     → Found keys (front ++ (key ++ t) ∷ back) values → Found keys (front ++ back) values
 found_without key t front back [] [] d f = tt
 found_without key t front back [] (v ∷ vs) d f = f
 found_without key t front back (k ∷ ks) [] d f = f
 found_without key t front back (k ∷ ks) (v ∷ vs) d f =
     let both = and_left (differ key k && differ k key) (differs key ks) d in
-    let other = after_differ key k t (and_left (differ key k) (differ k key) both) in
-    (sym (find_removed k front back (key ++ t) other) ∙ f.0, found_without key t front back ks vs (and_right (differ key k && differ k key) (differs key ks) d) f.1)
+    let other = after_differ key k t (and_left (differ key k) (differ k key) both) in (
+      sym (find_removed k front back (key ++ t) other) ∙ f.0,
+      found_without key t front back ks vs
+          (and_right (differ key k && differ k key) (differs key ks) d) f.1,
+    )
 
-found_with : (key t : List ℕ) (front back : List (List ℕ)) (keys : List (List ℕ)) (values : List (Option (List ℕ))) → differs key keys ≡ true
+found_with : (key t : List ℕ) (front back : List (List ℕ)) (keys : List (List ℕ)) (values : List (Option (List ℕ)))
+    → differs key keys ≡ true
     → Found keys (front ++ back) values → Found keys (front ++ (key ++ t) ∷ back) values
 found_with key t front back [] [] d f = tt
 found_with key t front back [] (v ∷ vs) d f = f
 found_with key t front back (k ∷ ks) [] d f = f
 found_with key t front back (k ∷ ks) (v ∷ vs) d f =
     let both = and_left (differ key k && differ k key) (differs key ks) d in
-    let other = after_differ key k t (and_left (differ key k) (differ k key) both) in
-    (find_removed k front back (key ++ t) other ∙ f.0, found_with key t front back ks vs (and_right (differ key k && differ k key) (differs key ks) d) f.1)
+    let other = after_differ key k t (and_left (differ key k) (differ k key) both) in (
+      find_removed k front back (key ++ t) other ∙ f.0,
+      found_with key t front back ks vs
+          (and_right (differ key k && differ k key) (differs key ks) d) f.1,
+    )
 
 no_length : (ws : List (List ℕ)) → length ws ≡ 0 → ws ≡ []
 no_length [] h = refl
 no_length (w ∷ ws) h = absurd (omega (arith, h))
 
-one_fewer : (front back : List (List ℕ)) (w : List ℕ) (ws : List (List ℕ)) (n : ℕ) → ws ≡ front ++ w ∷ back → length ws ≡ 1 + n → length (front ++ back) ≡ n
+one_fewer : (front back : List (List ℕ)) (w : List ℕ) (ws : List (List ℕ)) (n : ℕ) → ws ≡ front ++ w ∷ back → length ws ≡ 1 + n
+    → length (front ++ back) ≡ n
 one_fewer front back w ws n e h =
     let l : length ws ≡ length (front ++ w ∷ back) = ap length e in
     omega (arith, l, h, length-append front (w ∷ back), length-append front back)
 
-one_more : (front back : List (List ℕ)) (w : List ℕ) (ws : List (List ℕ)) (n : ℕ) → ws ≡ front ++ w ∷ back → length (front ++ back) ≡ n → length ws ≡ 1 + n
+one_more : (front back : List (List ℕ)) (w : List ℕ) (ws : List (List ℕ)) (n : ℕ) → ws ≡ front ++ w ∷ back → length (front ++ back) ≡ n
+    → length ws ≡ 1 + n
 one_more front back w ws n e h =
     let l : length ws ≡ length (front ++ w ∷ back) = ap length e in
     omega (arith, l, h, length-append front (w ∷ back), length-append front back)
 
 -- words that are as many as the values found are their options, in any order
-pub options_sound : (keys : List (List ℕ)) (values : List (Option (List ℕ))) (words : List (List ℕ)) → are_apart keys ≡ true → Found keys words values
+pub options_sound : (keys : List (List ℕ)) (values : List (Option (List ℕ))) (words : List (List ℕ)) → are_apart keys ≡ true
+    → Found keys words values
     → length words ≡ count values → AnyOrder words (option_words keys values)
 options_sound [] [] words a f n = no_length words n
 options_sound [] (v ∷ vs) words a f n = absurd f
@@ -106,11 +126,17 @@ options_sound (k ∷ ks) [] words a f n = absurd f
 options_sound (k ∷ ks) (None ∷ vs) words a f n = options_sound ks vs words (and_right (differs k ks) (are_apart ks) a) f.1 n
 options_sound (k ∷ ks) (Some t ∷ vs) words a f n =
     let p = find_some k words t f.0 in
-    let found = found_without k t p.0 p.1 ks vs (and_left (differs k ks) (are_apart ks) a) (subst (λ l. Found ks l vs) p.2 f.1) in
-    (p.0, p.1, p.2, options_sound ks vs (p.0 ++ p.1) (and_right (differs k ks) (are_apart ks) a) found (one_fewer p.0 p.1 (k ++ t) words (count vs) p.2 n))
+    let found = found_without k t p.0 p.1 ks vs (and_left (differs k ks) (are_apart ks) a) (subst (λ l. Found ks l vs) p.2 f.1) in (
+      p.0,
+      p.1,
+      p.2,
+      options_sound ks vs (p.0 ++ p.1) (and_right (differs k ks) (are_apart ks) a) found
+          (one_fewer p.0 p.1 (k ++ t) words (count vs) p.2 n),
+    )
 
 -- options in any order are found, and the words are as many as they
-pub options_complete : (keys : List (List ℕ)) (values : List (Option (List ℕ))) (words : List (List ℕ)) → are_apart keys ≡ true → length keys ≡ length values
+pub options_complete : (keys : List (List ℕ)) (values : List (Option (List ℕ))) (words : List (List ℕ)) → are_apart keys ≡ true
+    → length keys ≡ length values
     → AnyOrder words (option_words keys values) → Found keys words values × (length words ≡ count values)
 options_complete [] [] words a l o = (tt, ap length o)
 options_complete [] (v ∷ vs) words a l o = absurd (omega (arith, l))

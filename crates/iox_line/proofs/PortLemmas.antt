@@ -1,5 +1,6 @@
 -- Which commands are of ports that there are.
-use Rattle.std.proofs.Common.{◌≡◌, ◌⊎◌, inl, inr, ◌≤◌, ℕ, List, [], ◌∷◌, Option, None, Some, IfSome, length, refl, cond, true, false, Bool, sym, ap, ◌∙◌}
+use Rattle.std.proofs.Common.{◌≡◌, ◌⊎◌, inl, inr, ◌≤◌, ℕ, List, [], ◌∷◌, Option, None, Some, IfSome, length, refl, cond, true, false}
+use Rattle.std.proofs.Common.{Bool, sym, ap, ◌∙◌}
 use Rattle.std.specs.Option.{option_map}
 use Rattle.iox_command.specs.Ports.{command_of}
 use Rattle.iox_command.specs.Patterns.{pattern_of}
@@ -18,7 +19,8 @@ use Rattle.iox_line.specs.declared.verb.Verb.{Verb}
 use Rattle.iox_line.specs.declared.verb.Verb.TheVariants as verb
 use Rattle.iox_line.specs.declared.verb.ServiceVerb.{ServiceVerb}
 use Rattle.iox_line.specs.declared.verb.ServiceVerb.TheVariants as service
-use Rattle.iox_line.specs.Reading.{bind, both, only, if_of_port, publisher_command, subscriber_command, publisher_of, subscriber_of, foreign_parts, foreign_command, of_service, of_verb, of_read, of_words}
+use Rattle.iox_line.specs.Reading.{bind, both, only, if_of_port, publisher_command, subscriber_command, publisher_of, subscriber_of}
+use Rattle.iox_line.specs.Reading.{foreign_parts, foreign_command, of_service, of_verb, of_read, of_words}
 use Rattle.iox_line.specs.Numbers.{tagged}
 use Rattle.iox_line.specs.Spelling.{Spells}
 use Rattle.iox_line.specs.Verbs.{verb_of, service_verb_of}
@@ -70,7 +72,8 @@ stayed (Some (command.Leave p)) c h = h
 stayed (Some (command.Has n)) c h = h
 
 -- where no made one stays, none does
-no_port : {A : Type 0} (make : A → Command ℕ) → ((a : A) → if_of_port (Some (make a)) ≡ None) → (o : Option A) → if_of_port (option_map make o) ≡ None
+no_port : {A : Type 0} (make : A → Command ℕ) → ((a : A) → if_of_port (Some (make a)) ≡ None) → (o : Option A)
+    → if_of_port (option_map make o) ≡ None
 no_port make none None = refl
 no_port make none (Some a) = none a
 
@@ -86,10 +89,13 @@ no_port_subscriber : (ws : List (List ℕ)) → if_of_port (subscriber_command w
 no_port_subscriber [] = refl
 no_port_subscriber (w ∷ ws) = no_port (λ p. command.Subscriber p.0 p.1) (λ p. refl) (both (tagged 102 w) (subscriber_of ws))
 
-no_port_made : {A : Type 0} (make : NamedService → A → List StepBefore → Command ℕ) (read : List (List ℕ) → Option A) → ((s : NamedService) (a : A) (t : List StepBefore) → if_of_port (Some (make s a t)) ≡ None)
-    → (o : Option NamedService) → if_of_port (bind o (λ s. option_map (λ p. make s p.0 p.1) (both (read s.attributes) (lists_of (pattern_of s.options) s.lists)))) ≡ None
+no_port_made : {A : Type 0} (make : NamedService → A → List StepBefore → Command ℕ) (read : List (List ℕ) → Option A)
+    → ((s : NamedService) (a : A) (t : List StepBefore) → if_of_port (Some (make s a t)) ≡ None)
+    → (o : Option NamedService) → if_of_port
+    (bind o (λ s. option_map (λ p. make s p.0 p.1) (both (read s.attributes) (lists_of (pattern_of s.options) s.lists)))) ≡ None
 no_port_made make read none None = refl
-no_port_made make read none (Some s) = no_port (λ p. make s p.0 p.1) (λ p. none s p.0 p.1) (both (read s.attributes) (lists_of (pattern_of s.options) s.lists))
+no_port_made make read none (Some s)
+    = no_port (λ p. make s p.0 p.1) (λ p. none s p.0 p.1) (both (read s.attributes) (lists_of (pattern_of s.options) s.lists))
 
 no_port_foreign : (x : Option MessagingPattern) (y : Option (List ℕ)) (ws : List (List ℕ)) → if_of_port (foreign_parts x y ws) ≡ None
 no_port_foreign None y ws = refl
@@ -103,13 +109,17 @@ no_port_foreign_words (w ∷ v ∷ ws) = no_port_foreign (pattern_named w) (name
 
 -- a verb that names a service asks no port
 no_port_service : (v : ServiceVerb) (ws : List (List ℕ)) → if_of_port (of_service v ws) ≡ None
-no_port_service service.Create ws = no_port_made (λ s a t. command.Create s.node s.name s.options a t) specifier_of (λ s a t. refl) (service_of ws)
-no_port_service service.Open ws = no_port_made (λ s a t. command.Open s.node s.name s.options a t) verifier_of (λ s a t. refl) (service_of ws)
-no_port_service service.OpenOrCreate ws = no_port_made (λ s a t. command.OpenOrCreate s.node s.name s.options a t) verifier_of (λ s a t. refl) (service_of ws)
+no_port_service service.Create ws = no_port_made (λ s a t. command.Create s.node s.name s.options a t) specifier_of (λ s a t. refl)
+    (service_of ws)
+no_port_service service.Open ws = no_port_made (λ s a t. command.Open s.node s.name s.options a t) verifier_of (λ s a t. refl)
+    (service_of ws)
+no_port_service service.OpenOrCreate ws
+    = no_port_made (λ s a t. command.OpenOrCreate s.node s.name s.options a t) verifier_of (λ s a t. refl) (service_of ws)
 no_port_service service.Foreign ws = no_port_foreign_words ws
 
 -- nor does a verb that makes a node or a port, or closes a factory
-pub no_port_verb : (v : Verb) (ws : List (List ℕ)) → (v ≡ verb.Node) ⊎ ((v ≡ verb.Close) ⊎ ((v ≡ verb.Publisher) ⊎ (v ≡ verb.Subscriber))) → if_of_port (of_verb v ws) ≡ None
+pub no_port_verb : (v : Verb) (ws : List (List ℕ)) → (v ≡ verb.Node)
+    ⊎ ((v ≡ verb.Close) ⊎ ((v ≡ verb.Publisher) ⊎ (v ≡ verb.Subscriber))) → if_of_port (of_verb v ws) ≡ None
 no_port_verb v ws (inl e) = ap (λ v. if_of_port (of_verb v ws)) e ∙ no_port_node (no_words ws)
 no_port_verb v ws (inr (inl e)) = ap (λ v. if_of_port (of_verb v ws)) e ∙ no_port (λ n. command.Close n) (λ n. refl) (only 102 ws)
 no_port_verb v ws (inr (inr (inl e))) = ap (λ v. if_of_port (of_verb v ws)) e ∙ no_port_publisher ws
@@ -133,15 +143,20 @@ pub verb_words : (w : List ℕ) (ws : List (List ℕ)) (v : Verb) → verb_of w 
 verb_words w ws v e = ap (λ x. of_read x (service_verb_of w) ws) e
 
 -- a line whose words are read as a command spells it
-pub spells_read : (line : List ℕ) (ws : List (List ℕ)) (c : Command ℕ) → words_of line ≡ ws → if_of_port (of_words ws) ≡ Some c → Spells line c
+pub spells_read : (line : List ℕ) (ws : List (List ℕ)) (c : Command ℕ) → words_of line ≡ ws → if_of_port (of_words ws) ≡ Some c
+    → Spells line c
 spells_read line ws c e h = line_sound line c (ap of_words e ∙ stayed (of_words ws) c h)
 
 -- what is answered of a line whose first word is a verb
-module _ (line w : List ℕ) (ws : List (List ℕ)) (v : Verb) (split : words_of line ≡ w ∷ ws) (first : verb_of w ≡ Some v) (short : length line ≤ 1024) where
-  pub reads_some : (r : Option (PortCommand ℕ)) → option_map command_of r ≡ if_of_port (of_verb v ws) → IfSome r (λ c. (length line ≤ 1024) × Spells line (command_of c))
+module _ (line w : List ℕ) (ws : List (List ℕ)) (v : Verb) (split : words_of line ≡ w ∷ ws) (first : verb_of w ≡ Some v)
+    (short : length line ≤ 1024) where
+  pub reads_some : (r : Option (PortCommand ℕ)) → option_map command_of r ≡ if_of_port (of_verb v ws)
+      → IfSome r (λ c. (length line ≤ 1024) × Spells line (command_of c))
   reads_some None h = tt
   reads_some (Some c) h = (short, spells_read line (w ∷ ws) (command_of c) split (ap if_of_port (verb_words w ws v first) ∙ sym h))
 
-  pub reads_none : (r : Option (PortCommand ℕ)) → option_map command_of r ≡ if_of_port (of_verb v ws) → r ≡ None → (c : PortCommand ℕ) → Spells line (command_of c) → ⊥
+  pub reads_none : (r : Option (PortCommand ℕ)) → option_map command_of r ≡ if_of_port (of_verb v ws) → r ≡ None → (c : PortCommand ℕ)
+      → Spells line (command_of c) → ⊥
   reads_none r h is c s =
-      spells_no_port line c (ap (λ l. if_of_port (of_words l)) split ∙ ap if_of_port (verb_words w ws v first) ∙ sym h ∙ ap (option_map command_of) is) s
+      spells_no_port line c (ap (λ l. if_of_port (of_words l)) split ∙ ap if_of_port (verb_words w ws v first) ∙ sym h ∙ ap
+      (option_map command_of) is) s

@@ -1,5 +1,6 @@
 -- Words that are read as the options of a service write them, and what writes them is read, in any order.
-use Rattle.std.proofs.Common.{◌≡◌, ℕ, ◌+◌, ◌==◌, Bool, true, false, List, [], ◌∷◌, Option, None, Some, refl, cond, sym, ap, ◌∙◌, subst, length, decimal, codes, arith, eqb-true}
+use Rattle.std.proofs.Common.{◌≡◌, ℕ, ◌+◌, ◌==◌, Bool, true, false, List, [], ◌∷◌, Option, None, Some, refl, cond, sym, ap, ◌∙◌, subst}
+use Rattle.std.proofs.Common.{length, decimal, codes, arith, eqb-true}
 use Rattle.std.specs.Option.{option_map}
 use Rattle.std.proofs.lemmas.Grind.{common_steps}
 use Rattle.iox_command.specs.declared.service.NumberOrOff.{NumberOrOff}
@@ -13,8 +14,13 @@ use Rattle.iox_line.specs.Options.{AnyOrder, are_apart, find, named, count, one,
 use Rattle.iox_line.proofs.NumberLemmas.{number_some, number_own}
 use Rattle.iox_line.proofs.ChoiceLemmas.{same_is, choice_some, map_some, named_some, named_own, IfThere}
 use Rattle.iox_line.proofs.OptionLemmas.{Found, options_sound, options_complete}
-use Rattle.iox_line.specs.Services.{switch_word, number_or_off_word, IsNumberOrOff, IfNumberOrOff, PublishSubscribeFits, publish_subscribe_keys, publish_subscribe_values, EventFits, event_keys, event_values, RequestResponseFits, request_response_keys, request_response_values}
-use Rattle.iox_line.specs.ServicesReading.{Pair, pair, only_if, switches, switch_of, number_or_off_of, publish_subscribe_options, publish_subscribe_parts, publish_subscribe_count, publish_subscribe_of, event_options, event_parts, event_count, event_of, request_response_options, request_response_parts, request_response_count, request_response_of}
+use Rattle.iox_line.specs.Services.{switch_word, number_or_off_word, IsNumberOrOff, IfNumberOrOff, PublishSubscribeFits}
+use Rattle.iox_line.specs.Services.{publish_subscribe_keys, publish_subscribe_values, EventFits, event_keys, event_values}
+use Rattle.iox_line.specs.Services.{RequestResponseFits, request_response_keys, request_response_values}
+use Rattle.iox_line.specs.ServicesReading.{Pair, pair, only_if, switches, switch_of, number_or_off_of, publish_subscribe_options}
+use Rattle.iox_line.specs.ServicesReading.{publish_subscribe_parts, publish_subscribe_count, publish_subscribe_of, event_options}
+use Rattle.iox_line.specs.ServicesReading.{event_parts, event_count, event_of, request_response_options, request_response_parts}
+use Rattle.iox_line.specs.ServicesReading.{request_response_count, request_response_of}
 
 pair_some : {X Y : Type 0} (x : Option X) (y : Option Y) (p : Pair X Y) → pair x y ≡ Some p → (x ≡ Some p.first) × (y ≡ Some p.second)
 pair_some None y p h = cc
@@ -62,7 +68,8 @@ there_any : {X : Type 0} (o : Option X) → IfThere (λ v. Unit {0}) o
 there_any None = tt
 there_any (Some x) = tt
 
-count_map : {X : Type 0} (text : X → List ℕ) (o : Option X) (values : List (Option (List ℕ))) → count (option_map text o ∷ values) ≡ one o + count values
+count_map : {X : Type 0} (text : X → List ℕ) (o : Option X) (values : List (Option (List ℕ)))
+    → count (option_map text o ∷ values) ≡ one o + count values
 count_map text None values = omega arith
 count_map text (Some x) values = refl
 
@@ -76,7 +83,8 @@ switch_own : (a : Bool) → Unit {0} → switch_of (switch_word a) ≡ Some a
 switch_own false g = refl
 switch_own true g = refl
 
-off_at : (w : List ℕ) (a : NumberOrOff) (t : Bool) → same w (codes "off") ≡ t → cond t (Some value.Off) (option_map (λ n. value.Number n) (number_of w)) ≡ Some a
+off_at : (w : List ℕ) (a : NumberOrOff) (t : Bool) → same w (codes "off") ≡ t
+    → cond t (Some value.Off) (option_map (λ n. value.Number n) (number_of w)) ≡ Some a
     → IsNumberOrOff a × (w ≡ number_or_off_word a)
 off_at w a true e h =
     let same_value : value.Off ≡ a = cc in
@@ -95,7 +103,8 @@ not_off w n false e h = refl
 number_or_off_own : (a : NumberOrOff) → IsNumberOrOff a → number_or_off_of (number_or_off_word a) ≡ Some a
 number_or_off_own (value.Number n) g =
     let own = number_own n g in
-    ap (λ t. cond t (Some value.Off) (option_map (λ m. value.Number m) (number_of (decimal n)))) (not_off (decimal n) n (same (decimal n) (codes "off")) refl own)
+    ap (λ t. cond t (Some value.Off) (option_map (λ m. value.Number m) (number_of (decimal n))))
+    (not_off (decimal n) n (same (decimal n) (codes "off")) refl own)
     ∙ ap (λ x. option_map (λ m. value.Number m) x) own
 number_or_off_own value.Off g = refl
 
@@ -146,7 +155,8 @@ last {read = read} {text = text} value key = record {
 next : {X T : Type 0} {read : List ℕ → Option X} {text : X → List ℕ} {Good : Option X → Type 0} {keys : List (List ℕ)}
     {parts : List (List ℕ) → Option T} {values : T → List (Option (List ℕ))} {Fit : T → Type 0} {total : T → ℕ}
     → Value read text Good → (key : List ℕ) → Reads keys parts values Fit total
-    → Reads (key ∷ keys) (λ ws. pair (named read (find key ws)) (parts ws)) (λ (p : Pair (Option X) T). option_map text p.first ∷ values p.second)
+    → Reads (key ∷ keys) (λ ws. pair (named read (find key ws)) (parts ws))
+    (λ (p : Pair (Option X) T). option_map text p.first ∷ values p.second)
     (λ (p : Pair (Option X) T). Good p.first × Fit p.second) (λ (p : Pair (Option X) T). one p.first + total p.second)
 next {read = read} {text = text} {parts = parts} {values = values} value key rest = record {
   some = λ ws p h.
@@ -176,7 +186,8 @@ options_some keys parts values Fit sum Fits make total reads fits same_total apa
 options_own : {T O : Type 0} (keys : List (List ℕ)) (parts : List (List ℕ) → Option T) (values : O → List (Option (List ℕ)))
     (Fit : T → Type 0) (sum : T → ℕ) (make : T → O) (total : O → ℕ) → Reads keys parts (λ p. values (make p)) Fit sum
     → ((p : T) → total (make p) ≡ sum p) → are_apart keys ≡ true → (ws : List (List ℕ)) (p : T) → length keys ≡ length (values (make p))
-    → Fit p → AnyOrder ws (option_words keys (values (make p))) → only_if (λ q. length ws == total q) (option_map make (parts ws)) ≡ Some (make p)
+    → Fit p → AnyOrder ws (option_words keys (values (make p)))
+    → only_if (λ q. length ws == total q) (option_map make (parts ws)) ≡ Some (make p)
 options_own keys parts values Fit sum make total reads same_total apart ws p same f w =
     let r = options_complete keys (values (make p)) ws apart same w in
     only_own (λ q. length ws == total q) (option_map make (parts ws)) (make p) (ap (λ x. option_map make x) (reads.own ws p f r.0))
@@ -205,7 +216,8 @@ publish_subscribe_sum p = one p.first + (one p.second.first + (one p.second.seco
 publish_subscribe_same_sum : (p : PublishSubscribeParts) → publish_subscribe_count (publish_subscribe_options p) ≡ publish_subscribe_sum p
 publish_subscribe_same_sum p = omega arith
 
-publish_subscribe_reads : Reads publish_subscribe_keys publish_subscribe_parts (λ p. publish_subscribe_values (publish_subscribe_options p)) PublishSubscribeFit publish_subscribe_sum
+publish_subscribe_reads : Reads publish_subscribe_keys publish_subscribe_parts
+    (λ p. publish_subscribe_values (publish_subscribe_options p)) PublishSubscribeFit publish_subscribe_sum
 publish_subscribe_reads = next number (codes "subscribers=") (next number (codes "publishers=") (next number (codes "nodes=")
     (next number (codes "buffer=") (next number (codes "borrowed=") (next number (codes "history=")
     (last switch (codes "overflow=")))))))
@@ -213,13 +225,17 @@ publish_subscribe_reads = next number (codes "subscribers=") (next number (codes
 -- words that are read as the options of a publish-subscribe service write them
 pub publish_subscribe_some : (ws : List (List ℕ)) (o : PublishSubscribeOptions) → publish_subscribe_of ws ≡ Some o
     → PublishSubscribeFits o × AnyOrder ws (option_words publish_subscribe_keys (publish_subscribe_values o))
-publish_subscribe_some = options_some publish_subscribe_keys publish_subscribe_parts publish_subscribe_values PublishSubscribeFit publish_subscribe_sum PublishSubscribeFits publish_subscribe_options publish_subscribe_count publish_subscribe_reads (λ p f. (f.0, f.1.0, f.1.1.0, f.1.1.1.0, f.1.1.1.1.0, f.1.1.1.1.1.0)) publish_subscribe_same_sum refl
+publish_subscribe_some = options_some publish_subscribe_keys publish_subscribe_parts publish_subscribe_values PublishSubscribeFit
+    publish_subscribe_sum PublishSubscribeFits publish_subscribe_options publish_subscribe_count publish_subscribe_reads
+    (λ p f. (f.0, f.1.0, f.1.1.0, f.1.1.1.0, f.1.1.1.1.0, f.1.1.1.1.1.0)) publish_subscribe_same_sum refl
 
 -- the options of a publish-subscribe service are read from words that write them, in any order
-pub publish_subscribe_own : (ws : List (List ℕ)) (o : PublishSubscribeOptions) → PublishSubscribeFits o → AnyOrder ws (option_words publish_subscribe_keys (publish_subscribe_values o))
+pub publish_subscribe_own : (ws : List (List ℕ)) (o : PublishSubscribeOptions) → PublishSubscribeFits o
+    → AnyOrder ws (option_words publish_subscribe_keys (publish_subscribe_values o))
     → publish_subscribe_of ws ≡ Some o
 publish_subscribe_own ws o f w =
-    options_own publish_subscribe_keys publish_subscribe_parts publish_subscribe_values PublishSubscribeFit publish_subscribe_sum publish_subscribe_options publish_subscribe_count publish_subscribe_reads publish_subscribe_same_sum refl ws
+    options_own publish_subscribe_keys publish_subscribe_parts publish_subscribe_values PublishSubscribeFit publish_subscribe_sum
+    publish_subscribe_options publish_subscribe_count publish_subscribe_reads publish_subscribe_same_sum refl ws
     (both o.max_subscribers (both o.max_publishers (both o.max_nodes (both o.subscriber_max_buffer_size
     (both o.subscriber_max_borrowed_samples (both o.history_size o.enable_safe_overflow))))))
     refl (f.0, (f.1, (f.2, (f.3, (f.4, (f.5, tt)))))) w
@@ -288,7 +304,8 @@ request_response_sum p = one p.first + (one p.second.first + (one p.second.secon
 request_response_same_sum : (p : RequestResponseParts) → request_response_count (request_response_options p) ≡ request_response_sum p
 request_response_same_sum p = omega arith
 
-request_response_reads : Reads request_response_keys request_response_parts (λ p. request_response_values (request_response_options p)) RequestResponseFit request_response_sum
+request_response_reads : Reads request_response_keys request_response_parts (λ p. request_response_values (request_response_options p))
+    RequestResponseFit request_response_sum
 request_response_reads = next number (codes "servers=") (next number (codes "clients=") (next number (codes "nodes=")
     (next number (codes "buffer=") (next number (codes "borrowed=") (next number (codes "active=") (next number (codes "loans=")
     (next switch (codes "overflow_requests=") (next switch (codes "overflow_responses=") (last switch (codes "fire="))))))))))
@@ -296,13 +313,17 @@ request_response_reads = next number (codes "servers=") (next number (codes "cli
 -- words that are read as the options of a request-response service write them
 pub request_response_some : (ws : List (List ℕ)) (o : RequestResponseOptions) → request_response_of ws ≡ Some o
     → RequestResponseFits o × AnyOrder ws (option_words request_response_keys (request_response_values o))
-request_response_some = options_some request_response_keys request_response_parts request_response_values RequestResponseFit request_response_sum RequestResponseFits request_response_options request_response_count request_response_reads (λ p f. (f.0, f.1.0, f.1.1.0, f.1.1.1.0, f.1.1.1.1.0, f.1.1.1.1.1.0, f.1.1.1.1.1.1.0)) request_response_same_sum refl
+request_response_some = options_some request_response_keys request_response_parts request_response_values RequestResponseFit
+    request_response_sum RequestResponseFits request_response_options request_response_count request_response_reads
+    (λ p f. (f.0, f.1.0, f.1.1.0, f.1.1.1.0, f.1.1.1.1.0, f.1.1.1.1.1.0, f.1.1.1.1.1.1.0)) request_response_same_sum refl
 
 -- the options of a request-response service are read from words that write them, in any order
-pub request_response_own : (ws : List (List ℕ)) (o : RequestResponseOptions) → RequestResponseFits o → AnyOrder ws (option_words request_response_keys (request_response_values o))
+pub request_response_own : (ws : List (List ℕ)) (o : RequestResponseOptions) → RequestResponseFits o
+    → AnyOrder ws (option_words request_response_keys (request_response_values o))
     → request_response_of ws ≡ Some o
 request_response_own ws o f w =
-    options_own request_response_keys request_response_parts request_response_values RequestResponseFit request_response_sum request_response_options request_response_count request_response_reads request_response_same_sum refl ws
+    options_own request_response_keys request_response_parts request_response_values RequestResponseFit request_response_sum
+    request_response_options request_response_count request_response_reads request_response_same_sum refl ws
     (both o.max_servers (both o.max_clients (both o.max_nodes (both o.max_response_buffer_size
     (both o.max_borrowed_responses_per_pending_response (both o.max_active_requests_per_client (both o.max_loaned_requests
     (both o.enable_safe_overflow_for_requests (both o.enable_safe_overflow_for_responses o.enable_fire_and_forget_requests)))))))))

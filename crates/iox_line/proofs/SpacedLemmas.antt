@@ -1,7 +1,9 @@
 -- The words of a line, with spaces between them, are the line; and words with spaces between them have no other words.
 use Rattle.std.proofs.lemmas.Grind.{common_steps}
-use Rattle.std.proofs.Common.{arith, length, ◌+◌, ◌<◌, ◌≡◌, ℕ, ◌==◌, Bool, true, false, List, [], ◌∷◌, not, ◌&&◌, refl, cond, sym, ap, ◌∙◌, eqb-true}
-use Rattle.iox_line.specs.Words.{lacks, before, beyond, no_words, words_of, pieces_of, pieces_left, onto_first, joined, spaced, AllLack, AreWords}
+use Rattle.std.proofs.Common.{arith, length, ◌+◌, ◌<◌, ◌≡◌, ℕ, ◌==◌, Bool, true, false, List, [], ◌∷◌, not, ◌&&◌, refl, cond, sym, ap}
+use Rattle.std.proofs.Common.{◌∙◌, eqb-true}
+use Rattle.iox_line.specs.Words.{lacks, before, beyond, no_words, words_of, pieces_of, pieces_left, onto_first, joined, spaced, AllLack}
+use Rattle.iox_line.specs.Words.{AreWords}
 use Rattle.iox_line.proofs.WordLemmas.{pieces_first, pieces_of-separated, pieces_of-alone}
 
 joined-onto : (sep b : ℕ) (w : List ℕ) (ws : List (List ℕ)) → joined sep ((b ∷ w) ∷ ws) ≡ b ∷ joined sep (w ∷ ws)
@@ -12,7 +14,8 @@ joined-onto sep b w (v ∷ ws) = refl
 pub pieces_some : (sep : ℕ) (text : List ℕ) → (w : List ℕ) × (ws : List (List ℕ)) × (pieces_of sep text ≡ w ∷ ws)
 pieces_some sep text = (before sep text, pieces_left sep (beyond sep text), pieces_first sep text)
 
-joined_at : (sep b : ℕ) (bs w : List ℕ) (ws : List (List ℕ)) (t : Bool) → (b == sep) ≡ t → pieces_of sep bs ≡ w ∷ ws → joined sep (pieces_of sep bs) ≡ bs
+joined_at : (sep b : ℕ) (bs w : List ℕ) (ws : List (List ℕ)) (t : Bool) → (b == sep) ≡ t → pieces_of sep bs ≡ w ∷ ws
+    → joined sep (pieces_of sep bs) ≡ bs
     → joined sep (cond t ([] ∷ pieces_of sep bs) (onto_first b (pieces_of sep bs))) ≡ b ∷ bs
 joined_at sep b bs w ws true e h p =
     ap (λ l. joined sep ([] ∷ l)) h ∙ ap (λ l. sep ∷ joined sep l) (sym h) ∙ ap (λ l. sep ∷ l) p ∙ ap (λ x. x ∷ bs) (sym (eqb-true b sep e))
@@ -35,7 +38,8 @@ onto_lack : (sep b : ℕ) (ws : List (List ℕ)) → (b == sep) ≡ false → Al
 onto_lack sep b [] e a = (both_lack sep b [] e refl, tt)
 onto_lack sep b (w ∷ ws) e a = (both_lack sep b w e a.0, a.1)
 
-lack_at : (sep b : ℕ) (bs : List ℕ) (t : Bool) → (b == sep) ≡ t → AllLack sep (pieces_of sep bs) → AllLack sep (cond t ([] ∷ pieces_of sep bs) (onto_first b (pieces_of sep bs)))
+lack_at : (sep b : ℕ) (bs : List ℕ) (t : Bool) → (b == sep) ≡ t → AllLack sep (pieces_of sep bs)
+    → AllLack sep (cond t ([] ∷ pieces_of sep bs) (onto_first b (pieces_of sep bs)))
 lack_at sep b bs true e a = (refl, a)
 lack_at sep b bs false e a = onto_lack sep b (pieces_of sep bs) e a
 

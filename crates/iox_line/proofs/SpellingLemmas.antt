@@ -1,5 +1,6 @@
 -- Words that are read as attributes write them, and what writes them is read.
-use Rattle.std.proofs.Common.{◌≡◌, ℕ, ◌≤◌, ◌==◌, Bool, true, false, not, ◌&&◌, nat_le, List, [], ◌∷◌, ◌++◌, Option, None, Some, refl, cond, ap, ◌∙◌, subst, length, map, eqb-true}
+use Rattle.std.proofs.Common.{◌≡◌, ℕ, ◌≤◌, ◌==◌, Bool, true, false, not, ◌&&◌, nat_le, List, [], ◌∷◌, ◌++◌, Option, None, Some, refl}
+use Rattle.std.proofs.Common.{cond, ap, ◌∙◌, subst, length, map, eqb-true}
 use Rattle.std.specs.Prelude.{filter}
 use Rattle.std.proofs.lemmas.List.Folds.{list_all-append}
 use Rattle.iox_describe_base.specs.declared.attribute.Attribute.{Attribute}
@@ -13,18 +14,27 @@ use Rattle.iox_line.proofs.MarkLemmas.{Unmarked, starts}
 use Rattle.iox_line.proofs.AfterLemmas.{after_some, and_left, and_right}
 use Rattle.iox_line.proofs.VisibleLemmas.{at_most, at_most_own, visible_sound, visible_complete, visible_no_space, both_true}
 use Rattle.iox_line.specs.Attributes.{pair_word, key_word, IsKey, IsPair, SpecifierFits, VerifierFits, has_equals, Defines, Requires}
-use Rattle.iox_line.specs.AttributesReading.{pair_parts, pair_in, pair_of, key_parts, key_in, key_of, pairs_of, require, requirements_of, few_pairs, specifier_of, few_requirements, verifier_of}
+use Rattle.iox_line.specs.AttributesReading.{pair_parts, pair_in, pair_of, key_parts, key_in, key_of, pairs_of, require, requirements_of}
+use Rattle.iox_line.specs.AttributesReading.{few_pairs, specifier_of, few_requirements, verifier_of}
 
 -- one word
 
-limits_at : (key value : List ℕ) (a : Attribute) (t : Bool) → (is_visible_text 1 64 key && is_visible_text 0 256 value) ≡ t → cond t (Some (attribute key value)) None ≡ Some a
+limits_at : (key value : List ℕ) (a : Attribute) (t : Bool) → (is_visible_text 1 64 key && is_visible_text 0 256 value) ≡ t
+    → cond t (Some (attribute key value)) None ≡ Some a
     → (IsVisibleText 1 64 key × IsVisibleText 0 256 value) × (attribute key value ≡ a)
 limits_at key value a true e h =
-    let same : attribute key value ≡ a = cc in
-    ((visible_sound 1 64 key (and_left (is_visible_text 1 64 key) (is_visible_text 0 256 value) e), visible_sound 0 256 value (and_right (is_visible_text 1 64 key) (is_visible_text 0 256 value) e)), same)
+    let same : attribute key value ≡ a = cc in (
+      (
+        visible_sound 1 64 key (and_left (is_visible_text 1 64 key) (is_visible_text 0 256 value) e),
+        visible_sound 0 256 value
+            (and_right (is_visible_text 1 64 key) (is_visible_text 0 256 value) e),
+      ),
+      same,
+    )
 limits_at key value a false e h = cc
 
-pair_at : (text key : List ℕ) (value : Option (List ℕ)) (a : Attribute) → lacks 61 key ≡ true → text ≡ whole 61 key value → pair_parts key value ≡ Some a → IsPair a × (64 ∷ text ≡ pair_word a)
+pair_at : (text key : List ℕ) (value : Option (List ℕ)) (a : Attribute) → lacks 61 key ≡ true → text ≡ whole 61 key value
+    → pair_parts key value ≡ Some a → IsPair a × (64 ∷ text ≡ pair_word a)
 pair_at text key None a l w h = cc
 pair_at text key (Some value) a l w h =
     let s = limits_at key value a (is_visible_text 1 64 key && is_visible_text 0 256 value) refl h in
@@ -45,13 +55,16 @@ pub pair_own : (a : Attribute) → IsPair a → pair_of (pair_word a) ≡ Some a
 pair_own a p =
     ap (λ k. pair_parts k (beyond 61 (a.key ++ 61 ∷ a.value))) (before-separated 61 a.key a.value p.0.1)
     ∙ ap (λ o. pair_parts a.key o) (beyond-separated 61 a.key a.value p.0.1)
-    ∙ ap (λ t. cond t (Some a) None) (both_true (is_visible_text 1 64 a.key) (is_visible_text 0 256 a.value) (visible_complete 1 64 a.key p.0.0) (visible_complete 0 256 a.value p.1))
+    ∙ ap (λ t. cond t (Some a) None) (both_true (is_visible_text 1 64 a.key) (is_visible_text 0 256 a.value)
+    (visible_complete 1 64 a.key p.0.0) (visible_complete 0 256 a.value p.1))
 
-key_limits : (text k : List ℕ) (t : Bool) → is_visible_text 1 64 text ≡ t → cond t (Some text) None ≡ Some k → IsVisibleText 1 64 text × (text ≡ k)
+key_limits : (text k : List ℕ) (t : Bool) → is_visible_text 1 64 text ≡ t → cond t (Some text) None ≡ Some k → IsVisibleText 1 64 text
+    × (text ≡ k)
 key_limits text k true e h = let same : text ≡ k = cc in (visible_sound 1 64 text e, same)
 key_limits text k false e h = cc
 
-key_at : (text key k : List ℕ) (value : Option (List ℕ)) → lacks 61 key ≡ true → text ≡ whole 61 key value → key_parts key value ≡ Some k → IsKey k × (64 ∷ text ≡ key_word k)
+key_at : (text key k : List ℕ) (value : Option (List ℕ)) → lacks 61 key ≡ true → text ≡ whole 61 key value
+    → key_parts key value ≡ Some k → IsKey k × (64 ∷ text ≡ key_word k)
 key_at text key k None l w h =
     let s = key_limits key k (is_visible_text 1 64 key) refl h in
     subst (λ b. IsKey b × (64 ∷ text ≡ key_word b)) s.1 ((s.0, l), ap (λ t. 64 ∷ t) w)
@@ -70,13 +83,15 @@ key_some w k h = key_from w k (after (64 ∷ []) w) refl h
 -- a key is read from the word that writes it, and no pair is
 pub key_own : (k : List ℕ) → IsKey k → (key_of (key_word k) ≡ Some k) × (pair_of (key_word k) ≡ None)
 key_own k p = (
-  ap (λ l. key_parts l (beyond 61 k)) (before-alone 61 k p.1) ∙ ap (λ o. key_parts k o) (beyond-alone 61 k p.1) ∙ ap (λ t. cond t (Some k) None) (visible_complete 1 64 k p.0),
+  ap (λ l. key_parts l (beyond 61 k)) (before-alone 61 k p.1) ∙ ap (λ o. key_parts k o) (beyond-alone 61 k p.1) ∙ ap
+      (λ t. cond t (Some k) None) (visible_complete 1 64 k p.0),
   ap (λ o. pair_parts (before 61 k) o) (beyond-alone 61 k p.1),
 )
 
 -- pairs
 
-prepend_some : {A : Type 0} (x : Option A) (y : Option (List A)) (l : List A) → prepend x y ≡ Some l → (a : A) × (rest : List A) × (x ≡ Some a) × (y ≡ Some rest) × (a ∷ rest ≡ l)
+prepend_some : {A : Type 0} (x : Option A) (y : Option (List A)) (l : List A) → prepend x y ≡ Some l → (a : A) × (rest : List A)
+    × (x ≡ Some a) × (y ≡ Some rest) × (a ∷ rest ≡ l)
 prepend_some None y l h = cc
 prepend_some (Some a) None l h = cc
 prepend_some (Some a) (Some rest) l h = (a, rest, refl, refl, cc)
@@ -93,7 +108,8 @@ pairs_own : (ps : List Attribute) → AllOf IsPair ps → pairs_of (map pair_wor
 pairs_own [] f = refl
 pairs_own (a ∷ ps) f = ap (λ o. prepend o (pairs_of (map pair_word ps))) (pair_own a f.0) ∙ ap (λ o. prepend (Some a) o) (pairs_own ps f.1)
 
-few_at : (pairs ps : List Attribute) (t : Bool) → nat_le (length pairs) 8 ≡ t → cond t (Some pairs) None ≡ Some ps → (length pairs ≤ 8) × (pairs ≡ ps)
+few_at : (pairs ps : List Attribute) (t : Bool) → nat_le (length pairs) 8 ≡ t → cond t (Some pairs) None ≡ Some ps → (length pairs ≤ 8)
+    × (pairs ≡ ps)
 few_at pairs ps true e h = let same : pairs ≡ ps = cc in (at_most (length pairs) 8 e, same)
 few_at pairs ps false e h = cc
 
@@ -125,25 +141,30 @@ key_equals : (k : List ℕ) → IsKey k → has_equals (key_word k) ≡ false
 key_equals k p = ap not p.1
 
 -- with a pair in front the requirements are written with its word in front
-pair_front : (w : List ℕ) (ws : List (List ℕ)) (a : Attribute) (r : Required) → IsPair a → w ≡ pair_word a → Requires r ws → Requires (required (a ∷ r.pairs) r.keys) (w ∷ ws)
+pair_front : (w : List ℕ) (ws : List (List ℕ)) (a : Attribute) (r : Required) → IsPair a → w ≡ pair_word a → Requires r ws
+    → Requires (required (a ∷ r.pairs) r.keys) (w ∷ ws)
 pair_front w ws a r p e q =
     let t : has_equals w ≡ true = ap has_equals e ∙ pair_equals a p in (
-      ap (λ b. cond b (w ∷ filter has_equals ws) (filter has_equals ws)) t ∙ ap (λ x. x ∷ filter has_equals ws) e ∙ ap (λ l. pair_word a ∷ l) q.0,
+      ap (λ b. cond b (w ∷ filter has_equals ws) (filter has_equals ws)) t ∙ ap (λ x. x ∷ filter has_equals ws) e ∙ ap
+          (λ l. pair_word a ∷ l) q.0,
       ap (λ b. cond (not b) (w ∷ filter (λ v. not (has_equals v)) ws) (filter (λ v. not (has_equals v)) ws)) t ∙ q.1,
     )
 
-key_front : (w : List ℕ) (ws : List (List ℕ)) (k : List ℕ) (r : Required) → IsKey k → w ≡ key_word k → Requires r ws → Requires (required r.pairs (k ∷ r.keys)) (w ∷ ws)
+key_front : (w : List ℕ) (ws : List (List ℕ)) (k : List ℕ) (r : Required) → IsKey k → w ≡ key_word k → Requires r ws
+    → Requires (required r.pairs (k ∷ r.keys)) (w ∷ ws)
 key_front w ws k r p e q =
     let t : has_equals w ≡ false = ap has_equals e ∙ key_equals k p in (
       ap (λ b. cond b (w ∷ filter has_equals ws) (filter has_equals ws)) t ∙ q.0,
-      ap (λ b. cond (not b) (w ∷ filter (λ v. not (has_equals v)) ws) (filter (λ v. not (has_equals v)) ws)) t ∙ ap (λ x. x ∷ filter (λ v. not (has_equals v)) ws) e ∙ ap (λ l. key_word k ∷ l) q.1,
+      ap (λ b. cond (not b) (w ∷ filter (λ v. not (has_equals v)) ws) (filter (λ v. not (has_equals v)) ws)) t ∙ ap
+          (λ x. x ∷ filter (λ v. not (has_equals v)) ws) e ∙ ap (λ l. key_word k ∷ l) q.1,
     )
 
 -- pairs and keys, each within the limits
 abbrev AreFit : Required → Type 0
 AreFit r = AllOf IsPair r.pairs × AllOf IsKey r.keys
 
-require_at : (w : List ℕ) (ws : List (List ℕ)) (r : Required) (x : Option Attribute) (y : Option (List ℕ)) (z : Option Required) → pair_of w ≡ x → key_of w ≡ y
+require_at : (w : List ℕ) (ws : List (List ℕ)) (r : Required) (x : Option Attribute) (y : Option (List ℕ)) (z : Option Required)
+    → pair_of w ≡ x → key_of w ≡ y
     → ((q : Required) → z ≡ Some q → AreFit q × Requires q ws) → require x y z ≡ Some r → AreFit r × Requires r (w ∷ ws)
 require_at w ws r (Some a) y None e f more h = cc
 require_at w ws r (Some a) y (Some q) e f more h =
@@ -176,7 +197,8 @@ abbrev AreRead : List (List ℕ) → Type 0
 AreRead ws = (ps : List Attribute) (ks : List (List ℕ)) → AllOf IsPair ps → AllOf IsKey ks → filter has_equals ws ≡ map pair_word ps
     → filter (λ v. not (has_equals v)) ws ≡ map key_word ks → requirements_of ws ≡ Some (required ps ks)
 
-read_at : (w : List ℕ) (ws : List (List ℕ)) (t : Bool) (ps : List Attribute) (ks : List (List ℕ)) → AreRead ws → AllOf IsPair ps → AllOf IsKey ks
+read_at : (w : List ℕ) (ws : List (List ℕ)) (t : Bool) (ps : List Attribute) (ks : List (List ℕ)) → AreRead ws → AllOf IsPair ps
+    → AllOf IsKey ks
     → cond t (w ∷ filter has_equals ws) (filter has_equals ws) ≡ map pair_word ps
     → cond (not t) (w ∷ filter (λ v. not (has_equals v)) ws) (filter (λ v. not (has_equals v)) ws) ≡ map key_word ks
     → require (pair_of w) (key_of w) (requirements_of ws) ≡ Some (required ps ks)
@@ -184,12 +206,14 @@ read_at w ws true [] ks more p k e f = cc
 read_at w ws true (a ∷ ps) ks more p k e f =
     let word : w ≡ pair_word a = cc in
     let rest : filter has_equals ws ≡ map pair_word ps = cc in
-    ap (λ o. require o (key_of w) (requirements_of ws)) (ap pair_of word ∙ pair_own a p.0) ∙ ap (λ o. require (Some a) (key_of w) o) (more ps ks p.1 k rest f)
+    ap (λ o. require o (key_of w) (requirements_of ws)) (ap pair_of word ∙ pair_own a p.0) ∙ ap (λ o. require (Some a) (key_of w) o)
+    (more ps ks p.1 k rest f)
 read_at w ws false ps [] more p k e f = cc
 read_at w ws false ps (l ∷ ks) more p k e f =
     let word : w ≡ key_word l = cc in
     let rest : filter (λ v. not (has_equals v)) ws ≡ map key_word ks = cc in
-    ap (λ o. require o (key_of w) (requirements_of ws)) (ap pair_of word ∙ (key_own l k.0).1) ∙ ap (λ o. require None o (requirements_of ws)) (ap key_of word ∙ (key_own l k.0).0)
+    ap (λ o. require o (key_of w) (requirements_of ws)) (ap pair_of word ∙ (key_own l k.0).1) ∙ ap
+    (λ o. require None o (requirements_of ws)) (ap key_of word ∙ (key_own l k.0).0)
     ∙ ap (λ o. require None (Some l) o) (more ps ks p k.1 e rest)
 
 requirements_own : (ws : List (List ℕ)) → AreRead ws
@@ -199,11 +223,16 @@ requirements_own (w ∷ ws) ps ks p k e f = read_at w ws (has_equals w) ps ks (r
 least_at : (q r : Required) (t : Bool) → (nat_le (length q.pairs) 8 && nat_le (length q.keys) 8) ≡ t → cond t (Some q) None ≡ Some r
     → (length q.pairs ≤ 8) × (length q.keys ≤ 8) × (q ≡ r)
 least_at q r true e h =
-    let same : q ≡ r = cc in
-    (at_most (length q.pairs) 8 (and_left (nat_le (length q.pairs) 8) (nat_le (length q.keys) 8) e), at_most (length q.keys) 8 (and_right (nat_le (length q.pairs) 8) (nat_le (length q.keys) 8) e), same)
+    let same : q ≡ r = cc in (
+      at_most (length q.pairs) 8 (and_left (nat_le (length q.pairs) 8) (nat_le (length q.keys) 8) e),
+      at_most (length q.keys) 8
+          (and_right (nat_le (length q.pairs) 8) (nat_le (length q.keys) 8) e),
+      same,
+    )
 least_at q r false e h = cc
 
-few_required : (o : Option Required) (r : Required) → few_requirements o ≡ Some r → (length r.pairs ≤ 8) × (length r.keys ≤ 8) × (o ≡ Some r)
+few_required : (o : Option Required) (r : Required) → few_requirements o ≡ Some r → (length r.pairs ≤ 8) × (length r.keys ≤ 8)
+    × (o ≡ Some r)
 few_required None r h = cc
 few_required (Some q) r h =
     let s = least_at q r (nat_le (length q.pairs) 8 && nat_le (length q.keys) 8) refl h in
@@ -220,7 +249,8 @@ verifier_some ws r h =
 pub verifier_own : (ws : List (List ℕ)) (r : Required) → VerifierFits r → Requires r ws → verifier_of ws ≡ Some r
 verifier_own ws r f q =
     ap few_requirements (requirements_own ws r.pairs r.keys f.1 f.3 q.0 q.1)
-    ∙ ap (λ t. cond t (Some r) None) (both_true (nat_le (length r.pairs) 8) (nat_le (length r.keys) 8) (at_most_own (length r.pairs) 8 f.0) (at_most_own (length r.keys) 8 f.2))
+    ∙ ap (λ t. cond t (Some r) None) (both_true (nat_le (length r.pairs) 8) (nat_le (length r.keys) 8)
+    (at_most_own (length r.pairs) 8 f.0) (at_most_own (length r.keys) 8 f.2))
 
 -- where attributes begin and end in a line
 
@@ -239,7 +269,8 @@ defined_marked (w ∷ ws) (a ∷ ps) d =
 
 -- whose words begin with an @ if they are those of requirements
 abbrev WouldBeMarked : List (List ℕ) → Type 0
-WouldBeMarked ws = (ps : List Attribute) (ks : List (List ℕ)) → filter has_equals ws ≡ map pair_word ps → filter (λ v. not (has_equals v)) ws ≡ map key_word ks → AreMarked ws
+WouldBeMarked ws = (ps : List Attribute) (ks : List (List ℕ)) → filter has_equals ws ≡ map pair_word ps
+    → filter (λ v. not (has_equals v)) ws ≡ map key_word ks → AreMarked ws
 
 marked_at : (w : List ℕ) (ws : List (List ℕ)) (t : Bool) (ps : List Attribute) (ks : List (List ℕ)) → WouldBeMarked ws
     → cond t (w ∷ filter has_equals ws) (filter has_equals ws) ≡ map pair_word ps
@@ -285,8 +316,11 @@ both_no_space a b p q = list_all-append (λ c. not (c == 32)) a b ∙ ap (λ t. 
 -- the words of pairs have no space
 pub pairs_are_words : (ps : List Attribute) → AllOf IsPair ps → AreWords (map pair_word ps)
 pairs_are_words [] f = tt
-pairs_are_words (a ∷ ps) f =
-    (both_no_space a.key (61 ∷ a.value) (visible_no_space 1 64 a.key f.0.0.0) (visible_no_space 0 256 a.value f.0.1), pairs_are_words ps f.1)
+pairs_are_words (a ∷ ps) f = (
+  both_no_space a.key (61 ∷ a.value) (visible_no_space 1 64 a.key f.0.0.0) (visible_no_space 0 256 a.value f.0.1),
+  pairs_are_words ps
+      f.1,
+)
 
 keys_are_words : (ks : List (List ℕ)) → AllOf IsKey ks → AreWords (map key_word ks)
 keys_are_words [] f = tt
@@ -296,10 +330,14 @@ keys_are_words (k ∷ ks) f = (visible_no_space 1 64 k f.0.0, keys_are_words ks 
 abbrev pub requirement_words : Required → List (List ℕ)
 requirement_words r = map pair_word r.pairs ++ map key_word r.keys
 
-all_are_words : (ps : List Attribute) (ks : List (List ℕ)) → AllOf IsPair ps → AllOf IsKey ks → AreWords (map pair_word ps ++ map key_word ks)
+all_are_words : (ps : List Attribute) (ks : List (List ℕ)) → AllOf IsPair ps → AllOf IsKey ks
+    → AreWords (map pair_word ps ++ map key_word ks)
 all_are_words [] ks p k = keys_are_words ks k
-all_are_words (a ∷ ps) ks p k =
-    (both_no_space a.key (61 ∷ a.value) (visible_no_space 1 64 a.key p.0.0.0) (visible_no_space 0 256 a.value p.0.1), all_are_words ps ks p.1 k)
+all_are_words (a ∷ ps) ks p k = (
+  both_no_space a.key (61 ∷ a.value) (visible_no_space 1 64 a.key p.0.0.0) (visible_no_space 0 256 a.value p.0.1),
+  all_are_words ps ks
+      p.1 k,
+)
 
 -- they have no space
 pub requirements_are_words : (r : Required) → VerifierFits r → AreWords (requirement_words r)
@@ -309,7 +347,8 @@ keys_so : (ks : List (List ℕ)) → AllOf IsKey ks → Requires (required [] ks
 keys_so [] k = (refl, refl)
 keys_so (l ∷ ks) k = key_front (key_word l) (map key_word ks) l (required [] ks) k.0 refl (keys_so ks k.1)
 
-all_so : (ps : List Attribute) (ks : List (List ℕ)) → AllOf IsPair ps → AllOf IsKey ks → Requires (required ps ks) (map pair_word ps ++ map key_word ks)
+all_so : (ps : List Attribute) (ks : List (List ℕ)) → AllOf IsPair ps → AllOf IsKey ks
+    → Requires (required ps ks) (map pair_word ps ++ map key_word ks)
 all_so [] ks p k = keys_so ks k
 all_so (a ∷ ps) ks p k = pair_front (pair_word a) (map pair_word ps ++ map key_word ks) a (required ps ks) p.0 refl (all_so ps ks p.1 k)
 

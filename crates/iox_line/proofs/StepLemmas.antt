@@ -23,20 +23,24 @@ use Rattle.iox_line.proofs.NoSpaceLemmas.{service_lack_commas}
 use Rattle.iox_line.specs.declared.steps.step.StepVerb.{StepVerb}
 use Rattle.iox_line.specs.declared.steps.step.StepVerb.TheVariants as verb
 use Rattle.iox_line.specs.Steps.{option_tail, WritesStep, StepFits, WritesSteps}
-use Rattle.iox_line.specs.StepsReading.{step_verb_word, step_verbs, step_verb_of, published, step_at, step_with, step_of, each_step, steps_of}
+use Rattle.iox_line.specs.StepsReading.{step_verb_word, step_verbs, step_verb_of, published, step_at, step_with, step_of, each_step}
+use Rattle.iox_line.specs.StepsReading.{steps_of}
 
 -- a step without options
 
-one_node : (pattern : MessagingPattern) (make : ℕ → ForeignStep) (front text : List ℕ) (s : ForeignStep) → ((n : ℕ) → IsNumber n → StepFits pattern (make n)) → ((n : ℕ) → WritesStep (make n) (front ++ tag 120 n))
+one_node : (pattern : MessagingPattern) (make : ℕ → ForeignStep) (front text : List ℕ) (s : ForeignStep)
+    → ((n : ℕ) → IsNumber n → StepFits pattern (make n)) → ((n : ℕ) → WritesStep (make n) (front ++ tag 120 n))
     → option_map make (tagged 120 text) ≡ Some s → StepFits pattern s × WritesStep s (front ++ text)
 one_node pattern make front text s fits writes h =
     let m = map_some make (tagged 120 text) s h in
     let n = tagged_some 120 text m.0 m.1 in
-    subst (λ q. StepFits pattern q × WritesStep q (front ++ text)) m.2 (fits m.0 n.0, subst (λ l. WritesStep (make m.0) (front ++ l)) (sym n.1) (writes m.0))
+    subst (λ q. StepFits pattern q × WritesStep q (front ++ text)) m.2
+    (fits m.0 n.0, subst (λ l. WritesStep (make m.0) (front ++ l)) (sym n.1) (writes m.0))
 
 -- publishing
 
-published_some : (x : Option ℕ) (y : Option ServiceOptions) (s : ForeignStep) → published x y ≡ Some s → (n : ℕ) × (o : ServiceOptions) × (x ≡ Some n) × (y ≡ Some o) × (step.Publish n o ≡ s)
+published_some : (x : Option ℕ) (y : Option ServiceOptions) (s : ForeignStep) → published x y ≡ Some s → (n : ℕ) × (o : ServiceOptions)
+    × (x ≡ Some n) × (y ≡ Some o) × (step.Publish n o ≡ s)
 published_some None y s h = cc
 published_some (Some n) None s h = cc
 published_some (Some n) (Some o) s h = (n, o, refl, refl, cc)
@@ -46,25 +50,32 @@ tail_at ws w vs h = ap option_tail h ∙ ap (λ l. 58 ∷ joined 44 l) (sym h)
 
 tail_text : (front : List ℕ) (o : Option (List ℕ)) → whole 58 front o ≡ front ++ option_tail (pieces_left 44 o)
 tail_text front None = sym (append-nil front)
-tail_text front (Some text) = let p = pieces_some 44 text in ap (λ l. front ++ l) (ap (λ l. 58 ∷ l) (sym (joined-pieces_of 44 text)) ∙ sym (tail_at (pieces_of 44 text) p.0 p.1 p.2))
+tail_text front (Some text) = let p
+    = pieces_some 44 text in ap (λ l. front ++ l)
+    (ap (λ l. 58 ∷ l) (sym (joined-pieces_of 44 text)) ∙ sym (tail_at (pieces_of 44 text) p.0 p.1 p.2))
 
-publish_some : (pattern : MessagingPattern) (text : List ℕ) (s : ForeignStep) → published (tagged 120 (before 58 text)) (options_of pattern (pieces_left 44 (beyond 58 text))) ≡ Some s
+publish_some : (pattern : MessagingPattern) (text : List ℕ) (s : ForeignStep)
+    → published (tagged 120 (before 58 text)) (options_of pattern (pieces_left 44 (beyond 58 text))) ≡ Some s
     → StepFits pattern s × WritesStep s (codes "publish:" ++ text)
 publish_some pattern text s h =
     let m = published_some (tagged 120 (before 58 text)) (options_of pattern (pieces_left 44 (beyond 58 text))) s h in
     let n = tagged_some 120 (before 58 text) m.0 m.2 in
     let o = options_some pattern (pieces_left 44 (beyond 58 text)) m.1 m.3 in
     let chosen = pieces_left 44 (beyond 58 text) in
-    let written : text ≡ tag 120 m.0 ++ option_tail chosen = whole_text 58 text ∙ tail_text (before 58 text) (beyond 58 text) ∙ ap (λ l. l ++ option_tail chosen) n.1 in
-    subst (λ q. StepFits pattern q × WritesStep q (codes "publish:" ++ text)) m.4 ((n.0, o.0, o.2), (chosen, o.1, ap (λ l. codes "publish:" ++ l) written))
+    let written : text ≡ tag 120 m.0 ++ option_tail chosen
+    = whole_text 58 text ∙ tail_text (before 58 text) (beyond 58 text) ∙ ap (λ l. l ++ option_tail chosen) n.1 in
+    subst (λ q. StepFits pattern q × WritesStep q (codes "publish:" ++ text)) m.4
+    ((n.0, o.0, o.2), (chosen, o.1, ap (λ l. codes "publish:" ++ l) written))
 
 tag_lacks : (n : ℕ) → IsNumber n → lacks 58 (tag 120 n) ≡ true
 tag_lacks n f = decimal_lacks 58 n refl f
 
-tail_own : (n : ℕ) (chosen : List (List ℕ)) → IsNumber n → AllLack 44 chosen → (before 58 (tag 120 n ++ option_tail chosen) ≡ tag 120 n) × (pieces_left 44 (beyond 58 (tag 120 n ++ option_tail chosen)) ≡ chosen)
+tail_own : (n : ℕ) (chosen : List (List ℕ)) → IsNumber n → AllLack 44 chosen → (before 58 (tag 120 n ++ option_tail chosen) ≡ tag 120 n)
+    × (pieces_left 44 (beyond 58 (tag 120 n ++ option_tail chosen)) ≡ chosen)
 tail_own n [] f l = (
   ap (λ t. before 58 t) (append-nil (tag 120 n)) ∙ before-alone 58 (tag 120 n) (tag_lacks n f),
-  ap (λ t. pieces_left 44 (beyond 58 t)) (append-nil (tag 120 n)) ∙ ap (λ o. pieces_left 44 o) (beyond-alone 58 (tag 120 n) (tag_lacks n f)),
+  ap (λ t. pieces_left 44 (beyond 58 t)) (append-nil (tag 120 n)) ∙ ap (λ o. pieces_left 44 o)
+      (beyond-alone 58 (tag 120 n) (tag_lacks n f)),
 )
 tail_own n (w ∷ ws) f l = (
   before-separated 58 (tag 120 n) (joined 44 (w ∷ ws)) (tag_lacks n f),
@@ -72,16 +83,19 @@ tail_own n (w ∷ ws) f l = (
 )
 
 publish_own : (n : ℕ) (o : ServiceOptions) (chosen : List (List ℕ)) → IsNumber n → ServiceFits o → AnyOrder chosen (service_words o)
-    → published (tagged 120 (before 58 (tag 120 n ++ option_tail chosen))) (options_of (pattern_of o) (pieces_left 44 (beyond 58 (tag 120 n ++ option_tail chosen)))) ≡ Some (step.Publish n o)
+    → published (tagged 120 (before 58 (tag 120 n ++ option_tail chosen)))
+    (options_of (pattern_of o) (pieces_left 44 (beyond 58 (tag 120 n ++ option_tail chosen)))) ≡ Some (step.Publish n o)
 publish_own n o chosen f g a =
     let t = tail_own n chosen f (all_anyhow (λ w. lacks 44 w ≡ true) chosen (service_words o) a (service_lack_commas o g)) in
     ap (λ x. published (tagged 120 x) (options_of (pattern_of o) (pieces_left 44 (beyond 58 (tag 120 n ++ option_tail chosen))))) t.0
     ∙ ap (λ x. published (tagged 120 (tag 120 n)) (options_of (pattern_of o) x)) t.1
-    ∙ ap (λ x. published x (options_of (pattern_of o) chosen)) (tagged_own 120 n f) ∙ ap (λ x. published (Some n) x) (options_own chosen o g a)
+    ∙ ap (λ x. published x (options_of (pattern_of o) chosen)) (tagged_own 120 n f) ∙ ap (λ x. published (Some n) x)
+    (options_own chosen o g a)
 
 -- one step
 
-at_some : (pattern : MessagingPattern) (v : StepVerb) (text : List ℕ) (s : ForeignStep) → step_at pattern v text ≡ Some s → StepFits pattern s × WritesStep s (step_verb_word v ++ 58 ∷ text)
+at_some : (pattern : MessagingPattern) (v : StepVerb) (text : List ℕ) (s : ForeignStep) → step_at pattern v text ≡ Some s
+    → StepFits pattern s × WritesStep s (step_verb_word v ++ 58 ∷ text)
 at_some pattern verb.Lock text s h = one_node pattern (λ n. step.Lock n) (codes "lock:") text s (λ n f. f) (λ n. refl) h
 at_some pattern verb.GiveUp text s h = one_node pattern (λ n. step.GiveUp n) (codes "giveup:") text s (λ n f. f) (λ n. refl) h
 at_some pattern verb.Publish text s h = publish_some pattern text s h
@@ -92,20 +106,26 @@ at_some pattern verb.Remove text s h = one_node pattern (λ n. step.Remove n) (c
 verbs_written : AreWritten step_verb_word step_verbs
 verbs_written = (refl, (refl, (refl, (refl, (refl, (refl, tt))))))
 
-with_some : (pattern : MessagingPattern) (w front : List ℕ) (v : Option StepVerb) (text : Option (List ℕ)) (s : ForeignStep) → step_verb_of front ≡ v → w ≡ whole 58 front text
+with_some : (pattern : MessagingPattern) (w front : List ℕ) (v : Option StepVerb) (text : Option (List ℕ)) (s : ForeignStep)
+    → step_verb_of front ≡ v → w ≡ whole 58 front text
     → step_with pattern v text ≡ Some s → StepFits pattern s × WritesStep s w
 with_some pattern w front None text s e f h = cc
 with_some pattern w front (Some v) None s e f h = cc
 with_some pattern w front (Some v) (Some text) s e f h =
-    let r = at_some pattern v text s h in
-    (r.0, subst (λ l. WritesStep s l) (sym (f ∙ ap (λ l. l ++ 58 ∷ text) (choice_some step_verb_word step_verbs front v verbs_written e))) r.1)
+    let r = at_some pattern v text s h in (
+      r.0,
+      subst (λ l. WritesStep s l) (sym (f ∙ ap (λ l. l ++ 58 ∷ text) (choice_some step_verb_word step_verbs front v verbs_written e)))
+          r.1,
+    )
 
 -- a word that is read as a step writes it
-pub step_some : (pattern : MessagingPattern) (w : List ℕ) (s : ForeignStep) → step_of pattern w ≡ Some s → StepFits pattern s × WritesStep s w
+pub step_some : (pattern : MessagingPattern) (w : List ℕ) (s : ForeignStep) → step_of pattern w ≡ Some s → StepFits pattern s
+    × WritesStep s w
 step_some pattern w s h = with_some pattern w (before 58 w) (step_verb_of (before 58 w)) (beyond 58 w) s refl (whole_text 58 w) h
 
 -- a step is read from a word that writes it
-pub step_own : (pattern : MessagingPattern) (s : ForeignStep) (w : List ℕ) → StepFits pattern s → WritesStep s w → step_of pattern w ≡ Some s
+pub step_own : (pattern : MessagingPattern) (s : ForeignStep) (w : List ℕ) → StepFits pattern s → WritesStep s w
+    → step_of pattern w ≡ Some s
 step_own pattern (step.Lock n) w f e = ap (step_of pattern) e ∙ ap (option_map (λ m. step.Lock m)) (tagged_own 120 n f)
 step_own pattern (step.GiveUp n) w f e = ap (step_of pattern) e ∙ ap (option_map (λ m. step.GiveUp m)) (tagged_own 120 n f)
 step_own pattern (step.Publish n o) w f e =
@@ -117,12 +137,14 @@ step_own pattern (step.Remove n) w f e = ap (step_of pattern) e ∙ ap (option_m
 -- steps of a line of their own
 
 -- of what stands before a list, what it is, and the list
-pub prepend_some : {A : Type 0} (x : Option A) (y : Option (List A)) (l : List A) → prepend x y ≡ Some l → (a : A) × (rest : List A) × (x ≡ Some a) × (y ≡ Some rest) × (a ∷ rest ≡ l)
+pub prepend_some : {A : Type 0} (x : Option A) (y : Option (List A)) (l : List A) → prepend x y ≡ Some l → (a : A) × (rest : List A)
+    × (x ≡ Some a) × (y ≡ Some rest) × (a ∷ rest ≡ l)
 prepend_some None y l h = cc
 prepend_some (Some a) None l h = cc
 prepend_some (Some a) (Some rest) l h = (a, rest, refl, refl, cc)
 
-each_some : (pattern : MessagingPattern) (ws : List (List ℕ)) (ss : List ForeignStep) → each_step pattern ws ≡ Some ss → AllOf (StepFits pattern) ss × WritesSteps ss ws
+each_some : (pattern : MessagingPattern) (ws : List (List ℕ)) (ss : List ForeignStep) → each_step pattern ws ≡ Some ss
+    → AllOf (StepFits pattern) ss × WritesSteps ss ws
 each_some pattern [] ss h = let same : [] ≡ ss = cc in subst (λ l. AllOf (StepFits pattern) l × WritesSteps l []) same (tt, refl)
 each_some pattern (w ∷ ws) ss h =
     let r = prepend_some (step_of pattern w) (each_step pattern ws) ss h in
@@ -130,24 +152,29 @@ each_some pattern (w ∷ ws) ss h =
     let rest = each_some pattern ws r.1 r.3 in
     subst (λ l. AllOf (StepFits pattern) l × WritesSteps l (w ∷ ws)) r.4 ((one.0, rest.0), (w, ws, one.1, rest.1, refl))
 
-each_own : (pattern : MessagingPattern) (ss : List ForeignStep) (ws : List (List ℕ)) → AllOf (StepFits pattern) ss → WritesSteps ss ws → each_step pattern ws ≡ Some ss
+each_own : (pattern : MessagingPattern) (ss : List ForeignStep) (ws : List (List ℕ)) → AllOf (StepFits pattern) ss → WritesSteps ss ws
+    → each_step pattern ws ≡ Some ss
 each_own pattern [] ws f e = ap (each_step pattern) e
 each_own pattern (s ∷ ss) ws f e =
-    ap (each_step pattern) e.4 ∙ ap (λ o. prepend o (each_step pattern e.1)) (step_own pattern s e.0 f.0 e.2) ∙ ap (λ o. prepend (Some s) o) (each_own pattern ss e.1 f.1 e.3)
+    ap (each_step pattern) e.4 ∙ ap (λ o. prepend o (each_step pattern e.1)) (step_own pattern s e.0 f.0 e.2) ∙ ap
+    (λ o. prepend (Some s) o) (each_own pattern ss e.1 f.1 e.3)
 
 some_length : (w : List ℕ) (ws : List (List ℕ)) (ss : List ForeignStep) → WritesSteps ss (w ∷ ws) → 0 < length ss
 some_length w ws [] e = cc
 some_length w ws (s ∷ ss) e = omega arith
 
 -- words that are read as steps write them
-pub steps_some : (pattern : MessagingPattern) (ws : List (List ℕ)) (ss : List ForeignStep) → steps_of pattern ws ≡ Some ss → ((0 < length ss) × AllOf (StepFits pattern) ss) × WritesSteps ss ws
+pub steps_some : (pattern : MessagingPattern) (ws : List (List ℕ)) (ss : List ForeignStep) → steps_of pattern ws ≡ Some ss
+    → ((0 < length ss) × AllOf (StepFits pattern) ss) × WritesSteps ss ws
 steps_some pattern [] ss h = cc
 steps_some pattern (w ∷ ws) ss h = let r = each_some pattern (w ∷ ws) ss h in ((some_length w ws ss r.1, r.0), r.1)
 
-steps_at : (pattern : MessagingPattern) (ws : List (List ℕ)) (w : List ℕ) (vs : List (List ℕ)) → ws ≡ w ∷ vs → steps_of pattern ws ≡ each_step pattern ws
+steps_at : (pattern : MessagingPattern) (ws : List (List ℕ)) (w : List ℕ) (vs : List (List ℕ)) → ws ≡ w ∷ vs
+    → steps_of pattern ws ≡ each_step pattern ws
 steps_at pattern ws w vs e = ap (steps_of pattern) e ∙ sym (ap (each_step pattern) e)
 
 -- steps are read from words that write them
-pub steps_own : (pattern : MessagingPattern) (ss : List ForeignStep) (ws : List (List ℕ)) → 0 < length ss → AllOf (StepFits pattern) ss → WritesSteps ss ws → steps_of pattern ws ≡ Some ss
+pub steps_own : (pattern : MessagingPattern) (ss : List ForeignStep) (ws : List (List ℕ)) → 0 < length ss → AllOf (StepFits pattern) ss
+    → WritesSteps ss ws → steps_of pattern ws ≡ Some ss
 steps_own pattern [] ws l f e = absurd (omega (arith, l))
 steps_own pattern (s ∷ ss) ws l f e = steps_at pattern ws e.0 e.1 e.4 ∙ each_own pattern (s ∷ ss) ws f e

@@ -1,5 +1,7 @@
 -- What a word without a space is in its line, and that numbers only grow with more digits.
-use Rattle.std.proofs.Common.{eq-eqb, eqb-true, Bool, Option, ◌&&◌, ◌≡◌, ℕ, ◌+◌, ◌-◌, ◌*◌, ◌^◌, ◌≤◌, ◌==◌, true, false, not, List, [], ◌∷◌, ◌++◌, None, Some, refl, arith, cond, ◌<◌, length, take, drop, get_or, sym, ap, ◌∙◌, suc, add-one, take-append-drop, drop-cons, length-drop}
+use Rattle.std.proofs.Common.{eq-eqb, eqb-true, Bool, Option, ◌&&◌, ◌≡◌, ℕ, ◌+◌, ◌-◌, ◌*◌, ◌^◌, ◌≤◌, ◌==◌, true, false, not, List, []}
+use Rattle.std.proofs.Common.{◌∷◌, ◌++◌, None, Some, refl, arith, cond, ◌<◌, length, take, drop, get_or, sym, ap, ◌∙◌, suc, add-one}
+use Rattle.std.proofs.Common.{take-append-drop, drop-cons, length-drop}
 use Rattle.std.proofs.lemmas.List.{take_all, drop_all}
 use Rattle.std.proofs.lemmas.Grind.{common_steps}
 use Rattle.iox_line.specs.Words.{lacks, pieces_of, pieces_left, onto_first, before, beyond}
@@ -42,7 +44,8 @@ beyond-separated sep (x ∷ xs) ys h =
 -- where there is none, all stands before it
 pub before-alone : (sep : ℕ) (xs : List ℕ) → lacks sep xs ≡ true → before sep xs ≡ xs
 before-alone sep [] h = refl
-before-alone sep (x ∷ xs) h = let o = other sep x xs h in ap (λ t. cond t [] (x ∷ before sep xs)) o.0 ∙ ap (λ l. x ∷ l) (before-alone sep xs o.1)
+before-alone sep (x ∷ xs) h = let o
+    = other sep x xs h in ap (λ t. cond t [] (x ∷ before sep xs)) o.0 ∙ ap (λ l. x ∷ l) (before-alone sep xs o.1)
 
 -- and nothing after it
 pub beyond-alone : (sep : ℕ) (xs : List ℕ) → lacks sep xs ≡ true → beyond sep xs ≡ None
@@ -50,7 +53,8 @@ beyond-alone sep [] h = refl
 beyond-alone sep (x ∷ xs) h = let o = other sep x xs h in ap (λ t. cond t (Some xs) (beyond sep xs)) o.0 ∙ beyond-alone sep xs o.1
 
 first_at : (sep b : ℕ) (bs : List ℕ) (t : Bool) → pieces_of sep bs ≡ before sep bs ∷ pieces_left sep (beyond sep bs)
-    → cond t ([] ∷ pieces_of sep bs) (onto_first b (pieces_of sep bs)) ≡ cond t [] (b ∷ before sep bs) ∷ pieces_left sep (cond t (Some bs) (beyond sep bs))
+    → cond t ([] ∷ pieces_of sep bs) (onto_first b (pieces_of sep bs)) ≡ cond t [] (b ∷ before sep bs)
+    ∷ pieces_left sep (cond t (Some bs) (beyond sep bs))
 first_at sep b bs true h = refl
 first_at sep b bs false h = ap (λ l. onto_first b l) h
 
@@ -68,9 +72,11 @@ pieces_of-separated sep xs ys h =
 -- bytes with no separator are one word
 pub pieces_of-alone : (sep : ℕ) (xs : List ℕ) → lacks sep xs ≡ true → pieces_of sep xs ≡ xs ∷ []
 pieces_of-alone sep xs h =
-    pieces_first sep xs ∙ ap (λ x. x ∷ pieces_left sep (beyond sep xs)) (before-alone sep xs h) ∙ ap (λ o. xs ∷ pieces_left sep o) (beyond-alone sep xs h)
+    pieces_first sep xs ∙ ap (λ x. x ∷ pieces_left sep (beyond sep xs)) (before-alone sep xs h) ∙ ap (λ o. xs ∷ pieces_left sep o)
+    (beyond-alone sep xs h)
 
-lacks_at : (sep b : ℕ) (bs : List ℕ) (t : Bool) → (b == sep) ≡ t → lacks sep (before sep bs) ≡ true → lacks sep (cond t [] (b ∷ before sep bs)) ≡ true
+lacks_at : (sep b : ℕ) (bs : List ℕ) (t : Bool) → (b == sep) ≡ t → lacks sep (before sep bs) ≡ true
+    → lacks sep (cond t [] (b ∷ before sep bs)) ≡ true
 lacks_at sep b bs true e h = refl
 lacks_at sep b bs false e h = ap (λ x. not x && lacks sep (before sep bs)) e ∙ h
 
@@ -92,7 +98,8 @@ whole_text sep (b ∷ bs) = joined_at sep b bs (b == sep) refl (whole_text sep b
 -- a number that is too large stays so with more digits
 pub below_limit-too_large : (front : ℕ) (bs : List ℕ) → 2 ^ 64 ≤ front → below_limit (digits_from front bs) ≡ None
 below_limit-too_large front [] h = grind (arith, common_steps)
-below_limit-too_large front (b ∷ bs) h = elim (is_digit b) as (λ t. below_limit (cond t (digits_from (front * 10 + (b - 48)) bs) None) ≡ None)
+below_limit-too_large front (b ∷ bs) h
+    = elim (is_digit b) as (λ t. below_limit (cond t (digits_from (front * 10 + (b - 48)) bs) None) ≡ None)
     [ true ↦ below_limit-too_large (front * 10 + (b - 48)) bs (omega arith) | false ↦ refl ]
 
 -- a text whose first separator is at i is cut there
@@ -100,15 +107,19 @@ pub cut_there : (sep : ℕ) (text : List ℕ) (i : ℕ) → i < length text → 
     → (take i text ≡ before sep text) × (Some (drop (i + 1) text) ≡ beyond sep text)
 cut_there sep text i within here none =
     let rest = rw (here, ← add-one i) at (drop-cons text i 0 within) in
-    let parts : take i text ++ sep ∷ drop (i + 1) text ≡ text = ap (λ l. take i text ++ l) (sym rest) ∙ take-append-drop i text in
-    (sym (before-separated sep (take i text) (drop (i + 1) text) none) ∙ ap (λ l. before sep l) parts, sym (beyond-separated sep (take i text) (drop (i + 1) text) none) ∙ ap (λ l. beyond sep l) parts)
+    let parts : take i text ++ sep ∷ drop (i + 1) text ≡ text = ap (λ l. take i text ++ l) (sym rest) ∙ take-append-drop i text in (
+      sym (before-separated sep (take i text) (drop (i + 1) text) none) ∙ ap (λ l. before sep l) parts,
+      sym
+          (beyond-separated sep (take i text) (drop (i + 1) text) none) ∙ ap (λ l. beyond sep l) parts,
+    )
 
 -- and so are its pieces
 pub pieces_cut : (sep : ℕ) (text : List ℕ) (i : ℕ) → i < length text → get_or text i 0 ≡ sep → lacks sep (take i text) ≡ true
     → pieces_of sep text ≡ take i text ∷ pieces_of sep (drop (i + 1) text)
 pieces_cut sep text i within here none =
     let cut = cut_there sep text i within here none in
-    pieces_first sep text ∙ ap (λ x. x ∷ pieces_left sep (beyond sep text)) (sym cut.0) ∙ ap (λ o. take i text ∷ pieces_left sep o) (sym cut.1)
+    pieces_first sep text ∙ ap (λ x. x ∷ pieces_left sep (beyond sep text)) (sym cut.0) ∙ ap (λ o. take i text ∷ pieces_left sep o)
+    (sym cut.1)
 
 -- what is left after the first bytes is all that is left
 pub take-rest : (line : List ℕ) (i : ℕ) → take (length line - i) (drop i line) ≡ drop i line

@@ -40,7 +40,9 @@ tail_no_space (w ∷ ws) a = joined_no_space (w ∷ ws) a
 word_no_space : (pattern : MessagingPattern) (s : ForeignStep) → StepFits pattern s → has_no_space (step_word s) ≡ true
 word_no_space pattern (step.Lock n) f = decimal_no_space n f
 word_no_space pattern (step.GiveUp n) f = decimal_no_space n f
-word_no_space pattern (step.Publish n o) f = both_parts 32 (tag 120 n) (option_tail (service_words o)) (decimal_no_space n f.0) (tail_no_space (service_words o) (service_are_words o f.1))
+word_no_space pattern (step.Publish n o) f
+    = both_parts 32 (tag 120 n) (option_tail (service_words o)) (decimal_no_space n f.0)
+    (tail_no_space (service_words o) (service_are_words o f.1))
 word_no_space pattern (step.Register n) f = decimal_no_space n f
 word_no_space pattern (step.Leave n) f = decimal_no_space n f
 word_no_space pattern (step.Remove n) f = decimal_no_space n f
@@ -78,4 +80,5 @@ beginning_at access false n = (decimal_no_space access n, tt)
 pub lists_are_words : (pattern : MessagingPattern) (now : ℕ) (ts : List StepBefore) → ListsFit pattern now ts → AreWords (list_words now ts)
 lists_are_words pattern now [] f = tt
 lists_are_words pattern now (t ∷ ts) f =
-    both_words (beginning now t.access) (step_word t.step ∷ list_words t.access ts) (beginning_at t.access (t.access == now) f.2) (word_no_space pattern t.step f.3, lists_are_words pattern t.access ts f.4)
+    both_words (beginning now t.access) (step_word t.step ∷ list_words t.access ts) (beginning_at t.access (t.access == now) f.2)
+    (word_no_space pattern t.step f.3, lists_are_words pattern t.access ts f.4)

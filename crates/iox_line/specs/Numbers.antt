@@ -1,5 +1,6 @@
 -- Numbers, and those of made values.
-use Rattle.std.specs.Prelude.{ℕ, ◌+◌, ◌-◌, ◌*◌, ◌^◌, ◌<◌, Bool, ◌&&◌, ◌==◌, List, [], ◌∷◌, Option, None, Some, nat_lt, nat_le, decimal, if◌then◌else◌}
+use Rattle.std.specs.Prelude.{ℕ, ◌+◌, ◌-◌, ◌*◌, ◌^◌, ◌<◌, Bool, ◌&&◌, ◌==◌, List, [], ◌∷◌, Option, None, Some, nat_lt, nat_le, decimal}
+use Rattle.std.specs.Prelude.{if◌then◌else◌}
 
 -- a number of 64 bits
 abbrev pub IsNumber : ℕ → Type 0

@@ -16,7 +16,8 @@ publisher_keys = codes "loans=" ∷ codes "strategy=" ∷ codes "slots=" ∷ cod
 abbrev pub publisher_values : PublisherOptions → List (Option (List ℕ))
 publisher_values o = option_map decimal o.max_loaned_samples ∷ option_map strategy_word o.backpressure_strategy
     ∷ option_map decimal o.preallocated_samples
-    ∷ option_map decimal o.initial_max_slice_len ∷ option_map allocation_word o.allocation_strategy ∷ option_map handler_word o.backpressure_handler
+    ∷ option_map decimal o.initial_max_slice_len ∷ option_map allocation_word o.allocation_strategy
+    ∷ option_map handler_word o.backpressure_handler
     ∷ option_map degradation_word o.degradation_handler ∷ []
 
 -- the options that are named, each a word

@@ -54,7 +54,8 @@ publish_subscribe_keys = codes "subscribers=" ∷ codes "publishers=" ∷ codes 
 -- their values
 abbrev pub publish_subscribe_values : PublishSubscribeOptions → List (Option (List ℕ))
 publish_subscribe_values o = option_map decimal o.max_subscribers ∷ option_map decimal o.max_publishers ∷ option_map decimal o.max_nodes
-    ∷ option_map decimal o.subscriber_max_buffer_size ∷ option_map decimal o.subscriber_max_borrowed_samples ∷ option_map decimal o.history_size
+    ∷ option_map decimal o.subscriber_max_buffer_size ∷ option_map decimal o.subscriber_max_borrowed_samples
+    ∷ option_map decimal o.history_size
     ∷ option_map switch_word o.enable_safe_overflow ∷ []
 
 -- the numbers have 64 bits

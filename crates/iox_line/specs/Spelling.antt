@@ -65,13 +65,16 @@ abbrev pub Writes : Command ℕ → List (List ℕ) → Type 0
 Writes command.Node words = words ≡ codes "node" ∷ []
 Writes (command.Create node name options attributes steps) words = (attributed : List (List ℕ)) × (listed : List (List ℕ))
     × (named : List (List ℕ))
-    × Defines attributes attributed × WritesLists 0 steps listed × Names node name options attributed listed named × (words ≡ codes "create" ∷ named)
+    × Defines attributes attributed × WritesLists 0 steps listed × Names node name options attributed listed named
+    × (words ≡ codes "create" ∷ named)
 Writes (command.Open node name options requirements steps) words = (attributed : List (List ℕ)) × (listed : List (List ℕ))
     × (named : List (List ℕ))
-    × Requires requirements attributed × WritesLists 0 steps listed × Names node name options attributed listed named × (words ≡ codes "open" ∷ named)
+    × Requires requirements attributed × WritesLists 0 steps listed × Names node name options attributed listed named
+    × (words ≡ codes "open" ∷ named)
 Writes (command.OpenOrCreate node name options requirements steps) words = (attributed : List (List ℕ)) × (listed : List (List ℕ))
     × (named : List (List ℕ))
-    × Requires requirements attributed × WritesLists 0 steps listed × Names node name options attributed listed named × (words ≡ codes "open_or_create" ∷ named)
+    × Requires requirements attributed × WritesLists 0 steps listed × Names node name options attributed listed named
+    × (words ≡ codes "open_or_create" ∷ named)
 Writes (command.Foreign pattern name steps) words = (stepped : List (List ℕ)) × WritesSteps steps stepped
     × (words ≡ codes "foreign" ∷ pattern_word pattern ∷ name ∷ stepped)
 Writes (command.Close factory) words = words ≡ codes "close" ∷ tag factory_letter factory ∷ []

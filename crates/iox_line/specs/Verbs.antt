@@ -39,7 +39,8 @@ seldom_verbs = (codes "node", verb.Node) ∷ (codes "close", verb.Close) ∷ (co
 abbrev pub verbs : List (List ℕ × Verb)
 verbs = (codes "put", verb.Put) ∷ (codes "receive", verb.Receive) ∷ (codes "release", verb.Release) ∷ (codes "loan", verb.Loan)
     ∷ (codes "send", verb.Send)
-    ∷ (codes "fill", verb.Fill) ∷ (codes "set", verb.Set) ∷ (codes "read", verb.Read) ∷ (codes "has", verb.Has) ∷ (codes "update", verb.Update) ∷ seldom_verbs
+    ∷ (codes "fill", verb.Fill) ∷ (codes "set", verb.Set) ∷ (codes "read", verb.Read) ∷ (codes "has", verb.Has)
+    ∷ (codes "update", verb.Update) ∷ seldom_verbs
 
 -- the verb that a word is, of those seldom met
 abbrev pub seldom_verb_of : List ℕ → Option Verb

@@ -1,5 +1,6 @@
 -- In every run services and factories stand as phases say.
-use Rattle.std.proofs.Common.{◌≡◌, ◌⊎◌, ◌≤◌, ◌+◌, ℕ, Bool, true, false, cond, not, ◌&&◌, ◌||◌, List, [], ◌∷◌, ◌++◌, take, Some, refl, sym, ap, subst, inl, inr, arith, ◌∙◌, true≢false}
+use Rattle.std.proofs.Common.{◌≡◌, ◌⊎◌, ◌≤◌, ◌+◌, ℕ, Bool, true, false, cond, not, ◌&&◌, ◌||◌, List, [], ◌∷◌, ◌++◌, take, Some, refl, sym}
+use Rattle.std.proofs.Common.{ap, subst, inl, inr, arith, ◌∙◌, true≢false}
 use Rattle.std.proofs.lemmas.Bool.{eqb-true, eq-eqb, false_from_ne_true}
 use Rattle.std.specs.List.{AllByRecursion, IsDistinct, list_any}
 use Rattle.std.specs.Prelude.{◌==◌, filter, find, fold, option_map}
@@ -22,8 +23,11 @@ use Rattle.iox_machine.proofs.Names.{pattern-is, name-is, name-itself, and-true,
 use Rattle.iox_machine.proofs.Phases.{each-all}
 use Rattle.iox_machine.proofs.Ported.{ports-move}
 use Rattle.iox_machine.proofs.Shares.{Counts, share, more_of, in-share, counts-same}
-use Rattle.iox_machine.proofs.Stands.{Stands, any-joined, any-last, any-weaker, each-false, any-filtered, all-passing, all-swapped, one-there, one-later, distinct-joined, distinct-filtered, tally-some, manned-of, phase-stands, moved-stands, IsOpened, opened-so}
-use Rattle.iox_machine.proofs.Standing.{tally, Apart, tally-joined, tally-removed, removed-none, apart-joined, apart-filtered, Linked, settings-pattern, Fits, fits-acted, fits-lost, fits-won, fits-entered, fits-closed, absurd-count}
+use Rattle.iox_machine.proofs.Stands.{Stands, any-joined, any-last, any-weaker, each-false, any-filtered, all-passing, all-swapped}
+use Rattle.iox_machine.proofs.Stands.{one-there, one-later, distinct-joined, distinct-filtered, tally-some, manned-of, phase-stands}
+use Rattle.iox_machine.proofs.Stands.{moved-stands, IsOpened, opened-so}
+use Rattle.iox_machine.proofs.Standing.{tally, Apart, tally-joined, tally-removed, removed-none, apart-joined, apart-filtered, Linked}
+use Rattle.iox_machine.proofs.Standing.{settings-pattern, Fits, fits-acted, fits-lost, fits-won, fits-entered, fits-closed, absurd-count}
 use Rattle.iox_command.specs.NegotiateBase.DescribeBase.declared.message_type.MessageTypeDetails.{MessageTypeDetails}
 use Rattle.iox_command.specs.NegotiateBase.DescribeBase.declared.pattern.MessagingPattern.{MessagingPattern}
 use Rattle.iox_command.specs.NegotiateBase.DescribeBase.declared.pattern.MessagingPattern.TheVariants as messaging

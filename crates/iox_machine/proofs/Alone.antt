@@ -1,16 +1,18 @@
 -- A machine that knows of one service alone does what the machine does there.
-use Rattle.std.proofs.Common.{◌≡◌, ◌⊎◌, ◌+◌, ℕ, Bool, true, false, cond, not, ◌&&◌, List, [], ◌∷◌, length, map, set, take, Option, None, Some, Result, Ok, Err, refl, sym, ap, subst, inl, inr, ◌∙◌, true≢false}
+use Rattle.std.proofs.Common.{◌≡◌, ◌⊎◌, ◌+◌, ℕ, Bool, true, false, cond, not, ◌&&◌, List, [], ◌∷◌, length, map, set, take, Option, None}
+use Rattle.std.proofs.Common.{Some, Result, Ok, Err, refl, sym, ap, subst, inl, inr, ◌∙◌, true≢false}
 use Rattle.std.specs.Global.{Vec}
 use Rattle.std.specs.List.{list_any}
 use Rattle.std.specs.Option.{option_map_or}
 use Rattle.std.specs.Prelude.{◌==◌, nat_lt, nat_le, is_some, find, filter, fold, MatchBool, MatchOption, MatchResult}
 use Rattle.std.specs.Vec.{vec_items}
 use Rattle.iox_machine.specs.AgreementLaws.{agreed_in}
-use Rattle.iox_machine.specs.Agreement.{Agreement, event_verdict, publish_subscribe_verdict, request_response_verdict}
+use Rattle.iox_machine.specs.Agreement.{Agreement, unfit, event_verdict, publish_subscribe_verdict, request_response_verdict}
 use Rattle.iox_machine.specs.Arriving.{PublisherArrives, SubscriberArrives, new_publisher, new_subscriber}
 use Rattle.iox_machine.specs.Closing.{Closes, is_used_by}
 use Rattle.iox_machine.specs.Asked.{settings_of}
-use Rattle.iox_machine.specs.Factories.{Acts, CreatesService, OpensService, OpensOrCreatesService, Negotiates, Enters, create_refusal, either_lacking}
+use Rattle.iox_machine.specs.Factories.{Acts, CreatesService, OpensService, OpensOrCreatesService, Negotiates, Enters, create_refusal}
+use Rattle.iox_machine.specs.Factories.{either_lacking}
 use Rattle.iox_machine.specs.IndependenceLaws.{is_factory_of, is_of, is_first, asks, concerns, IsLeft, IsAlone, ServicesAreAsIfAlone}
 use Rattle.iox_machine.specs.Message.{Loan, Sample, is_written}
 use Rattle.iox_machine.specs.Negotiation.{Call, Answer, Creates, Opens, OpensOrCreates}
@@ -28,10 +30,15 @@ use Rattle.iox_machine.specs.SubscriberUpdate as subscribing
 use Rattle.iox_machine.specs.Table.{at, removed}
 use Rattle.iox_machine.proofs.Agreed.{step-stands, new-stands}
 use Rattle.iox_machine.proofs.Cases.{by-bool, by-option, both-true}
-use Rattle.iox_machine.proofs.Kept.{Kept, itself, ends, publisher-turned, updates-first, goes-on, lends-loan, puts, drops, sends-loan, writes, subscriber-updates, receives, releases, publisher-arrives, subscriber-arrives, publisher-leaves, subscriber-leaves}
+use Rattle.iox_machine.proofs.Kept.{Kept, itself, ends, publisher-turned, updates-first, goes-on, lends-loan, puts, drops, sends-loan}
+use Rattle.iox_machine.proofs.Kept.{writes, subscriber-updates, receives, releases, publisher-arrives, subscriber-arrives}
+use Rattle.iox_machine.proofs.Kept.{publisher-leaves, subscriber-leaves}
 use Rattle.iox_machine.proofs.Left.{step-left}
+use Rattle.iox_machine.proofs.Mapped.{over-bool}
+use Rattle.iox_machine.proofs.Unfit.{over-fitness}
 use Rattle.iox_machine.proofs.Names.{pattern-is, pattern-itself, name-is, name-itself, and-true, phase-there}
-use Rattle.iox_machine.proofs.Own.{own_phases, own-at, own-open, into-bool, find-own, find-none, any-own, filter-swap, filter-joined-on, replaced-own}
+use Rattle.iox_machine.proofs.Own.{own_phases, own-at, own-open, into-bool, find-own, find-none, any-own, filter-swap, filter-joined-on}
+use Rattle.iox_machine.proofs.Own.{replaced-own}
 use Rattle.iox_machine.proofs.Ported.{stays}
 use Rattle.iox_machine.proofs.Sound.{find-passes}
 use Rattle.iox_machine.proofs.Stands.{Stands}
@@ -376,14 +383,15 @@ module _ {T : Type 0} (pattern : MessagingPattern) (name : List ℕ) where
 
   module _ (types : MessageTypeDetails) (IsDefault : T → Type 0) (buffer : ℕ) where
     own-creates : (steps : List StepBefore) (factory : Factory) (named : ServiceOptions) (attributes : List Attribute) (old : State T)
-        (answer : Reply T) (new : State T)
-        → factory.pattern ≡ pattern → factory.name ≡ name → Patterned new
+        (answer : Reply T) (new : State T) → factory.pattern ≡ pattern → factory.name ≡ name → Patterned new
         → CreatesService types steps factory named attributes old answer new
         → CreatesService types steps factory named attributes (own_of old) answer (own_of new)
     own-creates steps factory named attributes old answer new is same patterned h =
-        own-negotiates
+        over-fitness (unfit (settings_of types named)) (λ negotiates. own-negotiates
         (Creates types factory.pattern steps (Own factory.node) (record { settings = settings_of types named; attributes = attributes }))
-        (create_refusal named) (λ is_new. uncreated.OutOfMemory) factory old answer new is same patterned h
+        (create_refusal named) (λ is_new. uncreated.OutOfMemory) factory old answer new is same patterned negotiates)
+        (λ failure refuses. over-bool (nat_le 1 factory.node && nat_le factory.node old.made.nodes) _ refl
+        (refused-own (create_refusal named failure) old answer new) (skipped-own old answer new) refuses) h
 
     own-opens : (steps : List StepBefore) (factory : Factory) (named : ServiceOptions) (required : Required) (old : State T)
         (answer : Reply T) (new : State T)

@@ -1,5 +1,6 @@
 -- What a service does alone it does among others.
-use Rattle.std.proofs.Common.{◌≡◌, ◌+◌, ℕ, Bool, true, false, cond, ◌&&◌, ◌||◌, List, [], ◌∷◌, ◌++◌, length, map, set, Option, None, Some, refl, sym, ap, subst, inl, inr, ◌∙◌, true≢false}
+use Rattle.std.proofs.Common.{◌≡◌, ◌+◌, ℕ, Bool, true, false, cond, ◌&&◌, ◌||◌, List, [], ◌∷◌, ◌++◌, length, map, set, Option, None, Some}
+use Rattle.std.proofs.Common.{refl, sym, ap, subst, inl, inr, ◌∙◌, true≢false}
 use Rattle.std.specs.Global.{Vec}
 use Rattle.std.specs.List.{list_any}
 use Rattle.std.specs.Option.{option_map_or}
@@ -85,8 +86,11 @@ module _ {T : Type 0} (state : State T) (answer : Reply T) (before behind : List
   first_service one = first service one.services
 
   skipped : IsSkipped alone answer alone_then → IsSkipped among answer among_then
-  skipped (told, same) =
-      (told, λ i. record (with_services (before ++ ap first_service same i ∷ behind) state) { made = ap (λ (one : State T). one.made) same i })
+  skipped (told, same) = (
+    told,
+    λ i. record (with_services (before ++ ap first_service same i ∷ behind) state)
+        { made = ap (λ (one : State T). one.made) same i },
+  )
 
   module _ {V : Type 0} (found : Service T → Option V) (Does : V → Service T → Reply T → Service T → Type 0) where
     abbrev has : Service T → Bool
@@ -136,8 +140,10 @@ module _ {T : Type 0} (state : State T) (answer : Reply T) (before behind : List
 
   module _ (types : MessageTypeDetails) (IsDefault : T → Type 0) (buffer : ℕ) where
     at-factory-among : (number : ℕ) (Does : Service T → Reply T → Service T → Type 0)
-        → list_any (λ (other : Service T). option_map_or (λ (one : Factory). is_service_of one other) (at number state.factories) false) before ≡ false
-        → list_any (λ (other : Service T). option_map_or (λ (one : Factory). is_service_of one other) (at number state.factories) false) behind ≡ false
+        → list_any (λ (other : Service T). option_map_or (λ (one : Factory). is_service_of one other) (at number state.factories) false)
+        before ≡ false
+        → list_any (λ (other : Service T). option_map_or (λ (one : Factory). is_service_of one other) (at number state.factories) false)
+        behind ≡ false
         → AtFactory types IsDefault buffer number Does alone answer alone_then
         → AtFactory types IsDefault buffer number Does among answer among_then
     at-factory-among number Does none nothing h =
@@ -145,7 +151,8 @@ module _ {T : Type 0} (state : State T) (answer : Reply T) (before behind : List
         (λ factory. AtOne (λ (other : Service T). cond (is_service_of factory other) (Some other) None)
         (λ (other : Service T). Does) alone answer alone_then) h) [
           | inl w ↦ go w.0 (skipped w.1)
-          | inr w ↦ go w.1 (one-among (λ (other : Service T). cond (is_service_of w.0 other) (Some other) None) (λ (other : Service T). Does)
+          | inr w ↦ go w.1 (one-among (λ (other : Service T). cond (is_service_of w.0 other) (Some other) None)
+              (λ (other : Service T). Does)
               (of w.0 w.1 before none) (of w.0 w.1 behind nothing) w.2)
         ]
       where
@@ -160,7 +167,8 @@ module _ {T : Type 0} (state : State T) (answer : Reply T) (before behind : List
             (λ (other : Service T). Does) among answer among_then)) (sym same) it
 
         of : (factory : Factory) → at number state.factories ≡ Some factory → (services : List (Service T))
-            → list_any (λ (other : Service T). option_map_or (λ (one : Factory). is_service_of one other) (at number state.factories) false) services ≡ false
+            → list_any (λ (other : Service T). option_map_or (λ (one : Factory). is_service_of one other) (at number state.factories)
+            false) services ≡ false
             → list_any (λ (other : Service T). is_some (cond (is_service_of factory other) (Some other) None)) services ≡ false
         of factory found services is =
             ap (λ (test : Service T → Bool). list_any test services)
@@ -179,16 +187,19 @@ module _ {T : Type 0} (types : MessageTypeDetails) (IsDefault : T → Type 0) (b
     (some : (Does : T → State T → Reply T → State T → Type 0) → ((value : T) → Result (Does value))
     → Result (λ old answer new. (value : T) × IsDefault value × Does value old answer new)) where
   free : (number : ℕ) (Does : Made → Publisher T → Service T → Reply T → Service T → Type 0)
-      → Has (λ (other : Service T). is_some (publisher_in number other)) → Result (λ old answer new. AtFree number (Does old.made) old answer new)
+      → Has (λ (other : Service T). is_some (publisher_in number other))
+      → Result (λ old answer new. AtFree number (Does old.made) old answer new)
   free number Does its =
       one (Publisher T) (publisher_in number)
-      (λ made publisher old answer new. MatchOption publisher.blocked (Does made publisher old answer new) (λ send. IsSkipped old answer new)) its
+      (λ made publisher old answer new. MatchOption publisher.blocked (Does made publisher old answer new)
+      (λ send. IsSkipped old answer new)) its
 
   blocked : (number : ℕ) (Does : Publisher T → Send T → Service T → Reply T → Service T → Type 0)
       → Has (λ (other : Service T). is_some (publisher_in number other)) → Result (λ old answer new. AtBlocked number Does old answer new)
   blocked number Does its =
       one (Publisher T) (publisher_in number)
-      (λ made publisher old answer new. MatchOption publisher.blocked (IsSkipped old answer new) (λ send. Does publisher send old answer new)) its
+      (λ made publisher old answer new. MatchOption publisher.blocked (IsSkipped old answer new)
+      (λ send. Does publisher send old answer new)) its
 
   loaned : (number : ℕ) (Does : Loan T → Service T → Reply T → Service T → Type 0)
       → Has (λ (other : Service T). is_some (at number other.loans))
@@ -234,7 +245,8 @@ module _ {T : Type 0} (types : MessageTypeDetails) (IsDefault : T → Type 0) (b
       (Receives subscriber (made.samples + 1))) its
   each-step (command.Read sample) on its =
       one (Sample T) (λ (other : Service T). at sample other.samples)
-      (λ made it old answer new. (values : Vec T) × (vec_items values ≡ it.message.values) × (answer ≡ reply.Values values) × (new ≡ old)) its
+      (λ made it old answer new. (values : Vec T) × (vec_items values ≡ it.message.values) × (answer ≡ reply.Values values)
+      × (new ≡ old)) its
   each-step (command.Release sample) on its = one (Sample T) (λ (other : Service T). at sample other.samples) (λ made. Releases sample) its
   each-step (command.Update (port.Publisher number)) on its =
       free number
@@ -249,7 +261,8 @@ module _ {T : Type 0} (types : MessageTypeDetails) (IsDefault : T → Type 0) (b
   each-step (command.Leave (port.Subscriber number)) on its =
       one Subscriber (subscriber_in number)
       (λ made it old answer new. (answer ≡ reply.Done)
-      × (new ≡ with_subscriber number (record it { stands = false }) (record old { subscriber_list = left number old.subscriber_list }))) its
+      × (new ≡ with_subscriber number (record it { stands = false })
+      (record old { subscriber_list = left number old.subscriber_list }))) its
   each-step (command.Has subscriber) on its =
       one Subscriber (subscriber_in subscriber)
       (λ made. subscribing.UpdatesFirst buffer subscriber refusal.Connection
@@ -264,7 +277,8 @@ steps-among {T} IsDefault types buffer asked state answer before behind service 
     (λ Does. Does (alone state answer before behind service after) answer (alone_then state answer before behind service after)
     → Does (among state answer before behind service after) answer (among_then state answer before behind service after))
     (λ V found Does its. one-among state answer before behind service after found (Does state.made) its.0 its.1)
-    (λ number Does its. at-factory-among state answer before behind service after types IsDefault buffer number (Does state.made) its.0 its.1)
+    (λ number Does its. at-factory-among state answer before behind service after types IsDefault buffer number (Does state.made) its.0
+    its.1)
     (λ Does on_each did. (did.0, did.1, on_each did.0 did.2))
     asked on (none, nothing) h
 

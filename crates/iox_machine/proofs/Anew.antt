@@ -1,5 +1,6 @@
 -- A new life of a name has nothing of the lives before.
-use Rattle.std.proofs.Common.{◌≡◌, ◌≤◌, ◌<◌, ◌+◌, ℕ, Bool, true, false, ◌&&◌, ◌||◌, List, [], ◌∷◌, Some, refl, sym, ap, subst, inl, inr, arith, ◌∙◌, true≢false}
+use Rattle.std.proofs.Common.{◌≡◌, ◌≤◌, ◌<◌, ◌+◌, ℕ, Bool, true, false, ◌&&◌, ◌||◌, List, [], ◌∷◌, Some, refl, sym, ap, subst, inl, inr}
+use Rattle.std.proofs.Common.{arith, ◌∙◌, true≢false}
 use Rattle.std.proofs.lemmas.Bool.{eqb-true, eq-eqb, false_from_ne_true}
 use Rattle.std.specs.List.{AllByRecursion, list_any}
 use Rattle.std.specs.Prelude.{◌==◌}
@@ -15,7 +16,8 @@ use Rattle.iox_machine.proofs.Cases.{both-true, same-some, never-some}
 use Rattle.iox_machine.proofs.Counts.{has, added}
 use Rattle.iox_machine.proofs.Kept.{Kept, IsNext, port-next}
 use Rattle.iox_machine.proofs.Lists.{all-weaker}
-use Rattle.iox_machine.proofs.Moving.{Keeps, IsNegotiated, creates, opens, opens-or-creates, negotiated-keeps, closed, closed-keeps, replaced-keeps, skipped-keeps}
+use Rattle.iox_machine.proofs.Moving.{Keeps, IsNegotiated, creates, opens, opens-or-creates, negotiated-keeps, closed, closed-keeps}
+use Rattle.iox_machine.proofs.Moving.{replaced-keeps, skipped-keeps}
 use Rattle.iox_machine.proofs.Names.{and-true, name-is}
 use Rattle.iox_machine.proofs.Ported.{IsBeside, ports-move}
 use Rattle.iox_machine.proofs.Stands.{Stands, any-weaker}

@@ -6,7 +6,8 @@ use Rattle.iox_machine.specs.Run.{Step, factory_of}
 use Rattle.iox_machine.specs.Service.{Service, new_service}
 use Rattle.iox_machine.specs.State.{State, Factory, same_name}
 use Rattle.iox_machine.proofs.Lists.{all-weaker}
-use Rattle.iox_machine.proofs.Moving.{IsNegotiated, creates, opens, opens-or-creates, negotiated-keeps, closed, closed-keeps, replaced-keeps}
+use Rattle.iox_machine.proofs.Moving.{IsNegotiated, creates, opens, opens-or-creates, negotiated-keeps, closed, closed-keeps}
+use Rattle.iox_machine.proofs.Moving.{replaced-keeps}
 use Rattle.iox_machine.proofs.Names.{name-itself}
 use Rattle.iox_machine.proofs.Ported.{IsBeside, ports-move}
 use Rattle.iox_command.specs.NegotiateBase.DescribeBase.declared.message_type.MessageTypeDetails.{MessageTypeDetails}

@@ -1,16 +1,20 @@
 -- What a call that creates or opens a service makes of its phase.
-use Rattle.std.proofs.Common.{◌≡◌, ◌⊎◌, ◌+◌, ℕ, zero, suc, Bool, true, false, cond, ◌&&◌, ◌||◌, List, [], ◌∷◌, ◌++◌, length, take, map, None, Some, Result, Ok, Err, refl, sym, subst, inl, inr}
+use Rattle.std.proofs.Common.{◌≡◌, ◌⊎◌, ◌+◌, ℕ, zero, suc, Bool, true, false, cond, ◌&&◌, ◌||◌, List, [], ◌∷◌, ◌++◌, length, take, map}
+use Rattle.std.proofs.Common.{None, Some, Result, Ok, Err, refl, sym, subst, inl, inr}
 use Rattle.std.specs.List.{AllByRecursion}
 use Rattle.std.specs.Prelude.{◌==◌, nat_le, nat_lt, filter, fold, MatchResult}
 use Rattle.iox_machine.specs.Agreement.{Agreement, unfit, event_verdict, publish_subscribe_verdict, request_response_verdict}
 use Rattle.iox_machine.specs.Asked.{settings_of}
-use Rattle.iox_machine.specs.Factories.{Negotiates, Enters, CreatesService, OpensService, OpensOrCreatesService, with_open, create_refusal, either_lacking}
-use Rattle.iox_machine.specs.Negotiation.{Call, Answer, Fails, Rounds, Access, Locks, CreateLooks, Creates, OpensFound, OpenLooks, Opens, EitherLooks, OpensOrCreates, registered, opened, created}
+use Rattle.iox_machine.specs.Factories.{Negotiates, Enters, CreatesService, OpensService, OpensOrCreatesService, with_open}
+use Rattle.iox_machine.specs.Factories.{create_refusal, either_lacking}
+use Rattle.iox_machine.specs.Negotiation.{Call, Answer, Fails, Rounds, Access, Locks, CreateLooks, Creates, OpensFound, OpenLooks, Opens}
+use Rattle.iox_machine.specs.Negotiation.{EitherLooks, OpensOrCreates, registered, opened, created}
 use Rattle.iox_machine.specs.Phase.{Node, Own, Phase, Absent, BeingMade, Published, Emptied, is_in, entered, acted, closed_by}
 use Rattle.iox_machine.specs.Replies.{IsSkipped, IsRefused}
 use Rattle.iox_machine.specs.State.{State, Factory, counted, with_phase}
 use Rattle.iox_machine.proofs.Cases.{by-bool, by-option, by-result}
 use Rattle.iox_machine.proofs.Lists.{all-filtered, all-taken}
+use Rattle.iox_machine.proofs.Unfit.{by-fitness}
 use Rattle.iox_command.specs.NegotiateBase.DescribeBase.Attributes.{Required}
 use Rattle.iox_command.specs.NegotiateBase.DescribeBase.declared.attribute.Attribute.{Attribute}
 use Rattle.iox_command.specs.NegotiateBase.DescribeBase.declared.message_type.MessageTypeDetails.{MessageTypeDetails}
@@ -330,11 +334,16 @@ module _ {T : Type 0} (types : MessageTypeDetails) (steps : List StepBefore) (fa
       → Q (Published (lives + 1) (record { settings = settings_of types named; attributes = attributes }) ((Own factory.node, 1) ∷ [])))
       → CreatesService types steps factory named attributes old answer new → IsSettled
   create-settles named attributes lost won h =
-      settles {F = CreateFailure}
-      (Creates types factory.pattern steps (Own factory.node) (record { settings = settings_of types named; attributes = attributes }))
-      (create_refusal named) (λ is_new. uncreated.OutOfMemory)
-      (creates-go types factory.pattern steps (Own factory.node) R Q acts
-      (record { settings = settings_of types named; attributes = attributes }) lost won) h
+      elim (by-fitness types steps factory named attributes old answer new h) [
+        | inl negotiates ↦ settles {F = CreateFailure}
+            (Creates types factory.pattern steps (Own factory.node)
+            (record { settings = settings_of types named; attributes = attributes }))
+            (create_refusal named) (λ is_new. uncreated.OutOfMemory)
+            (creates-go types factory.pattern steps (Own factory.node) R Q acts
+            (record { settings = settings_of types named; attributes = attributes }) lost won) negotiates
+        | inr (inl skipped) ↦ inl skipped
+        | inr (inr refused) ↦ inr (inl refused)
+      ]
 
   abbrev Entering : Type 0
   Entering = (life : ℕ) (agreed : Agreement) (nodes : List (Node × ℕ)) → HasRoom (Own factory.node) agreed nodes

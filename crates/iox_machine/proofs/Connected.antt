@@ -1,5 +1,6 @@
 -- A publisher and a subscriber come to be connected once at most.
-use Rattle.std.proofs.Common.{◌≡◌, ◌≤◌, ◌⊎◌, ◌+◌, ℕ, Bool, true, false, cond, not, ◌&&◌, ◌||◌, List, [], ◌∷◌, ◌++◌, set, Option, None, Some, refl, sym, ap, subst, inl, inr, arith, ◌∙◌, true≢false}
+use Rattle.std.proofs.Common.{◌≡◌, ◌≤◌, ◌⊎◌, ◌+◌, ℕ, Bool, true, false, cond, not, ◌&&◌, ◌||◌, List, [], ◌∷◌, ◌++◌, set, Option, None}
+use Rattle.std.proofs.Common.{Some, refl, sym, ap, subst, inl, inr, arith, ◌∙◌, true≢false}
 use Rattle.std.proofs.lemmas.Bool.{and_from, le-leb, leb-true, ne_eqb}
 use Rattle.std.specs.List.{AllByRecursion, list_any}
 use Rattle.std.specs.Prelude.{◌==◌, filter, find, is_some, nat_le}
@@ -14,7 +15,8 @@ use Rattle.iox_machine.specs.Table.{at, contains}
 use Rattle.iox_machine.proofs.Cases.{both-true, never-some}
 use Rattle.iox_machine.proofs.Counts.{one_if}
 use Rattle.iox_machine.proofs.Linking.{Lasts, Turned, hear, hear_of, publisher_listed, reach, reach_of, subscriber_listed, turned-walks}
-use Rattle.iox_machine.proofs.Listed.{AreLinked, Linked, comes-linked, fresh-publisher, fresh-subscriber, heard-left, listed-publisher, listed-subscriber, reached-left, same-publishers, same-subscribers}
+use Rattle.iox_machine.proofs.Listed.{AreLinked, Linked, comes-linked, fresh-publisher, fresh-subscriber, heard-left, listed-publisher}
+use Rattle.iox_machine.proofs.Listed.{listed-subscriber, reached-left, same-publishers, same-subscribers}
 use Rattle.iox_machine.proofs.Lists.{all-filtered}
 use Rattle.iox_machine.proofs.Moving.{open-keeps}
 use Rattle.iox_machine.proofs.OrderSteps.{IsLater, made-later, up}

@@ -1,8 +1,10 @@
 -- What a port leaves as it was in all that it does.
-use Rattle.std.proofs.Common.{◌≡◌, ◌⊎◌, ◌+◌, ℕ, Bool, true, false, cond, not, ◌&&◌, List, [], ◌∷◌, ◌++◌, Option, None, Some, refl, sym, ap, subst, inl, inr, ◌∙◌}
+use Rattle.std.proofs.Common.{◌≡◌, ◌⊎◌, ◌+◌, ℕ, Bool, true, false, cond, not, ◌&&◌, List, [], ◌∷◌, ◌++◌, Option, None, Some, refl, sym}
+use Rattle.std.proofs.Common.{ap, subst, inl, inr, ◌∙◌}
 use Rattle.std.proofs.lemmas.Bool.{eqb-true, eqb-false, eq-eqb, ne_eqb, and_from, and_right, cases_Bool}
 use Rattle.std.specs.List.{list_all}
-use Rattle.std.specs.Prelude.{◌^◌, ◌||◌, ◌==◌, nat_le, nat_lt, is_some, unwrap_or, option_map, option_and_then, fold, filter, slice_get, MatchBool, MatchResult}
+use Rattle.std.specs.Prelude.{◌^◌, ◌||◌, ◌==◌, nat_le, nat_lt, is_some, unwrap_or, option_map, option_and_then, fold, filter, slice_get}
+use Rattle.std.specs.Prelude.{MatchBool, MatchResult}
 use Rattle.std.specs.Option.{option_map_or}
 use Rattle.iox_machine.specs.Arriving.{worst_case, PublisherArrives, SubscriberArrives}
 use Rattle.iox_machine.specs.Mailbox.{Mailbox, put, newest, given_back}
@@ -507,11 +509,13 @@ module _ {T : Type 0} where
       (IsRefused (refusal.Publisher publisher_error.UnableToCreateDataSegment) old answer new)
       (MatchBool (list_all is_some old.publisher_list.places)
       (IsRefused (refusal.Publisher publisher_error.ExceedsMaxSupportedPublishers) old answer new)
-      (IsRefused (refusal.Publisher publisher_error.UnableToCreateDataSegment) old answer new ⊎ PublisherComes number one old answer new)) h) [
+      (IsRefused (refusal.Publisher publisher_error.UnableToCreateDataSegment) old answer new
+      ⊎ PublisherComes number one old answer new)) h) [
         | inl w ↦ inl w.1.1
         | inr w ↦ elim (by-bool (list_all is_some old.publisher_list.places)
             (IsRefused (refusal.Publisher publisher_error.ExceedsMaxSupportedPublishers) old answer new)
-            (IsRefused (refusal.Publisher publisher_error.UnableToCreateDataSegment) old answer new ⊎ PublisherComes number one old answer new) w.1) [
+            (IsRefused (refusal.Publisher publisher_error.UnableToCreateDataSegment) old answer new
+            ⊎ PublisherComes number one old answer new) w.1) [
               | inl k ↦ inl k.1.1
               | inr k ↦ comes k.1
             ]
@@ -570,7 +574,8 @@ module _ {T : Type 0} where
         | inl w ↦ inl w.1.1
         | inr w ↦ elim (by-bool (list_all is_some old.subscriber_list.places)
             (IsRefused (refusal.Subscriber subscriber_error.ExceedsMaxSupportedSubscribers) old answer new)
-            (IsRefused (refusal.Subscriber subscriber_error.OutOfMemory) old answer new ⊎ SubscriberComes buffer number one old answer new) w.1) [
+            (IsRefused (refusal.Subscriber subscriber_error.OutOfMemory) old answer new
+            ⊎ SubscriberComes buffer number one old answer new) w.1) [
               | inl k ↦ inl k.1.1
               | inr k ↦ comes k.1
             ]

@@ -1,15 +1,18 @@
 -- Each command has an answer.
-use Rattle.std.proofs.Common.{◌≡◌, ◌⊎◌, ◌+◌, ◌^◌, ℕ, Bool, true, false, cond, not, ◌&&◌, ◌||◌, List, [], ◌∷◌, ◌++◌, length, map, replicate, set, Option, None, Some, Result, Ok, Err, refl, sym, ap, subst, inl, inr, ◌∙◌, true≢false}
+use Rattle.std.proofs.Common.{◌≡◌, ◌⊎◌, ◌+◌, ◌^◌, ℕ, Bool, true, false, cond, not, ◌&&◌, ◌||◌, List, [], ◌∷◌, ◌++◌, length, map}
+use Rattle.std.proofs.Common.{replicate, set, Option, None, Some, Result, Ok, Err, refl, sym, ap, subst, inl, inr, ◌∙◌, true≢false}
 use Rattle.std.proofs.lemmas.Bool.{eqb-true, eq-eqb}
 use Rattle.std.specs.Global.{Vec}
 use Rattle.std.specs.List.{AllByRecursion, list_any, list_all}
-use Rattle.std.specs.Prelude.{◌==◌, nat_lt, nat_le, is_some, filter, find, fold, slice_get, unwrap_or, zip, MatchBool, MatchOption, MatchResult}
+use Rattle.std.specs.Prelude.{◌==◌, nat_lt, nat_le, is_some, filter, find, fold, slice_get, unwrap_or, zip, MatchBool, MatchOption}
+use Rattle.std.specs.Prelude.{MatchResult}
 use Rattle.std.specs.Vec.{vec_items}
-use Rattle.iox_machine.specs.Agreement.{event_verdict, publish_subscribe_verdict, request_response_verdict}
+use Rattle.iox_machine.specs.Agreement.{unfit, event_verdict, publish_subscribe_verdict, request_response_verdict}
 use Rattle.iox_machine.specs.Arriving.{PublisherArrives, SubscriberArrives, new_publisher, new_subscriber, worst_case}
 use Rattle.iox_machine.specs.Asked.{settings_of}
 use Rattle.iox_machine.specs.Closing.{Closes, is_used_by}
-use Rattle.iox_machine.specs.Factories.{Negotiates, Enters, CreatesService, OpensService, OpensOrCreatesService, create_refusal, either_lacking}
+use Rattle.iox_machine.specs.Factories.{Negotiates, Enters, CreatesService, OpensService, OpensOrCreatesService, create_refusal}
+use Rattle.iox_machine.specs.Factories.{RefusesNode, either_lacking}
 use Rattle.iox_machine.specs.GoingLaws.{EachIsAnswered}
 use Rattle.iox_machine.specs.Lending.{Lends, LendsLonger, loan_refusal}
 use Rattle.iox_machine.specs.Mailbox.{Mailbox, has_data, newest, taken, given_back}
@@ -497,13 +500,14 @@ module _ {T : Type 0} where
       (λ used. refuse (refusal.Close StillInUse) old) (λ unused. (reply.Done, ended factory, (refl, refl))))
     where
       ended : Factory → State T
-      ended factory = record (with_phase factory.pattern factory.name (closed_by factory.node (old.phases factory.pattern factory.name)) old) {
-        factories = removed number old.factories;
-        services = cond (list_any (λ (entry : ℕ × Factory). same_pattern entry.1.pattern factory.pattern
-            && same_name entry.1.name factory.name)
-            (removed number old.factories))
-            old.services (filter (λ (service : Service T). not (is_service_of factory service)) old.services);
-      }
+      ended factory = record (with_phase factory.pattern factory.name (closed_by factory.node (old.phases factory.pattern factory.name))
+          old) {
+            factories = removed number old.factories;
+            services = cond (list_any (λ (entry : ℕ × Factory). same_pattern entry.1.pattern factory.pattern
+                && same_name entry.1.name factory.name)
+                (removed number old.factories))
+                old.services (filter (λ (service : Service T). not (is_service_of factory service)) old.services);
+          }
 
   publisher-goes : (number : ℕ) (one : Publisher T) (old : Service T) → Answered (PublisherArrives number one old)
   publisher-goes number one old =
@@ -547,9 +551,17 @@ module _ {T : Type 0} where
     creation-goes : (steps : List StepBefore) (factory : Factory) (named : ServiceOptions) (attributes : List Attribute) (old : State T)
         → Answered (CreatesService types steps factory named attributes old)
     creation-goes steps factory named attributes old =
-        negotiation-goes (Creates types factory.pattern steps (Own factory.node)
+        if-option (unfit (settings_of types named))
+        (Negotiates (Creates types factory.pattern steps (Own factory.node)
         (record { settings = settings_of types named; attributes = attributes })) (create_refusal named) (λ is_new. uncreated.OutOfMemory)
-        factory old
+        factory old)
+        (λ failure. RefusesNode factory.node (create_refusal named failure) old)
+        (negotiation-goes (Creates types factory.pattern steps (Own factory.node)
+        (record { settings = settings_of types named; attributes = attributes })) (create_refusal named) (λ is_new. uncreated.OutOfMemory)
+        factory old)
+        (λ failure is. if-bool (nat_le 1 factory.node && nat_le factory.node old.made.nodes)
+        (IsRefused (create_refusal named failure) old) (IsSkipped old)
+        (λ made. refuse (create_refusal named failure) old) (λ none. skip old))
 
     opening-goes : (steps : List StepBefore) (factory : Factory) (named : ServiceOptions) (required : Required) (old : State T)
         → Answered (OpensService types steps factory named required old)

@@ -1,23 +1,24 @@
 -- A sample that isn't released is there to be read.
-use Rattle.std.proofs.Common.{◌≡◌, ◌⊎◌, ℕ, Bool, true, false, cond, ◌&&◌, ◌||◌, List, [], ◌∷◌, ◌++◌, Option, None, Some, refl, sym, ap, subst, inl, inr, ◌∙◌}
+use Rattle.std.proofs.Common.{◌≡◌, ◌⊎◌, ℕ, Bool, true, false, cond, ◌||◌, List, [], ◌∷◌, ◌++◌, Option, None, Some, refl, sym, ap}
+use Rattle.std.proofs.Common.{subst, inl, inr, ◌∙◌}
 use Rattle.std.proofs.lemmas.Bool.{eqb-true, eqb-false, or_left, or_right, or_cases, cases_Bool, true≢false}
 use Rattle.std.specs.List.{list_any}
 use Rattle.std.specs.Prelude.{◌==◌, is_some, option_map, find}
 use Rattle.iox_machine.specs.Arriving.{SubscriberArrives}
 use Rattle.iox_machine.specs.Message.{Sample}
-use Rattle.iox_machine.specs.Phase.{same_pattern}
 use Rattle.iox_machine.specs.PortList.{left, registered}
 use Rattle.iox_machine.specs.Ports.{Releases}
 use Rattle.iox_machine.specs.Receiving.{Takes}
 use Rattle.iox_machine.specs.Replies.{IsSkipped}
 use Rattle.iox_machine.specs.Service.{Service, Subscriber, with_subscriber}
-use Rattle.iox_machine.specs.State.{Factory, same_name, replaced}
+use Rattle.iox_machine.specs.State.{Factory, replaced}
 use Rattle.iox_machine.specs.SubscriberUpdate as subscribing
 use Rattle.iox_machine.specs.Table.{at}
+use Rattle.iox_machine.specs.UseLaws.{IsOpen}
 use Rattle.iox_machine.proofs.Cases.{same-some, never-some}
 use Rattle.iox_machine.proofs.Frames.{ByPublisher, BySubscriber, holder_of, holder_at, soft-followed, subscriber-comes}
-use Rattle.iox_machine.proofs.Tables.{at-changed, at-changed-other, at-removed-other, at-removed, at-kept, at-either, at-last, at-changed-either}
-use Rattle.iox_command.specs.NegotiateBase.DescribeBase.declared.pattern.MessagingPattern.TheVariants as pattern
+use Rattle.iox_machine.proofs.Tables.{at-changed, at-changed-other, at-removed-other, at-removed, at-kept, at-either, at-last}
+use Rattle.iox_machine.proofs.Tables.{at-changed-either}
 use Rattle.iox_command.specs.declared.reply.Reply.{Reply}
 
 pub never : {A : Type 0} → true ≡ false → A
@@ -47,12 +48,6 @@ any-found test (x ∷ xs) e none = step (any-found test xs) (test x) e none
         → cond b (Some x) (find test xs) ≡ None → ⊥
     step on true e none = never-some x (sym none)
     step on false e none = on e none
-
--- A factory of the service of this name is open under a number.
-abbrev pub IsOpen : List (ℕ × Factory) → List ℕ → ℕ → Type 0
-IsOpen factories name number =
-    (factory : Factory) × (at number factories ≡ Some factory)
-    × ((same_pattern factory.pattern pattern.PublishSubscribe && same_name name factory.name) ≡ true)
 
 pub holder-at : (o : Option Subscriber) (holder : ℕ × Bool) → option_map holder_of o ≡ Some holder
     → (one : Subscriber) × (o ≡ Some one) × (holder_of one ≡ holder)

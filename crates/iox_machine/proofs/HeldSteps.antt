@@ -1,5 +1,6 @@
 -- A sample that isn't released is there to be read, after each step, and so after each run.
-use Rattle.std.proofs.Common.{◌≡◌, ◌+◌, ℕ, Bool, true, false, cond, not, ◌&&◌, List, [], ◌∷◌, ◌++◌, length, map, set, take, Option, None, Some, refl, sym, ap, subst, inl, inr, ◌∙◌}
+use Rattle.std.proofs.Common.{◌≡◌, ◌+◌, ℕ, Bool, true, false, cond, not, ◌&&◌, List, [], ◌∷◌, ◌++◌, length, map, set, take, Option, None}
+use Rattle.std.proofs.Common.{Some, refl, sym, ap, subst, inl, inr, ◌∙◌}
 use Rattle.std.proofs.lemmas.Bool.{eqb-true, eqb-false, and_from, or_left, or_right, or_parts, or_cases, cases_Bool}
 use Rattle.std.specs.Global.{Vec}
 use Rattle.std.specs.List.{AllByRecursion, list_any}
@@ -23,9 +24,12 @@ use Rattle.iox_machine.specs.Service.{Service, Publisher, Subscriber, Send, with
 use Rattle.iox_machine.specs.State.{State, Factory, AtOne, is_service_of, same_name, replaced, counted, with_phase, new_state}
 use Rattle.iox_machine.specs.SubscriberUpdate as subscribing
 use Rattle.iox_machine.specs.Table.{at, removed}
+use Rattle.iox_machine.specs.UseLaws.{IsOpen}
 use Rattle.iox_machine.proofs.Cases.{by-option, same-some, never-some, both-true}
-use Rattle.iox_machine.proofs.Frames.{ByPublisher, holder_of, holder_at, by-goes-on, by-lends-loan, by-puts, by-sends-loan, by-updates, by-set, by-writes, by-publisher-arrives, soft-set, soft-updates, subscriber-stands}
-use Rattle.iox_machine.proofs.Held.{IsOpen, IsOwned, Keeps, any-at, any-found, any-replaced, any-there, never, keeps-none, keeps-skip, keeps-by, keeps-soft, keeps-both, keeps-arrives, keeps-leaves, keeps-takes, keeps-releases, holder-at}
+use Rattle.iox_machine.proofs.Frames.{ByPublisher, holder_of, holder_at, by-goes-on, by-lends-loan, by-puts, by-sends-loan, by-updates}
+use Rattle.iox_machine.proofs.Frames.{by-set, by-writes, by-publisher-arrives, soft-set, soft-updates, subscriber-stands}
+use Rattle.iox_machine.proofs.Held.{IsOwned, Keeps, any-at, any-found, any-replaced, any-there, never, keeps-none, keeps-skip}
+use Rattle.iox_machine.proofs.Held.{keeps-by, keeps-soft, keeps-both, keeps-arrives, keeps-leaves, keeps-takes, keeps-releases, holder-at}
 use Rattle.iox_machine.proofs.Lists.{all-weaker, all-filtered}
 use Rattle.iox_machine.proofs.Moving.{IsNegotiated, IsClosed, at-one, creates, opens, opens-or-creates, closed, open-keeps, replaced-keeps}
 use Rattle.iox_machine.proofs.Runs.{samples-read, all-found, never-received, never-told, received-number}
@@ -69,7 +73,7 @@ module _ {T : Type 0} (sample : ℕ) where
   abbrev IsThere : State T → Type 0
   IsThere state = list_any (λ (service : Service T). is_some (at sample service.samples)) state.services ≡ true
 
-  abbrev AreOwned : State T → Type 0
+  abbrev pub AreOwned : State T → Type 0
   AreOwned state = AllByRecursion (IsOwned state.factories) state.services
 
   -- All stays owned, and the sample stays there unless it is released.
@@ -247,13 +251,14 @@ module _ {T : Type 0} (sample : ℕ) where
       let more : List (ℕ × Factory) = old.factories ++ (old.made.factories + 1, factory) ∷ [] in
       subst (λ (s : State T). Stays releases old s) (sym came) (
         open-keeps (IsOwned more) factory.name (new-owned more factory.name) phase old.services
-            (all-weaker (IsOwned old.factories) (IsOwned more) (more-open old.factories ((old.made.factories + 1, factory) ∷ [])) old.services all),
+            (all-weaker (IsOwned old.factories) (IsOwned more) (more-open old.factories ((old.made.factories + 1, factory) ∷ []))
+            old.services all),
         (λ held there. any-open (λ (it : Service T). is_some (at sample it.samples)) factory.name phase old.services there),
       )
 
   -- a factory under whose number something of a service stands isn't closed
   module _ (number : ℕ) (factory : Factory) (factories : List (ℕ × Factory)) (found : at number factories ≡ Some factory) where
-    used-open : (service : Service T) → (is_service_of factory service && is_used_by number service) ≡ false
+    pub used-open : (service : Service T) → (is_service_of factory service && is_used_by number service) ≡ false
         → (holder : ℕ) → IsOpen factories service.name holder → ((holder == number) ≡ true → is_used_by number service ≡ true)
         → (at holder (removed number factories) ≡ at holder factories)
     used-open service unused holder open_one uses = elim (cases_Bool (holder == number)) [
@@ -264,7 +269,8 @@ module _ {T : Type 0} (sample : ℕ) where
         its : (holder == number) ≡ true → is_service_of factory service ≡ true
         its is =
             subst (λ (it : Factory). is_service_of it service ≡ true)
-            (same-some open_one.0 factory (sym open_one.1 ∙ (ap (λ (k : ℕ). at k factories) (eqb-true holder number is) ∙ found))) open_one.2
+            (same-some open_one.0 factory (sym open_one.1 ∙ (ap (λ (k : ℕ). at k factories) (eqb-true holder number is) ∙ found)))
+            open_one.2
 
     standing-uses : (service : Service T) (other : ℕ) (one : ℕ × Bool) → holder_at other service ≡ Some one → one.1 ≡ true
         → (one.0 == number) ≡ true → is_used_by number service ≡ true
@@ -404,7 +410,8 @@ module _ {T : Type 0} (sample : ℕ) where
   -- a receive makes a sample, or it leaves all
   receives-keep : (number next : ℕ) (factories : List (ℕ × Factory)) (one : Subscriber) (old : Service T) (answer : Reply T)
       (new : Service T) → at number old.subscribers ≡ Some one → one.stands ≡ true → Receives number next one old answer new
-      → Keeps sample false factories old new × ((values : Vec T) → answer ≡ reply.Received next values → is_some (at next new.samples) ≡ true)
+      → Keeps sample false factories old new
+      × ((values : Vec T) → answer ≡ reply.Received next values → is_some (at next new.samples) ≡ true)
   receives-keep number next factories one old answer new found stands (None, is, (told, came)) = (
     subst (λ (s : Service T). Keeps sample false factories old s) (sym came)
         (keeps-soft sample false factories old (with_subscriber number (record one { expired = lasting number old one.expired }) old)
@@ -445,7 +452,8 @@ module _ {T : Type 0} (sample : ℕ) where
         stays-none false old new (ap (λ (s : State T). s.services) came) (ap (λ (s : State T). s.factories) came) all
     step-stays (command.Foreign pattern name steps) old answer new (inr (done, few, refused)) all =
         stays-refused false (refusal.Hub OutOfMemory) old
-        (with_phase pattern name (fold (acted types pattern) (old.phases pattern name) (take done steps)) old) answer new refl refl refused all
+        (with_phase pattern name (fold (acted types pattern) (old.phases pattern name) (take done steps)) old) answer new refl refl
+        refused all
     step-stays (command.Close factory) old answer new h all =
         stays-closed false factory old answer new (closed factory old answer new h) all
     step-stays (command.Publisher factory options) old answer new h all =
@@ -559,7 +567,7 @@ module _ {T : Type 0} (sample : ℕ) where
 
     -- ---- each run
 
-    run-owned : (asked : List (Command T)) (old : State T) (answers : List (Reply T)) (new : State T)
+    pub run-owned : (asked : List (Command T)) (old : State T) (answers : List (Reply T)) (new : State T)
         → Runs types IsDefault buffer asked old answers new → AreOwned old → AreOwned new
     run-owned [] old answers new run all = subst AreOwned (sym run.1) all
     run-owned (one ∷ more) old answers new run all =
@@ -586,7 +594,8 @@ module _ {T : Type 0} (IsDefault : T → Type 0) (types : MessageTypeDetails) (b
       (Receives subscriber (old.made.samples + 1))) old (reply.Received sample values) new h) [
         | inl w ↦ never-told (reply.Received sample values) reply.Skipped w.0 refl refl
         | inr w ↦ subst (λ (s : State T). IsThere sample s) (sym w.6)
-            (any-there (λ (it : Service T). is_some (at sample it.samples)) (λ (other : Service T). is_some (subscriber_in subscriber other))
+            (any-there (λ (it : Service T). is_some (at sample it.samples))
+            (λ (other : Service T). is_some (subscriber_in subscriber other))
             w.0 w.2 old.services w.3 (made w.0 w.1 w.2 w.4 w.5))
       ]
     where

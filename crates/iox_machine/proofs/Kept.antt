@@ -1,5 +1,6 @@
 -- What a command leaves of a service: its name, its settings, and what goes by numbers, but for what it makes.
-use Rattle.std.proofs.Common.{◌≡◌, ◌⊎◌, ◌+◌, ◌^◌, ℕ, Bool, true, false, cond, not, ◌&&◌, ◌||◌, List, [], ◌∷◌, ◌++◌, length, Option, None, Some, refl, sym, subst, inl, inr, ◌∙◌}
+use Rattle.std.proofs.Common.{◌≡◌, ◌⊎◌, ◌+◌, ◌^◌, ℕ, Bool, true, false, cond, not, ◌&&◌, ◌||◌, List, [], ◌∷◌, ◌++◌, length, Option, None}
+use Rattle.std.proofs.Common.{Some, refl, sym, subst, inl, inr, ◌∙◌}
 use Rattle.std.proofs.lemmas.List.{length-map, length-set}
 use Rattle.std.specs.List.{list_any, list_all}
 use Rattle.std.specs.Option.{option_map_or}
@@ -538,7 +539,8 @@ module _ {T : Type 0} (counts : Made) (origin : Service T) (answer : Reply T) wh
       (IsRefused (refusal.Subscriber subscriber_error.ExceedsMaxSupportedSubscribers) old answer new)
       (SubscriberComes buffer number one old new)) h) [
         | inl w ↦
-            ends counts origin answer (reply.Refused (refusal.Subscriber subscriber_error.BufferSizeExceedsMaxSupportedBufferSizeOfService)) old new
+            ends counts origin answer (reply.Refused
+            (refusal.Subscriber subscriber_error.BufferSizeExceedsMaxSupportedBufferSizeOfService)) old new
             k w.1 tt
         | inr w ↦ elim (by-bool (list_all is_some old.subscriber_list.places)
             (IsRefused (refusal.Subscriber subscriber_error.ExceedsMaxSupportedSubscribers) old answer new)

@@ -1,6 +1,7 @@
 mod Skipping
 mod Overflow
-mod Cases
+pub mod Cases
+mod Unfit
 mod Lists
 mod Sound
 mod Moving
@@ -22,10 +23,10 @@ mod OrderCommands
 mod OrderLaws
 mod Swapped
 mod Counts
-mod Kept
-mod Calls
-mod Ported
-mod Names
+pub mod Kept
+pub mod Calls
+pub mod Ported
+pub mod Names
 mod Phases
 mod Beginning
 mod Shares
@@ -45,7 +46,7 @@ mod RenumberedPorts
 mod RenumberedSteps
 mod RenumberedCommands
 mod RenumberedRuns
-mod Counted
+pub mod Counted
 mod Going
 mod Totals
 mod Spent
@@ -64,7 +65,9 @@ mod Connected
 mod Through
 mod RefusedPorts
 mod Undelivered
-mod Opened
+pub mod Opened
 mod Unmoved
 mod Meanwhile
 pub mod Among
+mod Lenders
+pub mod LenderSteps

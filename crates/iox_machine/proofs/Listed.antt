@@ -1,5 +1,6 @@
 -- The lists of a service have just the ports that stand, and who is connected was listed.
-use Rattle.std.proofs.Common.{◌≡◌, ◌≤◌, ◌⊎◌, ◌+◌, ℕ, zero, suc, Bool, true, false, cond, not, ◌&&◌, ◌||◌, List, [], ◌∷◌, ◌++◌, map, set, Option, None, Some, refl, sym, ap, subst, inl, inr, arith, ◌∙◌, true≢false}
+use Rattle.std.proofs.Common.{◌≡◌, ◌≤◌, ◌⊎◌, ◌+◌, ℕ, zero, suc, Bool, true, false, cond, not, ◌&&◌, ◌||◌, List, [], ◌∷◌, ◌++◌, map, set}
+use Rattle.std.proofs.Common.{Option, None, Some, refl, sym, ap, subst, inl, inr, arith, ◌∙◌, true≢false}
 use Rattle.std.proofs.lemmas.Bool.{cases_Bool, eq-eqb, eqb-false, eqb-true, ne_eqb}
 use Rattle.std.specs.List.{AllByRecursion, IsDistinct}
 use Rattle.std.specs.Option.{option_map_or}
@@ -17,7 +18,8 @@ use Rattle.iox_machine.specs.Table.{at, changed, contains}
 use Rattle.iox_machine.proofs.Cases.{both-true, never-some, same-some}
 use Rattle.iox_machine.proofs.Counted.{distinct}
 use Rattle.iox_machine.proofs.Counts.{one_if, times}
-use Rattle.iox_machine.proofs.Linking.{Heard, Placed, Reached, Turned, changed-view, has_box, hear, hear_of, of-place, publisher_listed, publisher_stands, reach, reach_of, subscriber_listed, subscriber_stands, turned-walks}
+use Rattle.iox_machine.proofs.Linking.{Heard, Placed, Reached, Turned, changed-view, has_box, hear, hear_of, of-place, publisher_listed}
+use Rattle.iox_machine.proofs.Linking.{publisher_stands, reach, reach_of, subscriber_listed, subscriber_stands, turned-walks}
 use Rattle.iox_machine.proofs.Lists.{all-filtered, all-weaker}
 use Rattle.iox_machine.proofs.Moving.{open-keeps, replaced-keeps}
 use Rattle.iox_machine.proofs.OrderPorts.{those-none}

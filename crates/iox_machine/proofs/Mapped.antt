@@ -1,8 +1,10 @@
 -- Lists in which something else stands in the place of each element.
-use Rattle.std.proofs.Common.{◌≡◌, ℕ, zero, suc, Bool, true, false, cond, ◌&&◌, ◌||◌, List, [], ◌∷◌, ◌++◌, map, Option, None, Some, Ok, Err, refl, ap, ap₂, sym, subst, ◌∙◌}
+use Rattle.std.proofs.Common.{◌≡◌, ℕ, zero, suc, Bool, true, false, cond, ◌&&◌, ◌||◌, List, [], ◌∷◌, ◌++◌, map, Option, None, Some, Ok}
+use Rattle.std.proofs.Common.{Err, refl, ap, ap₂, sym, subst, ◌∙◌}
 use Rattle.std.specs.List.{list_any, list_all, cons_option, fold}
 use Rattle.std.specs.Option.{option_map_or}
-use Rattle.std.specs.Prelude.{find, filter, filter_map, flat_map, zip, slice_get, replicate, option_map, is_some, MatchBool, MatchOption, MatchResult, Result}
+use Rattle.std.specs.Prelude.{find, filter, filter_map, flat_map, zip, slice_get, replicate, option_map, is_some, MatchBool, MatchOption}
+use Rattle.std.specs.Prelude.{MatchResult, Result}
 
 -- a choice of what two become is what the chosen one becomes
 pub cond-of : {X Y : Type 0} (f : X → Y) (b : Bool) (x y : X) → cond b (f x) (f y) ≡ f (cond b x y)

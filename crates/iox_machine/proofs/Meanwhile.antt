@@ -1,16 +1,19 @@
 -- A refused call leaves what other nodes made of its phase meanwhile.
-use Rattle.std.proofs.Common.{◌≡◌, ◌⊎◌, ◌+◌, ℕ, zero, suc, Bool, true, false, cond, ◌&&◌, ◌||◌, List, [], ◌∷◌, ◌++◌, length, take, None, Some, Result, Ok, Err, refl, sym, ap, subst, inl, inr, arith, ◌∙◌, append-nil, true≢false}
+use Rattle.std.proofs.Common.{◌≡◌, ◌⊎◌, ◌+◌, ℕ, zero, suc, Bool, true, false, cond, ◌&&◌, ◌||◌, List, [], ◌∷◌, ◌++◌, length, take, None}
+use Rattle.std.proofs.Common.{Some, Result, Ok, Err, refl, sym, ap, subst, inl, inr, arith, ◌∙◌, append-nil, true≢false}
 use Rattle.std.specs.Prelude.{◌==◌, nat_le, nat_lt, fold, MatchResult}
 use Rattle.iox_machine.specs.Agreement.{Agreement, unfit, event_verdict, publish_subscribe_verdict, request_response_verdict}
 use Rattle.iox_machine.specs.Asked.{settings_of}
 use Rattle.iox_machine.specs.Factories.{Negotiates, Enters, OpensService, OpensOrCreatesService, create_refusal, either_lacking}
-use Rattle.iox_machine.specs.Negotiation.{Call, Answer, Fails, Rounds, Access, Locks, CreateLooks, Creates, OpensFound, OpenLooks, Opens, EitherLooks, OpensOrCreates, registered, opened, created}
+use Rattle.iox_machine.specs.Negotiation.{Call, Answer, Fails, Rounds, Access, Locks, CreateLooks, Creates, OpensFound, OpenLooks, Opens}
+use Rattle.iox_machine.specs.Negotiation.{EitherLooks, OpensOrCreates, registered, opened, created}
 use Rattle.iox_machine.specs.Phase.{Own, Phase, Absent, BeingMade, Published, Emptied, is_in, entered, acted, closed_by}
 use Rattle.iox_machine.specs.RefusalLaws.{IsAsBefore, IsLeftBySteps, RefusedCallsLeaveSteps, steps_at, steps_through}
 use Rattle.iox_machine.specs.Replies.{IsSkipped, IsRefused}
 use Rattle.iox_machine.specs.Run.{factory_of}
 use Rattle.iox_machine.specs.State.{State, Factory, new_state, with_phase}
 use Rattle.iox_machine.proofs.Cases.{by-bool, by-option, by-result}
+use Rattle.iox_machine.proofs.Unfit.{by-fitness}
 use Rattle.iox_machine.proofs.Names.{phase-there}
 use Rattle.iox_machine.proofs.Unmoved.{Whole, acted-whole, closed-entered, closed-made, runs-whole, tells_refused}
 use Rattle.iox_command.specs.NegotiateBase.DescribeBase.Attributes.{Required}
@@ -350,6 +353,10 @@ module _ {T : Type 0} (types : MessageTypeDetails) (steps : List StepBefore) (fa
       (λ is_new. Enters factory after.phase (told (lacking is_new)) old refused_so new)
       (λ failure. IsRefused (told failure) (with_phase factory.pattern factory.name after.phase old) refused_so new))
 
+  unmoved : (other : Refusal) → IsRefused other old refused_so new → IsLeftSo (new.phases factory.pattern factory.name)
+  unmoved other refused =
+      subst IsLeftSo (sym (ap (λ (state : State T). state.phases factory.pattern factory.name) refused.1)) (0, 0, inl refl)
+
   settles : {F : Type 0} (Calls : Call → Answer F → Call → Type 0) (told : F → Refusal) (lacking : Bool → F) → Goes {F = F} Calls
       → Negotiates Calls told lacking factory old (reply.Refused why) new → IsLeftSo (new.phases factory.pattern factory.name)
   settles {F} Calls told lacking goes h =
@@ -368,8 +375,7 @@ module _ {T : Type 0} (types : MessageTypeDetails) (steps : List StepBefore) (fa
           ∙ phase-there factory.pattern factory.name phase old)) so
 
       called : Called {F = F} Calls told lacking → IsLeftSo (new.phases factory.pattern factory.name)
-      called (inl refused) =
-          subst IsLeftSo (sym (ap (λ (state : State T). state.phases factory.pattern factory.name) refused.1)) (0, 0, inl refl)
+      called (inl refused) = unmoved (told (lacking false)) refused
       called (inr (Ok is_new, after, went, inl (made, came))) = absurd (true≢false (ap tells_refused made))
       called (inr (Ok is_new, after, went, inr refused)) =
           there (closed_by factory.node after.phase) (goes (Some (Ok is_new)) after went) refused.1
@@ -435,12 +441,16 @@ refused-calls-leave-steps {T} IsDefault types buffer before told old run pattern
     let whole : Whole (old.phases (pattern_of named) other) =
     runs-whole types IsDefault buffer before new_state told old run (λ one another. tt) (pattern_of named) other in
     at-same types old new (pattern_of named) pattern other name meanwhile steps same is all
-    (settles types meanwhile (factory_of node other named) old why new whole {F = CreateFailure}
-    (Creates types (pattern_of named) meanwhile (Own node) (record { settings = settings_of types named; attributes = attributes }))
-    (create_refusal named) (λ is_new. uncreated.OutOfMemory)
-    (λ answer after went. creates-go types (pattern_of named) meanwhile node (old.phases (pattern_of named) other) whole
-    (record { settings = settings_of types named; attributes = attributes })
-    (record { phase = old.phases (pattern_of named) other; accesses = 0 }) answer after refl went) h)
+    (elim (by-fitness types meanwhile (factory_of node other named) named attributes old (reply.Refused why) new h) [
+      | inl negotiates ↦ settles types meanwhile (factory_of node other named) old why new whole {F = CreateFailure}
+          (Creates types (pattern_of named) meanwhile (Own node) (record { settings = settings_of types named; attributes = attributes }))
+          (create_refusal named) (λ is_new. uncreated.OutOfMemory)
+          (λ answer after went. creates-go types (pattern_of named) meanwhile node (old.phases (pattern_of named) other) whole
+          (record { settings = settings_of types named; attributes = attributes })
+          (record { phase = old.phases (pattern_of named) other; accesses = 0 }) answer after refl went) negotiates
+      | inr (inl skipped) ↦ absurd (true≢false (ap tells_refused skipped.0))
+      | inr (inr refused) ↦ unmoved types meanwhile (factory_of node other named) old why new whole refused.0 refused.1
+    ])
 refused-calls-leave-steps {T} IsDefault types buffer before told old run pattern name steps
     (command.Open node other named required meanwhile) new why (same, is, all) h =
     at-same types old new (pattern_of named) pattern other name meanwhile steps same is all

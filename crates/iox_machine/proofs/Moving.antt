@@ -1,11 +1,13 @@
 -- What a step does to the services of the hub, seen from each of them.
-use Rattle.std.proofs.Common.{◌≡◌, ◌⊎◌, ◌+◌, ℕ, Bool, true, false, cond, ◌&&◌, List, [], ◌∷◌, ◌++◌, Option, Some, Result, Ok, Err, sym, ap, subst, inl, inr, ◌∙◌}
+use Rattle.std.proofs.Common.{◌≡◌, ◌⊎◌, ◌+◌, ℕ, Bool, true, false, cond, ◌&&◌, List, [], ◌∷◌, ◌++◌, Option, Some, Result, Ok, Err, sym}
+use Rattle.std.proofs.Common.{ap, subst, inl, inr, ◌∙◌}
 use Rattle.std.specs.List.{AllByRecursion, list_any}
 use Rattle.std.specs.Prelude.{nat_le, is_some, find, filter, not, MatchBool, MatchOption, MatchResult}
 use Rattle.iox_machine.specs.Agreement.{event_verdict, publish_subscribe_verdict, request_response_verdict}
 use Rattle.iox_machine.specs.Asked.{settings_of}
 use Rattle.iox_machine.specs.Closing.{Closes, is_used_by}
-use Rattle.iox_machine.specs.Factories.{Negotiates, Enters, CreatesService, OpensService, OpensOrCreatesService, with_open, create_refusal, either_lacking}
+use Rattle.iox_machine.specs.Factories.{Negotiates, Enters, CreatesService, OpensService, OpensOrCreatesService, with_open}
+use Rattle.iox_machine.specs.Factories.{create_refusal, either_lacking}
 use Rattle.iox_machine.specs.Negotiation.{Call, Answer, Creates, Opens, OpensOrCreates}
 use Rattle.iox_machine.specs.Phase.{Own, Phase, Absent, BeingMade, Published, Emptied, closed_by, same_pattern}
 use Rattle.iox_machine.specs.Replies.{IsSkipped, IsRefused}
@@ -13,6 +15,7 @@ use Rattle.iox_machine.specs.Service.{Service, new_service}
 use Rattle.iox_machine.specs.State.{State, Factory, AtOne, replaced, counted, with_phase, same_name, is_service_of}
 use Rattle.iox_machine.specs.Table.{at, removed}
 use Rattle.iox_machine.proofs.Cases.{by-bool, by-option, same-some, never-some}
+use Rattle.iox_machine.proofs.Unfit.{by-fitness}
 use Rattle.iox_machine.proofs.Lists.{all-weaker, all-joined, all-filtered}
 use Rattle.iox_command.specs.NegotiateBase.DescribeBase.Attributes.{Required}
 use Rattle.iox_command.specs.NegotiateBase.DescribeBase.declared.attribute.Attribute.{Attribute}
@@ -195,9 +198,13 @@ module _ {T : Type 0} where
         → CreatesService types steps factory named attributes old answer new
         → IsNegotiated factory old answer new
     creates named attributes h =
-        negotiated (Creates types factory.pattern steps (Own factory.node)
-        (record { settings = settings_of types named; attributes = attributes }))
-        (create_refusal named) (λ is_new. uncreated.OutOfMemory) factory old answer new h
+        elim (by-fitness types steps factory named attributes old answer new h) [
+          | inl negotiates ↦ negotiated (Creates types factory.pattern steps (Own factory.node)
+              (record { settings = settings_of types named; attributes = attributes }))
+              (create_refusal named) (λ is_new. uncreated.OutOfMemory) factory old answer new negotiates
+          | inr (inl skipped) ↦ inl skipped
+          | inr (inr refused) ↦ inr (inl refused)
+        ]
 
     pub opens : (named : ServiceOptions) (required : Required) → OpensService types steps factory named required old answer new
         → IsNegotiated factory old answer new

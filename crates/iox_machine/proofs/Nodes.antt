@@ -1,12 +1,14 @@
 -- No more nodes are in a service than its settings name.
-use Rattle.std.proofs.Common.{◌≡◌, ◌≤◌, ◌<◌, ◌+◌, ◌-◌, ℕ, Bool, true, false, cond, not, ◌&&◌, ◌||◌, List, [], ◌∷◌, length, refl, sym, subst, inl, inr, arith, true≢false}
+use Rattle.std.proofs.Common.{◌≡◌, ◌≤◌, ◌<◌, ◌+◌, ◌-◌, ℕ, Bool, true, false, cond, not, ◌&&◌, ◌||◌, List, [], ◌∷◌, length, refl, sym}
+use Rattle.std.proofs.Common.{subst, inl, inr, arith, true≢false}
 use Rattle.std.proofs.lemmas.Bool.{ltb-true, or_cases}
 use Rattle.std.specs.List.{AllByRecursion}
 use Rattle.std.specs.Prelude.{⊤, nat_le, nat_lt}
 use Rattle.iox_machine.specs.Agreement.{Agreement, are_within_limits}
 use Rattle.iox_machine.specs.AgreementLaws.{NodesAreAgreed}
 use Rattle.iox_machine.specs.Asked.{settings_of}
-use Rattle.iox_machine.specs.Phase.{Absent, BeingMade, Emptied, Foreign, Node, Own, Phase, Published, acted, closed_by, entered, is_in, left, left_by, removed_by, same_node, same_pattern}
+use Rattle.iox_machine.specs.Phase.{Absent, BeingMade, Emptied, Foreign, Node, Own, Phase, Published, acted, closed_by, entered, is_in}
+use Rattle.iox_machine.specs.Phase.{left, left_by, removed_by, same_node, same_pattern}
 use Rattle.iox_machine.specs.Run.{Runs}
 use Rattle.iox_machine.specs.State.{State, new_state}
 use Rattle.iox_machine.proofs.Calls.{HasRoom}

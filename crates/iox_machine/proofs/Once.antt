@@ -1,5 +1,6 @@
 -- A message is sent once at most, and so received once at most.
-use Rattle.std.proofs.Common.{◌≡◌, ◌≤◌, ◌+◌, ℕ, Bool, true, false, cond, not, ◌&&◌, List, [], ◌∷◌, ◌++◌, length, map, set, Option, None, Some, refl, sym, ap, subst, inl, inr, arith}
+use Rattle.std.proofs.Common.{◌≡◌, ◌≤◌, ◌+◌, ℕ, Bool, true, false, cond, not, ◌&&◌, List, [], ◌∷◌, ◌++◌, length, map, set, Option, None}
+use Rattle.std.proofs.Common.{Some, refl, sym, ap, subst, inl, inr, arith}
 use Rattle.std.specs.Global.{Vec}
 use Rattle.std.specs.List.{cons_option, list_any}
 use Rattle.std.specs.Prelude.{◌==◌, nat_lt, find, is_some, filter, filter_map, fold, option_and_then, option_map, take, MatchOption}
@@ -28,7 +29,8 @@ use Rattle.iox_machine.proofs.Counted.{distinct, numbers-go-up, step-passes, tol
 use Rattle.iox_machine.proofs.Counts.{longer, of_told, one_if, past, times}
 use Rattle.iox_machine.proofs.Frames.{publisher-stands, subscriber-comes}
 use Rattle.iox_machine.proofs.Moving.{IsClosed, IsNegotiated, at-one, closed, creates, opens, opens-or-creates}
-use Rattle.iox_machine.proofs.Nexts.{Same, next_at, next_of, same-both, same-goes-on, same-itself, same-receives, same-refused, same-set, same-subscriber-follows, same-subscriber-updates, same-updates}
+use Rattle.iox_machine.proofs.Nexts.{Same, next_at, next_of, same-both, same-goes-on, same-itself, same-receives, same-refused, same-set}
+use Rattle.iox_machine.proofs.Nexts.{same-subscriber-follows, same-subscriber-updates, same-updates}
 use Rattle.iox_machine.proofs.OrderLaws.{received-in-order}
 use Rattle.iox_machine.proofs.OrderRuns.{first-is}
 use Rattle.iox_machine.proofs.Spent.{lent, lent-total}
@@ -43,7 +45,8 @@ use Rattle.iox_command.specs.declared.refusal.Refusal.{Refusal}
 use Rattle.iox_command.specs.declared.refusal.Refusal.TheVariants as refusal
 use Rattle.iox_command.specs.declared.reply.Reply.{Reply}
 use Rattle.iox_command.specs.declared.reply.Reply.TheVariants as reply
-use Rattle.iox_machine.proofs.StillSent.{Sent, to_come, loaned, left_in, if_sent, loaned-fewer, begun-silent, quiet, lends-sent, puts-sent, sends-sent, writes-sent, arrives-sent}
+use Rattle.iox_machine.proofs.StillSent.{Sent, to_come, loaned, left_in, if_sent, loaned-fewer, begun-silent, quiet, lends-sent}
+use Rattle.iox_machine.proofs.StillSent.{puts-sent, sends-sent, writes-sent, arrives-sent}
 
 module _ {T : Type 0} (p n : ℕ) where
   -- ---- a step
@@ -233,7 +236,8 @@ module _ {T : Type 0} (p n : ℕ) where
         at-factory-goes types IsDefault buffer factory
         (λ (service : Service T). PublisherArrives (old.made.publishers + 1)
         (new_publisher factory options service.settings) service) old answer new
-        (λ service after did. arrives-sent p n (old.made.publishers + 1) (new_publisher factory options service.settings) service after answer
+        (λ service after did. arrives-sent p n (old.made.publishers + 1) (new_publisher factory options service.settings) service after
+        answer
         did) h
     step-goes (command.Subscriber factory options) old answer new once h =
         at-factory-goes types IsDefault buffer factory
@@ -375,7 +379,8 @@ module _ {T : Type 0} (p n : ℕ) where
         → total (left_in p n) new.services + times n (numbers_of (sent_by types IsDefault buffer p asked old answers new run))
         ≤ total (left_in p n) old.services + times p (filter_map publisher_told answers)
     run-goes [] old answers new run once =
-        subst (λ (it : State T). total (left_in p n) it.services + 0 ≤ total (left_in p n) old.services + times p (filter_map publisher_told answers))
+        subst (λ (it : State T). total (left_in p n) it.services + 0
+        ≤ total (left_in p n) old.services + times p (filter_map publisher_told answers))
         (sym run.1) (plain (total (left_in p n) old.services) (times p (filter_map publisher_told answers)))
       where
         plain : (x e : ℕ) → x + 0 ≤ x + e

@@ -1,12 +1,14 @@
 -- What is opened meets what is asked, and a refusal names the first clause that isn't met.
-use Rattle.std.proofs.Common.{◌≡◌, ◌≤◌, ◌⊎◌, ◌+◌, ℕ, zero, suc, Bool, true, false, cond, ◌&&◌, ◌||◌, List, length, map, take, Option, None, Some, Result, Ok, Err, arith, refl, sym, ap, subst, inl, inr, ◌∙◌, true≢false}
+use Rattle.std.proofs.Common.{◌≡◌, ◌≤◌, ◌⊎◌, ◌+◌, ℕ, zero, suc, Bool, true, false, cond, ◌&&◌, ◌||◌, List, length, map, take, Option}
+use Rattle.std.proofs.Common.{None, Some, Result, Ok, Err, arith, refl, sym, ap, subst, inl, inr, ◌∙◌, true≢false}
 use Rattle.std.proofs.lemmas.Bool.{eqb-true}
 use Rattle.std.specs.Prelude.{◌==◌, filter, fold, nat_le, nat_lt, unwrap_or, MatchResult}
 use Rattle.iox_machine.specs.Agreement.{Agreement, event_verdict, publish_subscribe_verdict, request_response_verdict, unfit}
 use Rattle.iox_machine.specs.AgreementLaws.{agreed_in, life_of}
 use Rattle.iox_machine.specs.Asked.{settings_of}
 use Rattle.iox_machine.specs.Factories.{Enters, Negotiates, either_lacking}
-use Rattle.iox_machine.specs.Negotiation.{Access, Answer, Call, EitherLooks, Fails, Locks, OpenLooks, Opens, OpensFound, OpensOrCreates, Rounds, created, opened, registered}
+use Rattle.iox_machine.specs.Negotiation.{Access, Answer, Call, EitherLooks, Fails, Locks, OpenLooks, Opens, OpensFound, OpensOrCreates}
+use Rattle.iox_machine.specs.Negotiation.{Rounds, created, opened, registered}
 use Rattle.iox_machine.specs.OpeningLaws.{EitherMeetsAsked, EitherNamesUnmet, IsAgreedOn, IsNewWith, NamesUnmet, OpenedMeetsAsked}
 use Rattle.iox_machine.specs.Phase.{Absent, BeingMade, Emptied, Node, Own, Phase, Published, acted, entered, is_in}
 use Rattle.iox_machine.specs.Replies.{IsRefused, IsSkipped}

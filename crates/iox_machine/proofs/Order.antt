@@ -1,9 +1,12 @@
 -- What a publisher sent, a subscriber received of it, and what waits between them: how that stands to each other, and that what the
 -- publisher does keeps it.
-use Rattle.std.proofs.Common.{◌≡◌, ◌⊎◌, ◌+◌, ◌<◌, ℕ, Bool, true, false, cond, not, ◌&&◌, ◌||◌, List, [], ◌∷◌, ◌++◌, map, Option, None, Some, refl, sym, ap, subst, inl, inr, ◌∙◌, append_assoc, append-nil}
-use Rattle.std.proofs.lemmas.Bool.{eqb-true, eqb-false, and_from, and_right, or_left, or_right, or_parts, cases_Bool, not-true, not-false, true≢false}
+use Rattle.std.proofs.Common.{◌≡◌, ◌⊎◌, ◌+◌, ◌<◌, ℕ, Bool, true, false, cond, not, ◌&&◌, ◌||◌, List, [], ◌∷◌, ◌++◌, map, Option, None}
+use Rattle.std.proofs.Common.{Some, refl, sym, ap, subst, inl, inr, ◌∙◌, append_assoc, append-nil}
+use Rattle.std.proofs.lemmas.Bool.{eqb-true, eqb-false, and_from, and_right, or_left, or_right, or_parts, cases_Bool, not-true, not-false}
+use Rattle.std.proofs.lemmas.Bool.{true≢false}
 use Rattle.std.specs.Option.{option_map_or}
-use Rattle.std.specs.Prelude.{⊤, ◌==◌, nat_le, nat_lt, is_some, option_map, filter, fold, length, slice_get, MatchBool, MatchOption, MatchResult}
+use Rattle.std.specs.Prelude.{⊤, ◌==◌, nat_le, nat_lt, is_some, option_map, filter, fold, length, slice_get, MatchBool, MatchOption}
+use Rattle.std.specs.Prelude.{MatchResult}
 use Rattle.iox_machine.specs.Lending.{Lends, LendsLonger, loan_refusal}
 use Rattle.iox_machine.specs.Mailbox.{Mailbox, newest, put}
 use Rattle.iox_machine.specs.Message.{Message}
@@ -19,7 +22,8 @@ use Rattle.iox_machine.specs.Service.{Service, Publisher, Subscriber, Send, with
 use Rattle.iox_machine.specs.Table.{at, contains}
 use Rattle.iox_machine.proofs.Cases.{by-bool, by-option, by-result, same-some, never-some, chosen, both-true}
 use Rattle.iox_machine.proofs.Frames.{waiting_in, Softer, box-same, box-aside, soft-connect, by-follows, by-deliver}
-use Rattle.iox_machine.proofs.Parts.{part-more, part-last, part-newest, part-front, Once, once-tail, once-past, once-unless, contains-filter, contains-unless, all-contained}
+use Rattle.iox_machine.proofs.Parts.{part-more, part-last, part-newest, part-front, Once, once-tail, once-past, once-unless}
+use Rattle.iox_machine.proofs.Parts.{contains-filter, contains-unless, all-contained}
 use Rattle.iox_machine.proofs.Steps.{beginning-told}
 use Rattle.iox_machine.proofs.Tables.{at-changed}
 use Rattle.iox_command.specs.DomainValues.declared.backpressure.BackpressureDecision.{BackpressureDecision}
@@ -99,7 +103,8 @@ module _ {T : Type 0} (p s : ℕ) where
       → later ++ waiting_in now ≡ received ++ waiting_in box
       → (is_some box ≡ true → is_some now ≡ true)
       → ((received ≡ []) × (waiting_in box ≡ []) → (later ≡ []) × (waiting_in now ≡ []))
-      → Between T s sent received born history connected blocked box places → Between T s sent later born history connected blocked now places
+      → Between T s sent received born history connected blocked box places
+      → Between T s sent later born history connected blocked now places
   between-waits sent received later born history connected blocked box now places same some none b = record {
     kept = b.kept;
     waits = subst (λ (l : List (Message T)). IsPartOf l sent) (sym same) b.waits;
@@ -144,7 +149,8 @@ module _ {T : Type 0} (p s : ℕ) where
       → Once s (those now)
       → (MayCome s later now → MayCome s born places)
       → (later < s → (born < s) × (contains (those now) s ≡ false))
-      → Between T s sent received born history connected blocked box places → Between T s sent received later history connected blocked box now
+      → Between T s sent received born history connected blocked box places
+      → Between T s sent received later history connected blocked box now
   between-places sent received born history connected blocked box places later now once may off b = record {
     kept = b.kept;
     waits = b.waits;
@@ -159,7 +165,8 @@ module _ {T : Type 0} (p s : ℕ) where
       blocked-so : (o : Option (Send T)) → MatchOption o ⊤ (IsUnder T s (MayCome s born places) sent received connected box)
           → MatchOption o ⊤ (IsUnder T s (MayCome s later now) sent received connected box)
       blocked-so None u = tt
-      blocked-so (Some send) u = (u.0, u.1, under-may (MayCome s born places) (MayCome s later now) u.0 received send.message connected send.left box may u.2)
+      blocked-so (Some send) u
+          = (u.0, u.1, under-may (MayCome s born places) (MayCome s later now) u.0 received send.message connected send.left box may u.2)
 
   -- ---- a publisher lends
 
@@ -347,7 +354,8 @@ module _ {T : Type 0} (p s : ℕ) where
       by-met false met false is =
           let e : Emptier box now =
           old_one (ap (λ (k : Bool). k && not (contains (those one.connected) s)) is) in
-          built (emptier-waits sent received box now e b.waits) (λ is_so. absurd-both (contains (those (map (unless refused) places)) s) is_so is)
+          built (emptier-waits sent received box now e b.waits)
+          (λ is_so. absurd-both (contains (those (map (unless refused) places)) s) is_so is)
           (λ may not_so. ((b.unmet may met).0, emptier-none box now e (b.unmet may met).1))
 
   pub follows-between : (sent received : List (Message T)) (born : ℕ) (one : Publisher T) (old : Service T) (after : Publisher T)
@@ -510,9 +518,11 @@ module _ {T : Type 0} (p s : ℕ) where
       )
     where
       blocked-so : (b : Bool) (after : Send T × Service T)
-          → Under T s (MayCome s born old.subscriber_list.places) received before send.message one.connected after.0.left (after.1.mailboxes p s)
+          → Under T s (MayCome s born old.subscriber_list.places) received before send.message one.connected after.0.left
+          (after.1.mailboxes p s)
           → after.0.message ≡ send.message
-          → MatchOption (cond b (Some after.0) None) ⊤ (IsUnder T s (MayCome s born old.subscriber_list.places) sent received one.connected (after.1.mailboxes p s))
+          → MatchOption (cond b (Some after.0) None) ⊤
+          (IsUnder T s (MayCome s born old.subscriber_list.places) sent received one.connected (after.1.mailboxes p s))
       blocked-so false after u same = tt
       blocked-so true after u same = (
         before,

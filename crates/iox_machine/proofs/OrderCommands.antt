@@ -1,5 +1,6 @@
 -- Each command keeps the order in which messages were sent.
-use Rattle.std.proofs.Common.{◌≡◌, ◌+◌, ℕ, Bool, true, false, cond, ◌&&◌, List, length, map, set, take, Option, None, Some, refl, sym, ap, subst, inl, inr, ◌∙◌}
+use Rattle.std.proofs.Common.{◌≡◌, ◌+◌, ℕ, Bool, true, false, cond, ◌&&◌, List, length, map, set, take, Option, None, Some, refl, sym, ap}
+use Rattle.std.proofs.Common.{subst, inl, inr, ◌∙◌}
 use Rattle.std.proofs.lemmas.Bool.{and_right}
 use Rattle.std.specs.Global.{Vec}
 use Rattle.std.specs.List.{AllByRecursion}
@@ -26,9 +27,11 @@ use Rattle.iox_machine.proofs.Frames.{ByPublisher, by-goes-on, by-lends-loan, by
 use Rattle.iox_machine.proofs.Moving.{creates, opens, opens-or-creates, closed}
 use Rattle.iox_machine.proofs.Order.{Stands, retries-between, free-between, updates-between, lends-loan-between}
 use Rattle.iox_machine.proofs.OrderPorts.{moves-leaves, moves-subscriber}
-use Rattle.iox_machine.proofs.OrderRuns.{Quiet, alike-goes, quiet-at-one, quiet-free, quiet-blocked, quiet-subscriber, ordered-refused, ordered-negotiated, ordered-closed, publisher-ordered}
+use Rattle.iox_machine.proofs.OrderRuns.{Quiet, alike-goes, quiet-at-one, quiet-free, quiet-blocked, quiet-subscriber, ordered-refused}
+use Rattle.iox_machine.proofs.OrderRuns.{ordered-negotiated, ordered-closed, publisher-ordered}
 use Rattle.iox_machine.proofs.OrderSends.{put-goes, send-goes, receive-goes}
-use Rattle.iox_machine.proofs.OrderSteps.{noted, IsLater, Alike, IsOrdered, Moves, has_it, made-later, alike-none, ordered-later, ordered-at-one}
+use Rattle.iox_machine.proofs.OrderSteps.{noted, IsLater, Alike, IsOrdered, Moves, has_it, made-later, alike-none, ordered-later}
+use Rattle.iox_machine.proofs.OrderSteps.{ordered-at-one}
 use Rattle.iox_machine.proofs.Tables.{at-changed}
 use Rattle.iox_command.specs.DomainValues.declared.port_error.ReceiveError.TheVariants as receive_error
 use Rattle.iox_command.specs.NegotiateBase.DescribeBase.declared.message_type.MessageTypeDetails.{MessageTypeDetails}
@@ -158,7 +161,8 @@ module _ {T : Type 0} (p s : ℕ) (G : List ℕ → StaticConfig → Message T �
               (and_right (publisher == p) (has_begun answer) (ap has_begun skipped.0)),
           refl,
         ))
-        (λ service one after first is did came. put-goes p s G sent received publisher values old answer service one after first is good did)
+        (λ service one after first is did came. put-goes p s G sent received publisher values old answer service one after first is good
+        did)
         h ordered
     step-ordered (command.Retry publisher nanoseconds) old answer new good fresh h ordered =
         quiet-blocked p s G sent received publisher
@@ -219,7 +223,8 @@ module _ {T : Type 0} (p s : ℕ) (G : List ℕ → StaticConfig → Message T �
         answer after found free b
         (λ it mid there now done. subst (λ (end : Service T). Stands p s sent received old.made.subscribers end) (sym done.1)
         (it, there, now))
-        (λ failure mid stands refused. subst (λ (end : Service T). Stands p s sent received old.made.subscribers end) (sym refused.1) stands)
+        (λ failure mid stands refused. subst (λ (end : Service T). Stands p s sent received old.made.subscribers end) (sym refused.1)
+        stands)
         (subst (λ (k : ℕ). publishing.UpdatesFirst k refusal.Connection
         (λ (it : Publisher T) (mid : Service T) (answered : Reply T) (end : Service T). (answered ≡ reply.Done) × (end ≡ mid)) one service
         answer after) same did)) h ordered

@@ -1,10 +1,12 @@
 -- In every run a subscriber gets what its service's publishers sent, in the order of sending.
-use Rattle.std.proofs.Common.{◌≡◌, ◌⊎◌, ◌≤◌, ◌+◌, ℕ, Bool, true, false, cond, List, [], ◌∷◌, ◌++◌, Option, None, Some, refl, sym, ap, subst, inl, inr, arith, ◌∙◌, append_assoc, append-nil}
+use Rattle.std.proofs.Common.{◌≡◌, ◌⊎◌, ◌≤◌, ◌+◌, ℕ, Bool, true, false, cond, List, [], ◌∷◌, ◌++◌, Option, None, Some, refl, sym, ap}
+use Rattle.std.proofs.Common.{subst, inl, inr, arith, ◌∙◌, append_assoc, append-nil}
 use Rattle.std.proofs.lemmas.Bool.{ne_eqb}
 use Rattle.std.specs.List.{AllByRecursion}
 use Rattle.std.specs.Prelude.{⊤, ◌==◌, is_some, find, slice_get, option_map, MatchOption}
 use Rattle.iox_machine.specs.Message.{Message, Sample}
-use Rattle.iox_machine.specs.MessageLaws.{IsPartOf, with_one, begun_by, received_by, sent_by, received_from, IsOfService, StaysOfService, BeganIn, ReceivedInOrder}
+use Rattle.iox_machine.specs.MessageLaws.{IsPartOf, with_one, begun_by, received_by, sent_by, received_from, IsOfService, StaysOfService}
+use Rattle.iox_machine.specs.MessageLaws.{BeganIn, ReceivedInOrder}
 use Rattle.iox_machine.specs.PortList.{those}
 use Rattle.iox_machine.specs.Ports.{subscriber_in}
 use Rattle.iox_machine.specs.Run.{Runs}

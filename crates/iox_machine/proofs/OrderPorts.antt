@@ -1,5 +1,6 @@
 -- Ports that come and go, and messages that are taken: what stands between a publisher and a subscriber stands as it should after each.
-use Rattle.std.proofs.Common.{◌≡◌, ◌⊎◌, ◌≤◌, ◌<◌, ◌+◌, ℕ, zero, suc, Bool, true, false, cond, not, ◌&&◌, ◌||◌, List, [], ◌∷◌, ◌++◌, map, set, drop, replicate, Option, None, Some, refl, sym, ap, subst, inl, inr, arith, ◌∙◌, append_assoc}
+use Rattle.std.proofs.Common.{◌≡◌, ◌⊎◌, ◌≤◌, ◌<◌, ◌+◌, ℕ, zero, suc, Bool, true, false, cond, not, ◌&&◌, ◌||◌, List, [], ◌∷◌, ◌++◌, map}
+use Rattle.std.proofs.Common.{set, drop, replicate, Option, None, Some, refl, sym, ap, subst, inl, inr, arith, ◌∙◌, append_assoc}
 use Rattle.std.proofs.lemmas.Bool.{eqb-true, eqb-false, and_cases, cases_Bool, true≢false}
 use Rattle.std.specs.List.{AllByRecursion}
 use Rattle.std.specs.Prelude.{⊤, ◌==◌, is_some, find, slice_get}
@@ -17,7 +18,8 @@ use Rattle.iox_machine.proofs.Cases.{same-some, never-some, both-true}
 use Rattle.iox_machine.proofs.Frames.{waiting_in, BySubscriber, box-same, box-other, box-aside, soft-followed, subscriber-comes}
 use Rattle.iox_machine.proofs.Lists.{all-weaker}
 use Rattle.iox_machine.proofs.Order.{Between, BetweenOf, between-waits, between-places, follows-between, follows-publishers}
-use Rattle.iox_machine.proofs.OrderSteps.{IsLater, Alike, Lacks, Fits, IsOfOne, Moves, made-later, below, up, alike-soft, lacks-later, stands-later, moves-alike, alike-none, noted}
+use Rattle.iox_machine.proofs.OrderSteps.{IsLater, Alike, Lacks, Fits, IsOfOne, Moves, made-later, below, up, alike-soft, lacks-later}
+use Rattle.iox_machine.proofs.OrderSteps.{stands-later, moves-alike, alike-none, noted}
 use Rattle.iox_machine.proofs.Parts.{part-none, Once, contains-set, contains-unless, once-set-new, once-set-other, once-unless}
 use Rattle.iox_machine.proofs.Tables.{at-appended}
 use Rattle.iox_command.specs.NegotiateBase.DescribeSettings.declared.static_config.publish_subscribe.StaticConfig.{StaticConfig}
@@ -299,7 +301,8 @@ module _ {T : Type 0} (p s : ℕ) (G : List ℕ → StaticConfig → Message T �
           (with_mailbox publisher number (taken (mailbox publisher number old)) (record old { samples = samples }))
       step samples false off =
           moves-alike p s G made later sent received IsFirst old
-          (with_mailbox publisher number (taken (mailbox publisher number old)) (record old { samples = samples })) on (taken-elsewhere publisher number old samples off)
+          (with_mailbox publisher number (taken (mailbox publisher number old)) (record old { samples = samples })) on
+          (taken-elsewhere publisher number old samples off)
       step samples true is_so =
           let both : ((number == s) ≡ true) × ((publisher == p) ≡ true) = both-true (number == s) (publisher == p) is_so in
           subst (λ (n : ℕ). Moves p s G made later sent received sent (received ++ message ∷ []) IsFirst old

@@ -1,5 +1,6 @@
 -- Each step, and so each run, keeps the order in which messages were sent.
-use Rattle.std.proofs.Common.{◌≡◌, ◌<◌, ◌+◌, ℕ, Bool, true, false, cond, not, ◌&&◌, List, [], ◌∷◌, ◌++◌, Option, None, Some, refl, sym, ap, subst, inl, inr, arith, ◌∙◌}
+use Rattle.std.proofs.Common.{◌≡◌, ◌<◌, ◌+◌, ℕ, Bool, true, false, cond, not, ◌&&◌, List, [], ◌∷◌, ◌++◌, Option, None, Some, refl, sym}
+use Rattle.std.proofs.Common.{ap, subst, inl, inr, arith, ◌∙◌}
 use Rattle.std.proofs.lemmas.Bool.{eqb-true, eqb-false, cases_Bool}
 use Rattle.std.specs.List.{AllByRecursion, list_any}
 use Rattle.std.specs.Prelude.{◌==◌, is_some, find, filter, option_and_then, MatchOption}
@@ -22,7 +23,9 @@ use Rattle.iox_machine.proofs.Lists.{all-joined, all-filtered}
 use Rattle.iox_machine.proofs.Moving.{IsNegotiated, IsClosed, at-one, replaced-same}
 use Rattle.iox_machine.proofs.Order.{BetweenOf, Stands}
 use Rattle.iox_machine.proofs.OrderPorts.{those-none, all-lack, one-comes, comes-fits}
-use Rattle.iox_machine.proofs.OrderSteps.{noted, IsLater, Alike, Lacks, IsOfOne, IsOrdered, Moves, has_it, made-later, under, alike-none, alike-by, alike-soft, alike-refused, one-later, ordered-later, ordered-at-one, moves-alike, moves-stands}
+use Rattle.iox_machine.proofs.OrderSteps.{noted, IsLater, Alike, Lacks, IsOfOne, IsOrdered, Moves, has_it, made-later, under, alike-none}
+use Rattle.iox_machine.proofs.OrderSteps.{alike-by, alike-soft, alike-refused, one-later, ordered-later, ordered-at-one, moves-alike}
+use Rattle.iox_machine.proofs.OrderSteps.{moves-stands}
 use Rattle.iox_machine.proofs.Parts.{Once}
 use Rattle.iox_command.specs.DomainValues.declared.connection_failure.ConnectionFailure.{ConnectionFailure}
 use Rattle.iox_command.specs.NegotiateBase.DescribeSettings.declared.static_config.Settings.{Settings}
@@ -293,9 +296,11 @@ module _ {T : Type 0} where
         comes next service after first did came =
             elim (publisher-comes (old.made.publishers + 1) (new_publisher factory options service.settings) service answer after did) [
               | inl same ↦ ordered-later p s G sent received old new
-                  (subst (λ (later : Made). IsLater old.made later) (sym (ap (λ (it : State T). it.made) came)) (made-later answer old.made))
+                  (subst (λ (later : Made). IsLater old.made later) (sym (ap (λ (it : State T). it.made) came))
+                  (made-later answer old.made))
                   (ap (λ (it : State T). it.services) came
-                  ∙ (ap (λ (it : Service T). replaced (has_factory of_it) it old.services) same ∙ replaced-same (has_factory of_it) service old.services first))
+                  ∙ (ap (λ (it : Service T). replaced (has_factory of_it) it old.services) same ∙ replaced-same (has_factory of_it)
+                  service old.services first))
                   ordered
               | inr w ↦ (
                   let none : (sent ≡ []) × (received ≡ []) = ordered.1 (early next) in
@@ -306,7 +311,8 @@ module _ {T : Type 0} where
                         (replaced (has_factory of_it) after old.services)) (sym (told w.5))
                         (one-comes p s G old.made (counted {T = T} (reply.PublisherMade p) old.made) [] []
                         (made-later {T = T} (reply.PublisherMade p) old.made) (has_factory of_it) service after old.services first
-                        (λ lacks. comes-fits p s G old.made factory options service w.0 w.1 w.2 after next (at_p w.1 w.2 w.3) (at_end w.0 w.2 w.4)
+                        (λ lacks. comes-fits p s G old.made factory options service w.0 w.1 w.2 after next (at_p w.1 w.2 w.3)
+                        (at_end w.0 w.2 w.4)
                         lacks)
                         (all-lack p s G old.made sent received (early next) old.services ordered.0)),
                     (λ before. (refl, refl)),

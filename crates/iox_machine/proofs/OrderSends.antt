@@ -1,5 +1,6 @@
 -- A put, a send and a receive keep the order in which messages were sent.
-use Rattle.std.proofs.Common.{◌≡◌, ◌+◌, ℕ, Bool, true, false, cond, not, ◌&&◌, List, [], ◌∷◌, ◌++◌, Option, None, Some, refl, sym, ap, subst, inl, inr, ◌∙◌}
+use Rattle.std.proofs.Common.{◌≡◌, ◌+◌, ℕ, Bool, true, false, cond, not, ◌&&◌, List, [], ◌∷◌, ◌++◌, Option, None, Some, refl, sym, ap}
+use Rattle.std.proofs.Common.{subst, inl, inr, ◌∙◌}
 use Rattle.std.proofs.lemmas.Bool.{eqb-true, eqb-false, and_from, and_right, cases_Bool, true≢false}
 use Rattle.std.specs.List.{AllByRecursion}
 use Rattle.std.specs.Prelude.{⊤, ◌==◌, is_some, find, option_map, option_and_then, MatchBool, MatchOption}
@@ -15,12 +16,14 @@ use Rattle.iox_machine.specs.State.{State, Made, replaced, counted}
 use Rattle.iox_machine.specs.SubscriberUpdate as subscribing
 use Rattle.iox_machine.specs.Table.{at, removed}
 use Rattle.iox_machine.proofs.Cases.{by-bool, by-option, never-some, both-true}
-use Rattle.iox_machine.proofs.Frames.{ByPublisher, BySubscriber, publisher-stands, subscriber-stands, by-sends, by-puts, by-sends-loan, soft-both, soft-set, soft-updates}
+use Rattle.iox_machine.proofs.Frames.{ByPublisher, BySubscriber, publisher-stands, subscriber-stands, by-sends, by-puts, by-sends-loan}
+use Rattle.iox_machine.proofs.Frames.{soft-both, soft-set, soft-updates}
 use Rattle.iox_machine.proofs.Lists.{all-joined}
 use Rattle.iox_machine.proofs.Order.{BetweenOf, CameTo, sends-between, puts-between}
 use Rattle.iox_machine.proofs.OrderPorts.{takes-moves}
 use Rattle.iox_machine.proofs.OrderRuns.{first-is, Goes, Quiet, alike-goes, skip-goes}
-use Rattle.iox_machine.proofs.OrderSteps.{noted, Alike, Fits, Moves, has_it, made-later, up, alike-by, alike-soft, alike-refused, between-found, lacks-none, stands-later, moves-alike}
+use Rattle.iox_machine.proofs.OrderSteps.{noted, Alike, Fits, Moves, has_it, made-later, up, alike-by, alike-soft, alike-refused}
+use Rattle.iox_machine.proofs.OrderSteps.{between-found, lacks-none, stands-later, moves-alike}
 use Rattle.iox_machine.proofs.Runs.{all-found}
 use Rattle.iox_machine.proofs.Tables.{at-appended}
 use Rattle.iox_command.specs.DomainValues.declared.port_error.ReceiveError.TheVariants as receive_error
@@ -43,7 +46,8 @@ module _ {T : Type 0} where
           → at number after.samples ≡ Some it
           → find (λ (one : Service T). is_some (at number one.samples)) (replaced has after more) ≡ Some after) → (b : Bool)
           → cond b (Some other) (find has more) ≡ Some service
-          → find (λ (one : Service T). is_some (at number one.samples)) (cond b (after ∷ more) (other ∷ replaced has after more)) ≡ Some after
+          → find (λ (one : Service T). is_some (at number one.samples)) (cond b (after ∷ more) (other ∷ replaced has after more))
+          ≡ Some after
       step next true same =
           ap (λ (o : Option (Sample T)). cond (is_some o) (Some after)
           (find (λ (one : Service T). is_some (at number one.samples)) more)) is
@@ -126,7 +130,8 @@ module _ {T : Type 0} (p s : ℕ) (G : List ℕ → StaticConfig → Message T �
         (chosen-other (number == p) (has_begun answer) (option_map (next_message values) (first_in (publisher_in number) old)) other)
         (elim (by-option one.blocked (Puts number values one service answer after) (λ send. IsSkipped service answer after) did) [
           | inl w ↦ alike-goes p s G sent received old answer service after
-              (alike-by p s number service after (λ e. eqb-false number p other (sym e)) (by-puts number values one service answer after w.1))
+              (alike-by p s number service after (λ e. eqb-false number p other (sym e))
+              (by-puts number values one service answer after w.1))
           | inr w ↦ skip-goes p s G sent received old answer service after w.2
         ])
     | inl same ↦ elim (by-option one.blocked (Puts number values one service answer after) (λ send. IsSkipped service answer after) did) [
@@ -230,8 +235,10 @@ module _ {T : Type 0} (p s : ℕ) (G : List ℕ → StaticConfig → Message T �
       (Receives number (old.made.samples + 1)) one service answer after
       → Goes p s G sent received old answer None (received_by p s (command.Receive number) answer new) service after
   receive-goes buffer number old answer new service one after fresh first is came did =
-      soft-updates (Goes p s G sent received old answer None (received_by p s (command.Receive number) answer new) service after) buffer number
-      (λ failure. refusal.Receive (receive_error.ConnectionFailure failure)) (Receives number (old.made.samples + 1)) one service answer after
+      soft-updates (Goes p s G sent received old answer None (received_by p s (command.Receive number) answer new) service after) buffer
+      number
+      (λ failure. refusal.Receive (receive_error.ConnectionFailure failure)) (Receives number (old.made.samples + 1)) one service answer
+      after
       (subscriber-stands number service one is).0
       (λ now mid soft found same h. receives now mid soft found h)
       (λ why mid soft refused. nothing (ap (λ (told : Reply T). received_by p s (command.Receive number) told new) refused.0)
@@ -267,11 +274,13 @@ module _ {T : Type 0} (p s : ℕ) (G : List ℕ → StaticConfig → Message T �
           ∙ all-found (λ (other : Service T). at (old.made.samples + 1) other.samples ≡ None)
           (λ (other : Service T). is_some (subscriber_in number other)) old.services service first fresh in
           let there : at (old.made.samples + 1) after.samples ≡ Some it =
-          ap (λ (end : Service T). at (old.made.samples + 1) end.samples) took.5 ∙ at-appended (old.made.samples + 1) it swept.samples unknown in
+          ap (λ (end : Service T). at (old.made.samples + 1) end.samples) took.5 ∙ at-appended (old.made.samples + 1) it swept.samples
+          unknown in
           let seen : first_in (λ (other : Service T). at (old.made.samples + 1) other.samples) new ≡ Some it =
           ap (λ (state : State T). first_in (λ (other : Service T). at (old.made.samples + 1) other.samples) state) came
           ∙ (ap (option_and_then (λ (other : Service T). at (old.made.samples + 1) other.samples))
-          (first-fresh (old.made.samples + 1) (λ (other : Service T). is_some (subscriber_in number other)) service after it old.services fresh first there)
+          (first-fresh (old.made.samples + 1) (λ (other : Service T). is_some (subscriber_in number other)) service after it
+          old.services fresh first there)
           ∙ there) in
           let told : received_by p s (command.Receive number) answer new
           ≡ cond ((number == s) && (publisher == p)) (Some took.0) None =

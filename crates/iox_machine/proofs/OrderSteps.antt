@@ -1,5 +1,6 @@
 -- What was sent, was received and waits between a publisher and a subscriber stands as it should after each step.
-use Rattle.std.proofs.Common.{◌≡◌, ◌⊎◌, ◌≤◌, ◌<◌, ℕ, Bool, true, false, cond, List, [], ◌∷◌, ◌++◌, Option, None, Some, refl, sym, ap, subst, inl, inr, arith, ◌∙◌}
+use Rattle.std.proofs.Common.{◌≡◌, ◌⊎◌, ◌≤◌, ◌<◌, ℕ, Bool, true, false, cond, List, [], ◌∷◌, ◌++◌, Option, None, Some, refl, sym, ap}
+use Rattle.std.proofs.Common.{subst, inl, inr, arith, ◌∙◌}
 use Rattle.std.specs.List.{AllByRecursion}
 use Rattle.std.specs.Prelude.{⊤, is_some, find}
 use Rattle.iox_machine.specs.Message.{Message}
@@ -216,7 +217,8 @@ module _ {T : Type 0} (p s : ℕ) where
               inl (
                 done.0,
                 subst (λ (l : List (Message T)). IsOfOne later l received_then more) (sym done.1)
-                    (subst (λ (l : List (Message T)). IsOfOne later sent l more) (sym done.2) (one-later made later sent received on more one)),
+                    (subst (λ (l : List (Message T)). IsOfOne later sent l more) (sym done.2)
+                    (one-later made later sent received on more one)),
               ),
               inl (of_it, done.1, done.2),
             )

@@ -1,5 +1,6 @@
 -- A list that is part of another; and a number that is at one place of a list at most.
-use Rattle.std.proofs.Common.{◌≡◌, ◌-◌, ℕ, zero, suc, Bool, true, false, cond, not, ◌&&◌, ◌||◌, List, [], ◌∷◌, ◌++◌, length, drop, map, set, Option, None, Some, refl, sym, ap, subst, inl, inr, ◌∙◌, append-nil}
+use Rattle.std.proofs.Common.{◌≡◌, ◌-◌, ℕ, zero, suc, Bool, true, false, cond, not, ◌&&◌, ◌||◌, List, [], ◌∷◌, ◌++◌, length, drop, map}
+use Rattle.std.proofs.Common.{set, Option, None, Some, refl, sym, ap, subst, inl, inr, ◌∙◌, append-nil}
 use Rattle.std.proofs.lemmas.Bool.{eqb-true, and_right, or_parts, true≢false}
 use Rattle.std.specs.List.{list_all}
 use Rattle.std.specs.Prelude.{⊤, ◌==◌, filter, slice_get, MatchBool}

@@ -1,11 +1,14 @@
 -- How the phase of a pattern and name moves: in one life what is agreed on stays, and whoever makes a life describes it.
-use Rattle.std.proofs.Common.{◌≡◌, ◌⊎◌, ◌≤◌, ◌<◌, ◌+◌, ℕ, Bool, true, false, cond, not, ◌&&◌, List, [], ◌∷◌, length, take, Option, None, Some, refl, sym, ap, subst, inl, inr, arith, ◌∙◌, true≢false}
+use Rattle.std.proofs.Common.{◌≡◌, ◌⊎◌, ◌≤◌, ◌<◌, ◌+◌, ℕ, Bool, true, false, cond, not, ◌&&◌, List, [], ◌∷◌, length, take, Option, None}
+use Rattle.std.proofs.Common.{Some, refl, sym, ap, subst, inl, inr, arith, ◌∙◌, true≢false}
 use Rattle.std.specs.List.{AllByRecursion}
 use Rattle.std.specs.Prelude.{⊤, nat_lt, fold}
 use Rattle.iox_machine.specs.Agreement.{Agreement, are_within_limits}
-use Rattle.iox_machine.specs.AgreementLaws.{life_of, agreed_in, HasOne, IsPublishedBy, Describes, AgreementStays, AgreementIsDescribed, CreatesAsDescribed}
+use Rattle.iox_machine.specs.AgreementLaws.{life_of, agreed_in, HasOne, IsPublishedBy, Describes, AgreementStays, AgreementIsDescribed}
+use Rattle.iox_machine.specs.AgreementLaws.{CreatesAsDescribed}
 use Rattle.iox_machine.specs.Asked.{settings_of}
-use Rattle.iox_machine.specs.Phase.{Node, Own, Foreign, Phase, Absent, BeingMade, Published, Emptied, same_pattern, same_node, is_in, entered, left, left_by, removed_by, closed_by, acted}
+use Rattle.iox_machine.specs.Phase.{Node, Own, Foreign, Phase, Absent, BeingMade, Published, Emptied, same_pattern, same_node, is_in}
+use Rattle.iox_machine.specs.Phase.{entered, left, left_by, removed_by, closed_by, acted}
 use Rattle.iox_machine.specs.Run.{Step, Runs, factory_of}
 use Rattle.iox_machine.specs.State.{State, Factory}
 use Rattle.iox_machine.proofs.Calls.{HasRoom, IsSettled, create-settles, open-settles, either-settles, fold-all}
@@ -56,7 +59,8 @@ module _ (types : MessageTypeDetails) (R : MessagingPattern → List ℕ → Pha
   module _ (lost : (pattern : MessagingPattern) (name : List ℕ) (lives : ℕ) → R pattern name (Absent lives)
       → R pattern name (Absent (lives + 1)))
       (comes : (pattern : MessagingPattern) (name : List ℕ) (node : Node) (life : ℕ) (agreed : Agreement) (nodes : List (Node × ℕ))
-      → HasRoom node agreed nodes → R pattern name (Published life agreed nodes) → R pattern name (Published life agreed (entered node nodes)))
+      → HasRoom node agreed nodes → R pattern name (Published life agreed nodes)
+      → R pattern name (Published life agreed (entered node nodes)))
       (goes : (pattern : MessagingPattern) (name : List ℕ) (node : ℕ) (phase : Phase) → R pattern name phase
       → R pattern name (closed_by node phase)) where
     abbrev AllPhases : {T : Type 0} → State T → Type 0

@@ -1,5 +1,6 @@
 -- A command on ports, loans or samples is skipped, or does something at one service, of which it leaves what is kept.
-use Rattle.std.proofs.Common.{◌≡◌, ◌⊎◌, ◌+◌, ℕ, Bool, true, false, cond, ap, ◌∙◌, true≢false, ◌&&◌, List, length, map, set, Option, None, Some, refl, sym, inl, inr}
+use Rattle.std.proofs.Common.{◌≡◌, ◌⊎◌, ◌+◌, ℕ, Bool, true, false, cond, ap, ◌∙◌, true≢false, ◌&&◌, List, length, map, set, Option, None}
+use Rattle.std.proofs.Common.{Some, refl, sym, inl, inr}
 use Rattle.std.proofs.lemmas.Bool.{false_from_ne_true}
 use Rattle.std.specs.Global.{Vec}
 use Rattle.std.specs.Option.{option_map_or}
@@ -20,7 +21,9 @@ use Rattle.iox_machine.specs.State.{State, Made, Factory, AtOne, is_service_of, 
 use Rattle.iox_machine.specs.SubscriberUpdate as subscribing
 use Rattle.iox_machine.specs.Table.{at, removed}
 use Rattle.iox_machine.proofs.Cases.{by-option, chosen, never-some}
-use Rattle.iox_machine.proofs.Kept.{Kept, IsPortNext, itself, ends, publisher-turned, updates-first, goes-on, lends-loan, puts, drops, sends-loan, writes, subscriber-updates, receives, releases, publisher-arrives, subscriber-arrives, publisher-leaves, subscriber-leaves}
+use Rattle.iox_machine.proofs.Kept.{Kept, IsPortNext, itself, ends, publisher-turned, updates-first, goes-on, lends-loan, puts, drops}
+use Rattle.iox_machine.proofs.Kept.{sends-loan, writes, subscriber-updates, receives, releases, publisher-arrives, subscriber-arrives}
+use Rattle.iox_machine.proofs.Kept.{publisher-leaves, subscriber-leaves}
 use Rattle.iox_machine.proofs.Moving.{at-one}
 use Rattle.iox_machine.proofs.Names.{service-at}
 use Rattle.iox_command.specs.DomainValues.declared.port_error.ReceiveError.TheVariants as receive_error

@@ -1,5 +1,6 @@
 -- What a refused call of a port leaves of a service.
-use Rattle.std.proofs.Common.{◌≡◌, ◌+◌, ℕ, Bool, true, false, cond, not, ◌&&◌, List, [], ◌∷◌, ◌++◌, length, Option, None, Some, refl, sym, ap, subst, inl, inr, ◌∙◌, true≢false}
+use Rattle.std.proofs.Common.{◌≡◌, ◌+◌, ℕ, Bool, true, false, cond, not, ◌&&◌, List, [], ◌∷◌, ◌++◌, length, Option, None, Some, refl, sym}
+use Rattle.std.proofs.Common.{ap, subst, inl, inr, ◌∙◌, true≢false}
 use Rattle.std.specs.Option.{option_map_or}
 use Rattle.std.specs.Prelude.{◌==◌, find, is_some, nat_lt, option_map, slice_get, MatchBool, MatchOption, MatchResult}
 use Rattle.iox_machine.specs.Lending.{Lends, LendsLonger, loan_refusal}

@@ -1,11 +1,13 @@
 -- A service in which all goes by other numbers.
-use Rattle.std.proofs.Common.{◌≡◌, ℕ, Bool, true, false, cond, not, ◌&&◌, List, [], ◌∷◌, map, Option, None, Some, refl, sym, ap, ap₂, ◌∙◌, true≢false}
+use Rattle.std.proofs.Common.{◌≡◌, ℕ, Bool, true, false, cond, not, ◌&&◌, List, [], ◌∷◌, map, Option, None, Some, refl, sym, ap, ap₂, ◌∙◌}
+use Rattle.std.proofs.Common.{true≢false}
 use Rattle.std.proofs.lemmas.Bool.{eqb-true, eq-eqb, ne_eqb}
 use Rattle.std.specs.Prelude.{◌==◌, find, option_map, is_some, unwrap_or}
 use Rattle.iox_machine.specs.Mailbox.{Mailbox}
 use Rattle.iox_machine.specs.Message.{Loan, Sample}
 use Rattle.iox_machine.specs.Renaming.{Renaming, renamed_reply}
-use Rattle.iox_machine.specs.Renumbering.{AreRenumbered, renumbered_list, renumbered_loan, renumbered_publisher, renumbered_sample, renumbered_send, renumbered_subscriber}
+use Rattle.iox_machine.specs.Renumbering.{AreRenumbered, renumbered_list, renumbered_loan, renumbered_publisher, renumbered_sample}
+use Rattle.iox_machine.specs.Renumbering.{renumbered_send, renumbered_subscriber}
 use Rattle.iox_machine.specs.Replies.{IsSkipped, IsRefused}
 use Rattle.iox_machine.specs.PortList.{PortList, those, unless, left}
 use Rattle.iox_machine.specs.Service.{Service, Publisher, Subscriber, Send, with_publisher, with_subscriber, mailbox, with_mailbox, connect}

@@ -1,10 +1,11 @@
 -- What each command does it does where all goes by other numbers.
 use Rattle.std.proofs.Common.{◌≡◌, ◌+◌, ℕ, ◌&&◌, length, map, set, false, None, Some, sym, ap, subst, inl, inr, ◌∙◌}
 use Rattle.std.specs.Global.{Vec}
-use Rattle.std.specs.Prelude.{◌==◌, nat_lt}
+use Rattle.std.specs.Prelude.{◌==◌, nat_le, nat_lt}
 use Rattle.std.specs.Vec.{vec_items}
 use Rattle.iox_machine.specs.Arriving.{PublisherArrives, SubscriberArrives, new_publisher, new_subscriber}
 use Rattle.iox_machine.specs.Asked.{settings_of}
+use Rattle.iox_machine.specs.Agreement.{unfit}
 use Rattle.iox_machine.specs.Factories.{create_refusal}
 use Rattle.iox_machine.specs.Message.{Loan, Sample, is_written}
 use Rattle.iox_machine.specs.Negotiation.{Creates}
@@ -21,10 +22,16 @@ use Rattle.iox_machine.specs.State.{State, Made}
 use Rattle.iox_machine.specs.SubscriberUpdate as subscribing
 use Rattle.iox_machine.specs.Table.{removed}
 use Rattle.iox_machine.proofs.Kept.{IsNext}
+use Rattle.iox_machine.proofs.Mapped.{over-bool}
+use Rattle.iox_machine.proofs.Unfit.{over-fitness}
 use Rattle.iox_machine.proofs.Renumbered.{Numberings, renaming_of, other_reply, other_service}
-use Rattle.iox_machine.proofs.RenumberedPorts.{lends-loan-by, puts-by, drops-by, sends-loan-by, writes-by, releases-by, turns-by, publisher-leaves-by, subscriber-leaves-by, publisher-arrives-by, subscriber-arrives-by}
+use Rattle.iox_machine.proofs.RenumberedPorts.{lends-loan-by, puts-by, drops-by, sends-loan-by, writes-by, releases-by, turns-by}
+use Rattle.iox_machine.proofs.RenumberedPorts.{publisher-leaves-by, subscriber-leaves-by, publisher-arrives-by, subscriber-arrives-by}
 use Rattle.iox_machine.proofs.RenumberedPublishers.{updates-by, goes-on-by}
-use Rattle.iox_machine.proofs.RenumberedSteps.{other_state, other_end, state-refused, at-free-by, at-blocked-by, at-subscriber-by, at-loan-by, at-sample-by, at-factory-by, negotiates-by, opens-by, either-by, acts-by, closes-by}
+use Rattle.iox_machine.proofs.RenumberedSteps.{other_state, other_end, state-refused, state-skipped, at-free-by, at-blocked-by}
+use Rattle.iox_machine.proofs.RenumberedSteps.{at-subscriber-by}
+use Rattle.iox_machine.proofs.RenumberedSteps.{at-loan-by, at-sample-by, at-factory-by, negotiates-by, opens-by, either-by, acts-by}
+use Rattle.iox_machine.proofs.RenumberedSteps.{closes-by}
 use Rattle.iox_machine.proofs.RenumberedSubscribers.{subscriber-updates-by, has-by, receives-by}
 use Rattle.iox_command.specs.DomainValues.declared.port_error.ReceiveError.TheVariants as receive_error
 use Rattle.iox_command.specs.NegotiateBase.DescribeBase.declared.message_type.MessageTypeDetails.{MessageTypeDetails}
@@ -59,10 +66,13 @@ module _ {T : Type 0} (by : Numberings) (types : MessageTypeDetails) (IsDefault 
   step-by command.Node old answer new nodes next (inr refused) =
       inr (state-refused by made (refusal.Hub OutOfMemory) old answer new refused)
   step-by (command.Create node name named attributes steps) old answer new nodes next h =
-      negotiates-by by made
+      over-fitness (unfit (settings_of types named)) (λ negotiates. negotiates-by by made
       (Creates types (factory_of node name named).pattern steps (Own node)
       (record { settings = settings_of types named; attributes = attributes }))
-      (create_refusal named) (λ is_new. uncreated.OutOfMemory) (factory_of node name named) old answer new nodes next h
+      (create_refusal named) (λ is_new. uncreated.OutOfMemory) (factory_of node name named) old answer new nodes next negotiates)
+      (λ failure refuses. over-bool (nat_le 1 node && nat_le node old.made.nodes) (nat_le 1 node && nat_le node made.nodes)
+      (ap (λ (count : ℕ). nat_le 1 node && nat_le node count) nodes)
+      (state-refused by made (create_refusal named failure) old answer new) (state-skipped by made old answer new) refuses) h
   step-by (command.Open node name named required steps) old answer new nodes next h =
       opens-by by made types steps (factory_of node name named) named required old answer new nodes next h
   step-by (command.OpenOrCreate node name named required steps) old answer new nodes next h =

@@ -1,5 +1,6 @@
 -- A command on a port, a loan or a sample does the same where all goes by other numbers.
-use Rattle.std.proofs.Common.{◌≡◌, ◌⊎◌, ◌^◌, ℕ, Bool, true, false, not, ◌&&◌, ◌||◌, List, [], ◌∷◌, ◌++◌, map, length, Option, None, Some, refl, sym, ap, ap₂, subst, inl, inr, ◌∙◌}
+use Rattle.std.proofs.Common.{◌≡◌, ◌⊎◌, ◌^◌, ℕ, Bool, true, false, not, ◌&&◌, ◌||◌, List, [], ◌∷◌, ◌++◌, map, length, Option, None, Some}
+use Rattle.std.proofs.Common.{refl, sym, ap, ap₂, subst, inl, inr, ◌∙◌}
 use Rattle.std.proofs.lemmas.List.{map-append, map-set}
 use Rattle.std.specs.List.{list_all}
 use Rattle.std.specs.Prelude.{nat_lt, nat_le, option_map, is_some, slice_get, replicate, MatchBool}
@@ -15,7 +16,10 @@ use Rattle.iox_machine.specs.Service.{Service, Publisher, Subscriber, with_publi
 use Rattle.iox_machine.specs.SubscriberUpdate as subscribing
 use Rattle.iox_machine.specs.Table.{at, removed}
 use Rattle.iox_machine.proofs.Mapped.{all-by, get-by, replicate-by, some-by, over-bool, over-option}
-use Rattle.iox_machine.proofs.Renumbered.{Numbering, Numberings, placed, listed, left-by, at-by, changed-by, removed-by, other_subscriber, subscriber_entry, other_reply, refused-by, skipped-by, other_send, other_publisher, other_loan, other_sample, publisher_entry, loan_entry, other_service, publisher-by, subscriber-by, mailbox-by, boxed-by}
+use Rattle.iox_machine.proofs.Renumbered.{Numbering, Numberings, placed, listed, left-by, at-by, changed-by, removed-by, other_subscriber}
+use Rattle.iox_machine.proofs.Renumbered.{subscriber_entry, other_reply, refused-by, skipped-by, other_send, other_publisher, other_loan}
+use Rattle.iox_machine.proofs.Renumbered.{other_sample, publisher_entry, loan_entry, other_service, publisher-by, subscriber-by}
+use Rattle.iox_machine.proofs.Renumbered.{mailbox-by, boxed-by}
 use Rattle.iox_machine.proofs.RenumberedPublishers.{follows-by, sends-by, lends-by}
 use Rattle.iox_machine.proofs.RenumberedSubscribers.{subscriber-follows-by}
 use Rattle.iox_command.specs.DomainValues.declared.create_error.PublisherCreateError.TheVariants as publisher_error

@@ -1,5 +1,6 @@
 -- A publisher does the same where all goes by other numbers.
-use Rattle.std.proofs.Common.{◌≡◌, ◌+◌, ℕ, Bool, true, false, cond, not, ◌&&◌, List, [], ◌∷◌, ◌++◌, map, length, Option, None, Some, Ok, Err, refl, sym, ap, ap₂, subst, inl, inr, ◌∙◌}
+use Rattle.std.proofs.Common.{◌≡◌, ◌+◌, ℕ, Bool, true, false, cond, not, ◌&&◌, List, [], ◌∷◌, ◌++◌, map, length, Option, None, Some, Ok}
+use Rattle.std.proofs.Common.{Err, refl, sym, ap, ap₂, subst, inl, inr, ◌∙◌}
 use Rattle.std.proofs.lemmas.List.{length-map}
 use Rattle.std.specs.Option.{option_map_or}
 use Rattle.std.specs.Prelude.{◌==◌, nat_lt, nat_le, option_map, is_some, filter, fold, zip, filter_map, slice_get, MatchResult}
@@ -13,8 +14,12 @@ use Rattle.iox_machine.specs.Replies.{IsRefused}
 use Rattle.iox_machine.specs.Sending.{offered, deliver, decision_at, GoesOn, Begins, Sends}
 use Rattle.iox_machine.specs.Service.{Service, Publisher, Subscriber, Send, with_publisher, mailbox, with_mailbox, connect}
 use Rattle.iox_machine.specs.Table.{at, contains}
-use Rattle.iox_machine.proofs.Mapped.{cond-of, filter-by, all-by, get-by, filter_map-same, flat_map-same, map-same, some-by, or-by, map-swap, zip-by, fold-by, over-bool, over-same, over-result}
-use Rattle.iox_machine.proofs.Renumbered.{Numbering, Numberings, same-to, same-from, placed, those-by, contained-to, contained-from, unless-by, at-by, other_subscriber, subscriber_entry, other_reply, refused-by, other_send, other_publisher, other_loan, loan_entry, other_service, publisher-by, box-by, mailbox-by, boxed-by, connect-by}
+use Rattle.iox_machine.proofs.Mapped.{cond-of, filter-by, all-by, get-by, filter_map-same, flat_map-same, map-same, some-by, or-by}
+use Rattle.iox_machine.proofs.Mapped.{map-swap, zip-by, fold-by, over-bool, over-same, over-result}
+use Rattle.iox_machine.proofs.Renumbered.{Numbering, Numberings, same-to, same-from, placed, those-by, contained-to, contained-from}
+use Rattle.iox_machine.proofs.Renumbered.{unless-by, at-by, other_subscriber, subscriber_entry, other_reply, refused-by, other_send}
+use Rattle.iox_machine.proofs.Renumbered.{other_publisher, other_loan, loan_entry, other_service, publisher-by, box-by, mailbox-by}
+use Rattle.iox_machine.proofs.Renumbered.{boxed-by, connect-by}
 use Rattle.iox_command.specs.DomainValues.Actions.{decision_of}
 use Rattle.iox_command.specs.DomainValues.declared.backpressure.BackpressureDecision.{BackpressureDecision}
 use Rattle.iox_command.specs.DomainValues.declared.backpressure.BackpressureDecision.TheVariants.{Retry, DiscardData, DiscardDataAndFail}

@@ -1,5 +1,6 @@
 -- Alone, what a service is asked is answered as among others, with all numbers counted anew.
-use Rattle.std.proofs.Common.{◌≡◌, ◌≤◌, ◌<◌, ◌+◌, ℕ, Bool, true, false, cond, List, [], ◌∷◌, map, None, refl, sym, ap, subst, inl, inr, arith, ◌∙◌, true≢false, eq-or-lt_of_le}
+use Rattle.std.proofs.Common.{◌≡◌, ◌≤◌, ◌<◌, ◌+◌, ℕ, Bool, true, false, cond, List, [], ◌∷◌, map, None, refl, sym, ap, subst, inl, inr}
+use Rattle.std.proofs.Common.{arith, ◌∙◌, true≢false, eq-or-lt_of_le}
 use Rattle.std.proofs.lemmas.Bool.{eqb-true, eq-eqb, ne_eqb}
 use Rattle.std.specs.Prelude.{◌==◌, filter}
 use Rattle.iox_machine.specs.IndependenceLaws.{is_of, concerns, commands_concerning, answers_concerning, NumbersAreCountedAnew}

@@ -1,5 +1,6 @@
 -- A step is a step where all goes by other numbers.
-use Rattle.std.proofs.Common.{◌≡◌, ◌⊎◌, ◌+◌, ℕ, Bool, false, cond, not, ◌&&◌, ◌||◌, List, [], ◌∷◌, ◌++◌, map, take, fold, Option, None, Some, Result, Ok, Err, refl, sym, ap, ap₂, subst, inl, inr, ◌∙◌}
+use Rattle.std.proofs.Common.{◌≡◌, ◌⊎◌, ◌+◌, ℕ, Bool, false, cond, not, ◌&&◌, ◌||◌, List, [], ◌∷◌, ◌++◌, map, take, fold, Option, None}
+use Rattle.std.proofs.Common.{Some, Result, Ok, Err, refl, sym, ap, ap₂, subst, inl, inr, ◌∙◌}
 use Rattle.std.proofs.lemmas.List.{map-append}
 use Rattle.std.specs.List.{list_any}
 use Rattle.std.specs.Option.{option_map_or}
@@ -19,7 +20,9 @@ use Rattle.iox_machine.specs.State.{State, Factory, Made, AtOne, counted, is_ser
 use Rattle.iox_machine.specs.Table.{at, removed}
 use Rattle.iox_machine.proofs.Kept.{IsNext}
 use Rattle.iox_machine.proofs.Mapped.{cond-of, find-by, filter-by, any-by, some-by, or-by, replicate-by, over-bool, over-option}
-use Rattle.iox_machine.proofs.Renumbered.{Numberings, same-to, placed, entered_by, at-by, removed-by, other_subscriber, subscriber_entry, other_reply, skipped-by, other_send, other_publisher, other_loan, other_sample, publisher_entry, loan_entry, sample_entry, other_service}
+use Rattle.iox_machine.proofs.Renumbered.{Numberings, same-to, placed, entered_by, at-by, removed-by, other_subscriber, subscriber_entry}
+use Rattle.iox_machine.proofs.Renumbered.{other_reply, skipped-by, other_send, other_publisher, other_loan, other_sample, publisher_entry}
+use Rattle.iox_machine.proofs.Renumbered.{loan_entry, sample_entry, other_service}
 use Rattle.iox_command.specs.NegotiateBase.DescribeBase.Attributes.{Required}
 use Rattle.iox_command.specs.NegotiateBase.DescribeBase.declared.message_type.MessageTypeDetails.{MessageTypeDetails}
 use Rattle.iox_command.specs.NegotiateBase.DescribeBase.declared.pattern.MessagingPattern.{MessagingPattern}
@@ -66,7 +69,7 @@ module _ {T : Type 0} (by : Numberings) where
   other_end made answer state = other_state (counted (other_reply by answer) made) state
 
   module _ (made : Made) where
-    state-skipped : (old : State T) (answer : Reply T) (new : State T) → IsSkipped old answer new
+    pub state-skipped : (old : State T) (answer : Reply T) (new : State T) → IsSkipped old answer new
         → IsSkipped (other_state made old) (other_reply by answer) (other_end made answer new)
     state-skipped old answer new (told, same) = (ap (other_reply by) told, ap₂ (other_end made) told same)
 

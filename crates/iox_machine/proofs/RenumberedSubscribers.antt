@@ -1,5 +1,6 @@
 -- A subscriber does the same where all goes by other numbers.
-use Rattle.std.proofs.Common.{◌≡◌, ℕ, Bool, true, false, cond, not, ◌&&◌, List, [], ◌∷◌, ◌++◌, map, length, max, Option, None, Some, refl, sym, ap, ap₂, subst, ◌∙◌}
+use Rattle.std.proofs.Common.{◌≡◌, ℕ, Bool, true, false, cond, not, ◌&&◌, List, [], ◌∷◌, ◌++◌, map, length, max, Option, None, Some, refl}
+use Rattle.std.proofs.Common.{sym, ap, ap₂, subst, ◌∙◌}
 use Rattle.std.proofs.lemmas.List.{length-map, map-append}
 use Rattle.std.specs.Global.{Vec}
 use Rattle.std.specs.List.{list_any}
@@ -15,8 +16,11 @@ use Rattle.iox_machine.specs.Service.{Service, Subscriber, with_subscriber, mail
 use Rattle.iox_machine.specs.SubscriberUpdate as subscribing
 use Rattle.iox_machine.specs.SubscriberUpdate.{gone_from, parting, now_at, Parted, is_unborrowed, room_for, part}
 use Rattle.iox_machine.specs.Table.{contains}
-use Rattle.iox_machine.proofs.Mapped.{cond-of, find-by, filter-by, any-by, all-by, get-by, filter_map-by, some-by, or-by, map-swap, zip-by, fold-by, over-bool, over-option, over-result}
-use Rattle.iox_machine.proofs.Renumbered.{Numbering, Numberings, same-to, placed, those-by, contains-to, contained-to, unless-by, other_subscriber, other_reply, refused-by, sample_entry, other_service, subscriber-by, box-by, mailbox-by, boxed-by, connect-by}
+use Rattle.iox_machine.proofs.Mapped.{cond-of, find-by, filter-by, any-by, all-by, get-by, filter_map-by, some-by, or-by, map-swap}
+use Rattle.iox_machine.proofs.Mapped.{zip-by, fold-by, over-bool, over-option, over-result}
+use Rattle.iox_machine.proofs.Renumbered.{Numbering, Numberings, same-to, placed, those-by, contains-to, contained-to, unless-by}
+use Rattle.iox_machine.proofs.Renumbered.{other_subscriber, other_reply, refused-by, sample_entry, other_service, subscriber-by, box-by}
+use Rattle.iox_machine.proofs.Renumbered.{mailbox-by, boxed-by, connect-by}
 use Rattle.iox_machine.proofs.RenumberedPublishers.{answer-by}
 use Rattle.iox_command.specs.DomainValues.declared.connection_failure.ConnectionFailure.{ConnectionFailure}
 use Rattle.iox_command.specs.DomainValues.declared.port_error.ReceiveError.TheVariants.{ExceedsMaxBorrows}

@@ -1,11 +1,13 @@
 -- What holds of each service of a run, and that what a port does keeps it.
-use Rattle.std.proofs.Common.{◌≡◌, ◌⊎◌, ◌≤◌, ◌<◌, ◌+◌, ◌^◌, ℕ, Bool, true, false, cond, not, ◌&&◌, ◌||◌, List, [], ◌∷◌, ◌++◌, length, take, Option, None, Some, refl, sym, subst, inl, inr, arith, length-append, length-drop}
+use Rattle.std.proofs.Common.{◌≡◌, ◌⊎◌, ◌≤◌, ◌<◌, ◌+◌, ◌^◌, ℕ, Bool, true, false, cond, not, ◌&&◌, ◌||◌, List, [], ◌∷◌, ◌++◌, length}
+use Rattle.std.proofs.Common.{take, Option, None, Some, refl, sym, subst, inl, inr, arith, length-append, length-drop}
 use Rattle.std.proofs.lemmas.Bool.{eqb-true, ltb-true, ltb-false}
 use Rattle.std.specs.List.{AllByRecursion, list_all}
 use Rattle.std.specs.Option.{option_map_or}
 use Rattle.std.specs.Global.{Vec}
 use Rattle.std.specs.Vec.{vec_items}
-use Rattle.std.specs.Prelude.{⊤, ◌==◌, nat_lt, nat_le, is_some, unwrap_or, option_map, option_and_then, filter, find, slice_get, MatchBool, MatchOption, MatchResult}
+use Rattle.std.specs.Prelude.{⊤, ◌==◌, nat_lt, nat_le, is_some, unwrap_or, option_map, option_and_then, filter, find, slice_get}
+use Rattle.std.specs.Prelude.{MatchBool, MatchOption, MatchResult}
 use Rattle.iox_machine.specs.Arriving.{worst_case, PublisherArrives, SubscriberArrives}
 use Rattle.iox_machine.specs.Lending.{Lends, LendsLonger, loan_refusal}
 use Rattle.iox_machine.specs.Mailbox.{Mailbox, newest, put, taken, given_back, has_data}
@@ -17,11 +19,13 @@ use Rattle.iox_machine.specs.PublisherUpdate.{update_answer}
 use Rattle.iox_machine.specs.Receiving.{Receives, Takes, IsGiver, gives, lasting}
 use Rattle.iox_machine.specs.Replies.{IsSkipped, IsRefused}
 use Rattle.iox_machine.specs.Sending.{offered, deliver, decision_at, GoesOn, Begins, Sends}
-use Rattle.iox_machine.specs.Service.{Service, Publisher, Subscriber, Send, with_publisher, with_subscriber, mailbox, with_mailbox, connect, new_service}
+use Rattle.iox_machine.specs.Service.{Service, Publisher, Subscriber, Send, with_publisher, with_subscriber, mailbox, with_mailbox}
+use Rattle.iox_machine.specs.Service.{connect, new_service}
 use Rattle.iox_machine.specs.SubscriberUpdate as subscribing
 use Rattle.iox_machine.specs.Table.{at, removed, contains}
 use Rattle.iox_machine.proofs.Cases.{by-bool, by-option, by-result, same-some, never-some, chosen, both-true}
-use Rattle.iox_machine.proofs.Lists.{all-joined, all-taken, all-dropped, all-newest, all-filtered, first-of, newest-fits, take-fits, filter-fits, fold-keeps, all-at, all-changed}
+use Rattle.iox_machine.proofs.Lists.{all-joined, all-taken, all-dropped, all-newest, all-filtered, first-of, newest-fits, take-fits}
+use Rattle.iox_machine.proofs.Lists.{filter-fits, fold-keeps, all-at, all-changed}
 use Rattle.iox_command.specs.DomainValues.declared.backpressure.BackpressureDecision.{BackpressureDecision}
 use Rattle.iox_command.specs.DomainValues.declared.backpressure.BackpressureDecision.TheVariants.{Retry, DiscardData, DiscardDataAndFail}
 use Rattle.iox_command.specs.DomainValues.declared.connection_failure.ConnectionFailure.{ConnectionFailure}

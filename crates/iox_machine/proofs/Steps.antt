@@ -1,5 +1,6 @@
 -- Each step keeps what holds of each service.
-use Rattle.std.proofs.Common.{◌≡◌, ◌+◌, ℕ, Bool, true, false, cond, ◌&&◌, [], ◌∷◌, ◌++◌, length, map, set, Option, None, Some, refl, sym, ap, subst, inl, inr, arith, ◌∙◌}
+use Rattle.std.proofs.Common.{◌≡◌, ◌+◌, ℕ, Bool, true, false, cond, ◌&&◌, [], ◌∷◌, ◌++◌, length, map, set, Option, None, Some, refl, sym}
+use Rattle.std.proofs.Common.{ap, subst, inl, inr, arith, ◌∙◌}
 use Rattle.std.specs.Global.{Vec}
 use Rattle.std.specs.List.{AllByRecursion}
 use Rattle.std.specs.Prelude.{⊤, ◌==◌, nat_lt, is_some, fold, take, slice_get, MatchOption}
@@ -21,8 +22,11 @@ use Rattle.iox_machine.specs.State.{State, AtOne, is_service_of, counted, with_p
 use Rattle.iox_machine.specs.SubscriberUpdate as subscribing
 use Rattle.iox_machine.specs.Table.{at, removed}
 use Rattle.iox_machine.proofs.Cases.{by-option}
-use Rattle.iox_machine.proofs.Moving.{Keeps, skipped-keeps, refused-keeps, at-one-keeps, creates, opens, opens-or-creates, negotiated-keeps, closed, closed-keeps}
-use Rattle.iox_machine.proofs.Sound.{Sound, Both, Well, new-sound, publisher-fits, publisher-changed, updates-first, goes-on, lends-loan, puts, sends-loan, writes, subscriber-fits, subscriber-changed, subscriber-updates, receives, releases, publisher-arrives, subscriber-arrives}
+use Rattle.iox_machine.proofs.Moving.{Keeps, skipped-keeps, refused-keeps, at-one-keeps, creates, opens, opens-or-creates}
+use Rattle.iox_machine.proofs.Moving.{negotiated-keeps, closed, closed-keeps}
+use Rattle.iox_machine.proofs.Sound.{Sound, Both, Well, new-sound, publisher-fits, publisher-changed, updates-first, goes-on, lends-loan}
+use Rattle.iox_machine.proofs.Sound.{puts, sends-loan, writes, subscriber-fits, subscriber-changed, subscriber-updates, receives}
+use Rattle.iox_machine.proofs.Sound.{releases, publisher-arrives, subscriber-arrives}
 use Rattle.iox_command.specs.DomainValues.declared.connection_failure.ConnectionFailure.{ConnectionFailure}
 use Rattle.iox_command.specs.DomainValues.declared.port_error.ReceiveError.TheVariants as receive_error
 use Rattle.iox_command.specs.DomainValues.declared.port_error.SendError.TheVariants as error

@@ -1,5 +1,6 @@
 -- How often a message may be sent still, by what a service has, and what commands do to that.
-use Rattle.std.proofs.Common.{◌≡◌, ◌≤◌, ◌<◌, ◌+◌, ℕ, Bool, true, false, cond, not, ◌&&◌, List, [], ◌∷◌, ◌++◌, length, Option, None, Some, refl, sym, ap, subst, inl, inr, arith, ◌∙◌}
+use Rattle.std.proofs.Common.{◌≡◌, ◌≤◌, ◌<◌, ◌+◌, ℕ, Bool, true, false, cond, not, ◌&&◌, List, [], ◌∷◌, ◌++◌, length, Option, None, Some}
+use Rattle.std.proofs.Common.{refl, sym, ap, subst, inl, inr, arith, ◌∙◌}
 use Rattle.std.proofs.lemmas.Bool.{eqb-true, eqb-false, cases_Bool, leb-true, leb-false}
 use Rattle.std.specs.Prelude.{◌==◌, nat_le, nat_lt, find, is_some, option_map, replicate, MatchBool}
 use Rattle.iox_machine.specs.Arriving.{PublisherArrives}
@@ -276,7 +277,8 @@ module _ {T : Type 0} (p n : ℕ) where
       → at number service.publishers ≡ Some one → LendsLoan loan number count value one service answer after
       → Sent answer 0 service after
   lends-sent loan number count value one service after answer found (Some why, then, lent, refused) =
-      quiet answer 0 service after (omega arith) (same-refused (refusal.Loan why) service service answer after (same-itself service) refused)
+      quiet answer 0 service after (omega arith)
+      (same-refused (refusal.Loan why) service service answer after (same-itself service) refused)
   lends-sent loan number count value one service after answer found (None, then, lent, (told, came)) =
       let made : Loan T = record { publisher = number; number = one.next; values = replicate count value } in
       subst (λ (it : Service T). Sent answer 0 service it) (sym came)

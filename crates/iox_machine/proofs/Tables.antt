@@ -1,5 +1,6 @@
 -- What goes by a number in a table that changed.
-use Rattle.std.proofs.Common.{◌≡◌, ◌⊎◌, ℕ, Bool, true, false, cond, not, List, [], ◌∷◌, ◌++◌, Option, None, Some, refl, sym, ap, subst, inl, inr, ◌∙◌}
+use Rattle.std.proofs.Common.{◌≡◌, ◌⊎◌, ℕ, Bool, true, false, cond, not, List, [], ◌∷◌, ◌++◌, Option, None, Some, refl, sym, ap, subst}
+use Rattle.std.proofs.Common.{inl, inr, ◌∙◌}
 use Rattle.std.proofs.lemmas.Bool.{eqb-true, eqb-false, eq-eqb, ne_eqb, cases_Bool}
 use Rattle.std.specs.Prelude.{find, is_some, option_map, ◌==◌}
 use Rattle.iox_machine.specs.Table.{at, changed, removed}
@@ -33,7 +34,8 @@ module _ {V : Type 0} where
       step on true is = ap (λ (c : Bool). option_map value_of (cond c (Some (number, v)) more)) (eq-eqb number number refl)
       step on false is =
           ap (λ (c : Bool). option_map value_of (cond c (Some entry) more)) is
-          ∙ on (sym (ap (λ (c : Bool). option_map value_of (cond c (Some entry) (find (λ (other : ℕ × V). other.0 == number) table))) is) ∙ e)
+          ∙ on (sym (ap (λ (c : Bool). option_map value_of (cond c (Some entry) (find (λ (other : ℕ × V). other.0 == number) table)))
+          is) ∙ e)
 
   pub at-changed-other : (number other : ℕ) (v : V) (table : List (ℕ × V)) → (other ≡ number → ⊥)
       → at other (changed number v table) ≡ at other table
@@ -144,7 +146,8 @@ module _ {V : Type 0} where
       step on true is = never-some entry.1 (sym none ∙ ap (λ (c : Bool). option_map value_of (cond c (Some entry) before)) is)
       step on false is =
           on (sym (ap (λ (c : Bool). option_map value_of (cond c (Some entry) before)) is) ∙ none)
-          (sym (ap (λ (c : Bool). option_map value_of (cond ((cond c (number, v) entry).0 == number) (Some (cond c (number, v) entry)) now)) is
+          (sym (ap (λ (c : Bool). option_map value_of
+          (cond ((cond c (number, v) entry).0 == number) (Some (cond c (number, v) entry)) now)) is
           ∙ ap (λ (c : Bool). option_map value_of (cond c (Some entry) now)) is) ∙ e)
 
   pub at-changed-either : (number other : ℕ) (v x : V) (table : List (ℕ × V)) → at other (changed number v table) ≡ Some x

@@ -1,5 +1,6 @@
 -- What is received was sent by the publisher from whose mailbox it was taken.
-use Rattle.std.proofs.Common.{◌≡◌, ◌+◌, ℕ, Bool, true, false, cond, ◌||◌, List, [], ◌∷◌, ◌++◌, Option, None, Some, refl, sym, ap, subst, inl, inr, ◌∙◌, true≢false}
+use Rattle.std.proofs.Common.{◌≡◌, ◌+◌, ℕ, Bool, true, false, cond, ◌||◌, List, [], ◌∷◌, ◌++◌, Option, None, Some, refl, sym, ap, subst}
+use Rattle.std.proofs.Common.{inl, inr, ◌∙◌, true≢false}
 use Rattle.std.proofs.lemmas.Bool.{eq-eqb}
 use Rattle.std.specs.Global.{Vec}
 use Rattle.std.specs.List.{AllByRecursion}
@@ -133,7 +134,8 @@ module _ {T : Type 0} (types : MessageTypeDetails) (IsDefault : T → Type 0) (b
           let seen : first_in (λ (other : Service T). at (old.made.samples + 1) other.samples) new ≡ Some it =
           ap (λ (state : State T). first_in (λ (other : Service T). at (old.made.samples + 1) other.samples) state) came
           ∙ (ap (option_and_then (λ (other : Service T). at (old.made.samples + 1) other.samples))
-          (first-fresh (old.made.samples + 1) (λ (other : Service T). is_some (subscriber_in subscriber other)) service after it old.services
+          (first-fresh (old.made.samples + 1) (λ (other : Service T). is_some (subscriber_in subscriber other)) service after it
+          old.services
           fresh first there)
           ∙ there) in
           let known : subscriber_in subscriber after ≡ Some later =

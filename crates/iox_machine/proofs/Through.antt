@@ -1,5 +1,6 @@
 -- What an update leaves of a service: its mailboxes, with what is borrowed and waits, and its ports but for connections.
-use Rattle.std.proofs.Common.{◌≡◌, ◌⊎◌, ℕ, Bool, true, false, cond, not, ◌&&◌, ◌||◌, List, [], ◌∷◌, Option, None, Some, refl, sym, ap, subst, inl, inr, ◌∙◌, true≢false}
+use Rattle.std.proofs.Common.{◌≡◌, ◌⊎◌, ℕ, Bool, true, false, cond, not, ◌&&◌, ◌||◌, List, [], ◌∷◌, Option, None, Some, refl, sym, ap}
+use Rattle.std.proofs.Common.{subst, inl, inr, ◌∙◌, true≢false}
 use Rattle.std.proofs.lemmas.Bool.{and_from, and_right, cases_Bool, eq-eqb, eqb-false, eqb-true, false_from_ne_true}
 use Rattle.std.specs.Option.{option_map_or}
 use Rattle.std.specs.Prelude.{◌==◌, filter, find, fold, is_some, option_map, unwrap_or, MatchOption, MatchResult}
@@ -17,7 +18,8 @@ use Rattle.iox_machine.specs.SubscriberUpdate as subscribing
 use Rattle.iox_machine.specs.Table.{at, contains}
 use Rattle.iox_machine.specs.UpdateLaws.{PublisherKeepsMailboxes, SubscriberKeepsMailboxes, UpdateLeaves, box_then, first_box, waits_then}
 use Rattle.iox_machine.proofs.Cases.{both-true, by-bool, by-option, by-result, never-some, same-some}
-use Rattle.iox_machine.proofs.Frames.{ByPublisher, BySubscriber, box-same, by-follows, publisher-stands, soft-followed, soft-follows, subscriber-stands}
+use Rattle.iox_machine.proofs.Frames.{ByPublisher, BySubscriber, box-same, by-follows, publisher-stands, soft-followed, soft-follows}
+use Rattle.iox_machine.proofs.Frames.{subscriber-stands}
 use Rattle.iox_machine.proofs.Linking.{Turned, changed-view, reach, reach_of, subscriber_listed, turned-walks}
 use Rattle.iox_machine.proofs.Listed.{publisher-standing, subscriber-standing}
 use Rattle.iox_machine.proofs.Lists.{fold-keeps}

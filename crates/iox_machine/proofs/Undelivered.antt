@@ -1,5 +1,6 @@
 -- What a send leaves that couldn't deliver.
-use Rattle.std.proofs.Common.{◌≡◌, ◌≤◌, ◌<◌, ◌⊎◌, ◌+◌, ◌-◌, ℕ, Bool, true, false, cond, not, ◌&&◌, ◌||◌, List, [], ◌∷◌, ◌++◌, length, drop, Option, None, Some, refl, sym, ap, subst, inl, inr, arith, ◌∙◌, length-append, true≢false}
+use Rattle.std.proofs.Common.{◌≡◌, ◌≤◌, ◌<◌, ◌⊎◌, ◌+◌, ◌-◌, ℕ, Bool, true, false, cond, not, ◌&&◌, ◌||◌, List, [], ◌∷◌, ◌++◌, length}
+use Rattle.std.proofs.Common.{drop, Option, None, Some, refl, sym, ap, subst, inl, inr, arith, ◌∙◌, length-append, true≢false}
 use Rattle.std.proofs.lemmas.Bool.{eq-eqb, eqb-false, eqb-true, leb-false, or_right}
 use Rattle.std.specs.Option.{option_map_or}
 use Rattle.std.specs.Prelude.{◌==◌, find, is_some, nat_le, slice_get, unwrap_or, MatchBool, MatchOption, MatchResult}
@@ -9,7 +10,8 @@ use Rattle.iox_machine.specs.PortList.{those}
 use Rattle.iox_machine.specs.Ports.{Puts, SendsLoan, publisher_in}
 use Rattle.iox_machine.specs.PublisherUpdate as publishing
 use Rattle.iox_machine.specs.PublisherUpdate.{update_answer}
-use Rattle.iox_machine.specs.RefusalLaws.{IsRetried, IsSentBy, IsUndelivered, KeepsMessages, KeepsPorts, LacksOne, RetriesLeave, UndeliveredLeaves, is_sending, loans_left, offered_to}
+use Rattle.iox_machine.specs.RefusalLaws.{IsRetried, IsSentBy, IsUndelivered, KeepsMessages, KeepsPorts, LacksOne, RetriesLeave}
+use Rattle.iox_machine.specs.RefusalLaws.{UndeliveredLeaves, is_sending, loans_left, offered_to}
 use Rattle.iox_machine.specs.Replies.{IsRefused, IsSkipped}
 use Rattle.iox_machine.specs.Run.{Runs, Step}
 use Rattle.iox_machine.specs.Sending.{Begins, GoesOn, Sends, decision_at, deliver, offered}

@@ -1,11 +1,13 @@
 -- A refused call during which no other node acts leaves agreements and nodes.
-use Rattle.std.proofs.Common.{◌≡◌, ◌≤◌, ◌+◌, ◌-◌, ℕ, Bool, true, false, cond, not, ◌&&◌, ◌||◌, List, [], ◌∷◌, length, refl, sym, ap, subst, inl, inr, arith, ◌∙◌, true≢false}
+use Rattle.std.proofs.Common.{◌≡◌, ◌≤◌, ◌+◌, ◌-◌, ℕ, Bool, true, false, cond, not, ◌&&◌, ◌||◌, List, [], ◌∷◌, length, refl, sym, ap}
+use Rattle.std.proofs.Common.{subst, inl, inr, arith, ◌∙◌, true≢false}
 use Rattle.std.proofs.lemmas.Bool.{leb-true}
 use Rattle.std.specs.List.{AllByRecursion}
 use Rattle.std.specs.Prelude.{⊤, nat_le, nat_lt}
 use Rattle.iox_machine.specs.Agreement.{Agreement, are_within_limits}
 use Rattle.iox_machine.specs.Asked.{settings_of}
-use Rattle.iox_machine.specs.Phase.{Absent, BeingMade, Emptied, Foreign, Node, Own, Phase, Published, acted, closed_by, entered, is_in, left, left_by, removed_by, same_node, same_pattern}
+use Rattle.iox_machine.specs.Phase.{Absent, BeingMade, Emptied, Foreign, Node, Own, Phase, Published, acted, closed_by, entered, is_in}
+use Rattle.iox_machine.specs.Phase.{left, left_by, removed_by, same_node, same_pattern}
 use Rattle.iox_machine.specs.RefusalLaws.{IsAsBefore, RefusedCallsLeaveNodes}
 use Rattle.iox_machine.specs.Run.{Runs, factory_of}
 use Rattle.iox_machine.specs.State.{Factory, State, new_state}

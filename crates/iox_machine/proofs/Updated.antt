@@ -1,10 +1,12 @@
 -- Who is connected after an update.
-use Rattle.std.proofs.Common.{◌≡◌, ◌⊎◌, ℕ, Bool, true, false, cond, not, ◌&&◌, ◌||◌, List, [], ◌∷◌, ◌++◌, length, map, Option, None, Some, Ok, refl, sym, ap, subst, inl, inr, ◌∙◌, true≢false}
+use Rattle.std.proofs.Common.{◌≡◌, ◌⊎◌, ℕ, Bool, true, false, cond, not, ◌&&◌, ◌||◌, List, [], ◌∷◌, ◌++◌, length, map, Option, None, Some}
+use Rattle.std.proofs.Common.{Ok, refl, sym, ap, subst, inl, inr, ◌∙◌, true≢false}
 use Rattle.std.proofs.lemmas.Bool.{eqb-true, eq-eqb, false_from_ne_true}
 use Rattle.std.proofs.lemmas.List.{length-map}
 use Rattle.std.specs.List.{AllByRecursion, cons_option, list_all}
 use Rattle.std.specs.Option.{option_map_or}
-use Rattle.std.specs.Prelude.{◌==◌, nat_lt, max, is_some, option_map, option_and_then, filter, find, fold, zip, unwrap_or, MatchOption, MatchResult}
+use Rattle.std.specs.Prelude.{◌==◌, nat_lt, max, is_some, option_map, option_and_then, filter, find, fold, zip, unwrap_or, MatchOption}
+use Rattle.std.specs.Prelude.{MatchResult}
 use Rattle.iox_machine.specs.Mailbox.{Mailbox, newest, is_idle}
 use Rattle.iox_machine.specs.Message.{Message}
 use Rattle.iox_machine.specs.PortList.{PortList, those, unless}

@@ -1,5 +1,6 @@
 -- What each step does to the services of the hub: one of them walks on, a port of it comes or leaves, or a service begins or ends.
-use Rattle.std.proofs.Common.{◌≡◌, ◌⊎◌, ◌+◌, ℕ, Bool, true, false, cond, not, ◌&&◌, ◌||◌, List, [], ◌∷◌, ◌++◌, length, map, set, Option, None, Some, refl, sym, ap, subst, inl, inr, ◌∙◌}
+use Rattle.std.proofs.Common.{◌≡◌, ◌⊎◌, ◌+◌, ℕ, Bool, true, false, cond, not, ◌&&◌, ◌||◌, List, [], ◌∷◌, ◌++◌, length, map, set, Option}
+use Rattle.std.proofs.Common.{None, Some, refl, sym, ap, subst, inl, inr, ◌∙◌}
 use Rattle.std.specs.Global.{Vec}
 use Rattle.std.specs.List.{list_all, list_any}
 use Rattle.std.specs.Prelude.{◌^◌, ◌==◌, nat_le, nat_lt, is_some, filter, find, fold, slice_get, take, MatchBool, MatchOption}
@@ -22,7 +23,8 @@ use Rattle.iox_machine.specs.Table.{at, removed}
 use Rattle.iox_machine.proofs.Cases.{by-bool, by-option}
 use Rattle.iox_machine.proofs.Frames.{publisher-stands, subscriber-comes, subscriber-stands}
 use Rattle.iox_machine.proofs.Moving.{IsClosed, IsNegotiated, at-one, closed, creates, opens, opens-or-creates}
-use Rattle.iox_machine.proofs.Walks.{Walks, walks-attends, walks-goes-on, walks-lends, walks-puts, walks-receives, walks-refused, walks-releases, walks-same, walks-sends-loan, walks-updates, walks-writes}
+use Rattle.iox_machine.proofs.Walks.{Walks, walks-attends, walks-goes-on, walks-lends, walks-puts, walks-receives, walks-refused}
+use Rattle.iox_machine.proofs.Walks.{walks-releases, walks-same, walks-sends-loan, walks-updates, walks-writes}
 use Rattle.iox_command.specs.DomainValues.declared.connection_failure.ConnectionFailure.{ConnectionFailure}
 use Rattle.iox_command.specs.DomainValues.declared.create_error.PublisherCreateError.TheVariants as publisher_error
 use Rattle.iox_command.specs.DomainValues.declared.port_error.ReceiveError.TheVariants as receive_error

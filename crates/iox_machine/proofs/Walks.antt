@@ -1,5 +1,6 @@
 -- What holds of each thing that a port does holds of all that its commands do.
-use Rattle.std.proofs.Common.{◌≡◌, ◌+◌, ℕ, Bool, true, false, cond, not, ◌&&◌, List, [], ◌∷◌, ◌++◌, Option, None, Some, refl, sym, ap, subst, inl, inr, ◌∙◌}
+use Rattle.std.proofs.Common.{◌≡◌, ◌+◌, ℕ, Bool, true, false, cond, not, ◌&&◌, List, [], ◌∷◌, ◌++◌, Option, None, Some, refl, sym, ap}
+use Rattle.std.proofs.Common.{subst, inl, inr, ◌∙◌}
 use Rattle.std.specs.Prelude.{◌==◌, nat_lt, length, is_some, replicate, slice_get, MatchBool, MatchResult}
 use Rattle.iox_machine.specs.Lending.{Lends, LendsLonger, loan_refusal}
 use Rattle.iox_machine.specs.Mailbox.{Mailbox, given_back, newest, put, taken}

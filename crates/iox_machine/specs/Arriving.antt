@@ -1,5 +1,6 @@
 -- How publishers and subscribers come.
-use Rattle.std.specs.Prelude.{ℕ, ◌+◌, ◌*◌, ◌^◌, ◌≡◌, ◌⊎◌, ◌||◌, true, false, nat_lt, nat_le, min, max, [], ◌∷◌, ◌++◌, replicate, slice_get, None, Some, is_some, unwrap_or, MatchBool}
+use Rattle.std.specs.Prelude.{ℕ, ◌+◌, ◌*◌, ◌^◌, ◌≡◌, ◌⊎◌, ◌||◌, true, false, nat_lt, nat_le, min, max, [], ◌∷◌, ◌++◌, replicate}
+use Rattle.std.specs.Prelude.{slice_get, None, Some, is_some, unwrap_or, MatchBool}
 use Rattle.std.specs.List.{list_all}
 use Rattle.iox_machine.specs.PortList.{registered}
 use Rattle.iox_machine.specs.PublisherUpdate as publishing

@@ -1,5 +1,6 @@
 -- How a publisher lends.
-use Rattle.std.specs.Prelude.{ℕ, ◌+◌, ◌≡◌, ◌⊎◌, Bool, true, false, ◌&&◌, ◌==◌, nat_lt, nat_le, List, [], ◌∷◌, ◌++◌, length, map, filter, flat_map, Option, None, Some, MatchBool, MatchOption, if◌then◌else◌}
+use Rattle.std.specs.Prelude.{ℕ, ◌+◌, ◌≡◌, ◌⊎◌, Bool, true, false, ◌&&◌, ◌==◌, nat_lt, nat_le, List, [], ◌∷◌, ◌++◌, length, map, filter}
+use Rattle.std.specs.Prelude.{flat_map, Option, None, Some, MatchBool, MatchOption, if◌then◌else◌}
 use Rattle.iox_machine.specs.Message.{Loan}
 use Rattle.iox_machine.specs.Service.{Service, Publisher, mailbox}
 use Rattle.iox_machine.specs.Table.{contains}

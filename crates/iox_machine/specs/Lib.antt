@@ -36,3 +36,4 @@ pub mod AmongLaws
 pub mod NumberLaws
 pub mod OnceLaws
 pub mod GoingLaws
+pub mod UseLaws

@@ -1,6 +1,6 @@
 -- The machine: what each command does, what it is answered, and a run of commands.
-use Rattle.std.specs.Prelude.{ℕ, ◌+◌, ◌≡◌, ◌⊎◌, ◌&&◌, ◌==◌, nat_lt, Bool, false, List, [], ◌∷◌, ◌++◌, length, map, set, Some, None, MatchOption, if◌then◌else◌}
-use Rattle.std.specs.Bool.{OnFalse}
+use Rattle.std.specs.Prelude.{ℕ, ◌+◌, ◌≡◌, ◌⊎◌, ◌&&◌, ◌==◌, nat_lt, Bool, false, List, [], ◌∷◌, ◌++◌, length, map, set, Some, None}
+use Rattle.std.specs.Prelude.{MatchBool, MatchOption, if◌then◌else◌}
 use Rattle.std.specs.Global.{Vec}
 use Rattle.std.specs.Vec.{vec_items}
 use Rattle.iox_machine.specs.Arriving.{PublisherArrives, SubscriberArrives, new_publisher, new_subscriber}
@@ -32,6 +32,19 @@ use Rattle.iox_command.specs.declared.service.ServiceOptions.{ServiceOptions}
 -- the factory that a node gets of the service of a name
 abbrev pub factory_of : ℕ → List ℕ → ServiceOptions → Factory
 factory_of node name options = record { pattern = pattern_of options; name = name; node = node }
+
+module _ {T : Type 0} where
+  -- A command is answered with the values of a message, if it finds one: it receives, or reads.
+  abbrev pub TellsValues : Command T → Type 0
+  TellsValues (command.Receive subscriber) = Unit {0}
+  TellsValues (command.Read sample) = Unit {0}
+  TellsValues other = ⊥
+
+  -- A run may stop where these commands are left and these answers were given: some command is left; and nothing was answered, or the next
+  -- command tells values.
+  abbrev pub MayStop : List (Command T) → List (Reply T) → Type 0
+  MayStop [] answers = ⊥
+  MayStop (next ∷ rest) answers = (answers ≡ []) ⊎ TellsValues next
 
 -- A machine is made for messages of certain types, with what a default value is, and with how many connections of a subscriber may be
 -- expired at least.
@@ -124,8 +137,8 @@ module _ {T : Type 0} (types : MessageTypeDetails) (IsDefault : T → Type 0) (b
       (answer : Reply T) × (mid : State T) × (rest : List (Reply T)) × Step command old answer mid × Runs more mid rest new ×
       (answers ≡ answer ∷ rest)
 
-  -- What a new machine may answer to commands: to all of them, or, if it stopped, to the first of them.
+  -- What a new machine may answer to commands: to all of them, or, if it stopped, to the first of them, where it may stop.
   abbrev pub Answers : List (Command T) → Bool → List (Reply T) → Type 0
   Answers commands stopped answers =
       (first : List (Command T)) × (rest : List (Command T)) × (after : State T)
-      × (commands ≡ first ++ rest) × OnFalse stopped (rest ≡ []) × Runs first new_state answers after
+      × (commands ≡ first ++ rest) × MatchBool stopped (MayStop rest answers) (rest ≡ []) × Runs first new_state answers after

@@ -1,5 +1,6 @@
 -- How a subscriber brings its connections up to date.
-use Rattle.std.specs.Prelude.{ℕ, ◌≡◌, Bool, true, false, not, ◌&&◌, ◌==◌, nat_lt, max, List, [], ◌∷◌, ◌++◌, length, map, filter, filter_map, fold, zip, slice_get, Option, None, Some, is_some, MatchBool, MatchResult, if◌then◌else◌}
+use Rattle.std.specs.Prelude.{ℕ, ◌≡◌, Bool, true, false, not, ◌&&◌, ◌==◌, nat_lt, max, List, [], ◌∷◌, ◌++◌, length, map, filter}
+use Rattle.std.specs.Prelude.{filter_map, fold, zip, slice_get, Option, None, Some, is_some, MatchBool, MatchResult, if◌then◌else◌}
 use Rattle.std.specs.List.{list_all, list_any}
 use Rattle.std.specs.Option.{option_map_or}
 use Rattle.iox_machine.specs.Mailbox.{is_idle}

@@ -1,5 +1,6 @@
 -- Laws of updates: who is connected once a port followed the list of the other kind, and what waits then.
-use Rattle.std.specs.Prelude.{ℕ, ◌≡◌, ◌⊎◌, ◌==◌, Bool, true, false, not, List, [], Option, None, Some, find, zip, is_some, MatchOption, Ok, length, if◌then◌else◌}
+use Rattle.std.specs.Prelude.{ℕ, ◌≡◌, ◌⊎◌, ◌==◌, Bool, true, false, not, List, [], Option, None, Some, find, zip, is_some, MatchOption}
+use Rattle.std.specs.Prelude.{Ok, length, if◌then◌else◌}
 use Rattle.std.specs.List.{AllByRecursion}
 use Rattle.std.specs.Option.{option_map_or}
 use Rattle.iox_machine.specs.Mailbox.{Mailbox, newest}

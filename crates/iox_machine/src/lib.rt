@@ -19,10 +19,12 @@ ghost use Rattle.iox_machine.specs.Laws.{PutAtUnknownIsSkipped, OverflowDropsThe
 ghost use Rattle.iox_machine.specs.MessageLaws.{HeldIsRead, OrderIsOfSends, ReceivedInOrder, ReceivedWasSent};
 ghost use Rattle.iox_machine.specs.NumberLaws.{NumbersGoUp, NumbersNameOne};
 ghost use Rattle.iox_machine.specs.OpeningLaws.{EitherMeetsAsked, OpenedMeetsAsked};
-ghost use Rattle.iox_machine.specs.RefusalLaws.{RefusedCallsLeaveNodes, RefusedCallsLeaveSteps, RefusedPortsLeave, RetriesLeave, UndeliveredLeaves};
+ghost use Rattle.iox_machine.specs.RefusalLaws.{RefusedCallsLeaveNodes, RefusedCallsLeaveSteps, RefusedPortsLeave, RetriesLeave};
+ghost use Rattle.iox_machine.specs.RefusalLaws.{UndeliveredLeaves};
 ghost use Rattle.iox_machine.specs.OnceLaws.{LoansAreSpentOnce, MessagesGoOnce};
 ghost use Rattle.iox_machine.specs.RunLaws.{MessagesWereSent, RefusedCallsLeaveServices, RefusedChangesNothing};
 ghost use Rattle.iox_machine.specs.RunLaws.{SamplesReadTheSame, SizesAreAgreed, SkippedChangesNothing};
+ghost use Rattle.iox_machine.specs.UseLaws.{UseIsOwned};
 ghost use Rattle.iox_machine.specs.UpdateLaws.{PublisherIsUpdated, PublisherKeepsMailboxes, SubscriberIsUpdated, SubscriberKeepsMailboxes};
 
 /// A new machine answers a put at any publisher by skipping it, and in no other way.
@@ -168,6 +170,12 @@ pub fn order_is_of_sends()
 /// agreement; the ports of one of publish-subscribe stand in the hub.
 pub fn services_agree<T: Default>()
     ensures { OneAgreement T.is_default }
+{}
+
+/// In every run of a new machine all that keeps a factory from being closed is of an open factory of its service: each port that stands,
+/// the publisher of each loan, and the subscriber of each sample.
+pub fn what_is_used_is_of_a_factory<T: Default>()
+    ensures { UseIsOwned T.is_default }
 {}
 
 /// In every run of a new machine no more nodes are in a service than its settings name, of the hub and outside it together.

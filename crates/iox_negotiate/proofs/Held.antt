@@ -1,13 +1,15 @@
 -- A service that is open for an own node stays so, with as many factories of the node, whatever foreign nodes do, and what
 -- the accesses of own nodes make of it.
-use Rattle.std.proofs.Common.{◌≡◌, ◌≢◌, ℕ, ◌+◌, ◌-◌, ◌^◌, ◌≤◌, Bool, true, false, cond, not, ◌&&◌, List, Option, None, Some, is_some, Result, length, nat_eq, nat_lt, refl, sym, ap, subst, ◌∙◌, inl, inr, arith}
+use Rattle.std.proofs.Common.{◌≡◌, ◌≢◌, ℕ, ◌+◌, ◌-◌, ◌^◌, ◌≤◌, Bool, true, false, cond, not, ◌&&◌, List, Option, None, Some, is_some}
+use Rattle.std.proofs.Common.{Result, length, nat_eq, nat_lt, refl, sym, ap, subst, ◌∙◌, inl, inr, arith}
 use Rattle.std.specs.declared.alloc.AllocError.{AllocError}
 use Rattle.std.specs.Ordering.{nat_cmp}
 use Rattle.std.specs.Cmp.{nat_cmp_total}
 use Rattle.std.specs.BTreeMap.{is_at}
 use Rattle.std.proofs.lemmas.Map.Lookups.{exact_unsigned}
 use Rattle.iox_negotiate_table.specs.DescribeBase.declared.hash.ServiceHash.{ServiceHash}
-use Rattle.iox_negotiate_table.specs.NegotiateBase.Access.{Access, Look, Lock, MakeSegment, Publish, Unlock, OpenSegment, Leave, RemoveDescription, RemoveSegment}
+use Rattle.iox_negotiate_table.specs.NegotiateBase.Access.{Access, Look, Lock, MakeSegment, Publish, Unlock, OpenSegment, Leave}
+use Rattle.iox_negotiate_table.specs.NegotiateBase.Access.{RemoveDescription, RemoveSegment}
 use Rattle.iox_negotiate_table.specs.NegotiateBase.declared.answer.OpenSegmentAnswer.{OpenSegmentAnswer}
 use Rattle.iox_negotiate_table.specs.NegotiateBase.declared.answer.OpenSegmentAnswer.TheVariants as opening
 use Rattle.iox_negotiate_table.specs.NegotiateBase.declared.answer.LeaveAnswer.{LeaveAnswer}
@@ -17,11 +19,15 @@ use Rattle.iox_negotiate_table.specs.declared.entry.Entry.TheVariants.{Described
 use Rattle.iox_negotiate_table.specs.declared.segment.Segment.{Segment}
 use Rattle.iox_negotiate_table.specs.declared.segment.Segment.TheVariants.{Open, Emptied}
 use Rattle.iox_negotiate_table.specs.declared.step.ForeignStep.{ForeignStep}
-use Rattle.iox_negotiate_table.specs.Nodes.{Nodes, count_in, factories_of, with_factories, without_node, less_one, left, Enters, EntersWith, EntersAgain, EntersFirst}
+use Rattle.iox_negotiate_table.specs.Nodes.{Nodes, count_in, factories_of, with_factories, without_node, less_one, left, Enters}
+use Rattle.iox_negotiate_table.specs.Nodes.{EntersWith, EntersAgain, EntersFirst}
 use Rattle.iox_negotiate_table.specs.Segments.{closed_if, Opens}
-use Rattle.iox_negotiate_table.specs.Contents.{Contents, entry_at, segment_at, with_segment, without_entry, without_segment, place_cmp, is_published, is_left, may_make, may_publish, may_unlock, may_remove_description, may_remove_segment}
+use Rattle.iox_negotiate_table.specs.Contents.{Contents, entry_at, segment_at, with_segment, without_entry, without_segment, place_cmp}
+use Rattle.iox_negotiate_table.specs.Contents.{is_published, is_left, may_make, may_publish, may_unlock, may_remove_description}
+use Rattle.iox_negotiate_table.specs.Contents.{may_remove_segment}
 use Rattle.iox_negotiate_table.specs.Foreign.{Acts}
-use Rattle.iox_negotiate_table.specs.Sights.{Sight, LocksAt, Makes, Publishes, Unlocks, OpensAt, OpensPublished, LeavesAt, LeavesPublished, Removes}
+use Rattle.iox_negotiate_table.specs.Sights.{Sight, LocksAt, Makes, Publishes, Unlocks, OpensAt, OpensPublished, LeavesAt}
+use Rattle.iox_negotiate_table.specs.Sights.{LeavesPublished, Removes}
 use Rattle.iox_negotiate_table.proofs.Staying.{IsSeated, stays-seated}
 use Rattle.iox_negotiate_table.proofs.Entries.{lookup-set, lookup-added, found-length, is-self}
 use Rattle.iox_negotiate.specs.Histories.{Accesses}
@@ -48,10 +54,13 @@ module _ (hash : ServiceHash) (number node : ℕ) (bytes : List ℕ) (count : �
   held-of : (table : Contents) → IsSeated Has hash number bytes table → IsHeld hash number node bytes count table
   held-of table s = record { nodes = s.nodes; published = s.published; stands = s.stands; has = s.seated; few = s.few }
 
-  pub stays : (step : ForeignStep) (old new : Contents) (result : Result (Unit {0}) AllocError) → IsHeld hash number node bytes count old → Acts hash step old result new
+  pub stays : (step : ForeignStep) (old new : Contents) (result : Result (Unit {0}) AllocError)
+      → IsHeld hash number node bytes count old → Acts hash step old result new
       → IsHeld hash number node bytes count new
   stays step old new result held h =
-      held-of new (stays-seated Has (λ nodes foreign has. has) (λ nodes has. found-length (is_at (nat_cmp node)) nodes.own (rw has refl)) hash number bytes step old new result (seated-so old held) h)
+      held-of new (stays-seated Has (λ nodes foreign has. has)
+      (λ nodes has. found-length (is_at (nat_cmp node)) nodes.own (rw has refl)) hash number bytes step old new result
+      (seated-so old held) h)
 
 -- ---- own nodes
 
@@ -71,8 +80,10 @@ by_number one other same differ = by_test (nat_eq one other) (λ is. same (grind
     unequal e isnt = grind (arith, e, isnt)
 
 -- a node that opens once more has one factory more
-pub entered-same : (node count : ℕ) (nodes after : Nodes) → factories_of nodes node ≡ Some count → Enters node nodes opening.Registered after → factories_of after node ≡ Some (count + 1)
-entered-same node count nodes after has h = there (nat_eq count (2 ^ 64 - 1)) (subst (λ f. EntersWith f node nodes opening.Registered after) has h)
+pub entered-same : (node count : ℕ) (nodes after : Nodes) → factories_of nodes node ≡ Some count
+    → Enters node nodes opening.Registered after → factories_of after node ≡ Some (count + 1)
+entered-same node count nodes after has h
+    = there (nat_eq count (2 ^ 64 - 1)) (subst (λ f. EntersWith f node nodes opening.Registered after) has h)
   where
     there : (b : Bool) → EntersAgain count b node nodes opening.Registered after → factories_of after node ≡ Some (count + 1)
     there true h = absurd (differ h.0)
@@ -82,8 +93,10 @@ entered-same node count nodes after has h = there (nat_eq count (2 ^ 64 - 1)) (s
     there false h = rw h.1 (lookup-set (is_at (nat_cmp node)) nodes.own (count + 1) (rw has refl))
 
 -- a node that comes in has its first factory
-pub entered-first : (node : ℕ) (nodes after : Nodes) → factories_of nodes node ≡ None → Enters node nodes opening.Registered after → factories_of after node ≡ Some 1
-entered-first node nodes after out h = there (nat_lt (count_in nodes) nodes.max_nodes) (subst (λ f. EntersWith f node nodes opening.Registered after) out h)
+pub entered-first : (node : ℕ) (nodes after : Nodes) → factories_of nodes node ≡ None → Enters node nodes opening.Registered after
+    → factories_of after node ≡ Some 1
+entered-first node nodes after out h
+    = there (nat_lt (count_in nodes) nodes.max_nodes) (subst (λ f. EntersWith f node nodes opening.Registered after) out h)
   where
     there : (b : Bool) → EntersFirst b node nodes opening.Registered after → factories_of after node ≡ Some 1
     there true (inl h) = rw h.1 (lookup-added nat_cmp node 1 nodes.own (is-self nat_cmp nat_cmp_total node))
@@ -109,10 +122,20 @@ module _ (node count : ℕ) (nodes after : Nodes) (has : factories_of nodes node
     where
       again : (found : ℕ) (b : Bool) → EntersAgain found b other nodes answer after → AtLeast node after count
       again found true h = as-before h.1
-      again found false h = (count, omega arith, rw h.1 (set-apart (is_at (nat_cmp other)) (is_at (nat_cmp node)) (nodes-apart other node differ) nodes.own (found + 1) ∙ has))
+      again found false h = (
+        count,
+        omega arith,
+        rw h.1
+            (set-apart (is_at (nat_cmp other)) (is_at (nat_cmp node)) (nodes-apart other node differ) nodes.own (found + 1) ∙ has),
+      )
 
       first : (b : Bool) → EntersFirst b other nodes answer after → AtLeast node after count
-      first true (inl h) = (count, omega arith, rw h.1 (insert-apart nat_cmp other 1 (is_at (nat_cmp node)) (node-away other node differ) exact_unsigned nodes.own ∙ has))
+      first true (inl h) = (
+        count,
+        omega arith,
+        rw h.1
+            (insert-apart nat_cmp other 1 (is_at (nat_cmp node)) (node-away other node differ) exact_unsigned nodes.own ∙ has),
+      )
       first true (inr h) = as-before h.1
       first false h = as-before h.1
 
@@ -128,13 +151,16 @@ module _ (node count : ℕ) (nodes after : Nodes) (has : factories_of nodes node
       there false h = (count + 1, omega arith, rw h.1 (lookup-set (is_at (nat_cmp node)) nodes.own (count + 1) (rw has refl)))
 
   entered : (other : ℕ) (answer : OpenSegmentAnswer) → Enters other nodes answer after → AtLeast node after count
-  entered other answer h = by_number other node (λ same. same-entered answer (subst (λ n. Enters n nodes answer after) same h)) (λ differ. other-entered other answer differ h)
+  entered other answer h = by_number other node (λ same. same-entered answer (subst (λ n. Enters n nodes answer after) same h))
+      (λ differ. other-entered other answer differ h)
 
 -- a leave of another node
-other-left : (node count : ℕ) (nodes : Nodes) (other : ℕ) → other ≢ node → factories_of nodes node ≡ Some count → factories_of (left other nodes) node ≡ Some count
+other-left : (node count : ℕ) (nodes : Nodes) (other : ℕ) → other ≢ node → factories_of nodes node ≡ Some count
+    → factories_of (left other nodes) node ≡ Some count
 other-left node count nodes other differ has = by_count (factories_of nodes other)
   where
-    less : (found : ℕ) (b : Bool) → factories_of (cond b (with_factories other (found - 1) nodes) (without_node other nodes)) node ≡ Some count
+    less : (found : ℕ) (b : Bool) → factories_of (cond b (with_factories other (found - 1) nodes) (without_node other nodes)) node
+        ≡ Some count
     less found true = set-apart (is_at (nat_cmp other)) (is_at (nat_cmp node)) (nodes-apart other node differ) nodes.own (found - 1) ∙ has
     less found false = remove-apart (is_at (nat_cmp other)) (is_at (nat_cmp node)) (nodes-apart other node differ) nodes.own ∙ has
 
@@ -143,10 +169,13 @@ other-left node count nodes other differ has = by_count (factories_of nodes othe
     by_count None = has
 
 -- a leave of a node that has more than one factory
-same-left : (node count : ℕ) (nodes : Nodes) → 2 ≤ count → factories_of nodes node ≡ Some count → factories_of (left node nodes) node ≡ Some (count - 1)
-same-left node count nodes many has = subst (λ f. factories_of (less_one nodes node f) node ≡ Some (count - 1)) (sym has) (less (nat_lt 1 count) refl)
+same-left : (node count : ℕ) (nodes : Nodes) → 2 ≤ count → factories_of nodes node ≡ Some count
+    → factories_of (left node nodes) node ≡ Some (count - 1)
+same-left node count nodes many has
+    = subst (λ f. factories_of (less_one nodes node f) node ≡ Some (count - 1)) (sym has) (less (nat_lt 1 count) refl)
   where
-    less : (b : Bool) → nat_lt 1 count ≡ b → factories_of (cond b (with_factories node (count - 1) nodes) (without_node node nodes)) node ≡ Some (count - 1)
+    less : (b : Bool) → nat_lt 1 count ≡ b
+        → factories_of (cond b (with_factories node (count - 1) nodes) (without_node node nodes)) node ≡ Some (count - 1)
     less true is = lookup-set (is_at (nat_cmp node)) nodes.own (count - 1) (rw has refl)
     less false is = absurd (grind (arith, is, many))
 
@@ -156,7 +185,8 @@ pub record IsHeldStill (hash : ServiceHash) (number node : ℕ) (bytes : List �
   pub enough : count ≤ now
   pub held : IsHeld hash number node bytes now table
 
-module _ (hash : ServiceHash) (number node : ℕ) (bytes : List ℕ) (count : ℕ) (old new : Contents) (held : IsHeld hash number node bytes count old) where
+module _ (hash : ServiceHash) (number node : ℕ) (bytes : List ℕ) (count : ℕ) (old new : Contents)
+    (held : IsHeld hash number node bytes count old) where
   abbrev Still : Type 0
   Still = IsHeldStill hash number node bytes count new
 
@@ -164,20 +194,31 @@ module _ (hash : ServiceHash) (number node : ℕ) (bytes : List ℕ) (count : �
   same-still is = record { now = count; enough = omega arith; held = rw is held }
 
   -- the segment has other nodes
-  seat-still : (after : Nodes) (c : ℕ) → new ≡ with_segment hash number (Open after) old → count ≤ c → factories_of after node ≡ Some c → count_in after ≤ after.max_nodes → Still
+  seat-still : (after : Nodes) (c : ℕ) → new ≡ with_segment hash number (Open after) old → count ≤ c → factories_of after node ≡ Some c
+      → count_in after ≤ after.max_nodes → Still
   seat-still after c is enough has few = record {
     now = c;
     enough = enough;
-    held = rw is (record { nodes = after; published = held.published; stands = lookup-set (is_at (place_cmp (hash.digest, number))) old.segments (Open after) (rw held.stands refl); has = has; few = few });
+    held = rw is (record {
+      nodes = after;
+      published = held.published;
+      stands
+          = lookup-set (is_at (place_cmp (hash.digest, number))) old.segments (Open after) (rw held.stands refl);
+      has = has;
+      few = few;
+    });
   }
 
-  opens-here : (by : ℕ) (answer : OpenSegmentAnswer) (after : Segment) → Opens by (Open held.nodes) answer after → new ≡ with_segment hash number after old → Still
+  opens-here : (by : ℕ) (answer : OpenSegmentAnswer) (after : Segment) → Opens by (Open held.nodes) answer after
+      → new ≡ with_segment hash number after old → Still
   opens-here by answer (Open after) h is =
-      let grown = entered node count held.nodes after held.has by answer h in seat-still after grown.0 is grown.1 grown.2 (opens-few by (Open held.nodes) (Open after) answer held.few h)
+      let grown = entered node count held.nodes after held.has by answer h in seat-still after grown.0 is grown.1 grown.2
+      (opens-few by (Open held.nodes) (Open after) answer held.few h)
   opens-here by answer (Emptied other) h is = absurd h
 
   -- the segment after a leave that leaves the node in
-  left-still : (by c : ℕ) (b : Bool) → nat_eq (count_in (left by held.nodes)) 0 ≡ b → factories_of (left by held.nodes) node ≡ Some c → new ≡ with_segment hash number (closed_if b (Own by) (left by held.nodes)) old
+  left-still : (by c : ℕ) (b : Bool) → nat_eq (count_in (left by held.nodes)) 0 ≡ b → factories_of (left by held.nodes) node ≡ Some c
+      → new ≡ with_segment hash number (closed_if b (Own by) (left by held.nodes)) old
       → IsHeld hash number node bytes c new
   left-still by c true none has is = absurd (grind (arith, none, some))
     where
@@ -194,7 +235,8 @@ module _ (hash : ServiceHash) (number node : ℕ) (bytes : List ℕ) (count : �
   at-number : (at : ℕ) → is_published hash at old ≡ nat_eq number at
   at-number at = rw held.published refl
 
-  opens-at : (at by : ℕ) (answer : OpenSegmentAnswer) (b : Bool) → nat_eq number at ≡ b → OpensAt b (segment_at hash at old) hash at by old answer new → Still
+  opens-at : (at by : ℕ) (answer : OpenSegmentAnswer) (b : Bool) → nat_eq number at ≡ b
+      → OpensAt b (segment_at hash at old) hash at by old answer new → Still
   opens-at at by answer true is h =
       let same : number ≡ at = grind (arith, is) in
       found (subst (λ n. OpensPublished (segment_at hash n old) hash n by old answer new) (sym same) h)
@@ -206,19 +248,26 @@ module _ (hash : ServiceHash) (number node : ℕ) (bytes : List ℕ) (count : �
       found h = found-open (subst (λ s. OpensPublished s hash number by old answer new) held.stands h)
   opens-at at by answer false is h = same-still h.1
 
-  leaves-at : (at by : ℕ) (answer : LeaveAnswer) (b : Bool) → ((at ≡ number) → by ≢ node) → nat_eq number at ≡ b → LeavesAt b (segment_at hash at old) hash at by old answer new → Still
+  leaves-at : (at by : ℕ) (answer : LeaveAnswer) (b : Bool) → ((at ≡ number) → by ≢ node) → nat_eq number at ≡ b
+      → LeavesAt b (segment_at hash at old) hash at by old answer new → Still
   leaves-at at by answer true other is h =
       let same : number ≡ at = grind (arith, is) in
       found (other (sym same)) (subst (λ n. LeavesPublished (segment_at hash n old) hash n by old answer new) (sym same) h)
     where
       found-open : by ≢ node → LeavesPublished (Some (Open held.nodes)) hash number by old answer new → Still
-      found-open differ h = record { now = count; enough = omega arith; held = left-still by count (nat_eq (count_in (left by held.nodes)) 0) refl (other-left node count held.nodes by differ held.has) h.1 }
+      found-open differ h = record {
+        now = count;
+        enough = omega arith;
+        held
+            = left-still by count (nat_eq (count_in (left by held.nodes)) 0) refl (other-left node count held.nodes by differ held.has) h.1;
+      }
 
       found : by ≢ node → LeavesPublished (segment_at hash number old) hash number by old answer new → Still
       found differ h = found-open differ (subst (λ s. LeavesPublished s hash number by old answer new) held.stands h)
   leaves-at at by answer false other is h = same-still h.1
 
-  removes-at : (at : ℕ) (answer : RemoveAnswer) (b : Bool) → nat_eq number at ≡ b → Removes (not b && is_some (segment_at hash at old)) (without_segment hash at old) old answer new → Still
+  removes-at : (at : ℕ) (answer : RemoveAnswer) (b : Bool) → nat_eq number at ≡ b
+      → Removes (not b && is_some (segment_at hash at old)) (without_segment hash at old) old answer new → Still
   removes-at at answer true is h = same-still h.1
   removes-at at answer false is h = there (is_some (segment_at hash at old)) h
     where
@@ -232,7 +281,8 @@ module _ (hash : ServiceHash) (number node : ℕ) (bytes : List ℕ) (count : �
         held = rw h.1 (record {
           nodes = held.nodes;
           published = held.published;
-          stands = remove-apart (is_at (place_cmp (hash.digest, at))) (is_at (place_cmp (hash.digest, number))) (place-apart (hash.digest, at) (hash.digest, number) differ) old.segments ∙ held.stands;
+          stands = remove-apart (is_at (place_cmp (hash.digest, at))) (is_at (place_cmp (hash.digest, number)))
+              (place-apart (hash.digest, at) (hash.digest, number) differ) old.segments ∙ held.stands;
           has = held.has;
           few = held.few;
         });
@@ -240,7 +290,8 @@ module _ (hash : ServiceHash) (number node : ℕ) (bytes : List ℕ) (count : �
       there false h = same-still h.1
 
   -- an access under the hash, but for a leave of the node from the service
-  pub here : (access : Access) → hash_of (Accesses access) ≡ hash → ((at by : ℕ) (answer : LeaveAnswer) → access ≡ Leave hash at by answer → at ≡ number → by ≢ node) → Sight old access new → Still
+  pub here : (access : Access) → hash_of (Accesses access) ≡ hash
+      → ((at by : ℕ) (answer : LeaveAnswer) → access ≡ Leave hash at by answer → at ≡ number → by ≢ node) → Sight old access new → Still
   here (Look under answer) same other h = same-still h.1
   here (Lock under by answer) same other h = locks (subst (λ g. LocksAt (entry_at g old) g (Own by) old answer new) same h)
     where
@@ -249,7 +300,8 @@ module _ (hash : ServiceHash) (number node : ℕ) (bytes : List ℕ) (count : �
 
       locks : LocksAt (entry_at hash old) hash (Own by) old answer new → Still
       locks h = locked (subst (λ e. LocksAt e hash (Own by) old answer new) held.published h)
-  here (MakeSegment under at by room answer) same other h = makes (subst (λ g. Makes (may_make g at by room old) g at by room old answer new) same h)
+  here (MakeSegment under at by room answer) same other h
+      = makes (subst (λ g. Makes (may_make g at by room old) g at by room old answer new) same h)
     where
       made : (b : Bool) → b ≡ false → Makes b hash at by room old answer new → Still
       made true is h = on is
@@ -257,7 +309,8 @@ module _ (hash : ServiceHash) (number node : ℕ) (bytes : List ℕ) (count : �
 
       makes : Makes (may_make hash at by room old) hash at by room old answer new → Still
       makes h = made (may_make hash at by room old) (rw held.published refl) h
-  here (Publish under at text answer) same other h = publishes (subst (λ g. Publishes (may_publish g at old) g at text old answer new) same h)
+  here (Publish under at text answer) same other h
+      = publishes (subst (λ g. Publishes (may_publish g at old) g at text old answer new) same h)
     where
       made : (b : Bool) → b ≡ false → Publishes b hash at text old answer new → Still
       made true is h = on is
@@ -273,44 +326,62 @@ module _ (hash : ServiceHash) (number node : ℕ) (bytes : List ℕ) (count : �
 
       unlocks : Unlocks (may_unlock hash at old) hash old new → Still
       unlocks h = made (may_unlock hash at old) (rw held.published refl) h
-  here (OpenSegment under at by answer) same other h = opens (subst (λ g. OpensAt (is_published g at old) (segment_at g at old) g at by old answer new) same h)
+  here (OpenSegment under at by answer) same other h
+      = opens (subst (λ g. OpensAt (is_published g at old) (segment_at g at old) g at by old answer new) same h)
     where
       opens : OpensAt (is_published hash at old) (segment_at hash at old) hash at by old answer new → Still
-      opens h = opens-at at by answer (nat_eq number at) refl (subst (λ b. OpensAt b (segment_at hash at old) hash at by old answer new) (at-number at) h)
-  here (Leave under at by answer) same other h = leaves (subst (λ g. LeavesAt (is_published g at old) (segment_at g at old) g at by old answer new) same h)
+      opens h = opens-at at by answer (nat_eq number at) refl
+          (subst (λ b. OpensAt b (segment_at hash at old) hash at by old answer new) (at-number at) h)
+  here (Leave under at by answer) same other h
+      = leaves (subst (λ g. LeavesAt (is_published g at old) (segment_at g at old) g at by old answer new) same h)
     where
       leaves : LeavesAt (is_published hash at old) (segment_at hash at old) hash at by old answer new → Still
-      leaves h = leaves-at at by answer (nat_eq number at) (other at by answer (ap (λ g. Leave g at by answer) same)) refl (subst (λ b. LeavesAt b (segment_at hash at old) hash at by old answer new) (at-number at) h)
-  here (RemoveDescription under at answer) same other h = removes (subst (λ g. Removes (may_remove_description g at old) (without_entry g old) old answer new) same h)
+      leaves h = leaves-at at by answer (nat_eq number at) (other at by answer (ap (λ g. Leave g at by answer) same)) refl
+          (subst (λ b. LeavesAt b (segment_at hash at old) hash at by old answer new) (at-number at) h)
+  here (RemoveDescription under at answer) same other h
+      = removes (subst (λ g. Removes (may_remove_description g at old) (without_entry g old) old answer new) same h)
     where
       made : (b : Bool) → b ≡ false → Removes b (without_entry hash old) old answer new → Still
       made true is h = on is
       made false is h = same-still h.1
 
       stays : (b : Bool) → nat_eq number at ≡ b → (b && is_left (segment_at hash at old)) ≡ false
-      stays true is = let same : number ≡ at = grind (arith, is) in subst (λ n. is_left (segment_at hash n old) ≡ false) same (rw held.stands refl)
+      stays true is = let same : number ≡ at
+          = grind (arith, is) in subst (λ n. is_left (segment_at hash n old) ≡ false) same (rw held.stands refl)
       stays false is = refl
 
       removes : Removes (may_remove_description hash at old) (without_entry hash old) old answer new → Still
       removes h = made (may_remove_description hash at old) (rw (at-number at) (stays (nat_eq number at) refl)) h
-  here (RemoveSegment under at answer) same other h = removes (subst (λ g. Removes (may_remove_segment g at old) (without_segment g at old) old answer new) same h)
+  here (RemoveSegment under at answer) same other h
+      = removes (subst (λ g. Removes (may_remove_segment g at old) (without_segment g at old) old answer new) same h)
     where
       removes : Removes (may_remove_segment hash at old) (without_segment hash at old) old answer new → Still
-      removes h = removes-at at answer (nat_eq number at) refl (subst (λ b. Removes (not b && is_some (segment_at hash at old)) (without_segment hash at old) old answer new) (at-number at) h)
+      removes h = removes-at at answer (nat_eq number at) refl
+          (subst (λ b. Removes (not b && is_some (segment_at hash at old)) (without_segment hash at old) old answer new) (at-number at) h)
 
   -- a leave of one of several factories of the node
-  pub leaves-one : (answer : LeaveAnswer) → 2 ≤ count → Sight old (Leave hash number node answer) new → IsHeld hash number node bytes (count - 1) new
-  leaves-one answer many h = found (subst (λ b. LeavesAt b (segment_at hash number old) hash number node old answer new) (at-number number ∙ equal number) h)
+  pub leaves-one : (answer : LeaveAnswer) → 2 ≤ count → Sight old (Leave hash number node answer) new
+      → IsHeld hash number node bytes (count - 1) new
+  leaves-one answer many h = found (subst (λ b. LeavesAt b (segment_at hash number old) hash number node old answer new)
+      (at-number number ∙ equal number) h)
     where
       equal : (n : ℕ) → nat_eq n n ≡ true
       equal n = grind arith
 
       found-open : LeavesPublished (Some (Open held.nodes)) hash number node old answer new → IsHeld hash number node bytes (count - 1) new
-      found-open h = left-still node (count - 1) (nat_eq (count_in (left node held.nodes)) 0) refl (same-left node count held.nodes many held.has) h.1
+      found-open h = left-still node (count - 1) (nat_eq (count_in (left node held.nodes)) 0) refl
+          (same-left node count held.nodes many held.has) h.1
 
       found : LeavesPublished (segment_at hash number old) hash number node old answer new → IsHeld hash number node bytes (count - 1) new
       found h = found-open (subst (λ s. LeavesPublished s hash number node old answer new) held.stands h)
 
   -- what lies elsewhere is as it was
   pub away : IsElsewhere hash old new → IsHeld hash number node bytes count new
-  away same = record { nodes = held.nodes; published = same.entry ∙ held.published; stands = same.segment number ∙ held.stands; has = held.has; few = held.few }
+  away same = record {
+    nodes = held.nodes;
+    published = same.entry ∙ held.published;
+    stands = same.segment number ∙ held.stands;
+    has
+        = held.has;
+    few = held.few;
+  }

@@ -29,7 +29,8 @@ use Rattle.iox_negotiate_table.specs.DescribeSettings.declared.static_config.req
 use Rattle.iox_negotiate_table.specs.DescribeSettings.PublishSubscribeSettings as publish_subscribe
 use Rattle.iox_negotiate_table.specs.DescribeSettings.EventSettings as event
 use Rattle.iox_negotiate_table.specs.DescribeSettings.RequestResponseSettings as request_response
-use Rattle.iox_negotiate_table.specs.Describe.Line.{line, tree, settings_members, settings_tree, types_tree, detail_tree, value_tree, option_tree, variant_word, pattern_word, attribute_tree}
+use Rattle.iox_negotiate_table.specs.Describe.Line.{line, tree, settings_members, settings_tree, types_tree, detail_tree, value_tree}
+use Rattle.iox_negotiate_table.specs.Describe.Line.{option_tree, variant_word, pattern_word, attribute_tree}
 use Rattle.iox_negotiate_table.specs.Describe.Within.{IsWithinLimits}
 use Rattle.iox_negotiate_table.proofs.Describe.Plain.{line-read}
 use Rattle.iox_negotiate_table.proofs.Describe.Trees.{same_items}
@@ -59,7 +60,8 @@ same-detail one other e =
     let alignment = same-natural one.alignment other.alignment (ap (λ d. get (codes "alignment") d) trees) in
     let name = same-string one.name other.name (ap (λ d. get (codes "name") d) trees) in
     let size = same-natural one.size other.size (ap (λ d. get (codes "size") d) trees) in
-    let variant = same-variant one.variant other.variant (same-string (variant_word one.variant) (variant_word other.variant) (ap (λ d. get (codes "variant") d) trees)) in
+    let variant = same-variant one.variant other.variant
+    (same-string (variant_word one.variant) (variant_word other.variant) (ap (λ d. get (codes "variant") d) trees)) in
     λ i. record { variant = variant i; name = name i; size = size i; alignment = alignment i }
 
 same-types : (one other : MessageTypeDetails) → Some (types_tree one) ≡ Some (types_tree other) → one ≡ other
@@ -106,39 +108,51 @@ same-filled key value changed kinds [] one other config e = refl
 same-filled key value changed kinds (setting ∷ more) one other config e =
     let first : value_tree (value setting one) ≡ value_tree (value setting other) = cc in
     let rest : settings_members key value more one ≡ settings_members key value more other = cc in
-    ap (λ v. filled value changed more one (changed setting v config)) (same-value (value setting one) (value setting other) (kinds setting one other) first)
+    ap (λ v. filled value changed more one (changed setting v config))
+    (same-value (value setting one) (value setting other) (kinds setting one other) first)
     ∙ same-filled key value changed kinds more one other (changed setting (value setting other) config) rest
 
 -- settings of a pattern that are told alike are the same, where all are told and each keeps its kind
 same-config : {S C : Type 0} (key : S → List ℕ) (value : S → C → SettingValue) (changed : S → SettingValue → C → C) (all : List S)
-    → ((setting : S) (one other : C) → kind (value setting one) ≡ kind (value setting other)) → ((target config : C) → filled value changed all target config ≡ target)
+    → ((setting : S) (one other : C) → kind (value setting one) ≡ kind (value setting other))
+    → ((target config : C) → filled value changed all target config ≡ target)
     → (one other : C) → object (settings_members key value all one) ≡ object (settings_members key value all other) → one ≡ other
 same-config key value changed all kinds whole one other trees =
     let members : settings_members key value all one ≡ settings_members key value all other = cc in
     sym (whole one one) ∙ same-filled key value changed kinds all one other one members ∙ whole other one
 
-publish_subscribe_kinds : (setting : PublishSubscribeSetting) (one other : PublishSubscribeConfig) → kind (publish_subscribe.value setting one) ≡ kind (publish_subscribe.value setting other)
-publish_subscribe_kinds = elim [ publish_subscribe_setting.EnableSafeOverflow ↦ λ one other. refl | publish_subscribe_setting.HistorySize ↦ λ one other. refl | publish_subscribe_setting.MaxNodes ↦ λ one other. refl | publish_subscribe_setting.MaxPublishers ↦ λ one other. refl | publish_subscribe_setting.MaxSubscribers ↦ λ one other. refl | publish_subscribe_setting.SubscriberMaxBorrowedSamples ↦ λ one other. refl | publish_subscribe_setting.SubscriberMaxBufferSize ↦ λ one other. refl | publish_subscribe_setting.Types ↦ λ one other. refl ]
+publish_subscribe_kinds : (setting : PublishSubscribeSetting) (one other : PublishSubscribeConfig)
+    → kind (publish_subscribe.value setting one) ≡ kind (publish_subscribe.value setting other)
+publish_subscribe_kinds
+    = elim [ publish_subscribe_setting.EnableSafeOverflow ↦ λ one other. refl | publish_subscribe_setting.HistorySize ↦ λ one other. refl | publish_subscribe_setting.MaxNodes ↦ λ one other. refl | publish_subscribe_setting.MaxPublishers ↦ λ one other. refl | publish_subscribe_setting.MaxSubscribers ↦ λ one other. refl | publish_subscribe_setting.SubscriberMaxBorrowedSamples ↦ λ one other. refl | publish_subscribe_setting.SubscriberMaxBufferSize ↦ λ one other. refl | publish_subscribe_setting.Types ↦ λ one other. refl ]
 
 event_kinds : (setting : EventSetting) (one other : EventConfig) → kind (event.value setting one) ≡ kind (event.value setting other)
 event_kinds = elim [ event_setting.Deadline ↦ λ one other. refl | event_setting.EventIdMaxValue ↦ λ one other. refl | event_setting.MaxListeners ↦ λ one other. refl | event_setting.MaxNodes ↦ λ one other. refl | event_setting.MaxNotifiers ↦ λ one other. refl | event_setting.NotifierCreatedEvent ↦ λ one other. refl | event_setting.NotifierDeadEvent ↦ λ one other. refl | event_setting.NotifierDroppedEvent ↦ λ one other. refl ]
 
-request_response_kinds : (setting : RequestResponseSetting) (one other : RequestResponseConfig) → kind (request_response.value setting one) ≡ kind (request_response.value setting other)
-request_response_kinds = elim [ request_response_setting.EnableFireAndForgetRequests ↦ λ one other. refl | request_response_setting.EnableSafeOverflowForRequests ↦ λ one other. refl | request_response_setting.EnableSafeOverflowForResponses ↦ λ one other. refl | request_response_setting.MaxActiveRequestsPerClient ↦ λ one other. refl | request_response_setting.MaxBorrowedResponsesPerPendingResponse ↦ λ one other. refl | request_response_setting.MaxClients ↦ λ one other. refl | request_response_setting.MaxLoanedRequests ↦ λ one other. refl | request_response_setting.MaxNodes ↦ λ one other. refl | request_response_setting.MaxResponseBufferSize ↦ λ one other. refl | request_response_setting.MaxServers ↦ λ one other. refl | request_response_setting.RequestTypes ↦ λ one other. refl | request_response_setting.ResponseTypes ↦ λ one other. refl ]
+request_response_kinds : (setting : RequestResponseSetting) (one other : RequestResponseConfig)
+    → kind (request_response.value setting one) ≡ kind (request_response.value setting other)
+request_response_kinds
+    = elim [ request_response_setting.EnableFireAndForgetRequests ↦ λ one other. refl | request_response_setting.EnableSafeOverflowForRequests ↦ λ one other. refl | request_response_setting.EnableSafeOverflowForResponses ↦ λ one other. refl | request_response_setting.MaxActiveRequestsPerClient ↦ λ one other. refl | request_response_setting.MaxBorrowedResponsesPerPendingResponse ↦ λ one other. refl | request_response_setting.MaxClients ↦ λ one other. refl | request_response_setting.MaxLoanedRequests ↦ λ one other. refl | request_response_setting.MaxNodes ↦ λ one other. refl | request_response_setting.MaxResponseBufferSize ↦ λ one other. refl | request_response_setting.MaxServers ↦ λ one other. refl | request_response_setting.RequestTypes ↦ λ one other. refl | request_response_setting.ResponseTypes ↦ λ one other. refl ]
 
-same-settings : (one other : Settings) → settings_tree one ≡ settings_tree other → pattern_word (pattern_of one) ≡ pattern_word (pattern_of other) → one ≡ other
+same-settings : (one other : Settings) → settings_tree one ≡ settings_tree other
+    → pattern_word (pattern_of one) ≡ pattern_word (pattern_of other) → one ≡ other
 same-settings (PublishSubscribe one) (PublishSubscribe other) trees words =
-    ap (λ config. PublishSubscribe config) (same-config publish_subscribe.key publish_subscribe.value publish_subscribe.changed publish_subscribe.all publish_subscribe_kinds (λ target config. refl) one other trees)
+    ap (λ config. PublishSubscribe config)
+    (same-config publish_subscribe.key publish_subscribe.value publish_subscribe.changed publish_subscribe.all
+    publish_subscribe_kinds (λ target config. refl) one other trees)
 same-settings (PublishSubscribe one) (Event other) trees words = absurd cc
 same-settings (PublishSubscribe one) (RequestResponse other) trees words = absurd cc
 same-settings (Event one) (PublishSubscribe other) trees words = absurd cc
 same-settings (Event one) (Event other) trees words =
-    ap (λ config. Event config) (same-config event.key event.value event.changed event.all event_kinds (λ target config. refl) one other trees)
+    ap (λ config. Event config) (same-config event.key event.value event.changed event.all event_kinds (λ target config. refl) one other
+    trees)
 same-settings (Event one) (RequestResponse other) trees words = absurd cc
 same-settings (RequestResponse one) (PublishSubscribe other) trees words = absurd cc
 same-settings (RequestResponse one) (Event other) trees words = absurd cc
 same-settings (RequestResponse one) (RequestResponse other) trees words =
-    ap (λ config. RequestResponse config) (same-config request_response.key request_response.value request_response.changed request_response.all request_response_kinds (λ target config. refl) one other trees)
+    ap (λ config. RequestResponse config)
+    (same-config request_response.key request_response.value request_response.changed request_response.all request_response_kinds
+    (λ target config. refl) one other trees)
 
 -- ---- attributes
 
@@ -164,12 +178,17 @@ same-attributes (one ∷ ones) (other ∷ others) e =
 
 -- ---- agreements
 
-pub same-line : (one other : Agreement) → IsWithinLimits one → IsWithinLimits other → line one ≡ line other → one.service_hash ≡ other.service_hash → one ≡ other
+pub same-line : (one other : Agreement) → IsWithinLimits one → IsWithinLimits other → line one ≡ line other
+    → one.service_hash ≡ other.service_hash → one ≡ other
 same-line one other first second same service_hash =
     let trees = same-data (tree one) (tree other) (sym (line-read one first) ∙ ap (λ l. read l) same ∙ line-read other second) in
     let name = same-string one.name other.name (ap (λ t. get (codes "name") t) trees) in
-    let words = same-string (pattern_word (pattern_of one.settings)) (pattern_word (pattern_of other.settings)) (ap (λ t. get (codes "pattern") t) trees) in
-    let settings = same-settings one.settings other.settings (same-data (settings_tree one.settings) (settings_tree other.settings) (ap (λ t. get (codes "settings") t) trees)) words in
-    let items = same-array (items_of (map attribute_tree one.attributes)) (items_of (map attribute_tree other.attributes)) (ap (λ t. get (codes "attributes") t) trees) in
-    let attributes = same-attributes one.attributes other.attributes (same_items (map attribute_tree one.attributes) (map attribute_tree other.attributes) items) in
+    let words = same-string (pattern_word (pattern_of one.settings)) (pattern_word (pattern_of other.settings))
+    (ap (λ t. get (codes "pattern") t) trees) in
+    let settings = same-settings one.settings other.settings
+    (same-data (settings_tree one.settings) (settings_tree other.settings) (ap (λ t. get (codes "settings") t) trees)) words in
+    let items = same-array (items_of (map attribute_tree one.attributes)) (items_of (map attribute_tree other.attributes))
+    (ap (λ t. get (codes "attributes") t) trees) in
+    let attributes = same-attributes one.attributes other.attributes
+    (same_items (map attribute_tree one.attributes) (map attribute_tree other.attributes) items) in
     λ i. record { name = name i; service_hash = service_hash i; settings = settings i; attributes = attributes i }

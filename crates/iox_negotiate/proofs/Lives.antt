@@ -1,5 +1,6 @@
 -- The lives of services: numbers are taken once, and one description is published under each.
-use Rattle.std.proofs.Common.{◌≡◌, ℕ, ◌+◌, ◌-◌, ◌^◌, ◌≤◌, ◌<◌, Bool, true, false, List, [], ◌∷◌, Option, None, Some, Result, Ok, Err, nat_eq, refl, sym, ap, subst, ◌∙◌, ◌⊎◌, inl, inr, arith}
+use Rattle.std.proofs.Common.{◌≡◌, ℕ, ◌+◌, ◌-◌, ◌^◌, ◌≤◌, ◌<◌, Bool, true, false, List, [], ◌∷◌, Option, None, Some, Result, Ok, Err}
+use Rattle.std.proofs.Common.{nat_eq, refl, sym, ap, subst, ◌∙◌, ◌⊎◌, inl, inr, arith}
 use Rattle.std.specs.List.{AllByRecursion}
 use Rattle.std.specs.declared.alloc.AllocError.{AllocError}
 use Rattle.std.specs.BTreeMap.{is_at}
@@ -22,7 +23,8 @@ use Rattle.iox_negotiate.specs.Histories.{Event, Accesses, Steps, Happens, Ran}
 use Rattle.iox_negotiate.specs.Lives.{number_of, Begins, TakenOnce, Continues, OneLife, PublishesAs, PublishedByItsLock}
 use Rattle.iox_negotiate.proofs.Maps.{insert-all, remove-all, set-found, found-all, among, once, weaker, remove-same}
 use Rattle.iox_negotiate.proofs.Tables.{IsTable, digest-exact, digest-self, reached}
-use Rattle.iox_negotiate.proofs.Changes.{Change, Same, LockOf, Without, PublishOf, NewSegment, OfSegment, WithoutSegment, ServiceOf, Removal, changes, hash_of, rises, elsewhere, by_hash, equal-of, hash-from}
+use Rattle.iox_negotiate.proofs.Changes.{Change, Same, LockOf, Without, PublishOf, NewSegment, OfSegment, WithoutSegment, ServiceOf}
+use Rattle.iox_negotiate.proofs.Changes.{Removal, changes, hash_of, rises, elsewhere, by_hash, equal-of, hash-from}
 
 -- ---- numbers
 
@@ -35,7 +37,8 @@ begun old new hash node is = (refl, rw is refl)
 same-number : (one other : ℕ) → lock.Taken one ≡ lock.Taken other → one ≡ other
 same-number one other same = cc
 
-locks-begin : (hash : ServiceHash) (node : Node) (old new : Contents) (answer : LockAnswer) (number : ℕ) (found : Option Entry) → answer ≡ lock.Taken number → LocksAt found hash node old answer new → Begun old new number
+locks-begin : (hash : ServiceHash) (node : Node) (old new : Contents) (answer : LockAnswer) (number : ℕ) (found : Option Entry)
+    → answer ≡ lock.Taken number → LocksAt found hash node old answer new → Begun old new number
 locks-begin hash node old new answer number None took h = taken (nat_eq old.next (2 ^ 64 - 1)) h
   where
     taken : (b : Bool) → LocksFree b hash node old answer new → Begun old new number
@@ -57,7 +60,8 @@ locks-begin hash node old new answer number (Some (Described at bytes)) took h =
     differ : lock.Exists ≡ lock.Taken number → ⊥
     differ e = cc
 
-foreign-begin : (hash : ServiceHash) (node : ℕ) (old new : Contents) (number : ℕ) (b : Bool) (result : Result (Unit {0}) AllocError) → entry_at hash old ≡ None → entry_at hash new ≡ Some (Locked (Foreign node) number)
+foreign-begin : (hash : ServiceHash) (node : ℕ) (old new : Contents) (number : ℕ) (b : Bool) (result : Result (Unit {0}) AllocError)
+    → entry_at hash old ≡ None → entry_at hash new ≡ Some (Locked (Foreign node) number)
     → DoneOrLacking b (with_lock hash (Foreign node) old) old result new → Begun old new number
 foreign-begin hash node old new number b result free taken h = there b result h
   where
@@ -68,27 +72,32 @@ foreign-begin hash node old new number b result free taken h = there b result h
         differ e = cc
 
     done : new ≡ with_lock hash (Foreign node) old → Begun old new number
-    done is = subst (λ n. Begun old new n) (same (sym (lookup-added digest_cmp hash.digest (Locked (Foreign node) old.next) old.entries (digest-self hash.digest)) ∙ subst (λ t. entry_at hash t ≡ Some (Locked (Foreign node) number)) is taken))
+    done is = subst (λ n. Begun old new n)
+        (same (sym (lookup-added digest_cmp hash.digest (Locked (Foreign node) old.next) old.entries (digest-self hash.digest)) ∙ subst
+        (λ t. entry_at hash t ≡ Some (Locked (Foreign node) number)) is taken))
         (begun old new hash (Foreign node) is)
       where
         same : Some (Locked (Foreign node) old.next) ≡ Some (Locked (Foreign node) number) → old.next ≡ number
         same e = cc
 
-    there : (b : Bool) (result : Result (Unit {0}) AllocError) → DoneOrLacking b (with_lock hash (Foreign node) old) old result new → Begun old new number
+    there : (b : Bool) (result : Result (Unit {0}) AllocError) → DoneOrLacking b (with_lock hash (Foreign node) old) old result new
+        → Begun old new number
     there true (Ok happened) h = done h
     there true (Err lacking) h = absurd (idle h)
     there false (Ok happened) h = absurd (idle h)
     there false (Err lacking) h = absurd h
 
 begins : (old new : Contents) (event : Event) (number : ℕ) → Happens old event new → Begins old event new number → Begun old new number
-begins old new (Accesses (Lock hash node answer)) number h took = locks-begin hash (Own node) old new answer number (entry_at hash old) took h
+begins old new (Accesses (Lock hash node answer)) number h took
+    = locks-begin hash (Own node) old new answer number (entry_at hash old) took h
 begins old new (Steps hash (step.Lock node)) number h took = foreign-begin hash node old new number _ h.0 took.0 took.1 h.1
 begins old new event number h took = absurd took
 
 never-falls : (events : List Event) (old new : Contents) → Ran old events new → old.next ≤ new.next
 never-falls [] old new ran = rw ran (omega arith)
 never-falls (event ∷ events) old new ran =
-    let first = rises event (hash_of event) old ran.0 (changes old ran.0 event ran.1) in omega (arith, first, never-falls events ran.0 new ran.2)
+    let first = rises event (hash_of event) old ran.0 (changes old ran.0 event ran.1) in omega
+    (arith, first, never-falls events ran.0 new ran.2)
 
 pub taken-once : TakenOnce
 taken-once one other before after later last events first second happened took ran happens takes =
@@ -108,7 +117,8 @@ continues-itself (Locked node number) = refl
 continues-itself (Described number bytes) = refl
 
 -- what continues a lock is continued by a description
-published-continues : (entry : Entry) (node : Node) (number : ℕ) (bytes : List ℕ) → Continues entry (Locked node number) → Continues entry (Described number bytes)
+published-continues : (entry : Entry) (node : Node) (number : ℕ) (bytes : List ℕ) → Continues entry (Locked node number)
+    → Continues entry (Described number bytes)
 published-continues (Locked by at) node number bytes h = tt
 published-continues (Described at text) node number bytes h = absurd h
 
@@ -118,63 +128,81 @@ module _ (life_hash : ServiceHash) (entry : Entry) (hash : ServiceHash) (old new
 
   published-life : (node : Node) (number : ℕ) (bytes : List ℕ) → entry_at hash old ≡ Some (Locked node number)
       → AllByRecursion Owned (set_value (is_at (digest_cmp hash.digest)) old.entries (Described number bytes))
-  published-life node number bytes locked = set-found Owned (is_at (digest_cmp hash.digest)) (Described number bytes) old.entries passes life.own
+  published-life node number bytes locked
+      = set-found Owned (is_at (digest_cmp hash.digest)) (Described number bytes) old.entries passes life.own
     where
       at : (x : List ℕ) (v : Entry) → Some v ≡ Some (Locked node number) → Owned (x, v) → Owned (x, Described number bytes)
       at x v is own same =
           let lock : v ≡ Locked node number = out is in
-          let first : (x ≡ life_hash.digest) × Continues entry (Locked node number) = subst (λ e. number_of e ≡ number_of entry → (x ≡ life_hash.digest) × Continues entry e) lock own same in
+          let first : (x ≡ life_hash.digest) × Continues entry (Locked node number)
+          = subst (λ e. number_of e ≡ number_of entry → (x ≡ life_hash.digest) × Continues entry e) lock own same in
           (first.0, published-continues entry node number bytes first.1)
         where
           out : Some v ≡ Some (Locked node number) → v ≡ Locked node number
           out e = cc
 
-      passes : (x : List ℕ) (v : Entry) → lookup (is_at (digest_cmp hash.digest)) old.entries ≡ Some v → Owned (x, v) → Owned (x, Described number bytes)
+      passes : (x : List ℕ) (v : Entry) → lookup (is_at (digest_cmp hash.digest)) old.entries ≡ Some v → Owned (x, v)
+          → Owned (x, Described number bytes)
       passes x v found = at x v (sym found ∙ locked)
 
   lives-on : (event : Event) → Change event hash old new → IsLife life_hash entry new
   lives-on event (Same is) = rw is life
   lives-on event (LockOf node free is) = rw is (record {
     below = omega (arith, life.below);
-    own = insert-all Owned digest_cmp hash.digest (Locked node old.next) digest-exact old.entries life.own (λ same. absurd (omega (arith, same, life.below)));
+    own = insert-all Owned digest_cmp hash.digest (Locked node old.next) digest-exact old.entries life.own
+        (λ same. absurd (omega (arith, same, life.below)));
   })
-  lives-on event (Without is) = rw is (record { below = life.below; own = remove-all Owned (is_at (digest_cmp hash.digest)) old.entries life.own })
-  lives-on event (PublishOf node number bytes locked by is) = rw is (record { below = life.below; own = published-life (Own node) number bytes locked })
+  lives-on event (Without is) = rw is
+      (record { below = life.below; own = remove-all Owned (is_at (digest_cmp hash.digest)) old.entries life.own })
+  lives-on event (PublishOf node number bytes locked by is)
+      = rw is (record { below = life.below; own = published-life (Own node) number bytes locked })
   lives-on event (NewSegment number node segment locked is) = rw is (record { below = life.below; own = life.own })
   lives-on event (OfSegment number before segment stood room turns is) = rw is (record { below = life.below; own = life.own })
   lives-on event (WithoutSegment number is) = rw is (record { below = life.below; own = life.own })
-  lives-on event (ServiceOf node number agreed locked by own is) = rw is (record { below = life.below; own = published-life (Foreign node) number (line agreed) locked })
-  lives-on event (Removal number is) = rw is (record { below = life.below; own = remove-all Owned (is_at (digest_cmp hash.digest)) old.entries life.own })
+  lives-on event (ServiceOf node number agreed locked by own is)
+      = rw is (record { below = life.below; own = published-life (Foreign node) number (line agreed) locked })
+  lives-on event (Removal number is) = rw is
+      (record { below = life.below; own = remove-all Owned (is_at (digest_cmp hash.digest)) old.entries life.own })
 
-runs-on : (hash : ServiceHash) (entry : Entry) (events : List Event) (old new : Contents) → IsLife hash entry old → Ran old events new → IsLife hash entry new
+runs-on : (hash : ServiceHash) (entry : Entry) (events : List Event) (old new : Contents) → IsLife hash entry old → Ran old events new
+    → IsLife hash entry new
 runs-on hash entry [] old new life ran = rw ran life
 runs-on hash entry (event ∷ events) old new life ran =
     runs-on hash entry events ran.0 new (lives-on hash entry (hash_of event) old ran.0 life event (changes old ran.0 event ran.1)) ran.2
 
 -- the life of what lies in a table
-life-of : (hash : ServiceHash) (entry : Entry) (table : Contents) → IsTable table → entry_at hash table ≡ Some entry → IsLife hash entry table
+life-of : (hash : ServiceHash) (entry : Entry) (table : Contents) → IsTable table → entry_at hash table ≡ Some entry
+    → IsLife hash entry table
 life-of hash entry table is found =
     let less = found-all (λ e. number_of e.1 < table.next) (is_at (digest_cmp hash.digest)) table.entries entry is.below found in
     let here = among (is_at (digest_cmp hash.digest)) table.entries entry found in
     let digest : hash.digest ≡ here.0 = digest-exact hash.digest here.0 (equal-of _ here.1) in
     record {
       below = less.2;
-      own = weaker (λ x. number_of x.1 ≡ number_of entry → x ≡ (here.0, entry)) (λ x. number_of x.1 ≡ number_of entry → (x.0 ≡ hash.digest) × Continues entry x.1)
-          (λ x only same. (ap (λ y. y.0) (only same) ∙ sym digest, subst (λ e. Continues entry e) (sym (ap (λ y. y.1) (only same))) (continues-itself entry)))
+      own = weaker (λ x. number_of x.1 ≡ number_of entry → x ≡ (here.0, entry))
+          (λ x. number_of x.1 ≡ number_of entry → (x.0 ≡ hash.digest) × Continues entry x.1)
+          (λ x only same. (
+            ap (λ y. y.0) (only same) ∙ sym digest,
+            subst (λ e. Continues entry e) (sym (ap (λ y. y.1) (only same)))
+                (continues-itself entry),
+          ))
           table.entries (once (λ e. number_of e.1) table.entries (here.0, entry) is.numbers here.2);
     }
 
 pub one-life-of : (old new : Contents) (events : List Event) (hash later_hash : ServiceHash) (entry later : Entry)
-    → IsTable old → Ran old events new → entry_at hash old ≡ Some entry → entry_at later_hash new ≡ Some later → number_of later ≡ number_of entry
+    → IsTable old → Ran old events new → entry_at hash old ≡ Some entry → entry_at later_hash new ≡ Some later
+    → number_of later ≡ number_of entry
     → (later_hash ≡ hash) × Continues entry later
 one-life-of old new events hash later_hash entry later table ran found late same =
     let life = runs-on hash entry events old new (life-of hash entry old table found) ran in
-    let at = found-all (λ x. number_of x.1 ≡ number_of entry → (x.0 ≡ hash.digest) × Continues entry x.1) (is_at (digest_cmp later_hash.digest)) new.entries later life.own late in
+    let at = found-all (λ x. number_of x.1 ≡ number_of entry → (x.0 ≡ hash.digest) × Continues entry x.1)
+    (is_at (digest_cmp later_hash.digest)) new.entries later life.own late in
     let both = at.2 same in
     (hash-from later_hash hash (digest-exact later_hash.digest at.0 (equal-of _ at.1) ∙ both.0), both.1)
 
 pub one-life : OneLife
-one-life old new events hash later_hash entry later r ran found late same = one-life-of old new events hash later_hash entry later (reached old r) ran found late same
+one-life old new events hash later_hash entry later r ran found late same
+    = one-life-of old new events hash later_hash entry later (reached old r) ran found late same
 
 -- ---- publishing
 
@@ -184,16 +212,21 @@ not-locked node at number bytes e = cc
 pub not-none : (number : ℕ) (bytes : List ℕ) → None ≡ Some (Described number bytes) → ⊥
 not-none number bytes e = cc
 
-module _ (hash : ServiceHash) (number : ℕ) (bytes : List ℕ) (old new : Contents) (table : IsTable old) (event : Event) (stands : entry_at hash new ≡ Some (Described number bytes)) where
+module _ (hash : ServiceHash) (number : ℕ) (bytes : List ℕ) (old new : Contents) (table : IsTable old) (event : Event)
+    (stands : entry_at hash new ≡ Some (Described number bytes)) where
   abbrev Before : Type 0
   Before = (entry_at hash old ≡ Some (Described number bytes)) ⊎ PublishesAs hash number bytes old event
 
-  removed : lookup (is_at (digest_cmp hash.digest)) (remove_entry (is_at (digest_cmp hash.digest)) old.entries) ≡ Some (Described number bytes) → Before
-  removed h = absurd (not-none number bytes (sym (remove-same (is_at (digest_cmp hash.digest)) (λ x y a b. sym (digest-exact hash.digest x (equal-of _ a)) ∙ digest-exact hash.digest y (equal-of _ b)) old.entries table.keys) ∙ h))
+  removed : lookup (is_at (digest_cmp hash.digest)) (remove_entry (is_at (digest_cmp hash.digest)) old.entries)
+      ≡ Some (Described number bytes) → Before
+  removed h = absurd (not-none number bytes
+      (sym (remove-same (is_at (digest_cmp hash.digest))
+      (λ x y a b. sym (digest-exact hash.digest x (equal-of _ a)) ∙ digest-exact hash.digest y (equal-of _ b)) old.entries table.keys) ∙ h))
 
   -- what this event published is what stands
   set : (at : ℕ) (text : List ℕ) (node : Node) → entry_at hash old ≡ Some (Locked node at) → PublishesAs hash at text old event
-      → lookup (is_at (digest_cmp hash.digest)) (set_value (is_at (digest_cmp hash.digest)) old.entries (Described at text)) ≡ Some (Described number bytes) → Before
+      → lookup (is_at (digest_cmp hash.digest)) (set_value (is_at (digest_cmp hash.digest)) old.entries (Described at text))
+      ≡ Some (Described number bytes) → Before
   set at text node locked by h =
       let found = lookup-set (is_at (digest_cmp hash.digest)) old.entries (Described at text) (rw locked refl) in
       let numbers : at ≡ number = first (sym found ∙ h) in
@@ -211,7 +244,10 @@ module _ (hash : ServiceHash) (number : ℕ) (bytes : List ℕ) (old new : Conte
 
   publishes-here : Change event hash old new → Before
   publishes-here (Same is) = inl (now old is)
-  publishes-here (LockOf node free is) = absurd (not-locked node old.next number bytes (sym (lookup-added digest_cmp hash.digest (Locked node old.next) old.entries (digest-self hash.digest)) ∙ now (with_lock hash node old) is))
+  publishes-here (LockOf node free is)
+      = absurd (not-locked node old.next number bytes
+      (sym (lookup-added digest_cmp hash.digest (Locked node old.next) old.entries (digest-self hash.digest)) ∙ now
+      (with_lock hash node old) is))
   publishes-here (Without is) = removed (now _ is)
   publishes-here (PublishOf node at text locked by is) = set at text (Own node) locked by (now _ is)
   publishes-here (NewSegment at node segment locked is) = inl (now _ is)
@@ -222,5 +258,6 @@ module _ (hash : ServiceHash) (number : ℕ) (bytes : List ℕ) (old new : Conte
 
 pub published-by-its-lock : PublishedByItsLock
 published-by-its-lock old new event hash number bytes r happened stands = by_hash (hash_of event) hash
-    (λ same. publishes-here hash number bytes old new (reached old r) event stands (subst (λ h. Change event h old new) same (changes old new event happened)))
+    (λ same. publishes-here hash number bytes old new (reached old r) event stands
+    (subst (λ h. Change event h old new) same (changes old new event happened)))
     (λ differ. inl (sym (elsewhere (hash_of event) hash differ old new event (changes old new event happened)).entry ∙ stands))

@@ -46,7 +46,8 @@ module _ {K X : Type 0} (test other : K → Bool) (apart : (k : K) → test k �
   remove-apart [] = refl
   remove-apart (e ∷ es) = remove-there e es (test e.0) refl (remove-apart es)
 
-module _ {K X : Type 0} (cmp : K → K → Ordering) (k : K) (v : X) (other : K → Bool) (away : other k ≡ false) (exact : (x y : K) → cmp x y ≡ Equal → x ≡ y) where
+module _ {K X : Type 0} (cmp : K → K → Ordering) (k : K) (v : X) (other : K → Bool) (away : other k ≡ false)
+    (exact : (x y : K) → cmp x y ≡ Equal → x ≡ y) where
   insert-there : (e : K × X) (es later : List (K × X)) (o : Ordering) → cmp k e.0 ≡ o → lookup other later ≡ lookup other es
       → lookup other (match_ordering o ((k, v) ∷ e ∷ es) ((e.0, v) ∷ es) (e ∷ later)) ≡ cond (other e.0) (Some e.1) (lookup other es)
   insert-there e es later Less is found = rw away refl
@@ -59,19 +60,24 @@ module _ {K X : Type 0} (cmp : K → K → Ordering) (k : K) (v : X) (other : K 
   insert-apart (e ∷ es) = insert-there e es (insert_entry cmp es k v) (cmp k e.0) refl (insert-apart es)
 
 module _ {K X : Type 0} (P : K × X → Type 0) where
-  insert-all-there : (cmp : K → K → Ordering) (k : K) (v : X) (e : K × X) (es later : List (K × X)) (o : Ordering) → cmp k e.0 ≡ o → ((x y : K) → cmp x y ≡ Equal → x ≡ y)
-      → P e → AllByRecursion P es → P (k, v) → AllByRecursion P later → AllByRecursion P (match_ordering o ((k, v) ∷ e ∷ es) ((e.0, v) ∷ es) (e ∷ later))
+  insert-all-there : (cmp : K → K → Ordering) (k : K) (v : X) (e : K × X) (es later : List (K × X)) (o : Ordering) → cmp k e.0 ≡ o
+      → ((x y : K) → cmp x y ≡ Equal → x ≡ y)
+      → P e → AllByRecursion P es → P (k, v) → AllByRecursion P later
+      → AllByRecursion P (match_ordering o ((k, v) ∷ e ∷ es) ((e.0, v) ∷ es) (e ∷ later))
   insert-all-there cmp k v e es later Less is exact here all given rest = (given, (here, all))
   insert-all-there cmp k v e es later Equal is exact here all given rest = (subst (λ x. P (x, v)) (exact k e.0 is) given, all)
   insert-all-there cmp k v e es later Greater is exact here all given rest = (here, rest)
 
   -- what holds of each entry and of the one that is added holds of each
-  pub insert-all : (cmp : K → K → Ordering) (k : K) (v : X) → ((x y : K) → cmp x y ≡ Equal → x ≡ y) → (es : List (K × X)) → AllByRecursion P es → P (k, v) → AllByRecursion P (insert_entry cmp es k v)
+  pub insert-all : (cmp : K → K → Ordering) (k : K) (v : X) → ((x y : K) → cmp x y ≡ Equal → x ≡ y) → (es : List (K × X))
+      → AllByRecursion P es → P (k, v) → AllByRecursion P (insert_entry cmp es k v)
   insert-all cmp k v exact [] all given = (given, tt)
   insert-all cmp k v exact (e ∷ es) all given =
-      insert-all-there cmp k v e es (insert_entry cmp es k v) (cmp k e.0) refl exact all.0 all.1 given (insert-all cmp k v exact es all.1 given)
+      insert-all-there cmp k v e es (insert_entry cmp es k v) (cmp k e.0) refl exact all.0 all.1 given
+      (insert-all cmp k v exact es all.1 given)
 
-  remove-all-there : (e : K × X) (es later : List (K × X)) (b : Bool) → P e → AllByRecursion P es → AllByRecursion P later → AllByRecursion P (cond b es (e ∷ later))
+  remove-all-there : (e : K × X) (es later : List (K × X)) (b : Bool) → P e → AllByRecursion P es → AllByRecursion P later
+      → AllByRecursion P (cond b es (e ∷ later))
   remove-all-there e es later true here all rest = all
   remove-all-there e es later false here all rest = (here, rest)
 
@@ -79,26 +85,34 @@ module _ {K X : Type 0} (P : K × X → Type 0) where
   remove-all test [] all = tt
   remove-all test (e ∷ es) all = remove-all-there e es (remove_entry test es) (test e.0) all.0 all.1 (remove-all test es all.1)
 
-  set-all-there : (test : K → Bool) (e : K × X) (es later : List (K × X)) (w : X) (b : Bool) → test e.0 ≡ b → ((x : K) → test x ≡ true → P (x, w)) → P e → AllByRecursion P es → AllByRecursion P later
+  set-all-there : (test : K → Bool) (e : K × X) (es later : List (K × X)) (w : X) (b : Bool) → test e.0 ≡ b
+      → ((x : K) → test x ≡ true → P (x, w)) → P e → AllByRecursion P es → AllByRecursion P later
       → AllByRecursion P (cond b ((e.0, w) ∷ es) (e ∷ later))
   set-all-there test e es later w true is given here all rest = (given e.0 is, all)
   set-all-there test e es later w false is given here all rest = (here, rest)
 
-  pub set-all : (test : K → Bool) (w : X) → ((x : K) → test x ≡ true → P (x, w)) → (es : List (K × X)) → AllByRecursion P es → AllByRecursion P (set_value test es w)
+  pub set-all : (test : K → Bool) (w : X) → ((x : K) → test x ≡ true → P (x, w)) → (es : List (K × X)) → AllByRecursion P es
+      → AllByRecursion P (set_value test es w)
   set-all test w given [] all = tt
-  set-all test w given (e ∷ es) all = set-all-there test e es (set_value test es w) w (test e.0) refl given all.0 all.1 (set-all test w given es all.1)
+  set-all test w given (e ∷ es) all = set-all-there test e es (set_value test es w) w (test e.0) refl given all.0 all.1
+      (set-all test w given es all.1)
 
-  set-found-there : (test : K → Bool) (e : K × X) (es later : List (K × X)) (w : X) (b : Bool) → test e.0 ≡ b → ((x : K) (v : X) → cond b (Some e.1) (lookup test es) ≡ Some v → P (x, v) → P (x, w)) → P e
-      → AllByRecursion P es → (((x : K) (v : X) → lookup test es ≡ Some v → P (x, v) → P (x, w)) → AllByRecursion P later) → AllByRecursion P (cond b ((e.0, w) ∷ es) (e ∷ later))
+  set-found-there : (test : K → Bool) (e : K × X) (es later : List (K × X)) (w : X) (b : Bool) → test e.0 ≡ b
+      → ((x : K) (v : X) → cond b (Some e.1) (lookup test es) ≡ Some v → P (x, v) → P (x, w)) → P e
+      → AllByRecursion P es → (((x : K) (v : X) → lookup test es ≡ Some v → P (x, v) → P (x, w)) → AllByRecursion P later)
+      → AllByRecursion P (cond b ((e.0, w) ∷ es) (e ∷ later))
   set-found-there test e es later w true is given here all rest = (given e.0 e.1 refl here, all)
   set-found-there test e es later w false is given here all rest = (here, rest given)
 
   -- what holds of each entry holds after a value was set, if it passes from the old value to the new one
-  pub set-found : (test : K → Bool) (w : X) (es : List (K × X)) → ((x : K) (v : X) → lookup test es ≡ Some v → P (x, v) → P (x, w)) → AllByRecursion P es → AllByRecursion P (set_value test es w)
+  pub set-found : (test : K → Bool) (w : X) (es : List (K × X)) → ((x : K) (v : X) → lookup test es ≡ Some v → P (x, v) → P (x, w))
+      → AllByRecursion P es → AllByRecursion P (set_value test es w)
   set-found test w [] given all = tt
-  set-found test w (e ∷ es) given all = set-found-there test e es (set_value test es w) w (test e.0) refl given all.0 all.1 (λ g. set-found test w es g all.1)
+  set-found test w (e ∷ es) given all
+      = set-found-there test e es (set_value test es w) w (test e.0) refl given all.0 all.1 (λ g. set-found test w es g all.1)
 
-  found-there : (test : K → Bool) (e : K × X) (es : List (K × X)) (v : X) (b : Bool) → test e.0 ≡ b → P e → (lookup test es ≡ Some v → (k : K) × (test k ≡ true) × P (k, v))
+  found-there : (test : K → Bool) (e : K × X) (es : List (K × X)) (v : X) (b : Bool) → test e.0 ≡ b → P e
+      → (lookup test es ≡ Some v → (k : K) × (test k ≡ true) × P (k, v))
       → cond b (Some e.1) (lookup test es) ≡ Some v → (k : K) × (test k ≡ true) × P (k, v)
   found-there test e es v true is here later found = (e.0, is, subst (λ x. P (e.0, x)) (same found) here)
     where
@@ -107,7 +121,8 @@ module _ {K X : Type 0} (P : K × X → Type 0) where
   found-there test e es v false is here later found = later found
 
   -- what holds of each entry holds of the one that is found
-  pub found-all : (test : K → Bool) (es : List (K × X)) (v : X) → AllByRecursion P es → lookup test es ≡ Some v → (k : K) × (test k ≡ true) × P (k, v)
+  pub found-all : (test : K → Bool) (es : List (K × X)) (v : X) → AllByRecursion P es → lookup test es ≡ Some v → (k : K)
+      × (test k ≡ true) × P (k, v)
   found-all test [] v all found = absurd (differ found)
     where
       differ : None ≡ Some v → ⊥
@@ -124,7 +139,8 @@ none-found test [] all = refl
 none-found test (e ∷ es) all = rw all.0 (none-found test es all.1)
 
 -- and where nothing is found no key passes
-none-there : {K X : Type 0} (test : K → Bool) (e : K × X) (es : List (K × X)) (b : Bool) → test e.0 ≡ b → (lookup test es ≡ None → AllByRecursion (λ x. test x.0 ≡ false) es)
+none-there : {K X : Type 0} (test : K → Bool) (e : K × X) (es : List (K × X)) (b : Bool) → test e.0 ≡ b
+    → (lookup test es ≡ None → AllByRecursion (λ x. test x.0 ≡ false) es)
     → cond b (Some e.1) (lookup test es) ≡ None → (test e.0 ≡ false) × AllByRecursion (λ x. test x.0 ≡ false) es
 none-there test e es true is later found = absurd (differ found)
   where
@@ -147,7 +163,8 @@ among-all P [] e in_it all = absurd in_it
 among-all P (x ∷ xs) e (inl is) all = subst P is all.0
 among-all P (x ∷ xs) e (inr later) all = among-all P xs e later all.1
 
-among-there : {K X : Type 0} (test : K → Bool) (e : K × X) (es : List (K × X)) (v : X) (b : Bool) → test e.0 ≡ b → (lookup test es ≡ Some v → (k : K) × (test k ≡ true) × Among (k, v) es)
+among-there : {K X : Type 0} (test : K → Bool) (e : K × X) (es : List (K × X)) (v : X) (b : Bool) → test e.0 ≡ b
+    → (lookup test es ≡ Some v → (k : K) × (test k ≡ true) × Among (k, v) es)
     → cond b (Some e.1) (lookup test es) ≡ Some v → (k : K) × (test k ≡ true) × Among (k, v) (e ∷ es)
 among-there test e es v true is later found = (e.0, is, inl (ap (λ x. (e.0, x)) (same found)))
   where
@@ -156,7 +173,8 @@ among-there test e es v true is later found = (e.0, is, inl (ap (λ x. (e.0, x))
 among-there test e es v false is later found = let l = later found in (l.0, l.1, inr l.2)
 
 -- what is found is among the entries
-pub among : {K X : Type 0} (test : K → Bool) (es : List (K × X)) (v : X) → lookup test es ≡ Some v → (k : K) × (test k ≡ true) × Among (k, v) es
+pub among : {K X : Type 0} (test : K → Bool) (es : List (K × X)) (v : X) → lookup test es ≡ Some v → (k : K) × (test k ≡ true)
+    × Among (k, v) es
 among test [] v found = absurd (differ found)
   where
     differ : None ≡ Some v → ⊥
@@ -189,22 +207,26 @@ module _ {K X Y : Type 0} (f : K × X → Y) where
       there true rest = distinct.1
       there false rest = (remove-all (λ x. f x ≢ f e) test es distinct.0, rest)
 
-  pub insert-distinct : (cmp : K → K → Ordering) (k : K) (v : X) → ((x y : K) → cmp x y ≡ Equal → x ≡ y) → (es : List (K × X)) → Distinct f es → AllByRecursion (λ x. f x ≢ f (k, v)) es
+  pub insert-distinct : (cmp : K → K → Ordering) (k : K) (v : X) → ((x y : K) → cmp x y ≡ Equal → x ≡ y) → (es : List (K × X))
+      → Distinct f es → AllByRecursion (λ x. f x ≢ f (k, v)) es
       → Distinct f (insert_entry cmp es k v)
   insert-distinct cmp k v exact [] distinct new = (tt, tt)
   insert-distinct cmp k v exact (e ∷ es) distinct new = there (cmp k e.0) refl (insert-distinct cmp k v exact es distinct.1 new.1)
     where
-      there : (o : Ordering) → cmp k e.0 ≡ o → Distinct f (insert_entry cmp es k v) → Distinct f (match_ordering o ((k, v) ∷ e ∷ es) ((e.0, v) ∷ es) (e ∷ insert_entry cmp es k v))
+      there : (o : Ordering) → cmp k e.0 ≡ o → Distinct f (insert_entry cmp es k v)
+          → Distinct f (match_ordering o ((k, v) ∷ e ∷ es) ((e.0, v) ∷ es) (e ∷ insert_entry cmp es k v))
       there Less is rest = ((new.0, new.1), distinct)
       there Equal is rest = (subst (λ x. AllByRecursion (λ y. f y ≢ f (x, v)) es) (exact k e.0 is) new.1, distinct.1)
       there Greater is rest = (insert-all (λ x. f x ≢ f e) cmp k v exact es distinct.0 (λ same. new.0 (sym same)), rest)
 
-  pub set-distinct : (test : K → Bool) (w : X) (es : List (K × X)) → ((x : K) (v : X) → lookup test es ≡ Some v → f (x, v) ≡ f (x, w)) → Distinct f es → Distinct f (set_value test es w)
+  pub set-distinct : (test : K → Bool) (w : X) (es : List (K × X)) → ((x : K) (v : X) → lookup test es ≡ Some v → f (x, v) ≡ f (x, w))
+      → Distinct f es → Distinct f (set_value test es w)
   set-distinct test w [] same distinct = tt
   set-distinct test w (e ∷ es) same distinct = there (test e.0) refl same (λ s. set-distinct test w es s distinct.1)
     where
       there : (b : Bool) → test e.0 ≡ b → ((x : K) (v : X) → cond b (Some e.1) (lookup test es) ≡ Some v → f (x, v) ≡ f (x, w))
-          → (((x : K) (v : X) → lookup test es ≡ Some v → f (x, v) ≡ f (x, w)) → Distinct f (set_value test es w)) → Distinct f (cond b ((e.0, w) ∷ es) (e ∷ set_value test es w))
+          → (((x : K) (v : X) → lookup test es ≡ Some v → f (x, v) ≡ f (x, w)) → Distinct f (set_value test es w))
+          → Distinct f (cond b ((e.0, w) ∷ es) (e ∷ set_value test es w))
       there true is same rest = (subst (λ y. AllByRecursion (λ x. f x ≢ y) es) (same e.0 e.1 refl) distinct.0, distinct.1)
       there false is same rest = (
         set-found (λ x. f x ≢ f e) test w es (λ x v found. subst (λ y. y ≢ f e) (same x v found)) distinct.0,
@@ -212,7 +234,8 @@ module _ {K X Y : Type 0} (f : K × X → Y) where
       )
 
 -- an entry that is removed is not found again where the keys are distinct
-pub remove-same : {K X : Type 0} (test : K → Bool) → ((x y : K) → test x ≡ true → test y ≡ true → x ≡ y) → (es : List (K × X)) → Distinct (λ e. e.0) es → lookup test (remove_entry test es) ≡ None
+pub remove-same : {K X : Type 0} (test : K → Bool) → ((x y : K) → test x ≡ true → test y ≡ true → x ≡ y) → (es : List (K × X))
+    → Distinct (λ e. e.0) es → lookup test (remove_entry test es) ≡ None
 remove-same test one [] distinct = refl
 remove-same {K = K} {X = X} test one (e ∷ es) distinct = there (test e.0) refl (remove-same test one es distinct.1)
   where
@@ -220,7 +243,8 @@ remove-same {K = K} {X = X} test one (e ∷ es) distinct = there (test e.0) refl
     differing [] is all = tt
     differing (x ∷ xs) is all = (by_test (test x.0) (λ also. absurd (all.0 (one x.0 e.0 also is))) (λ isnt. isnt), differing xs is all.1)
 
-    there : (b : Bool) → test e.0 ≡ b → lookup test (remove_entry test es) ≡ None → lookup test (cond b es (e ∷ remove_entry test es)) ≡ None
+    there : (b : Bool) → test e.0 ≡ b → lookup test (remove_entry test es) ≡ None
+        → lookup test (cond b es (e ∷ remove_entry test es)) ≡ None
     there true is rest = none-found test es (differing es is distinct.0)
     there false is rest = rw is rest
 
@@ -230,7 +254,8 @@ Rising cmp [] = Unit {0}
 Rising cmp (e ∷ es) = AllByRecursion (λ x. cmp e.0 x.0 ≡ Less) es × Rising cmp es
 
 module _ {K X : Type 0} (cmp : K → K → Ordering) (total : IsTotalOrder cmp) (exact : (x y : K) → cmp x y ≡ Equal → x ≡ y) where
-  above-all : (k : K) (e : K × X) (es : List (K × X)) → cmp k e.0 ≡ Less → AllByRecursion (λ x. cmp e.0 x.0 ≡ Less) es → AllByRecursion (λ x. cmp k x.0 ≡ Less) es
+  above-all : (k : K) (e : K × X) (es : List (K × X)) → cmp k e.0 ≡ Less → AllByRecursion (λ x. cmp e.0 x.0 ≡ Less) es
+      → AllByRecursion (λ x. cmp k x.0 ≡ Less) es
   above-all k e [] less all = tt
   above-all k e (x ∷ es) less all = (total.trans k e.0 x.0 less all.0, above-all k e es less all.1)
 
@@ -238,10 +263,12 @@ module _ {K X : Type 0} (cmp : K → K → Ordering) (total : IsTotalOrder cmp) 
   insert-rising k v [] rising = (tt, tt)
   insert-rising k v (e ∷ es) rising = there (cmp k e.0) refl (insert-rising k v es rising.1)
     where
-      there : (o : Ordering) → cmp k e.0 ≡ o → Rising cmp (insert_entry cmp es k v) → Rising cmp (match_ordering o ((k, v) ∷ e ∷ es) ((e.0, v) ∷ es) (e ∷ insert_entry cmp es k v))
+      there : (o : Ordering) → cmp k e.0 ≡ o → Rising cmp (insert_entry cmp es k v)
+          → Rising cmp (match_ordering o ((k, v) ∷ e ∷ es) ((e.0, v) ∷ es) (e ∷ insert_entry cmp es k v))
       there Less is rest = ((is, above-all k e es is rising.0), rising)
       there Equal is rest = (rising.0, rising.1)
-      there Greater is rest = (insert-all (λ x. cmp e.0 x.0 ≡ Less) cmp k v exact es rising.0 (total.antisymm e.0 k ∙ ap ordering_reverse is), rest)
+      there Greater is rest
+          = (insert-all (λ x. cmp e.0 x.0 ≡ Less) cmp k v exact es rising.0 (total.antisymm e.0 k ∙ ap ordering_reverse is), rest)
 
   pub remove-rising : (test : K → Bool) (es : List (K × X)) → Rising cmp es → Rising cmp (remove_entry test es)
   remove-rising test [] rising = tt

@@ -1,5 +1,6 @@
 -- What is opened was read, and meets what is asked.
-use Rattle.std.proofs.Common.{rules, IsSome, ◌≡◌, ℕ, List, ◌∷◌, ◌⊎◌, ⊎_elim, inl, inr, Option, None, Some, Result, Ok, Err, refl, sym, ap, subst, ◌∙◌}
+use Rattle.std.proofs.Common.{rules, IsSome, ◌≡◌, ℕ, List, ◌∷◌, ◌⊎◌, ⊎_elim, inl, inr, Option, None, Some, Result, Ok, Err, refl, sym, ap}
+use Rattle.std.proofs.Common.{subst, ◌∙◌}
 use Rattle.iox_negotiate_base.specs.DescribeBase.declared.hash.ServiceHash.{ServiceHash}
 use Rattle.iox_negotiate_base.specs.DescribeSettings.Agreement.{Agreement}
 use Rattle.iox_negotiate_base.specs.Describe.Within.{IsWithinLimits}
@@ -45,7 +46,8 @@ not-absent : (number : ℕ) (agreed : Agreement) → sight.Standing number agree
 not-absent number agreed h = cc
 
 -- what was read under a hash is of that hash, and within the limits
-sight-hash : (hash : ServiceHash) (answer : LookAnswer) (number : ℕ) (agreed : Agreement) → IsSight hash answer (sight.Standing number agreed) → (agreed.service_hash ≡ hash) × IsWithinLimits agreed
+sight-hash : (hash : ServiceHash) (answer : LookAnswer) (number : ℕ) (agreed : Agreement)
+    → IsSight hash answer (sight.Standing number agreed) → (agreed.service_hash ≡ hash) × IsWithinLimits agreed
 sight-hash hash look.Absent number agreed h = absurd (not-absent _ _ h)
 sight-hash hash (look.Found from bytes) number agreed h = (h.1.own, h.1.within)
 sight-hash hash look.Locked number agreed h = absurd (not-failed _ _ _ h)
@@ -54,7 +56,8 @@ sight-hash hash look.Broken number agreed h = absurd (not-failed _ _ _ h)
 sight-hash hash look.OutOfMemory number agreed h = absurd (not-failed _ _ _ h)
 
 module _ {V : Type 0} (hash : ServiceHash) (node : ℕ) (verdict : Agreement → Result (Unit {0}) V) where
-  entered-is : (number : ℕ) (agreed : Agreement) (answer : OpenSegmentAnswer) (service : Opened) → Some (Ok service) ≡ entered {V = V} number agreed answer
+  entered-is : (number : ℕ) (agreed : Agreement) (answer : OpenSegmentAnswer) (service : Opened)
+      → Some (Ok service) ≡ entered {V = V} number agreed answer
       → service.description ≡ agreed
   entered-is number agreed opening.Registered service h = ap (λ s. s.description) (same-service service (opened number agreed) h)
   entered-is number agreed opening.Absent service h = absurd (not-none service h)
@@ -64,17 +67,21 @@ module _ {V : Type 0} (hash : ServiceHash) (node : ℕ) (verdict : Agreement →
   entered-is number agreed opening.Fault service h = absurd (not-some-err service _ h)
   entered-is number agreed opening.OutOfMemory service h = absurd (not-some-err service _ h)
 
-  registers-is : (number : ℕ) (agreed : Agreement) (made : List Access) (service : Opened) → Registers hash node verdict number agreed made (Some (Ok service))
+  registers-is : (number : ℕ) (agreed : Agreement) (made : List Access) (service : Opened)
+      → Registers hash node verdict number agreed made (Some (Ok service))
       → service.description ≡ agreed
   registers-is number agreed (OpenSegment under of by answer ∷ rest) service h = entered-is number agreed answer service h.4
   registers-is number agreed made service h = absurd h
 
-  judged-is : (number : ℕ) (agreed : Agreement) (judged : Result (Unit {0}) V) (made : List Access) (service : Opened) → verdict agreed ≡ judged
-      → OpensJudged hash node verdict number agreed judged made (Some (Ok service)) → (service.description ≡ agreed) × (verdict agreed ≡ Ok tt)
+  judged-is : (number : ℕ) (agreed : Agreement) (judged : Result (Unit {0}) V) (made : List Access) (service : Opened)
+      → verdict agreed ≡ judged
+      → OpensJudged hash node verdict number agreed judged made (Some (Ok service)) → (service.description ≡ agreed)
+      × (verdict agreed ≡ Ok tt)
   judged-is number agreed (Ok met) made service is h = (registers-is number agreed made service h, is)
   judged-is number agreed (Err unmet) made service is h = absurd (not-some-err service _ h.1)
 
-  standing-is : (answer : LookAnswer) (number : ℕ) (agreed : Agreement) (made : List Access) (service : Opened) → IsSight hash answer (sight.Standing number agreed)
+  standing-is : (answer : LookAnswer) (number : ℕ) (agreed : Agreement) (made : List Access) (service : Opened)
+      → IsSight hash answer (sight.Standing number agreed)
       → OpensJudged hash node verdict number agreed (verdict agreed) made (Some (Ok service)) → IsMet hash verdict service
   standing-is answer number agreed made service seen h =
       let j = judged-is number agreed (verdict agreed) made service refl h in
@@ -92,7 +99,8 @@ module _ {V : Type 0} (hash : ServiceHash) (node : ℕ) (verdict : Agreement →
   round-is made service h = absurd h
 
   -- an opening that comes to a service passes it on
-  passed-on : (answer : Option (Result Opened (OpenFailure V))) (service : Opened) → Some (Ok service) ≡ opened_or_again answer → answer ≡ Some (Ok service)
+  passed-on : (answer : Option (Result Opened (OpenFailure V))) (service : Opened) → Some (Ok service) ≡ opened_or_again answer
+      → answer ≡ Some (Ok service)
   passed-on None service h = absurd (not-none service h)
   passed-on (Some (Ok other)) service h = ap (λ s. Some (Ok s)) (sym (same-service service other h))
   passed-on (Some (Err failure)) service h = absurd (not-some-err service _ h)
@@ -106,13 +114,16 @@ module _ {V : Type 0} (hash : ServiceHash) (node : ℕ) (verdict : Agreement →
 
   module _ (agreed : Agreement) (refusal : Option CreateFailure) where
     either-creates-is : (refused : Option CreateFailure) (made : List Access) (service : Opened)
-        → EitherCreates hash node verdict agreed refusal refused made (Some (Ok service)) → (service.description ≡ agreed) × (refused ≡ None)
+        → EitherCreates hash node verdict agreed refusal refused made (Some (Ok service)) → (service.description ≡ agreed)
+        × (refused ≡ None)
     either-creates-is (Some failure) made service h = absurd (not-some-err service _ h.1)
     either-creates-is None made service h =
-        let p = creates-service hash node agreed None (Look hash look.Absent ∷ made) service (sight.Absent, h.0, refl, refl, h.1, created-is h.0 service h.2) in (p.1, refl)
+        let p = creates-service hash node agreed None (Look hash look.Absent ∷ made) service
+        (sight.Absent, h.0, refl, refl, h.1, created-is h.0 service h.2) in (p.1, refl)
 
     either-seen-is : (answer : LookAnswer) (shown : Sight) (made : List Access) (service : Opened) → IsSight hash answer shown
-        → EitherSeen hash node verdict agreed refusal shown made (Some (Ok service)) → IsMet hash verdict service ⊎ ((service.description ≡ agreed) × (refusal ≡ None))
+        → EitherSeen hash node verdict agreed refusal shown made (Some (Ok service)) → IsMet hash verdict service
+        ⊎ ((service.description ≡ agreed) × (refusal ≡ None))
     either-seen-is answer sight.Absent made service seen h = inr (either-creates-is refusal made service h)
     either-seen-is answer (sight.Standing number other) made service seen (came, judged, is) =
         let P : Option (Result Opened (OpenFailure V)) → Type 0 = λ a. OpensJudged hash node verdict number other (verdict other) made a in
@@ -130,7 +141,8 @@ opens-met V hash node verdict made service h =
 
 pub either-met : (V : Type 0) → EitherIsMet V
 either-met V hash node verdict agreed refusal made service h =
-    ⊎_elim (λ ending. either-is hash node verdict agreed refusal h.last service ending.1) (λ ending. absurd (not-ok-err service _ ending.2)) h.ends
+    ⊎_elim (λ ending. either-is hash node verdict agreed refusal h.last service ending.1)
+    (λ ending. absurd (not-ok-err service _ ending.2)) h.ends
 
 -- what is known to be Some is
 pub some-is : {T : Type 0} (found : Option T) (value : T) → found ≡ Some value → IsSome found

@@ -27,7 +27,8 @@ use Rattle.iox_negotiate.specs.Lives.{PublishesAs}
 use Rattle.iox_negotiate.proofs.Maps.{set-apart, remove-apart}
 use Rattle.iox_negotiate.proofs.Tables.{IsTable, sees, acts, new-table, digest-self}
 use Rattle.iox_negotiate.proofs.Rooms.{SameRoom, line-room}
-use Rattle.iox_negotiate.proofs.Changes.{Change, Same, LockOf, Without, PublishOf, NewSegment, OfSegment, WithoutSegment, ServiceOf, Removal, changes, hash_of, by_hash, elsewhere, same-place, place-apart}
+use Rattle.iox_negotiate.proofs.Changes.{Change, Same, LockOf, Without, PublishOf, NewSegment, OfSegment, WithoutSegment, ServiceOf}
+use Rattle.iox_negotiate.proofs.Changes.{Removal, changes, hash_of, by_hash, elsewhere, same-place, place-apart}
 use Rattle.iox_negotiate.proofs.Lives.{not-locked, not-none}
 use Rattle.iox_negotiate.proofs.Held.{by_number}
 use Rattle.iox_negotiate.proofs.Closing.{entry-gone, segment-gone}
@@ -37,7 +38,8 @@ use Rattle.iox_negotiate.proofs.Ending.{made-not-lacking, published-not-lacking}
 
 -- the segment of this service has room for the agreed number of nodes
 abbrev pub HasRoomAt : ServiceHash → ℕ → Contents → Type 0
-HasRoomAt hash number table = (agreed : Agreement) (nodes : Nodes) → entry_at hash table ≡ Some (Described number (line agreed)) → IsWithinLimits agreed → segment_at hash number table ≡ Some (Open nodes)
+HasRoomAt hash number table = (agreed : Agreement) (nodes : Nodes) → entry_at hash table ≡ Some (Described number (line agreed))
+    → IsWithinLimits agreed → segment_at hash number table ≡ Some (Open nodes)
     → nodes.max_nodes ≡ max_nodes_of agreed.settings
 
 pub record Roomy (table : Contents) : Type 0 where
@@ -53,7 +55,8 @@ abbrev pub UnpublishingEvent : Event → Type 0
 UnpublishingEvent (Accesses access) = Unpublishing access
 UnpublishingEvent (StepsUnder hash step) = Unit {0}
 
-pub no-publish : (hash : ServiceHash) (number node : ℕ) (bytes : List ℕ) (old : Contents) (event : Event) → UnpublishingEvent event → entry_at hash old ≡ Some (Locked (Own node) number) → PublishesAs hash number bytes old event → ⊥
+pub no-publish : (hash : ServiceHash) (number node : ℕ) (bytes : List ℕ) (old : Contents) (event : Event) → UnpublishingEvent event
+    → entry_at hash old ≡ Some (Locked (Own node) number) → PublishesAs hash number bytes old event → ⊥
 no-publish hash number node bytes old (Accesses (Publish under of text publishing.Published)) un locked by = un
 no-publish hash number node bytes old (Accesses (Publish under of text publishing.Fault)) un locked by = differ by.5
   where
@@ -73,24 +76,34 @@ pub open-is : (segment : Segment) (nodes : Nodes) → Some segment ≡ Some (Ope
 open-is segment nodes e = cc
 
 -- the nodes of a segment that kept its room
-before-room : (before : Segment) (nodes : Nodes) → SameRoom before (Open nodes) → (was : Nodes) × (before ≡ Open was) × (nodes.max_nodes ≡ was.max_nodes)
+before-room : (before : Segment) (nodes : Nodes) → SameRoom before (Open nodes) → (was : Nodes) × (before ≡ Open was)
+    × (nodes.max_nodes ≡ was.max_nodes)
 before-room (Open was) nodes same = (was, refl, same)
 before-room (Emptied by) nodes same = absurd same
 
-module _ (hash : ServiceHash) (number : ℕ) (old new : Contents) (is : IsTable old) (event : Event) (un : UnpublishingEvent event) (room : HasRoomAt hash number old) where
+module _ (hash : ServiceHash) (number : ℕ) (old new : Contents) (is : IsTable old) (event : Event) (un : UnpublishingEvent event)
+    (room : HasRoomAt hash number old) where
   -- where the entry is as it was, or not a description
   not-described : (node : Node) (at : ℕ) → entry_at hash new ≡ Some (Locked node at) → HasRoomAt hash number new
-  not-described node at locked agreed nodes published within stands = absurd (not-locked node at number (line agreed) (sym locked ∙ published))
+  not-described node at locked agreed nodes published within stands
+      = absurd (not-locked node at number (line agreed) (sym locked ∙ published))
 
   no-entry : entry_at hash new ≡ None → HasRoomAt hash number new
   no-entry gone agreed nodes published within stands = absurd (not-none number (line agreed) (sym gone ∙ published))
 
   kept-here : Change event hash old new → HasRoomAt hash number new
-  kept-here (Same same) agreed nodes published within stands = (subst (λ t. HasRoomAt hash number t) (sym same) room) agreed nodes published within stands
-  kept-here (LockOf node free same) agreed nodes published within stands = (not-described node old.next (rw same (lookup-added digest_cmp hash.digest (Locked node old.next) old.entries (digest-self hash.digest)))) agreed nodes published within stands
-  kept-here (Without same) agreed nodes published within stands = (no-entry (rw same (entry-gone hash old is))) agreed nodes published within stands
-  kept-here (PublishOf node at bytes locked by same) agreed nodes published within stands = absurd (no-publish hash at node bytes old event un locked by)
-  kept-here (NewSegment at node segment locked same) agreed nodes published within stands = (not-described (Own node) at (rw same locked)) agreed nodes published within stands
+  kept-here (Same same) agreed nodes published within stands
+      = (subst (λ t. HasRoomAt hash number t) (sym same) room) agreed nodes published within stands
+  kept-here (LockOf node free same) agreed nodes published within stands
+      = (not-described node old.next (rw same
+      (lookup-added digest_cmp hash.digest (Locked node old.next) old.entries (digest-self hash.digest)))) agreed nodes published within
+      stands
+  kept-here (Without same) agreed nodes published within stands
+      = (no-entry (rw same (entry-gone hash old is))) agreed nodes published within stands
+  kept-here (PublishOf node at bytes locked by same) agreed nodes published within stands
+      = absurd (no-publish hash at node bytes old event un locked by)
+  kept-here (NewSegment at node segment locked same) agreed nodes published within stands
+      = (not-described (Own node) at (rw same locked)) agreed nodes published within stands
   kept-here (OfSegment at before segment stood kept turns same) agreed nodes published within stands = by_number at number here there
     where
       entry : entry_at hash old ≡ Some (Described number (line agreed))
@@ -98,12 +111,14 @@ module _ (hash : ServiceHash) (number : ℕ) (old new : Contents) (is : IsTable 
 
       there : at ≢ number → nodes.max_nodes ≡ max_nodes_of agreed.settings
       there differ = room agreed nodes entry within
-          (sym (set-apart (is_at (place_cmp (hash.digest, at))) (is_at (place_cmp (hash.digest, number))) (place-apart (hash.digest, at) (hash.digest, number) (λ e. differ (ap (λ p. p.1) e))) old.segments segment)
+          (sym (set-apart (is_at (place_cmp (hash.digest, at))) (is_at (place_cmp (hash.digest, number)))
+          (place-apart (hash.digest, at) (hash.digest, number) (λ e. differ (ap (λ p. p.1) e))) old.segments segment)
           ∙ subst (λ t. segment_at hash number t ≡ Some (Open nodes)) same stands)
 
       here : at ≡ number → nodes.max_nodes ≡ max_nodes_of agreed.settings
       here is_it =
-          let found : segment_at hash at new ≡ Some segment = rw same (lookup-set (is_at (place_cmp (hash.digest, at))) old.segments segment (rw stood refl)) in
+          let found : segment_at hash at new ≡ Some segment
+          = rw same (lookup-set (is_at (place_cmp (hash.digest, at))) old.segments segment (rw stood refl)) in
           let segment_is : segment ≡ Open nodes = open-is segment nodes (sym found ∙ ap (λ n. segment_at hash n new) is_it ∙ stands) in
           let was = before-room before nodes (subst (λ s. SameRoom before s) segment_is kept) in
           was.2 ∙ room agreed was.0 entry within (sym (ap (λ n. segment_at hash n old) is_it) ∙ stood ∙ ap (λ s. Some s) was.1)
@@ -111,7 +126,8 @@ module _ (hash : ServiceHash) (number : ℕ) (old new : Contents) (is : IsTable 
     where
       there : at ≢ number → nodes.max_nodes ≡ max_nodes_of agreed.settings
       there differ = room agreed nodes (subst (λ t. entry_at hash t ≡ Some (Described number (line agreed))) same published) within
-          (sym (remove-apart (is_at (place_cmp (hash.digest, at))) (is_at (place_cmp (hash.digest, number))) (place-apart (hash.digest, at) (hash.digest, number) (λ e. differ (ap (λ p. p.1) e))) old.segments)
+          (sym (remove-apart (is_at (place_cmp (hash.digest, at))) (is_at (place_cmp (hash.digest, number)))
+          (place-apart (hash.digest, at) (hash.digest, number) (λ e. differ (ap (λ p. p.1) e))) old.segments)
           ∙ subst (λ t. segment_at hash number t ≡ Some (Open nodes)) same stands)
 
       gone-not : None ≡ Some (Open nodes) → ⊥
@@ -122,10 +138,13 @@ module _ (hash : ServiceHash) (number : ℕ) (old new : Contents) (is : IsTable 
           let gone : segment_at hash at new ≡ None = rw same (segment-gone hash at old is) in
           absurd (gone-not (sym gone ∙ ap (λ n. segment_at hash n new) is_it ∙ stands))
   kept-here (ServiceOf node at given locked by own same) agreed nodes published within stands =
-      let found : entry_at hash new ≡ Some (Described at (line given)) = rw same (lookup-set (is_at (digest_cmp hash.digest)) old.entries (Described at (line given)) (rw locked refl)) in
+      let found : entry_at hash new ≡ Some (Described at (line given))
+      = rw same (lookup-set (is_at (digest_cmp hash.digest)) old.entries (Described at (line given)) (rw locked refl)) in
       let is_it : at ≡ number = numbers (sym found ∙ published) in
       let lines : line given ≡ line agreed = texts (sym found ∙ published) in
-      let seat : segment_at hash at new ≡ Some (Open (first_foreign node (max_nodes_of given.settings))) = rw same (lookup-added place_cmp (hash.digest, at) (Open (first_foreign node (max_nodes_of given.settings))) old.segments (same-place (hash.digest, at))) in
+      let seat : segment_at hash at new ≡ Some (Open (first_foreign node (max_nodes_of given.settings)))
+      = rw same (lookup-added place_cmp (hash.digest, at) (Open (first_foreign node (max_nodes_of given.settings))) old.segments
+      (same-place (hash.digest, at))) in
       widths (sym seat ∙ ap (λ n. segment_at hash n new) is_it ∙ stands) ∙ line-room given agreed own.0 within lines
     where
       numbers : Some (Described at (line given)) ≡ Some (Described number (line agreed)) → at ≡ number
@@ -134,24 +153,31 @@ module _ (hash : ServiceHash) (number : ℕ) (old new : Contents) (is : IsTable 
       texts : Some (Described at (line given)) ≡ Some (Described number (line agreed)) → line given ≡ line agreed
       texts e = cc
 
-      opened-as : Some (Open (first_foreign node (max_nodes_of given.settings))) ≡ Some (Open nodes) → first_foreign node (max_nodes_of given.settings) ≡ nodes
+      opened-as : Some (Open (first_foreign node (max_nodes_of given.settings))) ≡ Some (Open nodes)
+          → first_foreign node (max_nodes_of given.settings) ≡ nodes
       opened-as e = cc
 
-      widths : Some (Open (first_foreign node (max_nodes_of given.settings))) ≡ Some (Open nodes) → nodes.max_nodes ≡ max_nodes_of given.settings
+      widths : Some (Open (first_foreign node (max_nodes_of given.settings))) ≡ Some (Open nodes)
+          → nodes.max_nodes ≡ max_nodes_of given.settings
       widths e = sym (ap (λ n. n.max_nodes) (opened-as e))
-  kept-here (Removal at same) agreed nodes published within stands = (no-entry (rw same (entry-gone hash old is))) agreed nodes published within stands
+  kept-here (Removal at same) agreed nodes published within stands
+      = (no-entry (rw same (entry-gone hash old is))) agreed nodes published within stands
 
 -- what lies elsewhere has the room that it had
-kept-there : (hash other : ServiceHash) (number : ℕ) (old new : Contents) (event : Event) → hash.digest ≢ other.digest → Change event hash old new → HasRoomAt other number old → HasRoomAt other number new
+kept-there : (hash other : ServiceHash) (number : ℕ) (old new : Contents) (event : Event) → hash.digest ≢ other.digest
+    → Change event hash old new → HasRoomAt other number old → HasRoomAt other number new
 kept-there hash other number old new event differ change room agreed nodes published within stands =
-    let e = elsewhere hash other differ old new event change in room agreed nodes (sym e.entry ∙ published) within (sym (e.segment number) ∙ stands)
+    let e = elsewhere hash other differ old new event change in room agreed nodes (sym e.entry ∙ published) within
+    (sym (e.segment number) ∙ stands)
 
-event-rooms : (event : Event) (hash : ServiceHash) (old new : Contents) → Roomy old → UnpublishingEvent event → Change event hash old new → (other : ServiceHash) (number : ℕ) → HasRoomAt other number new
+event-rooms : (event : Event) (hash : ServiceHash) (old new : Contents) → Roomy old → UnpublishingEvent event
+    → Change event hash old new → (other : ServiceHash) (number : ℕ) → HasRoomAt other number new
 event-rooms event hash old new roomy un change other number = by_hash hash other
     (λ same. kept-here other number old new roomy.is event un (roomy.rooms other number) (subst (λ h. Change event h old new) same change))
     (λ differ. kept-there hash other number old new event differ change (roomy.rooms other number))
 
-pub roomy-step : (hash : ServiceHash) (step : ForeignStep) (result : Result (Unit {0}) AllocError) (old new : Contents) → Roomy old → Acts hash step old result new → Roomy new
+pub roomy-step : (hash : ServiceHash) (step : ForeignStep) (result : Result (Unit {0}) AllocError) (old new : Contents) → Roomy old
+    → Acts hash step old result new → Roomy new
 roomy-step hash step result old new roomy h = record {
   is = acts old new roomy.is hash step result h;
   rooms = event-rooms (StepsUnder hash step) hash old new roomy tt (changes old new (StepsUnder hash step) (result, h));
@@ -164,7 +190,8 @@ roomy-access access old new un roomy h = record {
 }
 
 pub new-roomy : (id : ℕ) → Roomy (empty_table id)
-new-roomy id = record { is = new-table id; rooms = λ hash number agreed nodes published within stands. absurd (not-none number (line agreed) published) }
+new-roomy id = record
+    { is = new-table id; rooms = λ hash number agreed nodes published within stands. absurd (not-none number (line agreed) published) }
 
 -- ---- a publication right after the segment was made
 
@@ -175,15 +202,18 @@ module _ (agreed : Agreement) (number node : ℕ) (within : IsWithinLimits agree
   abbrev seat : Segment
   seat = Open (first_node node (max_nodes_of agreed.settings))
 
-  publish-rooms : (old new : Contents) → Roomy old → entry_at hash old ≡ Some (Locked (Own node) number) → segment_at hash number old ≡ Some seat → Sight old (Publish hash number (line agreed) publishing.Published) new
+  publish-rooms : (old new : Contents) → Roomy old → entry_at hash old ≡ Some (Locked (Own node) number)
+      → segment_at hash number old ≡ Some seat → Sight old (Publish hash number (line agreed) publishing.Published) new
       → (other : ServiceHash) (n : ℕ) → HasRoomAt other n new
   publish-rooms old new roomy locked made sight other n = by_hash hash other
       (λ same. subst (λ h. HasRoomAt h n new) same (here (may_publish hash number old) sight n))
-      (λ differ. kept-there hash other n old new (Accesses (Publish hash number (line agreed) publishing.Published)) differ (changes old new (Accesses (Publish hash number (line agreed) publishing.Published)) sight) (roomy.rooms other n))
+      (λ differ. kept-there hash other n old new (Accesses (Publish hash number (line agreed) publishing.Published)) differ
+      (changes old new (Accesses (Publish hash number (line agreed) publishing.Published)) sight) (roomy.rooms other n))
     where
       here : (b : Bool) → Publishes b hash number (line agreed) old publishing.Published new → (n : ℕ) → HasRoomAt hash n new
       here true (inl h) n given nodes published given-within stands =
-          let found : entry_at hash new ≡ Some (Described number (line agreed)) = rw h.1 (lookup-set (is_at (digest_cmp hash.digest)) old.entries (Described number (line agreed)) (rw locked refl)) in
+          let found : entry_at hash new ≡ Some (Described number (line agreed))
+          = rw h.1 (lookup-set (is_at (digest_cmp hash.digest)) old.entries (Described number (line agreed)) (rw locked refl)) in
           let is_it : number ≡ n = numbers (sym found ∙ published) in
           let lines : line agreed ≡ line given = texts (sym found ∙ published) in
           let seat-now : segment_at hash number new ≡ Some seat = rw h.1 made in
@@ -195,10 +225,12 @@ module _ (agreed : Agreement) (number node : ℕ) (within : IsWithinLimits agree
           texts : Some (Described number (line agreed)) ≡ Some (Described n (line given)) → line agreed ≡ line given
           texts e = cc
 
-          opened-as : Some (Open (first_node node (max_nodes_of agreed.settings))) ≡ Some (Open nodes) → first_node node (max_nodes_of agreed.settings) ≡ nodes
+          opened-as : Some (Open (first_node node (max_nodes_of agreed.settings))) ≡ Some (Open nodes)
+              → first_node node (max_nodes_of agreed.settings) ≡ nodes
           opened-as e = cc
 
-          widths : Some (Open (first_node node (max_nodes_of agreed.settings))) ≡ Some (Open nodes) → nodes.max_nodes ≡ max_nodes_of agreed.settings
+          widths : Some (Open (first_node node (max_nodes_of agreed.settings))) ≡ Some (Open nodes)
+              → nodes.max_nodes ≡ max_nodes_of agreed.settings
           widths e = sym (ap (λ k. k.max_nodes) (opened-as e))
       here true (inr h) n given nodes published given-within stands = absurd (differ h.0)
         where
@@ -209,12 +241,19 @@ module _ (agreed : Agreement) (number node : ℕ) (within : IsWithinLimits agree
           differ : publishing.Published ≡ publishing.Fault → ⊥
           differ e = cc
 
-  pub pair-roomy : (old mid new : Steps) → Roomy old.table → SteppedSight old (MakeSegment agreed.service_hash number node (max_nodes_of agreed.settings) making.Made) mid
+  pub pair-roomy : (old mid new : Steps) → Roomy old.table
+      → SteppedSight old (MakeSegment agreed.service_hash number node (max_nodes_of agreed.settings) making.Made) mid
       → SteppedSight mid (Publish agreed.service_hash number (line agreed) publishing.Published) new → Roomy new.table
-  pair-roomy old mid new roomy made published = record { is = sees mid.table new.table w1.is (Publish hash number (line agreed) publishing.Published) sight; rooms = publish-rooms mid.table new.table w1 making-it.locked seat-is sight }
+  pair-roomy old mid new roomy made published
+      = record {
+        is = sees mid.table new.table w1.is (Publish hash number (line agreed) publishing.Published) sight;
+        rooms
+            = publish-rooms mid.table new.table w1 making-it.locked seat-is sight;
+      }
     where
       w1 : Roomy mid.table
-      w1 = stepped-keeps (λ t. Roomy t) roomy-step (λ a. Unpublishing a) roomy-access (MakeSegment hash number node (max_nodes_of agreed.settings) making.Made) old mid tt roomy made
+      w1 = stepped-keeps (λ t. Roomy t) roomy-step (λ a. Unpublishing a) roomy-access
+          (MakeSegment hash number node (max_nodes_of agreed.settings) making.Made) old mid tt roomy made
 
       m : Seen hash (MakeSegment hash number node (max_nodes_of agreed.settings) making.Made) old mid
       m = seen hash (MakeSegment hash number node (max_nodes_of agreed.settings) making.Made) _ old mid made-not-lacking made
@@ -229,4 +268,5 @@ module _ (agreed : Agreement) (number node : ℕ) (within : IsWithinLimits agree
       p = seen hash (Publish hash number (line agreed) publishing.Published) _ mid new published-not-lacking published
 
       sight : Sight mid.table (Publish hash number (line agreed) publishing.Published) new.table
-      sight = subst (λ t. Sight t (Publish hash number (line agreed) publishing.Published) new.table) (acts-idle hash node number (next_list mid.lists) mid.table p.mid p.happened making-it.locked p.acts) p.sight
+      sight = subst (λ t. Sight t (Publish hash number (line agreed) publishing.Published) new.table)
+          (acts-idle hash node number (next_list mid.lists) mid.table p.mid p.happened making-it.locked p.acts) p.sight

@@ -1,5 +1,6 @@
 -- A segment keeps its room, whoever comes and goes; and what is published tells how much it is.
-use Rattle.std.proofs.Common.{◌≡◌, ℕ, ◌-◌, ◌^◌, Bool, true, false, cond, not, ◌&&◌, Option, None, Some, Result, Ok, Err, nat_eq, nat_lt, refl, sym, ap, subst, ◌∙◌, inl, inr}
+use Rattle.std.proofs.Common.{◌≡◌, ℕ, ◌-◌, ◌^◌, Bool, true, false, cond, not, ◌&&◌, Option, None, Some, Result, Ok, Err, nat_eq, nat_lt}
+use Rattle.std.proofs.Common.{refl, sym, ap, subst, ◌∙◌, inl, inr}
 use Rattle.std.specs.Prelude.{codes}
 use Rattle.std.specs.declared.alloc.AllocError.{AllocError}
 use Rattle.serde_json.specs.Data.{Data}
@@ -15,7 +16,8 @@ use Rattle.iox_negotiate_table.specs.NegotiateBase.declared.answer.OpenSegmentAn
 use Rattle.iox_negotiate_table.specs.declared.node.Node.{Node}
 use Rattle.iox_negotiate_table.specs.declared.segment.Segment.{Segment}
 use Rattle.iox_negotiate_table.specs.declared.segment.Segment.TheVariants.{Open, Emptied}
-use Rattle.iox_negotiate_table.specs.Nodes.{Nodes, count_in, factories_of, with_factories, without_node, less_one, left, has_foreign, without_foreign, Enters, EntersWith, EntersAgain, EntersFirst, RegistersIf}
+use Rattle.iox_negotiate_table.specs.Nodes.{Nodes, count_in, factories_of, with_factories, without_node, less_one, left, has_foreign}
+use Rattle.iox_negotiate_table.specs.Nodes.{without_foreign, Enters, EntersWith, EntersAgain, EntersFirst, RegistersIf}
 use Rattle.iox_negotiate_table.specs.Segments.{Opens, after_leave, closed_if, RegistersIn, after_foreign_leave, foreign_left_if}
 
 -- the room is as it was, where nodes are in still
@@ -24,7 +26,8 @@ SameRoom (Open before) (Open after) = after.max_nodes ≡ before.max_nodes
 SameRoom (Emptied by) (Open after) = ⊥
 SameRoom before (Emptied by) = Unit {0}
 
-entered : (node : ℕ) (before after : Nodes) (answer : OpenSegmentAnswer) → Enters node before answer after → after.max_nodes ≡ before.max_nodes
+entered : (node : ℕ) (before after : Nodes) (answer : OpenSegmentAnswer) → Enters node before answer after
+    → after.max_nodes ≡ before.max_nodes
 entered node before after answer h = by_count (factories_of before node) h
   where
     more : (count : ℕ) (b : Bool) → EntersAgain count b node before answer after → after.max_nodes ≡ before.max_nodes
@@ -40,12 +43,14 @@ entered node before after answer h = by_count (factories_of before node) h
     by_count (Some count) h = more count (nat_eq count (2 ^ 64 - 1)) h
     by_count None h = first (nat_lt (count_in before) before.max_nodes) h
 
-pub opens-room : (node : ℕ) (segment after : Segment) (answer : OpenSegmentAnswer) → Opens node segment answer after → SameRoom segment after
+pub opens-room : (node : ℕ) (segment after : Segment) (answer : OpenSegmentAnswer) → Opens node segment answer after
+    → SameRoom segment after
 opens-room node (Open before) (Open after) answer h = entered node before after answer h
 opens-room node (Open before) (Emptied by) answer h = absurd h
 opens-room node (Emptied by) after answer h = subst (λ s. SameRoom (Emptied by) s) (sym h.1) tt
 
-closed-room : (b : Bool) (node : Node) (before after : Nodes) → after.max_nodes ≡ before.max_nodes → SameRoom (Open before) (closed_if b node after)
+closed-room : (b : Bool) (node : Node) (before after : Nodes) → after.max_nodes ≡ before.max_nodes
+    → SameRoom (Open before) (closed_if b node after)
 closed-room true node before after same = tt
 closed-room false node before after same = same
 
@@ -64,14 +69,17 @@ pub leave-room : (node : ℕ) (segment : Segment) → SameRoom segment (after_le
 leave-room node (Open nodes) = closed-room (nat_eq (count_in (left node nodes)) 0) _ nodes (left node nodes) (left-room node nodes)
 leave-room node (Emptied by) = tt
 
-registered : (by : ℕ) (nodes after : Nodes) (fits : Bool) (result : Result (Unit {0}) AllocError) → RegistersIf fits by nodes result after → after.max_nodes ≡ nodes.max_nodes
+registered : (by : ℕ) (nodes after : Nodes) (fits : Bool) (result : Result (Unit {0}) AllocError)
+    → RegistersIf fits by nodes result after → after.max_nodes ≡ nodes.max_nodes
 registered by nodes after true (Ok done) h = ap (λ n. n.max_nodes) h
 registered by nodes after true (Err lacking) h = ap (λ n. n.max_nodes) h
 registered by nodes after false (Ok done) h = ap (λ n. n.max_nodes) h
 registered by nodes after false (Err lacking) h = absurd h
 
-pub register-room : (by : ℕ) (segment after : Segment) (result : Result (Unit {0}) AllocError) → RegistersIn by segment result after → SameRoom segment after
-register-room by (Open nodes) (Open after) result h = registered by nodes after (not (has_foreign by nodes) && nat_lt (count_in nodes) nodes.max_nodes) result h
+pub register-room : (by : ℕ) (segment after : Segment) (result : Result (Unit {0}) AllocError) → RegistersIn by segment result after
+    → SameRoom segment after
+register-room by (Open nodes) (Open after) result h
+    = registered by nodes after (not (has_foreign by nodes) && nat_lt (count_in nodes) nodes.max_nodes) result h
 register-room by (Open nodes) (Emptied other) result h = absurd h
 register-room by (Emptied other) after result h = subst (λ s. SameRoom (Emptied other) s) (sym h.1) tt
 
@@ -100,8 +108,11 @@ settings-told : (a : Agreement) → get (codes "settings") (tree a) ≡ Some (se
 settings-told a = refl
 
 -- two agreements with one line have the same number of nodes
-pub line-room : (one other : Agreement) → IsWithinLimits one → IsWithinLimits other → line one ≡ line other → max_nodes_of one.settings ≡ max_nodes_of other.settings
+pub line-room : (one other : Agreement) → IsWithinLimits one → IsWithinLimits other → line one ≡ line other
+    → max_nodes_of one.settings ≡ max_nodes_of other.settings
 line-room one other first second same =
     let trees = same-data (tree one) (tree other) (sym (line-read one first) ∙ ap (λ l. read l) same ∙ line-read other second) in
-    let settings = same-data (settings_tree one.settings) (settings_tree other.settings) (sym (settings-told one) ∙ ap (λ t. get (codes "settings") t) trees ∙ settings-told other) in
-    same-natural (max_nodes_of one.settings) (max_nodes_of other.settings) (sym (told one.settings) ∙ ap (λ t. get (codes "max_nodes") t) settings ∙ told other.settings)
+    let settings = same-data (settings_tree one.settings) (settings_tree other.settings)
+    (sym (settings-told one) ∙ ap (λ t. get (codes "settings") t) trees ∙ settings-told other) in
+    same-natural (max_nodes_of one.settings) (max_nodes_of other.settings)
+    (sym (told one.settings) ∙ ap (λ t. get (codes "max_nodes") t) settings ∙ told other.settings)

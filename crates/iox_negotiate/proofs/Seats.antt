@@ -1,5 +1,6 @@
 -- Each own node lies once in a segment.
-use Rattle.std.proofs.Common.{◌≡◌, ◌≢◌, ℕ, ◌+◌, ◌-◌, ◌^◌, Bool, true, false, cond, not, ◌&&◌, List, [], ◌∷◌, Option, None, Some, Result, Ok, Err, nat_eq, nat_lt, refl, ◌∙◌, inl, inr}
+use Rattle.std.proofs.Common.{◌≡◌, ◌≢◌, ℕ, ◌+◌, ◌-◌, ◌^◌, Bool, true, false, cond, not, ◌&&◌, List, [], ◌∷◌, Option, None, Some, Result}
+use Rattle.std.proofs.Common.{Ok, Err, nat_eq, nat_lt, refl, ◌∙◌, inl, inr}
 use Rattle.std.specs.List.{AllByRecursion}
 use Rattle.std.specs.declared.alloc.AllocError.{AllocError}
 use Rattle.std.specs.Ordering.{nat_cmp}
@@ -10,7 +11,8 @@ use Rattle.iox_negotiate_table.specs.NegotiateBase.declared.answer.OpenSegmentAn
 use Rattle.iox_negotiate_table.specs.declared.node.Node.{Node}
 use Rattle.iox_negotiate_table.specs.declared.segment.Segment.{Segment}
 use Rattle.iox_negotiate_table.specs.declared.segment.Segment.TheVariants.{Open, Emptied}
-use Rattle.iox_negotiate_table.specs.Nodes.{Nodes, count_in, factories_of, with_factories, without_node, less_one, left, has_foreign, without_foreign, Enters, EntersWith, EntersAgain, EntersFirst, RegistersIf}
+use Rattle.iox_negotiate_table.specs.Nodes.{Nodes, count_in, factories_of, with_factories, without_node, less_one, left, has_foreign}
+use Rattle.iox_negotiate_table.specs.Nodes.{without_foreign, Enters, EntersWith, EntersAgain, EntersFirst, RegistersIf}
 use Rattle.iox_negotiate_table.specs.Segments.{Opens, after_leave, closed_if, RegistersIn, after_foreign_leave, foreign_left_if}
 use Rattle.iox_negotiate_table.proofs.Entries.{is-self}
 use Rattle.iox_negotiate.proofs.Maps.{on, none-passes, Distinct, insert-distinct, set-distinct, remove-distinct}
@@ -40,7 +42,8 @@ entered node before after answer once h = by_count (factories_of before node) re
     more count false h = rw h.1 (again node (count + 1) before once)
 
     first : (b : Bool) → factories_of before node ≡ None → EntersFirst b node before answer after → AreOnce after
-    first true out (inl h) = rw h.1 (insert-distinct (λ e. e.0) nat_cmp node 1 exact_unsigned before.own once (out-of node before.own (none-passes (is_at (nat_cmp node)) before.own out)))
+    first true out (inl h) = rw h.1 (insert-distinct (λ e. e.0) nat_cmp node 1 exact_unsigned before.own once
+        (out-of node before.own (none-passes (is_at (nat_cmp node)) before.own out)))
     first true out (inr h) = rw h.1 once
     first false out h = rw h.1 once
 
@@ -48,7 +51,8 @@ entered node before after answer once h = by_count (factories_of before node) re
     by_count (Some count) is h = more count (nat_eq count (2 ^ 64 - 1)) h
     by_count None is h = first (nat_lt (count_in before) before.max_nodes) is h
 
-pub opens-seat : (node : ℕ) (segment after : Segment) (answer : OpenSegmentAnswer) → IsSeat segment → Opens node segment answer after → IsSeat after
+pub opens-seat : (node : ℕ) (segment after : Segment) (answer : OpenSegmentAnswer) → IsSeat segment → Opens node segment answer after
+    → IsSeat after
 opens-seat node (Open before) (Open after) answer once h = entered node before after answer once h
 opens-seat node (Open before) (Emptied by) answer once h = absurd h
 opens-seat node (Emptied by) after answer once h = rw h.1 tt
@@ -72,14 +76,17 @@ pub leave-seat : (node : ℕ) (segment : Segment) → IsSeat segment → IsSeat 
 leave-seat node (Open nodes) once = closed-seat (nat_eq (count_in (left node nodes)) 0) _ (left node nodes) (left-once node nodes once)
 leave-seat node (Emptied by) once = tt
 
-registered : (by : ℕ) (nodes after : Nodes) (fits : Bool) (result : Result (Unit {0}) AllocError) → RegistersIf fits by nodes result after → AreOnce nodes → AreOnce after
+registered : (by : ℕ) (nodes after : Nodes) (fits : Bool) (result : Result (Unit {0}) AllocError)
+    → RegistersIf fits by nodes result after → AreOnce nodes → AreOnce after
 registered by nodes after true (Ok done) h once = rw h once
 registered by nodes after true (Err lacking) h once = rw h once
 registered by nodes after false (Ok done) h once = rw h once
 registered by nodes after false (Err lacking) h once = absurd h
 
-pub register-seat : (by : ℕ) (segment after : Segment) (result : Result (Unit {0}) AllocError) → IsSeat segment → RegistersIn by segment result after → IsSeat after
-register-seat by (Open nodes) (Open after) result once h = registered by nodes after (not (has_foreign by nodes) && nat_lt (count_in nodes) nodes.max_nodes) result h once
+pub register-seat : (by : ℕ) (segment after : Segment) (result : Result (Unit {0}) AllocError) → IsSeat segment
+    → RegistersIn by segment result after → IsSeat after
+register-seat by (Open nodes) (Open after) result once h
+    = registered by nodes after (not (has_foreign by nodes) && nat_lt (count_in nodes) nodes.max_nodes) result h once
 register-seat by (Open nodes) (Emptied other) result once h = absurd h
 register-seat by (Emptied other) after result once h = rw h.1 tt
 

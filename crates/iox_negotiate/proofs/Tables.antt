@@ -1,5 +1,6 @@
 -- What holds of every table that can be reached, kept by whatever happens.
-use Rattle.std.proofs.Common.{◌≡◌, ◌≢◌, ℕ, ◌+◌, ◌-◌, ◌^◌, ◌≤◌, ◌<◌, Bool, true, false, cond, not, ◌&&◌, List, [], ◌∷◌, Option, None, Some, is_some, Result, Ok, Err, nat_eq, refl, ap, subst, ◌∙◌, inl, inr, arith}
+use Rattle.std.proofs.Common.{◌≡◌, ◌≢◌, ℕ, ◌+◌, ◌-◌, ◌^◌, ◌≤◌, ◌<◌, Bool, true, false, cond, not, ◌&&◌, List, [], ◌∷◌, Option, None, Some}
+use Rattle.std.proofs.Common.{is_some, Result, Ok, Err, nat_eq, refl, ap, subst, ◌∙◌, inl, inr, arith}
 use Rattle.std.specs.List.{AllByRecursion}
 use Rattle.std.specs.declared.alloc.AllocError.{AllocError}
 use Rattle.std.specs.declared.cmp.Ordering.TheVariants.{Equal}
@@ -18,7 +19,8 @@ use Rattle.iox_negotiate_table.specs.DescribeSettings.declared.static_config.eve
 use Rattle.iox_negotiate_table.specs.DescribeSettings.declared.static_config.publish_subscribe.Setting.TheVariants as publish_subscribe
 use Rattle.iox_negotiate_table.specs.DescribeSettings.declared.static_config.request_response.Setting.TheVariants as request_response
 use Rattle.iox_negotiate_table.specs.Describe.Line.{line}
-use Rattle.iox_negotiate_table.specs.NegotiateBase.Access.{Access, Look, Lock, MakeSegment, Publish, Unlock, OpenSegment, Leave, RemoveDescription, RemoveSegment}
+use Rattle.iox_negotiate_table.specs.NegotiateBase.Access.{Access, Look, Lock, MakeSegment, Publish, Unlock, OpenSegment, Leave}
+use Rattle.iox_negotiate_table.specs.NegotiateBase.Access.{RemoveDescription, RemoveSegment}
 use Rattle.iox_negotiate_table.specs.NegotiateBase.declared.answer.LockAnswer.{LockAnswer}
 use Rattle.iox_negotiate_table.specs.NegotiateBase.declared.answer.MakeSegmentAnswer.{MakeSegmentAnswer}
 use Rattle.iox_negotiate_table.specs.NegotiateBase.declared.answer.PublishAnswer.{PublishAnswer}
@@ -35,15 +37,20 @@ use Rattle.iox_negotiate_table.specs.declared.step.ForeignStep.{ForeignStep}
 use Rattle.iox_negotiate_table.specs.declared.step.ForeignStep.TheVariants as step
 use Rattle.iox_negotiate_table.specs.Nodes.{first_node, first_foreign}
 use Rattle.iox_negotiate_table.specs.Segments.{after_leave, after_foreign_leave}
-use Rattle.iox_negotiate_table.specs.Contents.{Contents, empty_table, entry_at, segment_at, with_entry, without_entry, with_new_segment, with_segment, without_segment, with_lock, digest_cmp, place_cmp, may_make, may_publish, may_unlock, is_own_lock, is_lock_of, is_published, may_remove_description, may_remove_segment}
-use Rattle.iox_negotiate_table.specs.Foreign.{Acts, DoneOrLacking, Done, foreign_lock, published_number, with_service, PublishesForeign, RegistersForeign, RegistersAt, after_leaving, left_at, after_removal, is_left_by}
+use Rattle.iox_negotiate_table.specs.Contents.{Contents, empty_table, entry_at, segment_at, with_entry, without_entry, with_new_segment}
+use Rattle.iox_negotiate_table.specs.Contents.{with_segment, without_segment, with_lock, digest_cmp, place_cmp, may_make, may_publish}
+use Rattle.iox_negotiate_table.specs.Contents.{may_unlock, is_own_lock, is_lock_of, is_published, may_remove_description}
+use Rattle.iox_negotiate_table.specs.Contents.{may_remove_segment}
+use Rattle.iox_negotiate_table.specs.Foreign.{Acts, DoneOrLacking, Done, foreign_lock, published_number, with_service, PublishesForeign}
+use Rattle.iox_negotiate_table.specs.Foreign.{RegistersForeign, RegistersAt, after_leaving, left_at, after_removal, is_left_by}
 use Rattle.iox_negotiate_table.specs.Sights.{Sight, LocksAt, LocksFree, Makes, Publishes, Unlocks, OpensAt, LeavesAt, Removes}
 use Rattle.iox_negotiate_table.proofs.Entries.{is-self}
 use Rattle.iox_negotiate.specs.Histories.{Event, Accesses, Steps, Happens, Ran, IsReached}
 use Rattle.iox_negotiate_table.specs.Laws.{HasFew}
 use Rattle.iox_negotiate_table.proofs.Opening.{opened-is-open}
 use Rattle.iox_negotiate.specs.Lives.{number_of, FewAreIn, OpenedStands}
-use Rattle.iox_negotiate.proofs.Maps.{no, on, insert-all, remove-all, set-all, set-found, found-all, weaker, none-passes, Rising, insert-rising, remove-rising, set-rising, Distinct, insert-distinct, remove-distinct, set-distinct}
+use Rattle.iox_negotiate.proofs.Maps.{no, on, insert-all, remove-all, set-all, set-found, found-all, weaker, none-passes, Rising}
+use Rattle.iox_negotiate.proofs.Maps.{insert-rising, remove-rising, set-rising, Distinct, insert-distinct, remove-distinct, set-distinct}
 use Rattle.iox_negotiate.proofs.Seats.{IsSeat, opens-seat, leave-seat, register-seat, foreign-leave-seat}
 use Rattle.iox_negotiate.proofs.Few.{IsFew, opens-few, leave-few, register-few, foreign-leave-few}
 
@@ -72,7 +79,8 @@ pub new-table : (id : ℕ) → IsTable (empty_table id)
 new-table id = record { below = tt; keys = tt; numbers = tt; few = tt; places = tt; seats = tt }
 
 -- a hash under which nothing lies differs from each
-free-keys : (hash : ServiceHash) (es : List (List ℕ × Entry)) → AllByRecursion (λ e. is_at (digest_cmp hash.digest) e.0 ≡ false) es → AllByRecursion (λ e. e.0 ≢ hash.digest) es
+free-keys : (hash : ServiceHash) (es : List (List ℕ × Entry)) → AllByRecursion (λ e. is_at (digest_cmp hash.digest) e.0 ≡ false) es
+    → AllByRecursion (λ e. e.0 ≢ hash.digest) es
 free-keys hash [] all = tt
 free-keys hash (e ∷ es) all = ((λ same. on (passes same ∙ all.0)), free-keys hash es all.1)
   where
@@ -80,16 +88,21 @@ free-keys hash (e ∷ es) all = ((λ same. on (passes same ∙ all.0)), free-key
     passes same = rw same (rw (digest-self hash.digest) refl)
 
 -- a new number differs from each
-fresh : (next : ℕ) (es : List (List ℕ × Entry)) → AllByRecursion (λ e. number_of e.1 < next) es → AllByRecursion (λ e. number_of e.1 ≢ next) es
+fresh : (next : ℕ) (es : List (List ℕ × Entry)) → AllByRecursion (λ e. number_of e.1 < next) es
+    → AllByRecursion (λ e. number_of e.1 ≢ next) es
 fresh next [] all = tt
 fresh next (e ∷ es) all = ((λ same. absurd (omega (arith, same, all.0))), fresh next es all.1)
 
 module _ (hash : ServiceHash) (old : Contents) (table : IsTable old) where
   pub lock-table : (node : Node) → entry_at hash old ≡ None → IsTable (with_lock hash node old)
   lock-table node free = record {
-    below = insert-all (λ e. number_of e.1 < old.next + 1) digest_cmp hash.digest (Locked node old.next) digest-exact old.entries (weaker (λ e. number_of e.1 < old.next) (λ e. number_of e.1 < old.next + 1) (λ e less. omega (arith, less)) old.entries table.below) (omega arith);
-    keys = insert-distinct (λ e. e.0) digest_cmp hash.digest (Locked node old.next) digest-exact old.entries table.keys (free-keys hash old.entries (none-passes (is_at (digest_cmp hash.digest)) old.entries free));
-    numbers = insert-distinct (λ e. number_of e.1) digest_cmp hash.digest (Locked node old.next) digest-exact old.entries table.numbers (fresh old.next old.entries table.below);
+    below = insert-all (λ e. number_of e.1 < old.next + 1) digest_cmp hash.digest (Locked node old.next) digest-exact old.entries
+        (weaker (λ e. number_of e.1 < old.next) (λ e. number_of e.1 < old.next + 1) (λ e less. omega (arith, less)) old.entries
+        table.below) (omega arith);
+    keys = insert-distinct (λ e. e.0) digest_cmp hash.digest (Locked node old.next) digest-exact old.entries table.keys
+        (free-keys hash old.entries (none-passes (is_at (digest_cmp hash.digest)) old.entries free));
+    numbers = insert-distinct (λ e. number_of e.1) digest_cmp hash.digest (Locked node old.next) digest-exact old.entries table.numbers
+        (fresh old.next old.entries table.below);
     few = table.few;
     places = table.places;
     seats = table.seats;
@@ -105,9 +118,11 @@ module _ (hash : ServiceHash) (old : Contents) (table : IsTable old) where
     seats = table.seats;
   }
 
-  pub publish-table : (node : Node) (number : ℕ) (bytes : List ℕ) → entry_at hash old ≡ Some (Locked node number) → IsTable (with_entry hash (Described number bytes) old)
+  pub publish-table : (node : Node) (number : ℕ) (bytes : List ℕ) → entry_at hash old ≡ Some (Locked node number)
+      → IsTable (with_entry hash (Described number bytes) old)
   publish-table node number bytes locked = record {
-    below = set-found (λ e. number_of e.1 < old.next) (is_at (digest_cmp hash.digest)) (Described number bytes) old.entries (λ x v found less. subst (λ n. n < old.next) (same x v found) less) table.below;
+    below = set-found (λ e. number_of e.1 < old.next) (is_at (digest_cmp hash.digest)) (Described number bytes) old.entries
+        (λ x v found less. subst (λ n. n < old.next) (same x v found) less) table.below;
     keys = set-distinct (λ e. e.0) (is_at (digest_cmp hash.digest)) (Described number bytes) old.entries (λ x v found. refl) table.keys;
     numbers = set-distinct (λ e. number_of e.1) (is_at (digest_cmp hash.digest)) (Described number bytes) old.entries same table.numbers;
     few = table.few;
@@ -154,32 +169,39 @@ module _ (hash : ServiceHash) (old : Contents) (table : IsTable old) where
 
   -- each own node lies once in the segment that is found
   pub seat-found : (number : ℕ) (segment : Segment) → segment_at hash number old ≡ Some segment → IsSeat segment
-  seat-found number segment found = (found-all (λ e. IsSeat e.1) (is_at (place_cmp (hash.digest, number))) old.segments segment table.seats found).2
+  seat-found number segment found = (found-all (λ e. IsSeat e.1) (is_at (place_cmp (hash.digest, number))) old.segments segment
+      table.seats found).2
 
   -- few are in the segment that is found
   pub few-found : (number : ℕ) (segment : Segment) → segment_at hash number old ≡ Some segment → IsFew segment
-  few-found number segment found = (found-all (λ e. IsFew e.1) (is_at (place_cmp (hash.digest, number))) old.segments segment table.few found).2
+  few-found number segment found = (found-all (λ e. IsFew e.1) (is_at (place_cmp (hash.digest, number))) old.segments segment table.few
+      found).2
 
 -- equal tables
 pub unchanged : (old new : Contents) → IsTable old → new ≡ old → IsTable new
 unchanged old new table is = rw is table
 
 -- an own lock is a lock
-pub own-lock : (number : ℕ) (entry : Option Entry) (b : Bool) → (is_own_lock number entry && b) ≡ true → (node : ℕ) × (entry ≡ Some (Locked (Own node) number))
+pub own-lock : (number : ℕ) (entry : Option Entry) (b : Bool) → (is_own_lock number entry && b) ≡ true → (node : ℕ)
+    × (entry ≡ Some (Locked (Own node) number))
 own-lock number None b is = no is
 own-lock number (Some (Described at bytes)) b is = no is
 own-lock number (Some (Locked (Foreign node) at)) b is = no is
-own-lock number (Some (Locked (Own node) at)) b is = let same : at ≡ number = grind (arith, is) in (node, ap (λ n. Some (Locked (Own node) n)) same)
+own-lock number (Some (Locked (Own node) at)) b is = let same : at ≡ number
+    = grind (arith, is) in (node, ap (λ n. Some (Locked (Own node) n)) same)
 
 -- the lock of this own node
-pub lock-of : (number node : ℕ) (entry : Option Entry) (b : Bool) → (is_lock_of node number entry && b) ≡ true → entry ≡ Some (Locked (Own node) number)
+pub lock-of : (number node : ℕ) (entry : Option Entry) (b : Bool) → (is_lock_of node number entry && b) ≡ true
+    → entry ≡ Some (Locked (Own node) number)
 lock-of number node None b is = no is
 lock-of number node (Some (Described at bytes)) b is = no is
 lock-of number node (Some (Locked (Foreign by) at)) b is = no is
-lock-of number node (Some (Locked (Own by) at)) b is = let who : by ≡ node = grind (arith, is) in let which : at ≡ number = grind (arith, is) in cc
+lock-of number node (Some (Locked (Own by) at)) b is = let who : by ≡ node = grind (arith, is) in let which : at ≡ number
+    = grind (arith, is) in cc
 
 module _ (hash : ServiceHash) (old new : Contents) (table : IsTable old) where
-  locks : (node : Node) (answer : LockAnswer) (found : Option Entry) → entry_at hash old ≡ found → LocksAt found hash node old answer new → IsTable new
+  locks : (node : Node) (answer : LockAnswer) (found : Option Entry) → entry_at hash old ≡ found
+      → LocksAt found hash node old answer new → IsTable new
   locks node answer None free h = taken (nat_eq old.next (2 ^ 64 - 1)) h
     where
       taken : (b : Bool) → LocksFree b hash node old answer new → IsTable new
@@ -189,15 +211,19 @@ module _ (hash : ServiceHash) (old new : Contents) (table : IsTable old) where
   locks node answer (Some (Locked by number)) free h = unchanged old new table h.1
   locks node answer (Some (Described number bytes)) free h = unchanged old new table h.1
 
-  makes : (number node max_nodes : ℕ) (answer : MakeSegmentAnswer) (b : Bool) → may_make hash number node max_nodes old ≡ b → Makes b hash number node max_nodes old answer new → IsTable new
+  makes : (number node max_nodes : ℕ) (answer : MakeSegmentAnswer) (b : Bool) → may_make hash number node max_nodes old ≡ b
+      → Makes b hash number node max_nodes old answer new → IsTable new
   makes number node max_nodes answer true may (inl h) =
-      let room : 1 ≤ max_nodes = grind (arith, may) in rw h.1 (new-segment-table hash old table number (Open (first_node node max_nodes)) (omega (arith, room)) (tt, tt))
+      let room : 1 ≤ max_nodes = grind (arith, may) in rw h.1
+      (new-segment-table hash old table number (Open (first_node node max_nodes)) (omega (arith, room)) (tt, tt))
   makes number node max_nodes answer true may (inr h) = unchanged old new table h.1
   makes number node max_nodes answer false may h = unchanged old new table h.1
 
-  publishes : (number : ℕ) (bytes : List ℕ) (answer : PublishAnswer) (b : Bool) → may_publish hash number old ≡ b → Publishes b hash number bytes old answer new → IsTable new
+  publishes : (number : ℕ) (bytes : List ℕ) (answer : PublishAnswer) (b : Bool) → may_publish hash number old ≡ b
+      → Publishes b hash number bytes old answer new → IsTable new
   publishes number bytes answer true may (inl h) =
-      let locked = own-lock number (entry_at hash old) (is_some (segment_at hash number old)) may in rw h.1 (publish-table hash old table (Own locked.0) number bytes locked.1)
+      let locked = own-lock number (entry_at hash old) (is_some (segment_at hash number old)) may in rw h.1
+      (publish-table hash old table (Own locked.0) number bytes locked.1)
   publishes number bytes answer true may (inr h) = unchanged old new table h.1
   publishes number bytes answer false may h = unchanged old new table h.1
 
@@ -205,13 +231,21 @@ module _ (hash : ServiceHash) (old new : Contents) (table : IsTable old) where
   unlocks true h = rw h (without-table hash old table)
   unlocks false h = unchanged old new table h
 
-  opens : (number node : ℕ) (answer : OpenSegmentAnswer) (b : Bool) (found : Option Segment) → segment_at hash number old ≡ found → OpensAt b found hash number node old answer new → IsTable new
-  opens number node answer true (Some segment) stands h = rw h.2 (segment-table hash old table number h.0 (opens-few node segment h.0 answer (few-found hash old table number segment stands) h.1) (opens-seat node segment h.0 answer (seat-found hash old table number segment stands) h.1))
+  opens : (number node : ℕ) (answer : OpenSegmentAnswer) (b : Bool) (found : Option Segment) → segment_at hash number old ≡ found
+      → OpensAt b found hash number node old answer new → IsTable new
+  opens number node answer true (Some segment) stands h
+      = rw h.2 (segment-table hash old table number h.0
+      (opens-few node segment h.0 answer (few-found hash old table number segment stands) h.1)
+      (opens-seat node segment h.0 answer (seat-found hash old table number segment stands) h.1))
   opens number node answer true None stands h = unchanged old new table h.1
   opens number node answer false found stands h = unchanged old new table h.1
 
-  leaves : (number node : ℕ) (answer : LeaveAnswer) (b : Bool) (found : Option Segment) → segment_at hash number old ≡ found → LeavesAt b found hash number node old answer new → IsTable new
-  leaves number node answer true (Some segment) stands h = rw h.1 (segment-table hash old table number (after_leave node segment) (leave-few node segment (few-found hash old table number segment stands)) (leave-seat node segment (seat-found hash old table number segment stands)))
+  leaves : (number node : ℕ) (answer : LeaveAnswer) (b : Bool) (found : Option Segment) → segment_at hash number old ≡ found
+      → LeavesAt b found hash number node old answer new → IsTable new
+  leaves number node answer true (Some segment) stands h
+      = rw h.1 (segment-table hash old table number (after_leave node segment)
+      (leave-few node segment (few-found hash old table number segment stands))
+      (leave-seat node segment (seat-found hash old table number segment stands)))
   leaves number node answer true None stands h = unchanged old new table h.1
   leaves number node answer false found stands h = unchanged old new table h.1
 
@@ -232,16 +266,25 @@ module _ (hash : ServiceHash) (old new : Contents) (table : IsTable old) where
   gives-up result true h = rw h.1 (without-table hash old table)
   gives-up result false h = unchanged old new table h.1
 
-  registers-foreign : (number node : ℕ) (result : Result (Unit {0}) AllocError) (found : Option Segment) → segment_at hash number old ≡ found → RegistersAt found hash number node old result new → IsTable new
-  registers-foreign number node result (Some segment) stands h = rw h.2 (segment-table hash old table number h.0 (register-few node segment h.0 result (few-found hash old table number segment stands) h.1) (register-seat node segment h.0 result (seat-found hash old table number segment stands) h.1))
+  registers-foreign : (number node : ℕ) (result : Result (Unit {0}) AllocError) (found : Option Segment)
+      → segment_at hash number old ≡ found → RegistersAt found hash number node old result new → IsTable new
+  registers-foreign number node result (Some segment) stands h
+      = rw h.2 (segment-table hash old table number h.0
+      (register-few node segment h.0 result (few-found hash old table number segment stands) h.1)
+      (register-seat node segment h.0 result (seat-found hash old table number segment stands) h.1))
   registers-foreign number node result None stands h = unchanged old new table h.1
 
-  registers-at : (node : ℕ) (result : Result (Unit {0}) AllocError) (found : Option ℕ) → RegistersForeign found hash node old result new → IsTable new
+  registers-at : (node : ℕ) (result : Result (Unit {0}) AllocError) (found : Option ℕ) → RegistersForeign found hash node old result new
+      → IsTable new
   registers-at node result (Some number) h = registers-foreign number node result (segment_at hash number old) refl h
   registers-at node result None h = unchanged old new table h.1
 
-  leaves-foreign : (number node : ℕ) (found : Option Segment) → segment_at hash number old ≡ found → new ≡ left_at found hash number node old → IsTable new
-  leaves-foreign number node (Some segment) stands h = rw h (segment-table hash old table number (after_foreign_leave node segment) (foreign-leave-few node segment (few-found hash old table number segment stands)) (foreign-leave-seat node segment (seat-found hash old table number segment stands)))
+  leaves-foreign : (number node : ℕ) (found : Option Segment) → segment_at hash number old ≡ found
+      → new ≡ left_at found hash number node old → IsTable new
+  leaves-foreign number node (Some segment) stands h
+      = rw h (segment-table hash old table number (after_foreign_leave node segment)
+      (foreign-leave-few node segment (few-found hash old table number segment stands))
+      (foreign-leave-seat node segment (seat-found hash old table number segment stands)))
   leaves-foreign number node None stands h = unchanged old new table h
 
   leaves-number : (node : ℕ) (found : Option ℕ) → new ≡ after_leaving found hash node old → IsTable new
@@ -257,7 +300,8 @@ module _ (hash : ServiceHash) (old new : Contents) (table : IsTable old) where
   removes-number node None h = unchanged old new table h
 
 -- the lock of a foreign node
-pub foreign-locked : (node number : ℕ) (entry : Option Entry) → foreign_lock node entry ≡ Some number → entry ≡ Some (Locked (Foreign node) number)
+pub foreign-locked : (node number : ℕ) (entry : Option Entry) → foreign_lock node entry ≡ Some number
+    → entry ≡ Some (Locked (Foreign node) number)
 foreign-locked node number None is = absurd (differ is)
   where
     differ : None ≡ Some number → ⊥
@@ -272,7 +316,8 @@ foreign-locked node number (Some (Locked (Own by) at)) is = absurd (differ is)
     differ e = cc
 foreign-locked node number (Some (Locked (Foreign by) at)) is = there (nat_eq by node) refl is
   where
-    there : (b : Bool) → nat_eq by node ≡ b → cond b (Some at) None ≡ Some number → Some (Locked (Foreign by) at) ≡ Some (Locked (Foreign node) number)
+    there : (b : Bool) → nat_eq by node ≡ b → cond b (Some at) None ≡ Some number
+        → Some (Locked (Foreign by) at) ≡ Some (Locked (Foreign node) number)
     there true same is = let who : by ≡ node = grind (arith, same) in cc
     there false same is = cc
 
@@ -282,7 +327,8 @@ room-of (settings.RequestResponse c) within = (within 7 request_response.MaxNode
 room-of (settings.PublishSubscribe c) within = (within 2 publish_subscribe.MaxNodes (omega arith)).0
 room-of (settings.Event c) within = (within 3 event.MaxNodes (omega arith)).0
 
-publishes-foreign : (hash : ServiceHash) (old new : Contents) (node : ℕ) (result : Result (Unit {0}) AllocError) (agreed : Agreement) → IsTable old → (found : Option ℕ) → foreign_lock node (entry_at hash old) ≡ found
+publishes-foreign : (hash : ServiceHash) (old new : Contents) (node : ℕ) (result : Result (Unit {0}) AllocError) (agreed : Agreement)
+    → IsTable old → (found : Option ℕ) → foreign_lock node (entry_at hash old) ≡ found
     → PublishesForeign found hash node agreed old result new → IsTable new
 publishes-foreign hash old new node result agreed table None lock h = unchanged old new table h.1
 publishes-foreign hash old new node result agreed table (Some number) lock h = there h.0 result (λ is. (h.1.0 is).0.limits) h.2
@@ -291,9 +337,12 @@ publishes-foreign hash old new node result agreed table (Some number) lock h = t
     seat = Open (first_foreign node (max_nodes_of agreed.settings))
 
     whole : 1 ≤ max_nodes_of agreed.settings → IsTable (with_service hash number node agreed old)
-    whole room = publish-table hash (with_new_segment hash number seat old) (new-segment-table hash old table number seat (omega (arith, room)) tt) (Foreign node) number (line agreed) (foreign-locked node number (entry_at hash old) lock)
+    whole room = publish-table hash (with_new_segment hash number seat old)
+        (new-segment-table hash old table number seat (omega (arith, room)) tt) (Foreign node) number (line agreed)
+        (foreign-locked node number (entry_at hash old) lock)
 
-    there : (b : Bool) (result : Result (Unit {0}) AllocError) → (b ≡ true → AreWithinLimits agreed.settings) → DoneOrLacking b (with_service hash number node agreed old) old result new → IsTable new
+    there : (b : Bool) (result : Result (Unit {0}) AllocError) → (b ≡ true → AreWithinLimits agreed.settings)
+        → DoneOrLacking b (with_service hash number node agreed old) old result new → IsTable new
     there true (Ok done) within h = rw h (whole (room-of agreed.settings (within refl)))
     there true (Err lacking) within h = unchanged old new table h
     there false (Ok done) within h = unchanged old new table h
@@ -303,18 +352,26 @@ module _ (old new : Contents) (table : IsTable old) where
   pub sees : (access : Access) → Sight old access new → IsTable new
   sees (Look hash answer) h = unchanged old new table h.1
   sees (Lock hash node answer) h = locks hash old new table (Own node) answer (entry_at hash old) refl h
-  sees (MakeSegment hash number node max_nodes answer) h = makes hash old new table number node max_nodes answer (may_make hash number node max_nodes old) refl h
+  sees (MakeSegment hash number node max_nodes answer) h
+      = makes hash old new table number node max_nodes answer (may_make hash number node max_nodes old) refl h
   sees (Publish hash number bytes answer) h = publishes hash old new table number bytes answer (may_publish hash number old) refl h
   sees (Unlock hash number) h = unlocks hash old new table (may_unlock hash number old) h
-  sees (OpenSegment hash number node answer) h = opens hash old new table number node answer (is_published hash number old) (segment_at hash number old) refl h
-  sees (Leave hash number node answer) h = leaves hash old new table number node answer (is_published hash number old) (segment_at hash number old) refl h
-  sees (RemoveDescription hash number answer) h = removes hash old new table (without_entry hash old) answer (may_remove_description hash number old) (without-table hash old table) h
-  sees (RemoveSegment hash number answer) h = removes hash old new table (without_segment hash number old) answer (may_remove_segment hash number old) (without-segment-table hash old table number) h
+  sees (OpenSegment hash number node answer) h
+      = opens hash old new table number node answer (is_published hash number old) (segment_at hash number old) refl h
+  sees (Leave hash number node answer) h
+      = leaves hash old new table number node answer (is_published hash number old) (segment_at hash number old) refl h
+  sees (RemoveDescription hash number answer) h
+      = removes hash old new table (without_entry hash old) answer (may_remove_description hash number old) (without-table hash old table) h
+  sees (RemoveSegment hash number answer) h
+      = removes hash old new table (without_segment hash number old) answer (may_remove_segment hash number old)
+      (without-segment-table hash old table number) h
 
   pub acts : (hash : ServiceHash) (step : ForeignStep) (result : Result (Unit {0}) AllocError) → Acts hash step old result new → IsTable new
-  acts hash (step.Lock node) result h = locks-foreign hash old new table node result (entry_at hash old) (not (nat_eq old.next (2 ^ 64 - 1))) refl h
+  acts hash (step.Lock node) result h
+      = locks-foreign hash old new table node result (entry_at hash old) (not (nat_eq old.next (2 ^ 64 - 1))) refl h
   acts hash (step.GiveUp node) result h = gives-up hash old new table result (is_some (foreign_lock node (entry_at hash old))) h
-  acts hash (step.Publish node agreed) result h = publishes-foreign hash old new node result agreed table (foreign_lock node (entry_at hash old)) refl h
+  acts hash (step.Publish node agreed) result h
+      = publishes-foreign hash old new node result agreed table (foreign_lock node (entry_at hash old)) refl h
   acts hash (step.Register node) result h = registers-at hash old new table node result (published_number (entry_at hash old)) h
   acts hash (step.Leave node) result h = leaves-number hash old new table node (published_number (entry_at hash old)) h.1
   acts hash (step.Remove node) result h = removes-number hash old new table node (published_number (entry_at hash old)) h.1

@@ -34,4 +34,5 @@ opened_by call = None
 abbrev pub AgreesAsBefore : (ℕ → Type 0) → Type 0
 AgreesAsBefore V = (call : Call V) (old new : Contents) (service : Opened)
     → IsReached old → Goes call old new → opened_by call ≡ Some service → IsWithinLimits service.description
-    → WasAgreed service.number service.description new × ((agreed : Agreement) → WasAgreed service.number agreed old → agreed ≡ service.description)
+    → WasAgreed service.number service.description new
+    × ((agreed : Agreement) → WasAgreed service.number agreed old → agreed ≡ service.description)

@@ -33,7 +33,8 @@ pub record BuildersMakeCalls {C : Type 0} (IsWithinLimits IsTooLong : C → Type
       (record { table = old; lists = lists }) result new
       → (refusal : Option CreateFailure) × (answer : Result Opened CreateFailure)
       × IsBuilt {V = V} (Creates node agreed refusal answer) storage node error answer old new.table result
-  pub opens : (kind storage node : ℕ) (hash : ServiceHash) (verdict : Agreement → Result (Unit {0}) (V kind)) (error : OpenFailure (V kind) → E)
+  pub opens : (kind storage node : ℕ) (hash : ServiceHash) (verdict : Agreement → Result (Unit {0}) (V kind))
+      (error : OpenFailure (V kind) → E)
       (lists : List (List ForeignStep)) (old : Contents) (new : Steps) (result : Result Membership E)
       → built.Negotiates SteppedSight storage node error (λ made answer. Opens hash node verdict made answer)
       (record { table = old; lists = lists }) result new

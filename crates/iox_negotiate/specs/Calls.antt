@@ -69,7 +69,8 @@ open_after (Between hash step) held = held
 abbrev pub Goes : {V : ℕ → Type 0} → Call V → Contents → Contents → Type 0
 Goes (Between hash step) old new = (result : Result (Unit {0}) AllocError) × Acts hash step old result new
 Goes call old new =
-    (lists : List (List ForeignStep)) × (end : Steps) × Does SteppedSight (record { table = old; lists = lists }) (λ made. Tells call made) end × (new ≡ end.table)
+    (lists : List (List ForeignStep)) × (end : Steps)
+    × Does SteppedSight (record { table = old; lists = lists }) (λ made. Tells call made) end × (new ≡ end.table)
 
 -- one call after the other leads from one table to another, and these factories are open then
 abbrev pub Called : {V : ℕ → Type 0} → Contents → List Factory → List (Call V) → Contents → List Factory → Type 0

@@ -40,6 +40,8 @@ pub record IsUntouched (other : ServiceHash) (old new : Contents) : Type 0 where
 abbrev pub ClosesOne : Type 0
 ClosesOne = (hash : ServiceHash) (number node : ℕ) (bytes : List ℕ) (old new : Steps) (made : List Access)
     (result : Result (Unit {0}) CloseError)
-    (is_open : IsOpenIn hash number node bytes old.table) → IsReached old.table → Closes hash number node made result → Went SteppedSight old made new
-    → (after : Nodes) × (result ≡ Ok tt) × TakesOneOff node is_open.nodes after × StandsOrGone (nat_eq (count_in after) 0) hash number bytes after new.table
+    (is_open : IsOpenIn hash number node bytes old.table) → IsReached old.table → Closes hash number node made result
+    → Went SteppedSight old made new
+    → (after : Nodes) × (result ≡ Ok tt) × TakesOneOff node is_open.nodes after
+    × StandsOrGone (nat_eq (count_in after) 0) hash number bytes after new.table
     × ((other : ServiceHash) → other ≢ hash → IsUntouched other old.table new.table)

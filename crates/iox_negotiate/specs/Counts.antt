@@ -19,7 +19,8 @@ any_of count = if nat_lt 0 count then Some count else None
 -- the segment of each published service has just the own nodes that have factories of it among these, and counts as many of each
 abbrev pub AreCounted : List Factory → Contents → Type 0
 AreCounted all table = (hash : ServiceHash) (number node : ℕ) (bytes : List ℕ) (nodes : Nodes)
-    → entry_at hash table ≡ Some (Described number bytes) → segment_at hash number table ≡ Some (Open nodes) → factories_of nodes node ≡ any_of (times number node all)
+    → entry_at hash table ≡ Some (Described number bytes) → segment_at hash number table ≡ Some (Open nodes)
+    → factories_of nodes node ≡ any_of (times number node all)
 
 -- After any calls in a new table registered are just the factories that are open, whatever foreign steps fall before each access
 -- and between the calls.
@@ -31,5 +32,6 @@ FactoriesAreCounted V = (id : ℕ) (calls : List (Call V)) (table : Contents) (h
 abbrev pub CountedInsideCalls : (ℕ → Type 0) → Type 0
 CountedInsideCalls V = (id : ℕ) (calls : List (Call V)) (table : Contents) (held : List Factory) (call : Call V)
     (lists : List (List ForeignStep)) (mid : Steps) (done rest : List Access)
-    → Called (empty_table id) [] calls table held → MayBegin call held → Tells call (done ++ rest) → Went SteppedSight (record { table = table; lists = lists }) done mid
+    → Called (empty_table id) [] calls table held → MayBegin call held → Tells call (done ++ rest)
+    → Went SteppedSight (record { table = table; lists = lists }) done mid
     → AreCounted held mid.table ⊎ AreCounted (open_after call held) mid.table

@@ -30,7 +30,8 @@ Begins old event new number = ⊥
 -- a number is never taken twice, whatever happens between two locks: each life's is above those before
 abbrev pub TakenOnce : Type 0
 TakenOnce = (one other : Event) (before after later last : Contents) (events : List Event) (first second : ℕ)
-    → Happens before one after → Begins before one after first → Ran after events later → Happens later other last → Begins later other last second → first < second
+    → Happens before one after → Begins before one after first → Ran after events later → Happens later other last
+    → Begins later other last second → first < second
 
 -- What a later entry of the same life is: the same lock, or the description that took its place; and a description stays as it is.
 abbrev pub Continues : Entry → Entry → Type 0
@@ -42,13 +43,15 @@ Continues (Described number bytes) (Described other later) = later ≡ bytes
 -- A number belongs to one hash for good, and no other description is ever published under it.
 abbrev pub OneLife : Type 0
 OneLife = (old new : Contents) (events : List Event) (hash later_hash : ServiceHash) (entry later : Entry)
-    → IsReached old → Ran old events new → entry_at hash old ≡ Some entry → entry_at later_hash new ≡ Some later → number_of later ≡ number_of entry
+    → IsReached old → Ran old events new → entry_at hash old ≡ Some entry → entry_at later_hash new ≡ Some later
+    → number_of later ≡ number_of entry
     → (later_hash ≡ hash) × Continues entry later
 
 -- the event publishes these bytes under this number: an own node where an own node has the lock, a foreign node its own service's line
 abbrev pub PublishesAs : ServiceHash → ℕ → List ℕ → Contents → Event → Type 0
 PublishesAs hash number bytes old (Accesses (Publish under of text answer)) =
-    (node : ℕ) × (entry_at hash old ≡ Some (Locked (Own node) number)) × (under ≡ hash) × (of ≡ number) × (text ≡ bytes) × (answer ≡ Published)
+    (node : ℕ) × (entry_at hash old ≡ Some (Locked (Own node) number)) × (under ≡ hash) × (of ≡ number) × (text ≡ bytes)
+    × (answer ≡ Published)
 PublishesAs hash number bytes old (Steps under (step.Publish node agreed)) =
     (entry_at hash old ≡ Some (Locked (Foreign node) number)) × (under ≡ hash) × IsFor hash agreed × (bytes ≡ line agreed)
 PublishesAs hash number bytes old event = ⊥

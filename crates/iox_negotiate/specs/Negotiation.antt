@@ -37,7 +37,8 @@ pub record Creates {S E : Type 0} (gives : S → Access → S → Type 0) (stora
 -- unless it is refused so.
 pub record Either {S V E : Type 0} (gives : S → Access → S → Type 0) (storage : ℕ) (hash : ServiceHash) (node : ℕ) (verdict : Agreement
     → Result (Unit {0}) V)
-    (agreed : Agreement) (is_within is_history_too_long : Type 0) (error : OpenOrCreateFailure V → E) (old : S) (result : Result Membership E) (new : S) : Type 0 where
+    (agreed : Agreement) (is_within is_history_too_long : Type 0) (error : OpenOrCreateFailure V → E) (old : S)
+    (result : Result Membership E) (new : S) : Type 0 where
   pub refusal : Option CreateFailure
   pub refused : IsRefusal is_within is_history_too_long refusal
   pub within : refusal ≡ None → IsWithinLimits agreed

@@ -29,7 +29,8 @@ AreWithin (call ∷ calls) = IsWithin call × AreWithin calls
 abbrev pub RoomsAreAgreed : (ℕ → Type 0) → Type 0
 RoomsAreAgreed V = (id : ℕ) (calls : List (Call V)) (table : Contents) (held : List Factory) (hash : ServiceHash) (number : ℕ)
     (agreed : Agreement) (nodes : Nodes)
-    → AreWithin calls → Called (empty_table id) [] calls table held → entry_at hash table ≡ Some (Described number (line agreed)) → IsWithinLimits agreed
+    → AreWithin calls → Called (empty_table id) [] calls table held → entry_at hash table ≡ Some (Described number (line agreed))
+    → IsWithinLimits agreed
     → segment_at hash number table ≡ Some (Open nodes) → nodes.max_nodes ≡ max_nodes_of agreed.settings
 
 -- and so it is after each access inside a call
@@ -37,6 +38,8 @@ abbrev pub RoomsInsideCalls : (ℕ → Type 0) → Type 0
 RoomsInsideCalls V = (id : ℕ) (calls : List (Call V)) (table : Contents) (held : List Factory) (call : Call V)
     (lists : List (List ForeignStep)) (mid : Steps) (done rest : List Access)
     (hash : ServiceHash) (number : ℕ) (agreed : Agreement) (nodes : Nodes)
-    → AreWithin calls → IsWithin call → Called (empty_table id) [] calls table held → Tells call (done ++ rest) → Went SteppedSight (record { table = table; lists = lists }) done mid
-    → entry_at hash mid.table ≡ Some (Described number (line agreed)) → IsWithinLimits agreed → segment_at hash number mid.table ≡ Some (Open nodes)
+    → AreWithin calls → IsWithin call → Called (empty_table id) [] calls table held → Tells call (done ++ rest)
+    → Went SteppedSight (record { table = table; lists = lists }) done mid
+    → entry_at hash mid.table ≡ Some (Described number (line agreed)) → IsWithinLimits agreed
+    → segment_at hash number mid.table ≡ Some (Open nodes)
     → nodes.max_nodes ≡ max_nodes_of agreed.settings

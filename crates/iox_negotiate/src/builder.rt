@@ -71,7 +71,13 @@ impl Builder {
     /// takes no memory.
     /// Example: `Builder::new(1, name).publish_subscribe::<u64>()`
     pub fn publish_subscribe<M: Payload>(self) -> ServiceBuilder<PublishSubscribe>
-        ensures { result ≡ record { hub = self.hub; node = self.node; name = self.name; requirement = publish_subscribe_of.unnamed (types_of M.detail) (required [] []) } }
+        ensures { result ≡ record {
+          hub = self.hub;
+          node = self.node;
+          name = self.name;
+          requirement
+              = publish_subscribe_of.unnamed (types_of M.detail) (required [] []);
+        } }
     {
         ServiceBuilder {
             hub: self.hub,
@@ -88,7 +94,13 @@ impl Builder {
     /// takes no memory.
     /// Example: `Builder::new(1, name).request_response::<u64, Slice<u8>>()`
     pub fn request_response<M: Payload, N: Payload>(self) -> ServiceBuilder<RequestResponse>
-        ensures { result ≡ record { hub = self.hub; node = self.node; name = self.name; requirement = request_response_of.unnamed (types_of M.detail) (types_of N.detail) (required [] []) } }
+        ensures { result ≡ record {
+          hub = self.hub;
+          node = self.node;
+          name = self.name;
+          requirement
+              = request_response_of.unnamed (types_of M.detail) (types_of N.detail) (required [] []);
+        } }
     {
         let requests = types_of(M::type_detail());
         let responses = types_of(N::type_detail());

@@ -5,10 +5,12 @@ use Rattle.iox_negotiate_base.specs.Access.{Access}
 use Rattle.iox_negotiate_base.specs.Runs.{Went, Does, Led, Rounds}
 
 -- one list of accesses after another
-pub went-append : {S : Type 0} (gives : S → Access → S → Type 0) (old mid new : S) (first second : List Access) → Went gives old first mid → Went gives mid second new
+pub went-append : {S : Type 0} (gives : S → Access → S → Type 0) (old mid new : S) (first second : List Access)
+    → Went gives old first mid → Went gives mid second new
     → Went gives old (first ++ second) new
 went-append gives old mid new [] second start rest = rw (← start) rest
-went-append gives old mid new (access ∷ first) second (next, given, start) rest = (next, given, went-append gives next mid new first second start rest)
+went-append gives old mid new (access ∷ first) second (next, given, start) rest
+    = (next, given, went-append gives next mid new first second start rest)
 
 module _ {S : Type 0} {gives : S → Access → S → Type 0} where
   -- nothing was made
@@ -16,7 +18,8 @@ module _ {S : Type 0} {gives : S → Access → S → Type 0} where
   idle old telling told = record { made = []; went = refl; told = told }
 
   -- one access alone
-  pub alone : (old new : S) (access : Access) (telling : List Access → Type 0) → gives old access new → telling (access ∷ []) → Does gives old telling new
+  pub alone : (old new : S) (access : Access) (telling : List Access → Type 0) → gives old access new → telling (access ∷ [])
+      → Does gives old telling new
   alone old new access telling given told = record { made = access ∷ []; went = (new, given, refl); told = told }
 
   -- an access, and then those of a callee
@@ -26,13 +29,15 @@ module _ {S : Type 0} {gives : S → Access → S → Type 0} where
       record { made = access ∷ does.made; went = (mid, given, does.went); told = say does.made does.told }
 
   -- those of a callee, told in other words
-  pub retold : (old new : S) (telling other : List Access → Type 0) → Does gives old telling new → ((made : List Access) → telling made → other made)
+  pub retold : (old new : S) (telling other : List Access → Type 0) → Does gives old telling new
+      → ((made : List Access) → telling made → other made)
       → Does gives old other new
   retold old new telling other does say = record { made = does.made; went = does.went; told = say does.made does.told }
 
   module _ {R : Type 0} (round : List Access → Option R → Type 0) where
     -- a round more that leads on
-    pub led-more : (old mid new : S) (count next : ℕ) → suc count ≡ next → Does gives old (Led round count) mid → Does gives mid (λ made. round made None) new
+    pub led-more : (old mid new : S) (count next : ℕ) → suc count ≡ next → Does gives old (Led round count) mid
+        → Does gives mid (λ made. round made None) new
         → Does gives old (Led round next) new
     led-more old mid new count next is so_far last =
         rw (← is) (record {
@@ -56,5 +61,13 @@ module _ {S : Type 0} {gives : S → Access → S → Type 0} where
     rounds-exhausted old new count exhausted five so_far = record {
       made = so_far.made;
       went = so_far.went;
-      told = record { count = count; before = so_far.made; last = []; all = sym (append-nil so_far.made); led = so_far.told; ends = inr (five, refl, refl) };
+      told = record {
+        count = count;
+        before = so_far.made;
+        last = [];
+        all = sym (append-nil so_far.made);
+        led = so_far.told;
+        ends
+            = inr (five, refl, refl);
+      };
     }

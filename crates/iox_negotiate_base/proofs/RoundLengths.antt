@@ -1,5 +1,6 @@
 -- How many accesses openings make.
-use Rattle.std.proofs.Common.{◌≡◌, Bool, true, false, ℕ, zero, suc, ◌+◌, ◌*◌, ◌≤◌, List, ◌∷◌, Option, None, Some, Result, Ok, Err, length, length-append, ap, arith}
+use Rattle.std.proofs.Common.{◌≡◌, Bool, true, false, ℕ, zero, suc, ◌+◌, ◌*◌, ◌≤◌, List, ◌∷◌, Option, None, Some, Result, Ok, Err, length}
+use Rattle.std.proofs.Common.{length-append, ap, arith}
 use Rattle.std.proofs.Math.Logic.{⊎_elim}
 use Rattle.iox_describe.specs.DescribeBase.declared.hash.ServiceHash.{ServiceHash}
 use Rattle.iox_describe.specs.DescribeSettings.Agreement.{Agreement}
@@ -37,21 +38,25 @@ done-answers (attempt.Failed failure) done h = cc
 no-answer : {X : Type 0} (answer : X) → None ≡ Some answer → ⊥
 no-answer answer h = cc
 
-publishes-done : (hash : ServiceHash) (number : ℕ) (agreed : Agreement) (made : List Access) (came : Attempt) → Publishes hash number agreed made came → is_done came ≡ true
+publishes-done : (hash : ServiceHash) (number : ℕ) (agreed : Agreement) (made : List Access) (came : Attempt)
+    → Publishes hash number agreed made came → is_done came ≡ true
 publishes-done hash number agreed (Publish under of bytes publishing.Published ∷ rest) came p = ap (λ a. is_done a) p.3.1
 publishes-done hash number agreed (Publish under of bytes publishing.Fault ∷ rest) came p = ap (λ a. is_done a) p.3.1
 publishes-done hash number agreed (Publish under of bytes publishing.OutOfMemory ∷ rest) came p = ap (λ a. is_done a) p.3.1
 publishes-done hash number agreed (RemoveSegment under of answer ∷ rest) came p = ap (λ a. is_done a) p.1
 publishes-done hash number agreed made came p = absurd p
 
-makes-done : (hash : ServiceHash) (node number : ℕ) (agreed : Agreement) (made : List Access) (came : Attempt) → Makes hash node number agreed made came → is_done came ≡ true
-makes-done hash node number agreed (MakeSegment under of by room making.Made ∷ rest) came m = publishes-done hash number agreed rest came m.4
+makes-done : (hash : ServiceHash) (node number : ℕ) (agreed : Agreement) (made : List Access) (came : Attempt)
+    → Makes hash node number agreed made came → is_done came ≡ true
+makes-done hash node number agreed (MakeSegment under of by room making.Made ∷ rest) came m
+    = publishes-done hash number agreed rest came m.4
 makes-done hash node number agreed (MakeSegment under of by room making.Fault ∷ rest) came m = ap (λ a. is_done a) m.4.1
 makes-done hash node number agreed (MakeSegment under of by room making.OutOfMemory ∷ rest) came m = ap (λ a. is_done a) m.4.1
 makes-done hash node number agreed made came m = absurd m
 
 -- a lock that leads to the next round is one access
-again-locks : {V : Type 0} (hash : ServiceHash) (node : ℕ) (agreed : Agreement) (made : List Access) (came : Attempt) → Locks hash node agreed made came
+again-locks : {V : Type 0} (hash : ServiceHash) (node : ℕ) (agreed : Agreement) (made : List Access) (came : Attempt)
+    → Locks hash node agreed made came
     → None ≡ created_or_again {V = V} came → length made ≤ 1
 again-locks hash node agreed (Lock under by (lock.Taken number) ∷ rest) came l h =
     absurd (done-answers came (makes-done hash node number agreed rest came l.2) h)
@@ -85,7 +90,8 @@ module _ {V : Type 0} (hash : ServiceHash) (node : ℕ) (verdict : Agreement →
   registers-length number agreed (OpenSegment under of by answer ∷ rest) result h = omega (arith, ap (λ r. length r) h.3)
   registers-length number agreed made result h = absurd h
 
-  judged-length : (number : ℕ) (agreed : Agreement) (judged : Result (Unit {0}) V) (made : List Access) (result : Option (Result Opened (OpenFailure V)))
+  judged-length : (number : ℕ) (agreed : Agreement) (judged : Result (Unit {0}) V) (made : List Access)
+      (result : Option (Result Opened (OpenFailure V)))
       → OpensJudged hash node verdict number agreed judged made result → length made ≤ 1
   judged-length number agreed (Ok met) made result h = registers-length number agreed made result h
   judged-length number agreed (Err unmet) made result h = omega (arith, ap (λ r. length r) h.0)
@@ -96,7 +102,8 @@ module _ {V : Type 0} (hash : ServiceHash) (node : ℕ) (verdict : Agreement →
   seen-length (sight.Standing number agreed) made result h = judged-length number agreed (verdict agreed) made result h
   seen-length (sight.Failed failure) made result h = omega (arith, ap (λ r. length r) h.0)
 
-  pub round-length : (made : List Access) (result : Option (Result Opened (OpenFailure V))) → OpenRound hash node verdict made result → length made ≤ 2
+  pub round-length : (made : List Access) (result : Option (Result Opened (OpenFailure V))) → OpenRound hash node verdict made result
+      → length made ≤ 2
   round-length (Look under answer ∷ rest) result h = omega (arith, seen-length h.0 rest result h.3)
   round-length made result h = absurd h
 
@@ -112,7 +119,8 @@ module _ {V : Type 0} (hash : ServiceHash) (node : ℕ) (verdict : Agreement →
     either-seen-length (sight.Standing number other) made result h = omega (arith, judged-length number other (verdict other) made h.0 h.1)
     either-seen-length (sight.Failed failure) made result h = omega (arith, ap (λ r. length r) h.0)
 
-    pub either-length : (made : List Access) (result : Result Opened (OpenOrCreateFailure V)) → EitherRound hash node verdict agreed refusal made (Some result) → length made ≤ 6
+    pub either-length : (made : List Access) (result : Result Opened (OpenOrCreateFailure V))
+        → EitherRound hash node verdict agreed refusal made (Some result) → length made ≤ 6
     either-length (Look under answer ∷ rest) result h = omega (arith, either-seen-length h.0 rest (Some result) h.3)
     either-length made result h = absurd h
 

@@ -44,7 +44,8 @@ MakeGoes hash number agreed (Some failure) made attempt = Unlocks hash number ma
 -- the segment is made, with room for the agreed nodes, and the node is registered in it
 abbrev pub Makes : ServiceHash → ℕ → ℕ → Agreement → List Access → Attempt → Type 0
 Makes hash node number agreed (MakeSegment under of by room answer ∷ rest) attempt =
-    (under ≡ hash) × (of ≡ number) × (by ≡ node) × (room ≡ max_nodes_of agreed.settings) × MakeGoes hash number agreed (making_failure answer) rest attempt
+    (under ≡ hash) × (of ≡ number) × (by ≡ node) × (room ≡ max_nodes_of agreed.settings)
+    × MakeGoes hash number agreed (making_failure answer) rest attempt
 Makes hash node number agreed made attempt = ⊥
 
 -- the lock was taken, for a service of this number, or not
@@ -67,5 +68,6 @@ CreatesSeen hash node agreed (Some failure) made attempt = (made ≡ []) × (att
 abbrev pub CreatesIf : ServiceHash → ℕ → Agreement → Option CreateFailure → List Access → Result Opened CreateFailure → Type 0
 CreatesIf hash node agreed (Some failure) made result = (made ≡ []) × (result ≡ Err failure)
 CreatesIf hash node agreed None (Look under answer ∷ rest) result =
-    (shown : Sight) × (attempt : Attempt) × (under ≡ hash) × IsSight hash answer shown × CreatesSeen hash node agreed (refusal_seen shown) rest attempt × (result ≡ created attempt)
+    (shown : Sight) × (attempt : Attempt) × (under ≡ hash) × IsSight hash answer shown
+    × CreatesSeen hash node agreed (refusal_seen shown) rest attempt × (result ≡ created attempt)
 CreatesIf hash node agreed None made result = ⊥

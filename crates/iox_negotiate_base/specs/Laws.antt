@@ -64,7 +64,8 @@ CreatedIsPublished = (hash : ServiceHash) (node : ℕ) (agreed : Agreement) (ref
     (service : Opened)
     → CreatesIf hash node agreed refusal made (Ok service)
     → (front : List Access) × (service.description ≡ agreed)
-    × (made ≡ front ++ (MakeSegment hash service.number node (max_nodes_of agreed.settings) Made ∷ Publish hash service.number (line agreed) Published ∷ []))
+    × (made ≡ front ++ (MakeSegment hash service.number node (max_nodes_of agreed.settings) Made
+    ∷ Publish hash service.number (line agreed) Published ∷ []))
 
 -- an opening makes ten accesses at most
 abbrev pub OpensInTen : Type 0 → Type 0
@@ -76,7 +77,8 @@ OpensInTen V = (hash : ServiceHash) (node : ℕ) (verdict : Agreement
 abbrev pub OpensOrCreatesInFourteen : Type 0 → Type 0
 OpensOrCreatesInFourteen V = (hash : ServiceHash) (node : ℕ) (verdict : Agreement
     → Result (Unit {0}) V) (agreed : Agreement) (refusal : Option CreateFailure)
-    (made : List Access) (result : Result Opened (OpenOrCreateFailure V)) → OpensOrCreates hash node verdict agreed refusal made result → length made ≤ 14
+    (made : List Access) (result : Result Opened (OpenOrCreateFailure V)) → OpensOrCreates hash node verdict agreed refusal made result
+    → length made ≤ 14
 
 -- no lock is left by an opening or creation, however it ends
 abbrev pub EitherLeavesNoLock : Type 0 → Type 0

@@ -54,7 +54,8 @@ module _ {V : Type 0} (hash : ServiceHash) (node : ℕ) (verdict : Agreement →
     abbrev pub EitherSeen : Sight → List Access → Option (Result Opened (OpenOrCreateFailure V)) → Type 0
     EitherSeen sight.Absent made result = EitherCreates refusal made result
     EitherSeen (sight.Standing number other) made result =
-        (answer : Option (Result Opened (OpenFailure V))) × OpensJudged number other (verdict other) made answer × (result ≡ opened_or_again answer)
+        (answer : Option (Result Opened (OpenFailure V))) × OpensJudged number other (verdict other) made answer
+        × (result ≡ opened_or_again answer)
     EitherSeen (sight.Failed failure) made result = (made ≡ []) × (result ≡ Some (Err (either.Open (open_failure_of failure))))
 
     -- one round of an opening or creation

@@ -8,7 +8,8 @@ use Rattle.iox_negotiate_base.specs.declared.answer.LookAnswer.{LookAnswer}
 use Rattle.iox_negotiate_base.specs.declared.answer.LookAnswer.TheVariants as look
 use Rattle.iox_negotiate_base.specs.declared.sight.Sight.{Sight}
 use Rattle.iox_negotiate_base.specs.declared.sight.Sight.TheVariants as sight
-use Rattle.iox_negotiate_base.specs.declared.sight.SightFailure.TheVariants.{HangsInCreation, InsufficientPermissions, ServiceInCorruptedState, OutOfMemory}
+use Rattle.iox_negotiate_base.specs.declared.sight.SightFailure.TheVariants.{HangsInCreation, InsufficientPermissions}
+use Rattle.iox_negotiate_base.specs.declared.sight.SightFailure.TheVariants.{ServiceInCorruptedState, OutOfMemory}
 
 -- these bytes describe, under this hash, a service with this agreement
 pub record Describes (hash : ServiceHash) (bytes : List ℕ) (agreed : Agreement) : Type 0 where

@@ -1,6 +1,7 @@
 //! What holds of every creation and every opening, said in other words than their accesses one by one. Each function
 //! does nothing: its contract is the law.
-ghost use Rattle.iox_negotiate_base.specs.Laws.{CreatesInSix, LeavesNoLock, RefusedLeavesNoSegment, CreatedIsPublished, OpensInTen, OpensOrCreatesInFourteen, EitherLeavesNoLock, RefusedEitherLeavesNoSegment};
+ghost use Rattle.iox_negotiate_base.specs.Laws.{CreatesInSix, LeavesNoLock, RefusedLeavesNoSegment, CreatedIsPublished, OpensInTen};
+ghost use Rattle.iox_negotiate_base.specs.Laws.{OpensOrCreatesInFourteen, EitherLeavesNoLock, RefusedEitherLeavesNoSegment};
 
 use crate::request::Request;
 

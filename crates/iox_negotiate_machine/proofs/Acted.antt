@@ -1,5 +1,6 @@
 -- What a table does at steps of nodes outside the hub, and a machine in all its phases.
-use Rattle.std.proofs.Common.{◌≡◌, ◌≢◌, ℕ, ◌+◌, ◌^◌, ◌≤◌, ◌<◌, Bool, true, false, cond, ◌&&◌, true≢false, suc, List, [], ◌∷◌, ◌++◌, Option, None, Result, Ok, Err, length, refl, sym, ap, subst, ◌∙◌, inl, inr, arith}
+use Rattle.std.proofs.Common.{◌≡◌, ◌≢◌, ℕ, ◌+◌, ◌^◌, ◌≤◌, ◌<◌, Bool, true, false, cond, ◌&&◌, true≢false, suc, List, [], ◌∷◌, ◌++◌}
+use Rattle.std.proofs.Common.{Option, None, Result, Ok, Err, length, refl, sym, ap, subst, ◌∙◌, inl, inr, arith}
 use Rattle.std.specs.Cmp.Lexicographic.{same_text}
 use Rattle.std.specs.List.{AllByRecursion, IsAmong}
 use Rattle.std.specs.Prelude.{fold, map, take}
@@ -12,7 +13,8 @@ use Rattle.iox_command.specs.NegotiateBase.DescribeBase.declared.pattern.Messagi
 use Rattle.iox_command.specs.declared.step.ForeignStep.{ForeignStep}
 use Rattle.iox_machine.specs.Phase.{Phase, Absent, BeingMade, Published, Emptied, acted, same_pattern}
 use Rattle.iox_machine.specs.State.{State, same_name, with_phase}
-use Rattle.iox_negotiate.proofs.Changes.{Change, Same, LockOf, Without, PublishOf, NewSegment, OfSegment, WithoutSegment, ServiceOf, Removal, IsElsewhere, changes, elsewhere, hash_of, hash-from, rises}
+use Rattle.iox_negotiate.proofs.Changes.{Change, Same, LockOf, Without, PublishOf, NewSegment, OfSegment, WithoutSegment, ServiceOf}
+use Rattle.iox_negotiate.proofs.Changes.{Removal, IsElsewhere, changes, elsewhere, hash_of, hash-from, rises}
 use Rattle.iox_negotiate.proofs.Tables.{reached}
 use Rattle.iox_negotiate.specs.Histories.{Event, Steps, Happens, Ran, IsReached}
 use Rattle.iox_negotiate_machine.proofs.Acting.{After, OwnHash, acts-there, pattern-is, pattern-itself, name-itself, last-then}
@@ -151,9 +153,11 @@ module _ (types : MessageTypeDetails) (pattern : MessagingPattern) (name : List 
       differ : ◌≡◌ {A = Result (Unit {0}) AllocError} (Err lacking) (Ok tt) → ⊥
       differ e = cc
   acts-all (one ∷ steps) old new taken phase result was form room stands (mid, first, acts, rest) =
-      goes first (acts-there types pattern name old mid taken one phase first (reached old was) form.0 own (omega (arith, room)) stands acts)
+      goes first (acts-there types pattern name old mid taken one phase first (reached old was) form.0 own (omega (arith, room)) stands
+      acts)
       result rest (λ after_taken after now_form now_room now_stands now_acts.
-      acts-all steps mid new after_taken after result (left-by (Steps hash (table_step_of types name one)) old mid was (first, acts)).reached now_form now_room now_stands now_acts)
+      acts-all steps mid new after_taken after result
+      (left-by (Steps hash (table_step_of types name one)) old mid was (first, acts)).reached now_form now_room now_stands now_acts)
     where
       left : Leaves hash old mid
       left = left-by (Steps hash (table_step_of types name one)) old mid was (first, acts)
@@ -165,8 +169,11 @@ module _ (types : MessageTypeDetails) (pattern : MessagingPattern) (name : List 
       longer : (result : Result (Unit {0}) AllocError) (more : List ℕ)
           → Result_of result steps new (more ++ taken) (acted types pattern phase one)
           → Result_of result (one ∷ steps) new taken phase
-      longer (Ok happened) more later =
-          (later.0 ++ more, subst (λ (l : List ℕ). PhaseStands pattern name new l (fold (acted types pattern) phase (one ∷ steps))) (joined later.0 more taken) later.1)
+      longer (Ok happened) more later = (
+        later.0 ++ more,
+        subst (λ (l : List ℕ). PhaseStands pattern name new l (fold (acted types pattern) phase (one ∷ steps)))
+            (joined later.0 more taken) later.1,
+      )
       longer (Err lacking) more later = (
         later.0 ++ more,
         suc later.1,
@@ -221,8 +228,11 @@ module _ (names : List (List ℕ)) (own : HaveOwnHashes names) (pattern : Messag
       there : (b : Bool) → (same_pattern one pattern && same_name other name) ≡ b
           → (x : List ℕ) × (cond b (more ++ taken pattern name) (taken one other) ≡ x ++ taken one other)
       there true is =
-          let same = named one other is in
-          (more, ap (λ (l : List ℕ). more ++ l) (sym (ap (λ (p : MessagingPattern). taken p other) same.0 ∙ ap (λ (n : List ℕ). taken pattern n) same.1)))
+          let same = named one other is in (
+            more,
+            ap (λ (l : List ℕ). more ++ l)
+                (sym (ap (λ (p : MessagingPattern). taken p other) same.0 ∙ ap (λ (n : List ℕ). taken pattern n) same.1)),
+          )
       there false is = ([], refl)
 
   module _ {T : Type 0} (old new : Contents) (state : State T) (stands : TableStands names taken old state)
@@ -248,14 +258,16 @@ module _ (names : List (List ℕ)) (own : HaveOwnHashes names) (pattern : Messag
 module _ (T : Type 0) where
   pub steps-match : ForeignStepsMatch T
   steps-match names types pattern name steps taken old new (Ok happened) state own asked form room stands h =
-      let all = acts-all types pattern name (own-hash names own pattern name asked taken) steps old new (taken pattern name) (state.phases pattern name)
+      let all = acts-all types pattern name (own-hash names own pattern name asked taken) steps old new (taken pattern name)
+      (state.phases pattern name)
       (Ok happened) stands.reached form room (stands.phases pattern name asked) h in (
         later names own pattern name asked taken all.1.0,
         goes-on names own pattern name asked taken all.1.0,
         all-stand names own pattern name asked taken old new state stands all.0 all.1.0 _ all.1.1,
       )
   steps-match names types pattern name steps taken old new (Err lacking) state own asked form room stands h =
-      let all = acts-all types pattern name (own-hash names own pattern name asked taken) steps old new (taken pattern name) (state.phases pattern name)
+      let all = acts-all types pattern name (own-hash names own pattern name asked taken) steps old new (taken pattern name)
+      (state.phases pattern name)
       (Err lacking) stands.reached form room (stands.phases pattern name asked) h in (
         later names own pattern name asked taken all.1.0,
         goes-on names own pattern name asked taken all.1.0,
@@ -264,8 +276,13 @@ module _ (T : Type 0) where
 
   pub command-matches : (IsDefault : T → Type 0) → ForeignMatches T IsDefault
   command-matches IsDefault names types buffer pattern name steps taken old new (Ok happened) state own asked form room stands h =
-      let done = steps-match names types pattern name steps taken old new (Ok happened) state own asked form room stands h in
-      (done.0, done.1, with_phase pattern name (fold (acted types pattern) (state.phases pattern name) steps) state, inl (refl, refl), done.2)
+      let done = steps-match names types pattern name steps taken old new (Ok happened) state own asked form room stands h in (
+        done.0,
+        done.1,
+        with_phase pattern name (fold (acted types pattern) (state.phases pattern name) steps) state,
+        inl (refl, refl),
+        done.2,
+      )
   command-matches IsDefault names types buffer pattern name steps taken old new (Err lacking) state own asked form room stands h =
       let done = steps-match names types pattern name steps taken old new (Err lacking) state own asked form room stands h in (
         done.0,

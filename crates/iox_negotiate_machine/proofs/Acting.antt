@@ -1,5 +1,6 @@
 -- What a step of a node outside the hub does under a hash, and to the phase.
-use Rattle.std.proofs.Common.{◌≡◌, ◌≢◌, ℕ, ◌+◌, ◌-◌, ◌^◌, ◌<◌, ◌≤◌, Bool, true, false, cond, not, ◌&&◌, List, [], ◌∷◌, ◌++◌, Option, None, Some, is_some, Result, Ok, Err, length, nat_eq, nat_lt, refl, sym, ap, subst, ◌∙◌, arith}
+use Rattle.std.proofs.Common.{◌≡◌, ◌≢◌, ℕ, ◌+◌, ◌-◌, ◌^◌, ◌<◌, ◌≤◌, Bool, true, false, cond, not, ◌&&◌, List, [], ◌∷◌, ◌++◌, Option, None}
+use Rattle.std.proofs.Common.{Some, is_some, Result, Ok, Err, length, nat_eq, nat_lt, refl, sym, ap, subst, ◌∙◌, arith}
 use Rattle.std.proofs.lemmas.Bool.{eq-eqb, eqb-true}
 use Rattle.std.specs.BTreeMap.{is_at}
 use Rattle.std.specs.declared.alloc.AllocError.{AllocError}
@@ -10,7 +11,8 @@ use Rattle.iox_command.specs.NegotiateBase.DescribeBase.declared.hash.ServiceHas
 use Rattle.iox_command.specs.NegotiateBase.DescribeBase.declared.message_type.MessageTypeDetails.{MessageTypeDetails}
 use Rattle.iox_command.specs.NegotiateBase.DescribeBase.declared.pattern.MessagingPattern.{MessagingPattern}
 use Rattle.iox_command.specs.NegotiateBase.DescribeBase.declared.pattern.MessagingPattern.TheVariants as messaging
-use Rattle.iox_command.specs.NegotiateBase.DescribeSettings.Agreement.{Agreement as Description, max_nodes_of, pattern_of as described_pattern}
+use Rattle.iox_command.specs.NegotiateBase.DescribeSettings.Agreement.{Agreement as Description, max_nodes_of}
+use Rattle.iox_command.specs.NegotiateBase.DescribeSettings.Agreement.{pattern_of as described_pattern}
 use Rattle.iox_command.specs.Patterns.{pattern_of}
 use Rattle.iox_command.specs.declared.service.ServiceOptions.{ServiceOptions}
 use Rattle.iox_command.specs.declared.service.ServiceOptions.TheVariants as options
@@ -18,7 +20,8 @@ use Rattle.iox_command.specs.declared.step.ForeignStep.{ForeignStep}
 use Rattle.iox_command.specs.declared.step.ForeignStep.TheVariants as step
 use Rattle.iox_machine.specs.Agreement.{Agreement, are_within_limits}
 use Rattle.iox_machine.specs.Asked.{settings_of}
-use Rattle.iox_machine.specs.Phase.{Node, Own, Foreign, Phase, Absent, BeingMade, Published, Emptied, same_pattern, is_in, entered, left, left_by, removed_by, acted}
+use Rattle.iox_machine.specs.Phase.{Node, Own, Foreign, Phase, Absent, BeingMade, Published, Emptied, same_pattern, is_in, entered, left}
+use Rattle.iox_machine.specs.Phase.{left_by, removed_by, acted}
 use Rattle.iox_machine.specs.State.{same_name}
 use Rattle.iox_negotiate.proofs.Changes.{equal-of, place-apart, place-away, same-place}
 use Rattle.iox_negotiate.proofs.Closing.{segment-gone}
@@ -27,10 +30,14 @@ use Rattle.iox_negotiate.proofs.Tables.{IsTable, digest-exact, digest-self, plac
 use Rattle.iox_negotiate_machine.proofs.Limits.{and-true, both, limits-within, limits-back}
 use Rattle.iox_negotiate_machine.proofs.Seats.{same-bool, outside-in, comes-in, first-in, goes-out}
 use Rattle.iox_negotiate_machine.specs.Laws.{HasStepForm, table_step_of, published_with}
-use Rattle.iox_negotiate_machine.specs.Standing.{NodesStand, AreFalling, IsLast, IsDescribed, IsOpenTo, PhaseStands, description_of, table_node_of}
+use Rattle.iox_negotiate_machine.specs.Standing.{NodesStand, AreFalling, IsLast, IsDescribed, IsOpenTo, PhaseStands, description_of}
+use Rattle.iox_negotiate_machine.specs.Standing.{table_node_of}
 use Rattle.iox_negotiate_table.proofs.Entries.{lookup-added, lookup-set}
-use Rattle.iox_negotiate_table.specs.Contents.{Contents, entry_at, segment_at, is_description_of, is_published, with_lock, without_entry, with_segment, without_segment, digest_cmp, place_cmp}
-use Rattle.iox_negotiate_table.specs.Foreign.{Acts, Done, DoneOrLacking, IsFor, PublishesForeign, RegistersAt, RegistersForeign, after_leaving, after_removal, foreign_lock, is_left_by, left_at, published_number, with_service}
+use Rattle.iox_negotiate_table.specs.Contents.{Contents, entry_at, segment_at, is_description_of, is_published, with_lock, without_entry}
+use Rattle.iox_negotiate_table.specs.Contents.{with_segment, without_segment, digest_cmp, place_cmp}
+use Rattle.iox_negotiate_table.specs.Foreign.{Acts, Done, DoneOrLacking, IsFor, PublishesForeign, RegistersAt, RegistersForeign}
+use Rattle.iox_negotiate_table.specs.Foreign.{after_leaving, after_removal, foreign_lock, is_left_by, left_at, published_number}
+use Rattle.iox_negotiate_table.specs.Foreign.{with_service}
 use Rattle.iox_negotiate_table.specs.Nodes.{Nodes, RegistersIf, count_in, has_foreign, with_foreign, without_foreign, first_foreign}
 use Rattle.iox_negotiate_table.specs.Segments.{RegistersIn, closed_if, foreign_left_if}
 use Rattle.iox_negotiate_table.specs.declared.entry.Entry.{Entry}
@@ -250,9 +257,11 @@ module _ (types : MessageTypeDetails) (pattern : MessagingPattern) (name : List 
         there true h = made result (BeingMade life (Foreign by)) (Absent life) h.0 (given-up table life (Foreign by) stands h.1)
         there false h = kept result (BeingMade life (Foreign by)) stands h.1
     gives-up table (Published life agreed nodes) result stands h =
-        kept result (Published life agreed nodes) stands (subst (λ (e : Option Entry). GivesUpAt result e) (last taken stands.lies).1.0.described h).1
+        kept result (Published life agreed nodes) stands
+        (subst (λ (e : Option Entry). GivesUpAt result e) (last taken stands.lies).1.0.described h).1
     gives-up table (Emptied life agreed by) result stands h =
-        kept result (Emptied life agreed by) stands (subst (λ (e : Option Entry). GivesUpAt result e) (last taken stands.lies).1.0.described h).1
+        kept result (Emptied life agreed by) stands
+        (subst (λ (e : Option Entry). GivesUpAt result e) (last taken stands.lies).1.0.described h).1
 
     -- ---- a service that is published
 
@@ -267,7 +276,8 @@ module _ (types : MessageTypeDetails) (pattern : MessagingPattern) (name : List 
       fits = same_pattern (pattern_of options) pattern && are_within_limits (settings_of types options)
 
       unpublished : {entry : Entry} (phase : Phase) (result : Result (Unit {0}) AllocError) → PhaseStands pattern name old taken phase
-          → entry_at hash old ≡ Some entry → foreign_lock node (Some entry) ≡ None → PublishesAt result (entry_at hash old) → After result phase phase
+          → entry_at hash old ≡ Some entry → foreign_lock node (Some entry) ≡ None → PublishesAt result (entry_at hash old)
+          → After result phase phase
       unpublished {entry} phase result stands lies none h =
           kept result phase stands
           (subst (λ (found : Option ℕ). PublishesForeign found hash node (described (pattern_of options)) old result new) none
@@ -292,7 +302,8 @@ module _ (types : MessageTypeDetails) (pattern : MessagingPattern) (name : List 
 
       for-fits : OwnHash pattern name → IsFor hash (described (pattern_of options)) → fits ≡ true
       for-fits own is =
-          and-true _ _ (subst (λ (kind : MessagingPattern). same_pattern kind pattern ≡ true) (sym (own (pattern_of options) is.1)) (pattern-itself pattern))
+          and-true _ _ (subst (λ (kind : MessagingPattern). same_pattern kind pattern ≡ true) (sym (own (pattern_of options) is.1))
+          (pattern-itself pattern))
           (limits-back types options is.0.limits)
 
       published : (life number : ℕ) (by : Node) → OwnHash pattern name → PhaseStands pattern name old taken (BeingMade life by)
@@ -322,7 +333,8 @@ module _ (types : MessageTypeDetails) (pattern : MessagingPattern) (name : List 
             insert-apart place_cmp (hash.digest, number) (segment.Open (first_foreign node (max_nodes_of (settings_of types options))))
             (is_at (place_cmp (hash.digest, n)))
             (place-away (hash.digest, number) (hash.digest, n)
-            (places-apart hash number n (subst (λ (e : Option Entry). is_description_of n e ≡ false) lies-there isnt))) place-exact old.segments
+            (places-apart hash number n (subst (λ (e : Option Entry). is_description_of n e ≡ false) lies-there isnt))) place-exact
+            old.segments
             ∙ stands.segments n (undescribed hash old (last taken stands.lies).1 n refl);
       })
         where
@@ -349,8 +361,11 @@ module _ (types : MessageTypeDetails) (pattern : MessagingPattern) (name : List 
               → DoneOrLacking b (with_service hash (last taken stands.lies).0 node (described (pattern_of options)) old) old result new
               → After result (BeingMade life (Foreign by))
               (cond b (Published life (published_with types name options) ((Foreign node, 1) ∷ [])) (BeingMade life (Foreign by)))
-          done true (Ok happened) is h =
-              ([], published life (last taken stands.lies).0 (Foreign by) own stands (fits-for form (sym is)) h (last-is _ taken stands.lies))
+          done true (Ok happened) is h = (
+            [],
+            published life (last taken stands.lies).0 (Foreign by) own stands (fits-for form (sym is)) h
+                (last-is _ taken stands.lies),
+          )
           done true (Err lacking) is h = rw h stands
           done false (Ok happened) is h = ([], rw h stands)
           done false (Err lacking) is h = absurd h
@@ -362,7 +377,8 @@ module _ (types : MessageTypeDetails) (pattern : MessagingPattern) (name : List 
           there false h = kept result (BeingMade life (Foreign by)) stands h.1
           there true h =
               done fits result refl
-              (subst (λ (b : Bool). DoneOrLacking b (with_service hash (last taken stands.lies).0 node (described (pattern_of options)) old) old result new)
+              (subst (λ (b : Bool). DoneOrLacking b
+              (with_service hash (last taken stands.lies).0 node (described (pattern_of options)) old) old result new)
               (same-bool h.0 fits (λ so. for-fits own (h.1.0 so)) (λ so. h.1.1 (fits-for form so))) h.2)
 
     -- ---- a node that comes
@@ -396,17 +412,20 @@ module _ (types : MessageTypeDetails) (pattern : MessagingPattern) (name : List 
             (cond b (Published life agreed (entered (Foreign node) nodes)) (Published life agreed nodes))
         comes true (Ok done) is h = (
           [],
-          reopened pattern name old new taken life agreed here.0 (segment.Open here.2.seated) stands.lives stands.falling at here.1 here.2.stands stands.segments
+          reopened pattern name old new taken life agreed here.0 (segment.Open here.2.seated) stands.lives stands.falling at here.1
+              here.2.stands stands.segments
               (entered (Foreign node) nodes) (with_foreign node here.2.seated)
               (comes-in node here.2.seated nodes here.2.nodes_stand (out _ _ (sym test ∙ sym is))) here.2.room
               (new_is ∙ ap (λ (n : Nodes). with_segment hash here.0 (segment.Open n) old) h),
         )
         comes true (Err lacking) is h =
-            reopened pattern name old new taken life agreed here.0 (segment.Open here.2.seated) stands.lives stands.falling at here.1 here.2.stands stands.segments nodes here.2.seated
+            reopened pattern name old new taken life agreed here.0 (segment.Open here.2.seated) stands.lives stands.falling at here.1
+            here.2.stands stands.segments nodes here.2.seated
             here.2.nodes_stand here.2.room (new_is ∙ ap (λ (n : Nodes). with_segment hash here.0 (segment.Open n) old) h)
         comes false (Ok done) is h = (
           [],
-          reopened pattern name old new taken life agreed here.0 (segment.Open here.2.seated) stands.lives stands.falling at here.1 here.2.stands stands.segments nodes here.2.seated
+          reopened pattern name old new taken life agreed here.0 (segment.Open here.2.seated) stands.lives stands.falling at here.1
+              here.2.stands stands.segments nodes here.2.seated
               here.2.nodes_stand here.2.room (new_is ∙ ap (λ (n : Nodes). with_segment hash here.0 (segment.Open n) old) h),
         )
         comes false (Err lacking) is h = absurd h
@@ -439,7 +458,8 @@ module _ (types : MessageTypeDetails) (pattern : MessagingPattern) (name : List 
             let over : RegistersAt (Some (segment.Emptied (table_node_of by))) hash here.0 node old result new =
             subst (λ (s : Option Segment). RegistersAt s hash here.0 node old result new) here.2 found in
             made result (Emptied life agreed by) (Emptied life agreed by) over.1.0
-            (emptied pattern name old new taken life agreed here.0 (segment.Emptied (table_node_of by)) stands.lives stands.falling at here.1 here.2 stands.segments by
+            (emptied pattern name old new taken life agreed here.0 (segment.Emptied (table_node_of by)) stands.lives stands.falling at
+            here.1 here.2 stands.segments by
             (over.2 ∙ ap (λ (s : Segment). with_segment hash here.0 s old) over.1.1))
 
     -- ---- a node that leaves
@@ -452,7 +472,8 @@ module _ (types : MessageTypeDetails) (pattern : MessagingPattern) (name : List 
         → PhaseStands pattern name new taken (left_by (Foreign node) (Published life agreed nodes))
     leaves-open life agreed nodes stands here at false is new_is =
         rw (outside-in node here.2.seated nodes here.2.nodes_stand ∙ is)
-        (reopened pattern name old new taken life agreed here.0 (segment.Open here.2.seated) stands.lives stands.falling at here.1 here.2.stands stands.segments nodes here.2.seated
+        (reopened pattern name old new taken life agreed here.0 (segment.Open here.2.seated) stands.lives stands.falling at here.1
+        here.2.stands stands.segments nodes here.2.seated
         here.2.nodes_stand here.2.room new_is)
     leaves-open life agreed nodes stands here at true is new_is = goes (left (Foreign node) nodes) refl
       where
@@ -473,24 +494,32 @@ module _ (types : MessageTypeDetails) (pattern : MessagingPattern) (name : List 
         goes : (l : List (Node × ℕ)) → left (Foreign node) nodes ≡ l
             → PhaseStands pattern name new taken (left_by (Foreign node) (Published life agreed nodes))
         goes [] are = rw (outside-in node here.2.seated nodes here.2.nodes_stand ∙ is) (rw are
-            (emptied pattern name old new taken life agreed here.0 (segment.Open here.2.seated) stands.lives stands.falling at here.1 here.2.stands stands.segments (Foreign node)
-            (set true (none-left (count_in (without_foreign node here.2.seated)) (length (left (Foreign node) nodes)) (sym stay.many) (ap (λ (l : List (Node × ℕ)). length l) are)))))
+            (emptied pattern name old new taken life agreed here.0 (segment.Open here.2.seated) stands.lives stands.falling at here.1
+            here.2.stands stands.segments (Foreign node)
+            (set true (none-left (count_in (without_foreign node here.2.seated)) (length (left (Foreign node) nodes)) (sym stay.many)
+            (ap (λ (l : List (Node × ℕ)). length l) are)))))
         goes (entry ∷ more) are = rw (outside-in node here.2.seated nodes here.2.nodes_stand ∙ is) (rw are
-            (reopened pattern name old new taken life agreed here.0 (segment.Open here.2.seated) stands.lives stands.falling at here.1 here.2.stands stands.segments (entry ∷ more)
-            (without_foreign node here.2.seated) (subst (λ (l : List (Node × ℕ)). NodesStand (without_foreign node here.2.seated) l) are stay) here.2.room
-            (set false (some-left (count_in (without_foreign node here.2.seated)) (length (left (Foreign node) nodes)) (sym stay.many) (subst (λ (l : List (Node × ℕ)). 1 ≤ length l) (sym are) (omega arith))))))
+            (reopened pattern name old new taken life agreed here.0 (segment.Open here.2.seated) stands.lives stands.falling at here.1
+            here.2.stands stands.segments (entry ∷ more)
+            (without_foreign node here.2.seated)
+            (subst (λ (l : List (Node × ℕ)). NodesStand (without_foreign node here.2.seated) l) are stay) here.2.room
+            (set false (some-left (count_in (without_foreign node here.2.seated)) (length (left (Foreign node) nodes)) (sym stay.many)
+            (subst (λ (l : List (Node × ℕ)). 1 ≤ length l) (sym are) (omega arith))))))
 
     leaves : (phase : Phase) (result : Result (Unit {0}) AllocError) → PhaseStands pattern name old taken phase → result ≡ Ok tt
-        → new ≡ after_leaving (published_number (entry_at hash old)) hash node old → After result phase (acted types pattern phase (step.Leave node))
+        → new ≡ after_leaving (published_number (entry_at hash old)) hash node old
+        → After result phase (acted types pattern phase (step.Leave node))
     leaves (Absent lives) result stands ok h =
-        kept result (Absent lives) stands (subst (λ (e : Option Entry). new ≡ after_leaving (published_number e) hash node old) stands.lies h)
+        kept result (Absent lives) stands (subst (λ (e : Option Entry). new ≡ after_leaving (published_number e) hash node old)
+        stands.lies h)
     leaves (BeingMade life by) result stands ok h =
         kept result (BeingMade life by) stands
         (subst (λ (e : Option Entry). new ≡ after_leaving (published_number e) hash node old) (last taken stands.lies).1 h)
     leaves (Published life agreed nodes) result stands ok h = there (spread (last taken stands.lies)) (last-is _ taken stands.lies)
       where
         there : (here : (number : ℕ) × IsDescribed pattern name old agreed number × IsOpenTo pattern name old agreed nodes number)
-            → IsLast (λ one. one ≡ here.0) taken → After result (Published life agreed nodes) (left_by (Foreign node) (Published life agreed nodes))
+            → IsLast (λ one. one ≡ here.0) taken
+            → After result (Published life agreed nodes) (left_by (Foreign node) (Published life agreed nodes))
         there here at =
             let found : new ≡ left_at (segment_at hash here.0 old) hash here.0 node old =
             subst (λ (e : Option Entry). new ≡ after_leaving (published_number e) hash node old) here.1.described h in
@@ -509,7 +538,8 @@ module _ (types : MessageTypeDetails) (pattern : MessagingPattern) (name : List 
             let over : new ≡ left_at (Some (segment.Emptied (table_node_of by))) hash here.0 node old =
             subst (λ (s : Option Segment). new ≡ left_at s hash here.0 node old) here.2 found in
             made result (Emptied life agreed by) (Emptied life agreed by) ok
-            (emptied pattern name old new taken life agreed here.0 (segment.Emptied (table_node_of by)) stands.lives stands.falling at here.1 here.2 stands.segments by over)
+            (emptied pattern name old new taken life agreed here.0 (segment.Emptied (table_node_of by)) stands.lives stands.falling at
+            here.1 here.2 stands.segments by over)
 
     -- ---- a service that is removed
 
@@ -531,25 +561,31 @@ module _ (types : MessageTypeDetails) (pattern : MessagingPattern) (name : List 
 
     removes : (table : IsTable old) (phase : Phase) (result : Result (Unit {0}) AllocError) → PhaseStands pattern name old taken phase
         → result ≡ Ok tt
-        → new ≡ after_removal (published_number (entry_at hash old)) hash node old → After result phase (acted types pattern phase (step.Remove node))
+        → new ≡ after_removal (published_number (entry_at hash old)) hash node old
+        → After result phase (acted types pattern phase (step.Remove node))
     removes table (Absent lives) result stands ok h =
-        kept result (Absent lives) stands (subst (λ (e : Option Entry). new ≡ after_removal (published_number e) hash node old) stands.lies h)
+        kept result (Absent lives) stands (subst (λ (e : Option Entry). new ≡ after_removal (published_number e) hash node old)
+        stands.lies h)
     removes table (BeingMade life by) result stands ok h =
         kept result (BeingMade life by) stands
         (subst (λ (e : Option Entry). new ≡ after_removal (published_number e) hash node old) (last taken stands.lies).1 h)
     removes table (Published life agreed nodes) result stands ok h =
-        let here : (number : ℕ) × IsDescribed pattern name old agreed number × IsOpenTo pattern name old agreed nodes number = spread (last taken stands.lies) in
+        let here : (number : ℕ) × IsDescribed pattern name old agreed number
+        × IsOpenTo pattern name old agreed nodes number = spread (last taken stands.lies) in
         let found : new ≡ after_removal (Some here.0) hash node old =
         subst (λ (e : Option Entry). new ≡ after_removal (published_number e) hash node old) here.1.described h in
         kept result (Published life agreed nodes) stands
-        (subst (λ (s : Option Segment). new ≡ cond (is_left_by node s) (without_segment hash here.0 (without_entry hash old)) old) here.2.stands found)
+        (subst (λ (s : Option Segment). new ≡ cond (is_left_by node s) (without_segment hash here.0 (without_entry hash old)) old)
+        here.2.stands found)
     removes table (Emptied life agreed by) result stands ok h =
-        let here : (number : ℕ) × IsDescribed pattern name old agreed number × (segment_at hash number old ≡ Some (segment.Emptied (table_node_of by))) =
+        let here : (number : ℕ) × IsDescribed pattern name old agreed number
+        × (segment_at hash number old ≡ Some (segment.Emptied (table_node_of by))) =
         spread (last taken stands.lies) in
         let found : new ≡ after_removal (Some here.0) hash node old =
         subst (λ (e : Option Entry). new ≡ after_removal (published_number e) hash node old) here.1.described h in
         whose by here.0 here.1.described stands
-        (subst (λ (s : Option Segment). new ≡ cond (is_left_by node s) (without_segment hash here.0 (without_entry hash old)) old) here.2 found)
+        (subst (λ (s : Option Segment). new ≡ cond (is_left_by node s) (without_segment hash here.0 (without_entry hash old)) old)
+        here.2 found)
       where
         there : (by number : ℕ) (b : Bool) → entry_at hash old ≡ Some (Described number (line (description_of pattern name agreed)))
             → PhaseStands pattern name old taken (Emptied life agreed (Foreign by))
@@ -561,7 +597,8 @@ module _ (types : MessageTypeDetails) (pattern : MessagingPattern) (name : List 
 
         whose : (by : Node) (number : ℕ) → entry_at hash old ≡ Some (Described number (line (description_of pattern name agreed)))
             → PhaseStands pattern name old taken (Emptied life agreed by)
-            → new ≡ cond (is_left_by node (Some (segment.Emptied (table_node_of by)))) (without_segment hash number (without_entry hash old)) old
+            → new ≡ cond (is_left_by node (Some (segment.Emptied (table_node_of by))))
+            (without_segment hash number (without_entry hash old)) old
             → After result (Emptied life agreed by) (removed_by (Foreign node) (Emptied life agreed by))
         whose (Own by) number at stands h = kept result (Emptied life agreed (Own by)) stands h
         whose (Foreign by) number at stands h = there by number (nat_eq by node) at stands h

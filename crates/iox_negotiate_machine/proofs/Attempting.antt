@@ -1,6 +1,6 @@
 -- An attempt to create a service: a lock, and what follows.
-use Rattle.std.proofs.Common.{◌≡◌, ℕ, ◌+◌, ◌-◌, ◌^◌, ◌≤◌, ◌<◌, Bool, true, false, List, [], ◌∷◌, ◌++◌, Option, None, Some, fold, nat_eq, take, refl, sym, subst, ◌⊎◌, inl, inr, arith}
-use Rattle.std.specs.List.{AllByRecursion}
+use Rattle.std.proofs.Common.{◌≡◌, ℕ, ◌+◌, ◌-◌, ◌^◌, ◌≤◌, ◌<◌, Bool, true, false, List, [], ◌∷◌, ◌++◌, Option, None, Some, fold, nat_eq}
+use Rattle.std.proofs.Common.{take, refl, sym, subst, ◌⊎◌, inl, inr, arith}
 use Rattle.iox_command.specs.NegotiateBase.Describe.Within.{IsWithinLimits}
 use Rattle.iox_command.specs.NegotiateBase.DescribeBase.Hash.{service_hash_of}
 use Rattle.iox_command.specs.NegotiateBase.DescribeBase.declared.hash.ServiceHash.{ServiceHash}
@@ -21,8 +21,7 @@ use Rattle.iox_negotiate_machine.proofs.Locking.{HasLock, IsPublished, Makes, ma
 use Rattle.iox_negotiate_machine.proofs.Meanwhile.{few-factories}
 use Rattle.iox_negotiate_machine.proofs.Preceding.{Comes, Ends, UnderWay, lacks-itself, meanwhile, next_call, preceded, stopped, to_come}
 use Rattle.iox_negotiate_machine.proofs.Seats.{node-itself}
-use Rattle.iox_negotiate_machine.specs.CallLaws.{HasFewFactories, IsServiceIn, newness_of}
-use Rattle.iox_negotiate_machine.specs.Laws.{HasStepForm}
+use Rattle.iox_negotiate_machine.specs.CallLaws.{HasFewFactories, HaveStepForms, IsServiceIn, newness_of}
 use Rattle.iox_negotiate_machine.specs.Standing.{PhaseStands, description_of}
 use Rattle.iox_negotiate_table.proofs.Entries.{lookup-added}
 use Rattle.iox_negotiate_table.specs.Contents.{Contents, entry_at, digest_cmp, with_lock}
@@ -43,7 +42,7 @@ use Rattle.iox_negotiate_table.specs.declared.entry.Entry.TheVariants.{Locked}
 use Rattle.iox_negotiate_table.specs.declared.node.Node.TheVariants as table_node
 
 module _ (types : MessageTypeDetails) (pattern : MessagingPattern) (name : List ℕ) (own : OwnHash pattern name) (steps : List StepBefore)
-    (form : AllByRecursion (λ (before : StepBefore). HasStepForm types name before.step) steps) (old : Contents) (taken : List ℕ)
+    (form : HaveStepForms types name steps) (old : Contents) (taken : List ℕ)
     (node : ℕ) (agreed : Agreement) where
   abbrev hash : ServiceHash
   hash = service_hash_of pattern name

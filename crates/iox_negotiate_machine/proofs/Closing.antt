@@ -1,5 +1,6 @@
 -- A factory is closed: its node leaves, and the last one removes the service.
-use Rattle.std.proofs.Common.{◌≡◌, ℕ, ◌-◌, ◌≤◌, Bool, true, false, cond, ◌&&◌, not, List, [], ◌∷◌, Option, None, Some, is_some, Result, Ok, length, nat_eq, nat_lt, refl, sym, ap, subst, ◌∙◌, arith}
+use Rattle.std.proofs.Common.{◌≡◌, ℕ, ◌-◌, ◌≤◌, Bool, true, false, cond, ◌&&◌, not, List, [], ◌∷◌, Option, None, Some, is_some, Result}
+use Rattle.std.proofs.Common.{Ok, length, nat_eq, nat_lt, refl, sym, ap, subst, ◌∙◌, arith}
 use Rattle.std.proofs.lemmas.Bool.{eq-eqb, eqb-true}
 use Rattle.std.proofs.lemmas.Bool.Decides.{nat_tests}
 use Rattle.std.specs.BTreeMap.{is_at}
@@ -13,7 +14,8 @@ use Rattle.iox_command.specs.NegotiateBase.DescribeBase.declared.hash.ServiceHas
 use Rattle.iox_command.specs.NegotiateBase.DescribeBase.declared.pattern.MessagingPattern.{MessagingPattern}
 use Rattle.iox_command.specs.NegotiateBase.declared.errors.close.CloseError.{CloseError}
 use Rattle.iox_machine.specs.Agreement.{Agreement}
-use Rattle.iox_machine.specs.Phase.{Node, Own, Phase, Absent, Published, Emptied, closed_by, is_in, left, removed_by, same_node, same_pattern}
+use Rattle.iox_machine.specs.Phase.{Node, Own, Phase, Absent, Published, Emptied, closed_by, is_in, left, removed_by, same_node}
+use Rattle.iox_machine.specs.Phase.{same_pattern}
 use Rattle.iox_machine.specs.State.{State, same_name, with_phase}
 use Rattle.iox_negotiate.proofs.Changes.{place-apart}
 use Rattle.iox_negotiate.proofs.Closing.{entry-gone, segment-gone}
@@ -29,7 +31,8 @@ use Rattle.iox_negotiate_machine.specs.CloseLaws.{CloseMatches}
 use Rattle.iox_negotiate_machine.specs.Laws.{HaveOwnHashes}
 use Rattle.iox_negotiate_machine.specs.Standing.{IsDescribed, IsLast, IsOpenTo, NodesStand, PhaseStands, TableStands, description_of}
 use Rattle.iox_negotiate_table.proofs.Entries.{lookup-set}
-use Rattle.iox_negotiate_table.specs.Contents.{Contents, entry_at, is_published, may_remove_description, may_remove_segment, place_cmp, segment_at, with_segment, without_entry, without_segment}
+use Rattle.iox_negotiate_table.specs.Contents.{Contents, entry_at, is_published, may_remove_description, may_remove_segment, place_cmp}
+use Rattle.iox_negotiate_table.specs.Contents.{segment_at, with_segment, without_entry, without_segment}
 use Rattle.iox_negotiate_table.specs.NegotiateBase.Access.{Access, Leave, RemoveDescription, RemoveSegment}
 use Rattle.iox_negotiate_table.specs.NegotiateBase.Runs.{Went}
 use Rattle.iox_negotiate_table.specs.NegotiateBase.declared.answer.LeaveAnswer.{LeaveAnswer}

@@ -1,6 +1,6 @@
 -- A service is created: the look, and the attempt where nothing stands.
-use Rattle.std.proofs.Common.{◌≡◌, ℕ, ◌+◌, List, [], ◌∷◌, ◌++◌, Option, None, Some, Result, Err, IfOk, MatchOption, refl, sym, subst, inl, inr, arith}
-use Rattle.std.specs.List.{AllByRecursion}
+use Rattle.std.proofs.Common.{◌≡◌, ℕ, ◌+◌, List, [], ◌∷◌, ◌++◌, Option, None, Some, Result, Err, IfOk, MatchOption, refl, sym, subst, inl}
+use Rattle.std.proofs.Common.{inr, arith}
 use Rattle.iox_command.specs.NegotiateBase.Describe.Within.{IsWithinLimits}
 use Rattle.iox_command.specs.NegotiateBase.DescribeBase.Hash.{service_hash_of}
 use Rattle.iox_command.specs.NegotiateBase.DescribeBase.declared.hash.ServiceHash.{ServiceHash}
@@ -17,8 +17,7 @@ use Rattle.iox_negotiate_machine.proofs.Acting.{OwnHash, last}
 use Rattle.iox_negotiate_machine.proofs.Attempting.{IsCome, attempts}
 use Rattle.iox_negotiate_machine.proofs.Preceding.{Ends, UnderWay, next_call, stopped}
 use Rattle.iox_negotiate_machine.proofs.Seeing.{Sees, SightComes, sees}
-use Rattle.iox_negotiate_machine.specs.CallLaws.{IsServiceIn, newness_of}
-use Rattle.iox_negotiate_machine.specs.Laws.{HasStepForm}
+use Rattle.iox_negotiate_machine.specs.CallLaws.{HaveStepForms, IsServiceIn, newness_of}
 use Rattle.iox_negotiate_machine.specs.Standing.{description_of}
 use Rattle.iox_negotiate_table.specs.Contents.{Contents}
 use Rattle.iox_negotiate_table.specs.NegotiateBase.Access.{Access, Look}
@@ -34,7 +33,7 @@ use Rattle.iox_negotiate_table.specs.NegotiateBase.declared.sight.Sight.{Sight a
 use Rattle.iox_negotiate_table.specs.Stepped.{Steps, SteppedSight}
 
 module _ (types : MessageTypeDetails) (pattern : MessagingPattern) (name : List ℕ) (own : OwnHash pattern name) (steps : List StepBefore)
-    (form : AllByRecursion (λ (before : StepBefore). HasStepForm types name before.step) steps) (old : Contents) (taken : List ℕ)
+    (form : HaveStepForms types name steps) (old : Contents) (taken : List ℕ)
     (node : ℕ) (agreed : Agreement) where
   abbrev hash : ServiceHash
   hash = service_hash_of pattern name

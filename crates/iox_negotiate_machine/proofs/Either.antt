@@ -1,6 +1,6 @@
 -- A round of who opens or creates a service.
-use Rattle.std.proofs.Common.{◌≡◌, ℕ, ◌+◌, ◌≤◌, List, [], ◌∷◌, ◌++◌, Option, None, Some, Result, Ok, Err, MatchOption, refl, sym, subst, ◌∙◌, inl, inr}
-use Rattle.std.specs.List.{AllByRecursion}
+use Rattle.std.proofs.Common.{◌≡◌, ℕ, ◌+◌, ◌≤◌, List, [], ◌∷◌, ◌++◌, Option, None, Some, Result, Ok, Err, MatchOption, refl, sym, subst}
+use Rattle.std.proofs.Common.{◌∙◌, inl, inr}
 use Rattle.iox_command.specs.NegotiateBase.Describe.Within.{IsWithinLimits}
 use Rattle.iox_command.specs.NegotiateBase.DescribeBase.Hash.{service_hash_of}
 use Rattle.iox_command.specs.NegotiateBase.DescribeBase.declared.hash.ServiceHash.{ServiceHash}
@@ -20,8 +20,7 @@ use Rattle.iox_negotiate_machine.proofs.Opening.{Looks, looked}
 use Rattle.iox_negotiate_machine.proofs.Preceding.{Ends, UnderWay, meanwhile, next_call, stopped}
 use Rattle.iox_negotiate_machine.proofs.Rounds.{Next, Round, round_answer}
 use Rattle.iox_negotiate_machine.proofs.Seeing.{Sees, SightComes, sees}
-use Rattle.iox_negotiate_machine.specs.CallLaws.{HasFewFactories, newness_of}
-use Rattle.iox_negotiate_machine.specs.Laws.{HasStepForm}
+use Rattle.iox_negotiate_machine.specs.CallLaws.{HasFewFactories, HaveStepForms, newness_of}
 use Rattle.iox_negotiate_machine.specs.Standing.{description_of}
 use Rattle.iox_negotiate_table.specs.Contents.{Contents}
 use Rattle.iox_negotiate_table.specs.NegotiateBase.Access.{Access, Look}
@@ -44,7 +43,7 @@ use Rattle.iox_negotiate_table.specs.NegotiateBase.declared.sight.SightFailure.T
 use Rattle.iox_negotiate_table.specs.Stepped.{Steps, SteppedSight}
 
 module _ (types : MessageTypeDetails) (pattern : MessagingPattern) (name : List ℕ) (own : OwnHash pattern name) (steps : List StepBefore)
-    (form : AllByRecursion (λ (before : StepBefore). HasStepForm types name before.step) steps) (old : Contents) (taken : List ℕ)
+    (form : HaveStepForms types name steps) (old : Contents) (taken : List ℕ)
     (node : ℕ) (V : Type 0) (judge : Description → Result (Unit {0}) V) (verdict : Agreement → Result (Unit {0}) V)
     (judged : (agreed : Agreement) → judge (description_of pattern name agreed) ≡ verdict agreed) (asked : Agreement) where
   abbrev hash : ServiceHash

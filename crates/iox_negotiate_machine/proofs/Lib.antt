@@ -8,15 +8,15 @@ mod Preceding
 mod Seeing
 mod Locking
 mod Attempting
-mod Refusing
+pub mod Refusing
 mod Creating
-mod CreateCalls
+pub mod CreateCalls
 pub mod Meanwhile
-mod OwnSeats
+pub mod OwnSeats
 mod Registering
 mod Rounds
 mod Opening
 mod Either
-mod OpenCalls
-mod Closing
+pub mod OpenCalls
+pub mod Closing
 mod Factories

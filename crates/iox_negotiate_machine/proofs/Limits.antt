@@ -37,7 +37,8 @@ event-back c within = lt-ltb _ _ (within 3 event_setting.MaxNodes (omega arith))
 request_response-within : (c : RequestResponse) → are_within_limits (settings.RequestResponse (request_response.adjusted c)) ≡ true
     → request_response.IsWithinLimits (request_response.adjusted c)
 request_response-within c is =
-    All-from_recursion (λ (s : RequestResponseSetting). IsAllowed (request_response.rule s) (request_response.value s (request_response.adjusted c)))
+    All-from_recursion (λ (s : RequestResponseSetting). IsAllowed (request_response.rule s)
+    (request_response.value s (request_response.adjusted c)))
     request_response.all (
       tt,
       (
@@ -94,7 +95,10 @@ publish_subscribe-within c is =
           (omega arith, ltb-true _ _ nodes.0),
           (
             (omega arith, ltb-true _ _ publishers.0),
-            ((omega arith, ltb-true _ _ subscribers.0), ((omega arith, ltb-true _ _ borrowed.0), ((omega arith, ltb-true _ _ buffer.0), (tt, tt)))),
+            (
+              (omega arith, ltb-true _ _ subscribers.0),
+              ((omega arith, ltb-true _ _ borrowed.0), ((omega arith, ltb-true _ _ buffer.0), (tt, tt))),
+            ),
           ),
         ),
       ),

@@ -1,5 +1,6 @@
 -- A lock of a node of the hub, what is made under it, and what is taken back.
-use Rattle.std.proofs.Common.{◌≡◌, ℕ, ◌+◌, ◌-◌, ◌^◌, ◌≤◌, Bool, true, false, not, ◌&&◌, List, [], ◌∷◌, ◌++◌, Option, None, Some, is_some, Result, Ok, Err, length, nat_eq, refl, sym, subst, ◌∙◌, ◌⊎◌, inl, inr, arith}
+use Rattle.std.proofs.Common.{◌≡◌, ℕ, ◌+◌, ◌-◌, ◌^◌, ◌≤◌, Bool, true, false, not, ◌&&◌, List, [], ◌∷◌, ◌++◌, Option, None, Some, is_some}
+use Rattle.std.proofs.Common.{Result, Ok, Err, length, nat_eq, refl, sym, subst, ◌∙◌, ◌⊎◌, inl, inr, arith}
 use Rattle.std.proofs.lemmas.Bool.{eq-eqb, eqb-true, lt-ltb}
 use Rattle.std.specs.BTreeMap.{is_at}
 use Rattle.std.specs.declared.alloc.AllocError.{AllocError}
@@ -22,8 +23,11 @@ use Rattle.iox_negotiate_machine.proofs.Limits.{and-true}
 use Rattle.iox_negotiate_machine.proofs.Preceding.{Ends}
 use Rattle.iox_negotiate_machine.specs.Standing.{AreFalling, IsLast, NodesStand, description_of}
 use Rattle.iox_negotiate_table.proofs.Entries.{lookup-added, lookup-set}
-use Rattle.iox_negotiate_table.specs.Contents.{Contents, entry_at, segment_at, digest_cmp, is_description_of, is_lock_of, is_own_lock, may_make, may_publish, may_remove_segment, may_unlock, place_cmp, with_entry, with_lock, with_new_segment, without_entry, without_segment}
-use Rattle.iox_negotiate_table.specs.Foreign.{Acts, Done, DoneOrLacking, PublishesForeign, RegistersForeign, after_leaving, after_removal, foreign_lock, published_number}
+use Rattle.iox_negotiate_table.specs.Contents.{Contents, entry_at, segment_at, digest_cmp, is_description_of, is_lock_of, is_own_lock}
+use Rattle.iox_negotiate_table.specs.Contents.{may_make, may_publish, may_remove_segment, may_unlock, place_cmp, with_entry, with_lock}
+use Rattle.iox_negotiate_table.specs.Contents.{with_new_segment, without_entry, without_segment}
+use Rattle.iox_negotiate_table.specs.Foreign.{Acts, Done, DoneOrLacking, PublishesForeign, RegistersForeign, after_leaving, after_removal}
+use Rattle.iox_negotiate_table.specs.Foreign.{foreign_lock, published_number}
 use Rattle.iox_negotiate_table.specs.NegotiateBase.Access.{Access, MakeSegment, Publish, RemoveSegment, Unlock}
 use Rattle.iox_negotiate_table.specs.NegotiateBase.Creating as creating
 use Rattle.iox_negotiate_table.specs.NegotiateBase.Failing.{brought_about, making_failure, publishing_failure}

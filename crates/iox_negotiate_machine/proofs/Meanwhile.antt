@@ -1,5 +1,6 @@
 -- What steps of nodes outside the hub leave of a phase: in one life what is agreed on stays, and each node of the hub keeps its factories.
-use Rattle.std.proofs.Common.{◌≡◌, ℕ, ◌-◌, ◌^◌, ◌≤◌, ◌<◌, Bool, true, false, cond, not, ◌&&◌, List, [], ◌∷◌, fold, length, nat_lt, refl, sym, subst, ◌∙◌, ◌⊎◌, inl, inr, arith}
+use Rattle.std.proofs.Common.{◌≡◌, ℕ, ◌-◌, ◌^◌, ◌≤◌, ◌<◌, Bool, true, false, cond, not, ◌&&◌, List, [], ◌∷◌, fold, length, nat_lt, refl}
+use Rattle.std.proofs.Common.{sym, subst, ◌∙◌, ◌⊎◌, inl, inr, arith}
 use Rattle.std.specs.List.{AllByRecursion}
 use Rattle.std.specs.Prelude.{nat_le}
 use Rattle.iox_command.specs.NegotiateBase.DescribeBase.declared.message_type.MessageTypeDetails.{MessageTypeDetails}
@@ -10,7 +11,8 @@ use Rattle.iox_command.specs.declared.step.ForeignStep.{ForeignStep}
 use Rattle.iox_command.specs.declared.step.ForeignStep.TheVariants as step
 use Rattle.iox_machine.specs.Agreement.{Agreement, are_within_limits}
 use Rattle.iox_machine.specs.Asked.{settings_of}
-use Rattle.iox_machine.specs.Phase.{Node, Own, Foreign, Phase, Absent, BeingMade, Published, Emptied, same_node, same_pattern, is_in, entered, left, left_by, acted}
+use Rattle.iox_machine.specs.Phase.{Node, Own, Foreign, Phase, Absent, BeingMade, Published, Emptied, same_node, same_pattern, is_in}
+use Rattle.iox_machine.specs.Phase.{entered, left, left_by, acted}
 use Rattle.iox_negotiate.proofs.Maps.{no}
 use Rattle.iox_negotiate_machine.proofs.Seats.{Entry, aside, behind, come, node-is}
 use Rattle.iox_negotiate_machine.specs.CallLaws.{HasFewFactories}
@@ -83,7 +85,8 @@ left-there node entry nodes m true false apart at later =
 left-there node entry nodes m false d apart at later = behind m entry (left node nodes) nodes later
 
 -- who leaves changes nobody else
-pub left-others : (node : Node) (nodes : List Entry) (m : Node) → same_node node m ≡ false → counts_of m (left node nodes) ≡ counts_of m nodes
+pub left-others : (node : Node) (nodes : List Entry) (m : Node) → same_node node m ≡ false
+    → counts_of m (left node nodes) ≡ counts_of m nodes
 left-others node [] m apart = refl
 left-others node (entry ∷ nodes) m apart =
     left-there node entry nodes m (same_node entry.0 node) (nat_le entry.1 1) apart refl (left-others node nodes m apart)

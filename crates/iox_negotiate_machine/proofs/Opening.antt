@@ -1,6 +1,6 @@
 -- A service is opened, or created where none stands: what follows a look, and whole rounds.
-use Rattle.std.proofs.Common.{◌≡◌, ℕ, ◌+◌, List, [], ◌∷◌, ◌++◌, append_assoc, Option, Some, Result, Ok, Err, MatchResult, length, refl, sym, ap, subst, ◌∙◌, inl, inr, arith}
-use Rattle.std.specs.List.{AllByRecursion}
+use Rattle.std.proofs.Common.{◌≡◌, ℕ, ◌+◌, List, [], ◌∷◌, ◌++◌, append_assoc, Option, Some, Result, Ok, Err, MatchResult, length, refl}
+use Rattle.std.proofs.Common.{sym, ap, subst, ◌∙◌, inl, inr, arith}
 use Rattle.iox_command.specs.NegotiateBase.DescribeBase.Hash.{service_hash_of}
 use Rattle.iox_command.specs.NegotiateBase.DescribeBase.declared.hash.ServiceHash.{ServiceHash}
 use Rattle.iox_command.specs.NegotiateBase.DescribeBase.declared.message_type.MessageTypeDetails.{MessageTypeDetails}
@@ -20,8 +20,7 @@ use Rattle.iox_negotiate_machine.proofs.Preceding.{Comes, Ends, UnderWay, lacks-
 use Rattle.iox_negotiate_machine.proofs.Registering.{Means, Registers, StillOrLater, registers, still-or-later}
 use Rattle.iox_negotiate_machine.proofs.Rounds.{Next, Round, round_answer}
 use Rattle.iox_negotiate_machine.proofs.Seeing.{Sees, SightComes, sees}
-use Rattle.iox_negotiate_machine.specs.CallLaws.{HasFewFactories}
-use Rattle.iox_negotiate_machine.specs.Laws.{HasStepForm}
+use Rattle.iox_negotiate_machine.specs.CallLaws.{HasFewFactories, HaveStepForms}
 use Rattle.iox_negotiate_machine.specs.Standing.{AreFalling, IsLast, description_of}
 use Rattle.iox_negotiate_table.specs.Contents.{Contents}
 use Rattle.iox_negotiate_table.specs.NegotiateBase.Access.{Access, Look, OpenSegment}
@@ -38,7 +37,7 @@ use Rattle.iox_negotiate_table.specs.Sights.{Sight}
 use Rattle.iox_negotiate_table.specs.Stepped.{Steps, SteppedSight}
 
 module _ (types : MessageTypeDetails) (pattern : MessagingPattern) (name : List ℕ) (own : OwnHash pattern name) (steps : List StepBefore)
-    (form : AllByRecursion (λ (before : StepBefore). HasStepForm types name before.step) steps) (old : Contents) (taken : List ℕ)
+    (form : HaveStepForms types name steps) (old : Contents) (taken : List ℕ)
     (node : ℕ) (V : Type 0) (judge : Description → Result (Unit {0}) V) (verdict : Agreement → Result (Unit {0}) V)
     (judged : (agreed : Agreement) → judge (description_of pattern name agreed) ≡ verdict agreed) where
   abbrev hash : ServiceHash
@@ -159,6 +158,7 @@ module _ (types : MessageTypeDetails) (pattern : MessagingPattern) (name : List 
                   ends = record { leaves = leaves mid then_under found; more = then_under.ends.more; stands = stands };
                   listed = then_under.listed;
                   room = omega (arith, then_under.room, same);
+                  early = then_under.early;
                 }) means,
           )
           by mid then_under found (inr (is, stands)) =

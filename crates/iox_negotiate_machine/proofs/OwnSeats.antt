@@ -1,5 +1,6 @@
 -- A node of the hub in a segment, and in a phase: it comes, comes again, and leaves.
-use Rattle.std.proofs.Common.{◌≡◌, ℕ, ◌+◌, ◌-◌, ◌≤◌, Bool, true, false, cond, List, [], ◌∷◌, ◌++◌, Option, None, Some, is_some, length, map, append-nil, refl, sym, ap, subst, ◌∙◌, arith}
+use Rattle.std.proofs.Common.{◌≡◌, ℕ, ◌+◌, ◌-◌, ◌≤◌, Bool, true, false, cond, List, [], ◌∷◌, ◌++◌, Option, None, Some, is_some, length}
+use Rattle.std.proofs.Common.{map, append-nil, refl, sym, ap, subst, ◌∙◌, arith}
 use Rattle.std.proofs.lemmas.Bool.{eqb-true}
 use Rattle.std.specs.Prelude.{◌==◌, nat_le}
 use Rattle.std.specs.declared.cmp.Ordering.{Ordering}
@@ -9,7 +10,8 @@ use Rattle.std.specs.BTreeMap.{insert_entry, is_at}
 use Rattle.std.specs.Map.{lookup, set_value, remove_entry}
 use Rattle.iox_machine.specs.Phase.{Node, Own, same_node, is_in, entered, left}
 use Rattle.iox_negotiate.proofs.Maps.{by_test, on}
-use Rattle.iox_negotiate_machine.proofs.Seats.{Entry, own, outside, counted, passed, aside, behind, come, counts-joined, in-counted, is_some_of, longer, node-is, node-itself, tested}
+use Rattle.iox_negotiate_machine.proofs.Seats.{Entry, own, outside, counted, passed, aside, behind, come, counts-joined, in-counted}
+use Rattle.iox_negotiate_machine.proofs.Seats.{is_some_of, longer, node-is, node-itself, tested}
 use Rattle.iox_negotiate_machine.specs.Standing.{NodesStand, counts_of}
 use Rattle.iox_negotiate_table.specs.Nodes.{Nodes, factories_of, with_factories, with_node, without_node}
 

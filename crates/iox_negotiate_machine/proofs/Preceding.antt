@@ -1,8 +1,9 @@
 -- An access of a call, with the steps of nodes outside the hub that come before it.
-use Rattle.std.proofs.Common.{◌≡◌, ℕ, ◌+◌, ◌^◌, ◌≤◌, ◌<◌, Bool, true, false, cond, Some, List, [], ◌∷◌, ◌++◌, Result, Ok, Err, length, map, fold, take, drop, drop-drop, take_all, nat_lt, refl, sym, ap, subst, ◌∙◌, ◌⊎◌, inl, inr, arith}
+use Rattle.std.proofs.Common.{◌≡◌, ℕ, ◌+◌, ◌^◌, ◌≤◌, ◌<◌, Bool, true, false, cond, Some, List, [], ◌∷◌, ◌++◌, Result, Ok, Err, length}
+use Rattle.std.proofs.Common.{map, fold, take, drop, drop-drop, take_all, nat_lt, refl, sym, ap, subst, ◌∙◌, ◌⊎◌, inl, inr, arith}
 use Rattle.std.proofs.lemmas.Bool.Decides.{nat_tests}
 use Rattle.std.proofs.lemmas.List.{length-map}
-use Rattle.std.specs.List.{AllByRecursion, filter}
+use Rattle.std.specs.List.{filter}
 use Rattle.std.specs.Prelude.{◌==◌}
 use Rattle.std.specs.declared.alloc.AllocError.{AllocError}
 use Rattle.iox_command.specs.NegotiateBase.DescribeBase.Hash.{service_hash_of}
@@ -17,9 +18,9 @@ use Rattle.iox_negotiate.proofs.Changes.{changes}
 use Rattle.iox_negotiate.specs.Histories.{IsReached, Steps as StepsOf}
 use Rattle.iox_negotiate_machine.proofs.Acted.{Leaves, Result_of, acts-all, grows, joined, left-none, left-then}
 use Rattle.iox_negotiate_machine.proofs.Acting.{OwnHash}
-use Rattle.iox_negotiate_machine.specs.CallLaws.{AreListed}
+use Rattle.iox_negotiate_machine.specs.CallLaws.{AreListed, HaveStepForms}
 use Rattle.iox_machine.specs.RefusalLaws.{steps_at}
-use Rattle.iox_negotiate_machine.specs.Laws.{HasStepForm, table_step_of}
+use Rattle.iox_negotiate_machine.specs.Laws.{table_step_of}
 use Rattle.iox_negotiate_machine.specs.Standing.{PhaseStands}
 use Rattle.iox_negotiate_table.specs.Contents.{Contents}
 use Rattle.iox_negotiate_table.specs.NegotiateBase.Access.{Access as TableAccess}
@@ -61,20 +62,6 @@ few-come : (accesses : ℕ) (steps : List StepBefore) → to_come accesses steps
 few-come accesses [] = omega arith
 few-come accesses (before ∷ more) = omega (arith, one-at-most (nat_lt accesses before.access), few-come accesses more)
 
-module _ (types : MessageTypeDetails) (name : List ℕ) where
-  form-there : (before : StepBefore) (some : List StepBefore) (b : Bool) → HasStepForm types name before.step
-      → AllByRecursion (HasStepForm types name) (map (λ (s : StepBefore). s.step) some)
-      → AllByRecursion (HasStepForm types name) (map (λ (s : StepBefore). s.step) (cond b (before ∷ some) some))
-  form-there before some true here all = (here, all)
-  form-there before some false here all = all
-
-  -- what is published before an access has a form
-  have-form : (steps : List StepBefore) (access : ℕ) → AllByRecursion (λ (before : StepBefore). HasStepForm types name before.step) steps
-      → AllByRecursion (HasStepForm types name) (steps_at steps access)
-  have-form [] access all = tt
-  have-form (before ∷ more) access all =
-      form-there before (filter (λ (s : StepBefore). s.access == access) more) (before.access == access) all.0 (have-form more access all.1)
-
 -- each step takes one number at most
 grown : (hash : ServiceHash) (steps : List TableStep) (old new : Contents) (result : Result (Unit {0}) AllocError)
     → ActsAll hash steps old result new → new.next ≤ old.next + length steps
@@ -98,7 +85,7 @@ pub record Ends (pattern : MessagingPattern) (name : List ℕ) (old : Contents) 
   pub stands : PhaseStands pattern name table (more ++ taken) phase
 
 module _ (types : MessageTypeDetails) (pattern : MessagingPattern) (name : List ℕ) (own : OwnHash pattern name) (steps : List StepBefore)
-    (form : AllByRecursion (λ (before : StepBefore). HasStepForm types name before.step) steps) (old : Contents) (taken : List ℕ) where
+    (form : HaveStepForms types name steps) (old : Contents) (taken : List ℕ) where
   -- the steps before the next access
   abbrev pub meanwhile : Call → List ForeignStep
   meanwhile call = steps_at steps (call.accesses + 1)
@@ -116,12 +103,13 @@ module _ (types : MessageTypeDetails) (pattern : MessagingPattern) (name : List 
   stopped done call = record call { phase = fold (acted types pattern) call.phase (take done (meanwhile call)) }
 
   -- A call under way: the phase of the machine stands in the table, the lists are those of so many accesses to come, and numbers are left
-  -- for the steps to come and for so many locks.
+  -- for the steps to come and for so many locks. It makes sixteen accesses at most.
   pub record UnderWay (left locks : ℕ) (table : Contents) (lists : List (List TableStep)) (call : Call) : Type 0 where
     pub ends : Ends pattern name old taken table call.phase
     pub listed : (made : ℕ) → made < left
         → next_list (drop made lists) ≡ map (table_step_of types name) (steps_at steps (call.accesses + (made + 1)))
     pub room : table.next + to_come call.accesses steps + locks < 2 ^ 64
+    pub early : call.accesses + left ≤ 16
 
   -- What comes of the steps before an access: they are done, numbers may be taken after those before, and it is made; or one finds no
   -- memory, and it isn't made.
@@ -140,7 +128,7 @@ module _ (types : MessageTypeDetails) (pattern : MessagingPattern) (name : List 
       there happened listed-acts
       (acts-all types pattern name own (meanwhile call) before.table mid (under.ends.more ++ taken) call.phase happened
       under.ends.leaves.reached
-      (have-form types name steps (call.accesses + 1) form) (omega (arith, under.room, come)) under.ends.stands listed-acts) goes
+      (form call.accesses (omega (arith, under.early))) (omega (arith, under.room, come)) under.ends.stands listed-acts) goes
     where
       come : to_come call.accesses steps ≡ length (meanwhile call) + to_come (call.accesses + 1) steps
       come = spent call.accesses steps
@@ -180,6 +168,7 @@ module _ (types : MessageTypeDetails) (pattern : MessagingPattern) (name : List 
           };
           listed = later;
           room = omega (arith, bound, under.room, come);
+          early = omega (arith, under.early);
         },
         sight,
         (all.1.0, refl),
@@ -221,6 +210,7 @@ module _ (types : MessageTypeDetails) (pattern : MessagingPattern) (name : List 
     listed = λ made less. listed made (omega (arith, less, few))
         ∙ ap (λ (n : ℕ). map (table_step_of types name) (steps_at steps n)) (omega arith);
     room = omega (arith, room, few-come 0 steps);
+    early = omega (arith, few);
   }
 
   -- what ends with all steps before an access ends with the first of them that are as many

@@ -1,5 +1,6 @@
 -- A node of the hub registers in the service that it saw.
-use Rattle.std.proofs.Common.{◌≡◌, ℕ, ◌+◌, ◌-◌, ◌^◌, ◌<◌, Bool, true, false, cond, ◌||◌, List, [], ◌∷◌, ◌++◌, Option, None, Some, Ok, Err, length, length-append, nat_eq, nat_lt, refl, sym, ap, subst, ◌∙◌, ◌⊎◌, inl, inr, arith}
+use Rattle.std.proofs.Common.{◌≡◌, ℕ, ◌+◌, ◌-◌, ◌^◌, ◌<◌, Bool, true, false, cond, ◌||◌, List, [], ◌∷◌, ◌++◌, Option, None, Some, Ok, Err}
+use Rattle.std.proofs.Common.{length, length-append, nat_eq, nat_lt, refl, sym, ap, subst, ◌∙◌, ◌⊎◌, inl, inr, arith}
 use Rattle.std.proofs.lemmas.Bool.{eq-eqb}
 use Rattle.std.specs.List.{AllByRecursion}
 use Rattle.iox_command.specs.NegotiateBase.DescribeBase.Hash.{service_hash_of}
@@ -17,7 +18,8 @@ use Rattle.iox_negotiate_machine.proofs.Meanwhile.{IsSince}
 use Rattle.iox_negotiate_machine.proofs.OwnSeats.{counts-some, entered-in, own-again, own-comes, own-in}
 use Rattle.iox_negotiate_machine.proofs.Rounds.{round_answer}
 use Rattle.iox_negotiate_machine.specs.CallLaws.{HasFewFactories, IsServiceIn}
-use Rattle.iox_negotiate_machine.specs.Standing.{AreFalling, IsDescribed, IsLast, IsOpenTo, NodesStand, PhaseStands, description_of, table_node_of}
+use Rattle.iox_negotiate_machine.specs.Standing.{AreFalling, IsDescribed, IsLast, IsOpenTo, NodesStand, PhaseStands, description_of}
+use Rattle.iox_negotiate_machine.specs.Standing.{table_node_of}
 use Rattle.iox_negotiate_table.specs.Contents.{Contents, is_published, segment_at, with_segment}
 use Rattle.iox_negotiate_table.specs.NegotiateBase.Failing.{entered, opened}
 use Rattle.iox_negotiate_table.specs.NegotiateBase.declared.answer.OpenSegmentAnswer.{OpenSegmentAnswer}

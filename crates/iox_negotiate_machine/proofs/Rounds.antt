@@ -1,6 +1,6 @@
 -- Rounds of a call, and those of the machine.
-use Rattle.std.proofs.Common.{◌≡◌, ℕ, zero, suc, ◌+◌, ◌-◌, ◌<◌, List, [], ◌++◌, Option, None, Some, Result, Err, IfOk, refl, sym, subst, ◌⊎◌, inl, inr, arith}
-use Rattle.std.specs.List.{AllByRecursion}
+use Rattle.std.proofs.Common.{◌≡◌, ℕ, zero, suc, ◌+◌, ◌-◌, ◌<◌, List, [], ◌++◌, Option, None, Some, Result, Err, IfOk, refl, sym, subst}
+use Rattle.std.proofs.Common.{◌⊎◌, inl, inr, arith}
 use Rattle.iox_command.specs.NegotiateBase.DescribeBase.declared.message_type.MessageTypeDetails.{MessageTypeDetails}
 use Rattle.iox_command.specs.NegotiateBase.DescribeBase.declared.pattern.MessagingPattern.{MessagingPattern}
 use Rattle.iox_command.specs.declared.step.StepBefore.{StepBefore}
@@ -9,8 +9,7 @@ use Rattle.iox_machine.specs.Negotiation.{Call, Answer}
 use Rattle.iox_negotiate.proofs.Stepping.{went-split}
 use Rattle.iox_negotiate_machine.proofs.Acting.{OwnHash}
 use Rattle.iox_negotiate_machine.proofs.Preceding.{Ends, UnderWay}
-use Rattle.iox_negotiate_machine.specs.CallLaws.{HasFewFactories, IsServiceIn, newness_of}
-use Rattle.iox_negotiate_machine.specs.Laws.{HasStepForm}
+use Rattle.iox_negotiate_machine.specs.CallLaws.{HasFewFactories, HaveStepForms, IsServiceIn, newness_of}
 use Rattle.iox_negotiate_table.specs.Contents.{Contents}
 use Rattle.iox_negotiate_table.specs.NegotiateBase.Access.{Access}
 use Rattle.iox_negotiate_table.specs.NegotiateBase.Runs.{Led, Rounds, Went}
@@ -28,7 +27,7 @@ twice zero = 0
 twice (suc count) = 1 + (1 + twice count)
 
 module _ (types : MessageTypeDetails) (pattern : MessagingPattern) (name : List ℕ) (own : OwnHash pattern name) (steps : List StepBefore)
-    (form : AllByRecursion (λ (before : StepBefore). HasStepForm types name before.step) steps) (old : Contents) (taken : List ℕ)
+    (form : HaveStepForms types name steps) (old : Contents) (taken : List ℕ)
     (node : ℕ) (F : Type 0) where
   abbrev Under : ℕ → ℕ → Steps → Call → Type 0
   Under left locks now call = UnderWay types pattern name own steps form old taken left locks now.table now.lists call

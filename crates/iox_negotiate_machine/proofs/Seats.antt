@@ -1,5 +1,6 @@
 -- Who is in a segment, and in a phase.
-use Rattle.std.proofs.Common.{◌≡◌, ℕ, ◌+◌, ◌-◌, ◌≤◌, Bool, true, false, cond, ◌||◌, List, [], ◌∷◌, ◌++◌, length, map, refl, sym, ap, subst, ◌∙◌, arith}
+use Rattle.std.proofs.Common.{◌≡◌, ℕ, ◌+◌, ◌-◌, ◌≤◌, Bool, true, false, cond, ◌||◌, List, [], ◌∷◌, ◌++◌, length, map, refl, sym, ap}
+use Rattle.std.proofs.Common.{subst, ◌∙◌, arith}
 use Rattle.std.proofs.lemmas.Bool.{eqb-true, eq-eqb}
 use Rattle.std.specs.List.{filter, list_any}
 use Rattle.std.specs.Prelude.{◌==◌, nat_le}
@@ -54,8 +55,10 @@ abbrev pub own : ℕ × ℕ → Entry
 own entry = (Own entry.0, entry.1)
 
 counts-there : (node : Node) (entry : Entry) (a b : List Entry) (c : Bool) → counts_of node (a ++ b) ≡ counts_of node a ++ counts_of node b
-    → map (λ (e : Entry). e.1) (cond c (entry ∷ filter (λ (e : Entry). same_node e.0 node) (a ++ b)) (filter (λ (e : Entry). same_node e.0 node) (a ++ b)))
-    ≡ map (λ (e : Entry). e.1) (cond c (entry ∷ filter (λ (e : Entry). same_node e.0 node) a) (filter (λ (e : Entry). same_node e.0 node) a)) ++ counts_of node b
+    → map (λ (e : Entry). e.1) (cond c (entry ∷ filter (λ (e : Entry). same_node e.0 node) (a ++ b))
+    (filter (λ (e : Entry). same_node e.0 node) (a ++ b)))
+    ≡ map (λ (e : Entry). e.1) (cond c (entry ∷ filter (λ (e : Entry). same_node e.0 node) a)
+    (filter (λ (e : Entry). same_node e.0 node) a)) ++ counts_of node b
 counts-there node entry a b true later = ap (λ (l : List ℕ). entry.1 ∷ l) later
 counts-there node entry a b false later = later
 
@@ -74,7 +77,8 @@ module _ (m : Node) (entry : Entry) where
   pub aside : (nodes : List Entry) → same_node entry.0 m ≡ false → counts_of m (entry ∷ nodes) ≡ counts_of m nodes
   aside nodes is = ap (λ (b : Bool). counted nodes b) is
 
-  pub behind : (nodes others : List Entry) → counts_of m nodes ≡ counts_of m others → counts_of m (entry ∷ nodes) ≡ counts_of m (entry ∷ others)
+  pub behind : (nodes others : List Entry) → counts_of m nodes ≡ counts_of m others
+      → counts_of m (entry ∷ nodes) ≡ counts_of m (entry ∷ others)
   behind nodes others same = there (same_node entry.0 m)
     where
       there : (b : Bool) → counted nodes b ≡ counted others b
@@ -91,7 +95,9 @@ is_some_of [] = false
 is_some_of (x ∷ xs) = true
 
 in-there : (node : Node) (entry : Entry) (more : List Entry) (c : Bool) → is_in node more ≡ is_some_of (counts_of node more)
-    → (c || is_in node more) ≡ is_some_of (map (λ (e : Entry). e.1) (cond c (entry ∷ filter (λ (e : Entry). same_node e.0 node) more) (filter (λ (e : Entry). same_node e.0 node) more)))
+    → (c || is_in node more) ≡ is_some_of
+    (map (λ (e : Entry). e.1) (cond c (entry ∷ filter (λ (e : Entry). same_node e.0 node) more)
+    (filter (λ (e : Entry). same_node e.0 node) more)))
 in-there node entry more true later = refl
 in-there node entry more false later = later
 
@@ -164,7 +170,8 @@ insert-there number other numbers m true Less is at out later =
 
     none : counts_of m (map outside (other ∷ numbers)) ≡ []
     none = subst (λ (n : Node). counts_of n (map outside (other ∷ numbers)) ≡ []) (node-is (Foreign number) m is)
-        (empty (counts_of (Foreign number) (map outside (other ∷ numbers))) (sym (in-counted (Foreign number) (map outside (other ∷ numbers))) ∙ whole))
+        (empty (counts_of (Foreign number) (map outside (other ∷ numbers)))
+        (sym (in-counted (Foreign number) (map outside (other ∷ numbers))) ∙ whole))
 insert-there number other numbers m false Less is at out later = aside m (outside number) (map outside (other ∷ numbers)) is
 insert-there number other numbers m true Greater is at out later =
     aside m (outside other) (map outside (insert_key nat_cmp numbers number)) unlike ∙ later out
@@ -178,10 +185,12 @@ insert-there number other numbers m false Greater is at out later =
     behind m (outside other) (map outside (insert_key nat_cmp numbers number)) (map outside numbers) (later out)
 
 insert : (number : ℕ) (numbers : List ℕ) (m : Node) → list_any (is_at (nat_cmp number)) numbers ≡ false
-    → counts_of m (map outside (insert_key nat_cmp numbers number)) ≡ cond (same_node (Foreign number) m) (1 ∷ []) (counts_of m (map outside numbers))
+    → counts_of m (map outside (insert_key nat_cmp numbers number))
+    ≡ cond (same_node (Foreign number) m) (1 ∷ []) (counts_of m (map outside numbers))
 insert number [] m out = by_test (same_node (Foreign number) m) (λ is. rw is refl) (λ isnt. rw isnt refl)
 insert number (other ∷ numbers) m out =
-    insert-there number other numbers m (same_node (Foreign number) m) (nat_cmp number other) refl refl out (λ later. insert number numbers m later)
+    insert-there number other numbers m (same_node (Foreign number) m) (nat_cmp number other) refl refl out
+    (λ later. insert number numbers m later)
 
 inserted-length : (number : ℕ) (numbers : List ℕ) → list_any (is_at (nat_cmp number)) numbers ≡ false
     → length (insert_key nat_cmp numbers number) ≡ length numbers + 1
@@ -190,7 +199,8 @@ inserted-length number (other ∷ numbers) out = there (nat_cmp number other) ou
   where
     there : (o : Ordering) → (is_eq o || list_any (is_at (nat_cmp number)) numbers) ≡ false
         → (list_any (is_at (nat_cmp number)) numbers ≡ false → length (insert_key nat_cmp numbers number) ≡ length numbers + 1)
-        → length (match_ordering o (number ∷ other ∷ numbers) (other ∷ numbers) (other ∷ insert_key nat_cmp numbers number)) ≡ length (other ∷ numbers) + 1
+        → length (match_ordering o (number ∷ other ∷ numbers) (other ∷ numbers) (other ∷ insert_key nat_cmp numbers number))
+        ≡ length (other ∷ numbers) + 1
     there Less out later = omega arith
     there Equal out later = on out
     there Greater out later = omega (arith, later out)
@@ -199,28 +209,30 @@ short : (p : Bool) (l : List ℕ) → length l ≤ 1 → length (cond p (1 ∷ [
 short true l few = omega arith
 short false l few = few
 
-module _ (number : ℕ) (seated : Nodes) (nodes : List Entry) (stands : NodesStand seated nodes) (out : has_foreign number seated ≡ false) where
-  isn't_in : is_in (Foreign number) nodes ≡ false
-  isn't_in = outside-in number seated nodes stands ∙ out
+module _ (number : ℕ) (seated : Nodes) (nodes : List Entry) (stands : NodesStand seated nodes) (out : has_foreign number seated ≡ false)
+  where
+    isn't_in : is_in (Foreign number) nodes ≡ false
+    isn't_in = outside-in number seated nodes stands ∙ out
 
-  seat-there : (m : Node) (p : Bool) → same_node (Foreign number) m ≡ p
-      → cond p (1 ∷ []) (counts_of m (seats_of seated)) ≡ counts_of m (map own seated.own) ++ cond p (1 ∷ []) (counts_of m (map outside seated.foreign))
-  seat-there m true is = subst (λ (n : Node). 1 ∷ [] ≡ counts_of n (map own seated.own) ++ 1 ∷ []) (node-is (Foreign number) m is)
-      (ap (λ (l : List ℕ). l ++ 1 ∷ []) (sym (none-own number seated.own)))
-  seat-there m false is = counts-joined m (map own seated.own) (map outside seated.foreign)
+    seat-there : (m : Node) (p : Bool) → same_node (Foreign number) m ≡ p
+        → cond p (1 ∷ []) (counts_of m (seats_of seated)) ≡ counts_of m (map own seated.own)
+        ++ cond p (1 ∷ []) (counts_of m (map outside seated.foreign))
+    seat-there m true is = subst (λ (n : Node). 1 ∷ [] ≡ counts_of n (map own seated.own) ++ 1 ∷ []) (node-is (Foreign number) m is)
+        (ap (λ (l : List ℕ). l ++ 1 ∷ []) (sym (none-own number seated.own)))
+    seat-there m false is = counts-joined m (map own seated.own) (map outside seated.foreign)
 
-  -- a node outside that wasn't in comes into both
-  pub comes-in : NodesStand (with_foreign number seated) (entered (Foreign number) nodes)
-  comes-in = record {
-    same = λ m. come (Foreign number) nodes m isn't_in
-        ∙ ap (λ (l : List ℕ). cond (same_node (Foreign number) m) (1 ∷ []) l) (stands.same m)
-        ∙ seat-there m (same_node (Foreign number) m) refl
-        ∙ ap (λ (l : List ℕ). counts_of m (map own seated.own) ++ l) (sym (insert number seated.foreign m out))
-        ∙ sym (counts-joined m (map own seated.own) (map outside (insert_key nat_cmp seated.foreign number)));
-    once = λ m. subst (λ (l : List ℕ). length l ≤ 1) (sym (come (Foreign number) nodes m isn't_in))
-        (short (same_node (Foreign number) m) (counts_of m nodes) (stands.once m));
-    many = omega (arith, longer (Foreign number) nodes isn't_in, inserted-length number seated.foreign out, stands.many);
-  }
+    -- a node outside that wasn't in comes into both
+    pub comes-in : NodesStand (with_foreign number seated) (entered (Foreign number) nodes)
+    comes-in = record {
+      same = λ m. come (Foreign number) nodes m isn't_in
+          ∙ ap (λ (l : List ℕ). cond (same_node (Foreign number) m) (1 ∷ []) l) (stands.same m)
+          ∙ seat-there m (same_node (Foreign number) m) refl
+          ∙ ap (λ (l : List ℕ). counts_of m (map own seated.own) ++ l) (sym (insert number seated.foreign m out))
+          ∙ sym (counts-joined m (map own seated.own) (map outside (insert_key nat_cmp seated.foreign number)));
+      once = λ m. subst (λ (l : List ℕ). length l ≤ 1) (sym (come (Foreign number) nodes m isn't_in))
+          (short (same_node (Foreign number) m) (counts_of m nodes) (stands.once m));
+      many = omega (arith, longer (Foreign number) nodes isn't_in, inserted-length number seated.foreign out, stands.many);
+    }
 
 -- one node outside, alone
 pub first-in : (number max_nodes : ℕ) → NodesStand (first_foreign number max_nodes) ((Foreign number, 1) ∷ [])
@@ -239,7 +251,8 @@ first : {l : List ℕ} (x : ℕ) → x ∷ l ≡ 1 ∷ [] → x ≡ 1
 first x e = cc
 
 go-there : (node : Node) (entry : Entry) (nodes : List Entry) (m : Node) (p c : Bool) → same_node node m ≡ p → same_node entry.0 node ≡ c
-    → map (λ (e : Entry). e.1) (cond c (entry ∷ filter (λ (e : Entry). same_node e.0 node) nodes) (filter (λ (e : Entry). same_node e.0 node) nodes)) ≡ 1 ∷ []
+    → map (λ (e : Entry). e.1) (cond c (entry ∷ filter (λ (e : Entry). same_node e.0 node) nodes)
+    (filter (λ (e : Entry). same_node e.0 node) nodes)) ≡ 1 ∷ []
     → (counts_of node nodes ≡ 1 ∷ [] → counts_of m (left node nodes) ≡ cond p [] (counts_of m nodes))
     → (d : Bool) → nat_le entry.1 1 ≡ d
     → counts_of m (cond c (cond d nodes ((node, entry.1 - 1) ∷ nodes)) (entry ∷ left node nodes)) ≡ cond p [] (counts_of m (entry ∷ nodes))
@@ -257,10 +270,12 @@ go : (node : Node) (nodes : List Entry) (m : Node) → counts_of node nodes ≡ 
     → counts_of m (left node nodes) ≡ cond (same_node node m) [] (counts_of m nodes)
 go node [] m one = by_test (same_node node m) (λ is. rw is refl) (λ isnt. rw isnt refl)
 go node (entry ∷ nodes) m one =
-    go-there node entry nodes m (same_node node m) (same_node entry.0 node) refl refl one (λ later. go node nodes m later) (nat_le entry.1 1) refl
+    go-there node entry nodes m (same_node node m) (same_node entry.0 node) refl refl one (λ later. go node nodes m later)
+    (nat_le entry.1 1) refl
 
 shorter-there : (node : Node) (entry : Entry) (nodes : List Entry) (c : Bool)
-    → map (λ (e : Entry). e.1) (cond c (entry ∷ filter (λ (e : Entry). same_node e.0 node) nodes) (filter (λ (e : Entry). same_node e.0 node) nodes)) ≡ 1 ∷ []
+    → map (λ (e : Entry). e.1) (cond c (entry ∷ filter (λ (e : Entry). same_node e.0 node) nodes)
+    (filter (λ (e : Entry). same_node e.0 node) nodes)) ≡ 1 ∷ []
     → (counts_of node nodes ≡ 1 ∷ [] → length (left node nodes) + 1 ≡ length nodes) → (d : Bool) → nat_le entry.1 1 ≡ d
     → length (cond c (cond d nodes ((node, entry.1 - 1) ∷ nodes)) (entry ∷ left node nodes)) + 1 ≡ length (entry ∷ nodes)
 shorter-there node entry nodes true one later false more = on (subst (λ (n : ℕ). nat_le n 1 ≡ false) (first entry.1 one) more)
@@ -294,7 +309,8 @@ past number (entry ∷ entries) more = ap (λ (l : List Entry). own entry ∷ l)
 
 seats-removed : (number : ℕ) (seated : Nodes) → seats_of (without_foreign number seated) ≡ left (Foreign number) (seats_of seated)
 seats-removed number seated =
-    ap (λ (l : List Entry). map own seated.own ++ l) (removed number seated.foreign) ∙ sym (past number seated.own (map outside seated.foreign))
+    ap (λ (l : List Entry). map own seated.own ++ l) (removed number seated.foreign) ∙ sym
+    (past number seated.own (map outside seated.foreign))
 
 outsiders : (numbers : List ℕ) → length (map outside numbers) ≡ length numbers
 outsiders [] = refl
@@ -309,7 +325,8 @@ once-there : (number : ℕ) (numbers : List ℕ) → length (counts_of (Foreign 
     → list_any (is_at (nat_cmp number)) numbers ≡ true → counts_of (Foreign number) (map outside numbers) ≡ 1 ∷ []
 once-there number [] few is = no is
 once-there number (other ∷ more) few is =
-    there (other == number) few (sym (ap (λ (b : Bool). b || list_any (is_at (nat_cmp number)) more) (tested number other)) ∙ is) (λ f i. once-there number more f i)
+    there (other == number) few (sym (ap (λ (b : Bool). b || list_any (is_at (nat_cmp number)) more) (tested number other)) ∙ is)
+    (λ f i. once-there number more f i)
   where
     empty : (l : List ℕ) → length (1 ∷ l) ≤ 1 → 1 ∷ l ≡ 1 ∷ []
     empty [] e = refl
@@ -344,7 +361,8 @@ module _ (number : ℕ) (seated : Nodes) (nodes : List Entry) (stands : NodesSta
       let all : length (seats_of seated) ≡ count_in seated = seats-many seated.own seated.foreign in
       let after : length (seats_of (without_foreign number seated)) ≡ count_in (without_foreign number seated) =
       seats-many seated.own (remove_key (is_at (nat_cmp number)) seated.foreign) in
-      let less : length (left (Foreign number) (seats_of seated)) + 1 ≡ length (seats_of seated) = shorter (Foreign number) (seats_of seated) seat in
+      let less : length (left (Foreign number) (seats_of seated)) + 1 ≡ length (seats_of seated)
+      = shorter (Foreign number) (seats_of seated) seat in
       let same : length (seats_of (without_foreign number seated)) ≡ length (left (Foreign number) (seats_of seated)) =
       ap (λ (l : List Entry). length l) (seats-removed number seated) in
       omega (arith, all, after, less, same, shorter (Foreign number) nodes one, stands.many)

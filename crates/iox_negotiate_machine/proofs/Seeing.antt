@@ -1,6 +1,5 @@
 -- The look of a call, with the steps before it.
 use Rattle.std.proofs.Common.{◌≡◌, ℕ, ◌+◌, List, ◌++◌, length, fold, take, sym, subst, ◌⊎◌, inl, inr}
-use Rattle.std.specs.List.{AllByRecursion}
 use Rattle.iox_command.specs.NegotiateBase.DescribeBase.Hash.{service_hash_of}
 use Rattle.iox_command.specs.NegotiateBase.DescribeBase.declared.hash.ServiceHash.{ServiceHash}
 use Rattle.iox_command.specs.NegotiateBase.DescribeBase.declared.message_type.MessageTypeDetails.{MessageTypeDetails}
@@ -11,8 +10,8 @@ use Rattle.iox_machine.specs.Phase.{Phase, Absent, BeingMade, Published, Emptied
 use Rattle.iox_negotiate_machine.proofs.Acting.{OwnHash}
 use Rattle.iox_negotiate_machine.proofs.Looking.{looks-shown}
 use Rattle.iox_negotiate_machine.proofs.Preceding.{Comes, Ends, UnderWay, ends-with-all, meanwhile, next_call, preceded}
-use Rattle.iox_negotiate_machine.specs.Laws.{HasStepForm}
 use Rattle.iox_negotiate_machine.specs.LookLaws.{ShowsPhase}
+use Rattle.iox_negotiate_machine.specs.CallLaws.{HaveStepForms}
 use Rattle.iox_negotiate_machine.specs.Standing.{IsLast, description_of}
 use Rattle.iox_negotiate_table.specs.Contents.{Contents}
 use Rattle.iox_negotiate_table.specs.NegotiateBase.Access.{Look}
@@ -25,7 +24,7 @@ use Rattle.iox_negotiate_table.specs.NegotiateBase.declared.sight.SightFailure.T
 use Rattle.iox_negotiate_table.specs.Stepped.{Steps, SteppedSight}
 
 module _ (types : MessageTypeDetails) (pattern : MessagingPattern) (name : List ℕ) (own : OwnHash pattern name) (steps : List StepBefore)
-    (form : AllByRecursion (λ (before : StepBefore). HasStepForm types name before.step) steps) (old : Contents) (taken : List ℕ) where
+    (form : HaveStepForms types name steps) (old : Contents) (taken : List ℕ) where
   abbrev hash : ServiceHash
   hash = service_hash_of pattern name
 

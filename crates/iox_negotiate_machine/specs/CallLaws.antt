@@ -1,5 +1,5 @@
 -- What creating and opening a service over a table does is what the machine does in its phase.
-use Rattle.std.specs.Prelude.{ℕ, ◌+◌, ◌-◌, ◌^◌, ◌≡◌, ◌<◌, ◌==◌, List, drop, filter, length, map, Bool, true, Some, Result, Ok, Err, IfOk}
+use Rattle.std.specs.Prelude.{ℕ, ◌+◌, ◌-◌, ◌^◌, ◌≡◌, ◌<◌, List, drop, length, map, Bool, true, Some, Result, Ok, Err, IfOk}
 use Rattle.std.specs.List.{AllByRecursion, IsAmong}
 use Rattle.std.specs.Result.{result_map_both}
 use Rattle.iox_command.specs.NegotiateBase.DescribeBase.Hash.{service_hash_of}
@@ -16,7 +16,6 @@ use Rattle.iox_command.specs.NegotiateBase.declared.failure.OpenOrCreateFailure.
 use Rattle.iox_command.specs.NegotiateBase.declared.request.Opened.{Opened}
 use Rattle.iox_command.specs.Patterns.{pattern_of}
 use Rattle.iox_command.specs.declared.service.ServiceOptions.{ServiceOptions}
-use Rattle.iox_command.specs.declared.step.ForeignStep.{ForeignStep}
 use Rattle.iox_command.specs.declared.step.StepBefore.{StepBefore}
 use Rattle.iox_machine.specs.Agreement.{Agreement}
 use Rattle.iox_machine.specs.Asked.{settings_of}
@@ -38,6 +37,11 @@ use Rattle.iox_negotiate_table.specs.declared.step.ForeignStep.{ForeignStep as T
 abbrev pub AreListed : MessageTypeDetails → List ℕ → List StepBefore → List (List TableStep) → Type 0
 AreListed types name steps lists =
     (made : ℕ) → made < 16 → next_list (drop made lists) ≡ map (table_step_of types name) (steps_at steps (made + 1))
+
+-- What is published before each of the first sixteen accesses has the form of a description. So it has where the code makes it of the
+-- options that are named.
+abbrev pub HaveStepForms : MessageTypeDetails → List ℕ → List StepBefore → Type 0
+HaveStepForms types name steps = (made : ℕ) → made < 16 → AllByRecursion (HasStepForm types name) (steps_at steps (made + 1))
 
 -- a full buffer holds the publisher up, and has no room for the history: of publish-subscribe alone
 abbrev pub HasNoRoomForHistory : Settings → Type 0
@@ -85,7 +89,7 @@ module _ (T E : Type 0) where
       (named : ServiceOptions) (attributes : List Attribute) (steps : List StepBefore) (lists : List (List TableStep))
       (taken : MessagingPattern → List ℕ → List ℕ) (old : Contents) (end : Steps) (error : CreateFailure → E)
       (result : Result Membership E) (state : State T)
-      → HaveOwnHashes names → IsAmong names name → AllByRecursion (λ before. HasStepForm types name before.step) steps
+      → HaveOwnHashes names → IsAmong names name → HaveStepForms types name steps
       → old.next + length steps + 1 < 2 ^ 64
       → AreListed types name steps lists → TableStands names taken old state
       → built.Creates SteppedSight storage (service_hash_of (pattern_of named) name) node
@@ -107,7 +111,7 @@ module _ (T V E : Type 0) where
       (lists : List (List TableStep)) (taken : MessagingPattern → List ℕ → List ℕ) (old : Contents) (end : Steps)
       (error : OpenFailure V → E)
       (result : Result Membership E) (state : State T)
-      → HaveOwnHashes names → IsAmong names name → AllByRecursion (λ before. HasStepForm types name before.step) steps
+      → HaveOwnHashes names → IsAmong names name → HaveStepForms types name steps
       → old.next + length steps < 2 ^ 64
       → AreListed types name steps lists → TableStands names taken old state → HasFewFactories node (state.phases pattern name)
       → ((agreed : Agreement) → judge (description_of pattern name agreed) ≡ verdict agreed)
@@ -122,7 +126,7 @@ module _ (T V E : Type 0) where
       (judge : Description → Result (Unit {0}) V) (verdict : Agreement → Result (Unit {0}) V) (named : ServiceOptions)
       (attributes : List Attribute) (steps : List StepBefore) (lists : List (List TableStep)) (taken : MessagingPattern → List ℕ → List ℕ)
       (old : Contents) (end : Steps) (error : OpenOrCreateFailure V → E) (result : Result Membership E) (state : State T)
-      → HaveOwnHashes names → IsAmong names name → AllByRecursion (λ before. HasStepForm types name before.step) steps
+      → HaveOwnHashes names → IsAmong names name → HaveStepForms types name steps
       → old.next + length steps + 1 < 2 ^ 64
       → AreListed types name steps lists → TableStands names taken old state → HasFewFactories node (state.phases (pattern_of named) name)
       → ((agreed : Agreement) → judge (description_of (pattern_of named) name agreed) ≡ verdict agreed)

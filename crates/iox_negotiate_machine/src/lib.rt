@@ -43,7 +43,8 @@ pub fn look_matches<T>()
 /// what stands or is being made before the lock, and what came between them after it. The steps of nodes outside the hub that are named
 /// before an access are done before it. Whether the service is new, and why it isn't created, is the machine's answer; what is created is
 /// published under the number that was taken last, and the node is in it. Numbers for locks must be left, the names must have hashes of
-/// their own, what the steps publish must have the form of a description, and the lists of steps must be those that are named.
+/// their own, what the steps before the first sixteen accesses publish must have the form of a description, and the lists of steps must be
+/// those that are named.
 pub fn create_matches<T, E>()
     ensures { CreateMatches T E }
 {}

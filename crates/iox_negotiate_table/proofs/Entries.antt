@@ -22,7 +22,8 @@ set-here test e es w true is later found = rw is refl
 set-here test e es w false is later found = rw is (later found)
 
 -- a value that was set is found
-pub lookup-set : {K X : Type 0} (test : K → Bool) (es : List (K × X)) (w : X) → IsSome (lookup test es) → lookup test (set_value test es w) ≡ Some w
+pub lookup-set : {K X : Type 0} (test : K → Bool) (es : List (K × X)) (w : X) → IsSome (lookup test es)
+    → lookup test (set_value test es w) ≡ Some w
 lookup-set test [] w found = no found
 lookup-set test (e ∷ es) w found = set-here test e es w (test e.0) refl (lookup-set test es w) found
 
@@ -37,7 +38,8 @@ pub length-insert_key : {K : Type 0} (cmp : K → K → Ordering) (ks : List K) 
 length-insert_key cmp [] k = omega arith
 length-insert_key cmp (x ∷ xs) k = insert-here x k xs (insert_key cmp xs k) (cmp k x) (length-insert_key cmp xs k)
 
-remove-here : {K : Type 0} (x : K) (xs later : List K) (b : Bool) → length later ≤ length xs → length (cond b xs (x ∷ later)) ≤ length (x ∷ xs)
+remove-here : {K : Type 0} (x : K) (xs later : List K) (b : Bool) → length later ≤ length xs
+    → length (cond b xs (x ∷ later)) ≤ length (x ∷ xs)
 remove-here x xs later true h = omega (arith, h)
 remove-here x xs later false h = omega (arith, h)
 
@@ -66,14 +68,17 @@ self-equal Greater is = absurd (differ is)
 pub is-self : {K : Type 0} (cmp : K → K → Ordering) → IsTotalOrder cmp → (k : K) → cmp k k ≡ Equal
 is-self cmp total k = self-equal (cmp k k) (total.antisymm k k)
 
-added-here : {K X : Type 0} (cmp : K → K → Ordering) (k : K) (v : X) (e : K × X) (es later : List (K × X)) (o : Ordering) → cmp k k ≡ Equal → cmp k e.0 ≡ o
-    → lookup (is_at (cmp k)) later ≡ Some v → lookup (is_at (cmp k)) (match_ordering o ((k, v) ∷ e ∷ es) ((e.0, v) ∷ es) (e ∷ later)) ≡ Some v
+added-here : {K X : Type 0} (cmp : K → K → Ordering) (k : K) (v : X) (e : K × X) (es later : List (K × X)) (o : Ordering)
+    → cmp k k ≡ Equal → cmp k e.0 ≡ o
+    → lookup (is_at (cmp k)) later ≡ Some v
+    → lookup (is_at (cmp k)) (match_ordering o ((k, v) ∷ e ∷ es) ((e.0, v) ∷ es) (e ∷ later)) ≡ Some v
 added-here cmp k v e es later Less same is found = rw same refl
 added-here cmp k v e es later Equal same is found = rw is refl
 added-here cmp k v e es later Greater same is found = rw is found
 
 -- a value that was added is found
-pub lookup-added : {K X : Type 0} (cmp : K → K → Ordering) (k : K) (v : X) (es : List (K × X)) → cmp k k ≡ Equal → lookup (is_at (cmp k)) (insert_entry cmp es k v) ≡ Some v
+pub lookup-added : {K X : Type 0} (cmp : K → K → Ordering) (k : K) (v : X) (es : List (K × X)) → cmp k k ≡ Equal
+    → lookup (is_at (cmp k)) (insert_entry cmp es k v) ≡ Some v
 lookup-added cmp k v [] same = rw same refl
 lookup-added cmp k v (e ∷ es) same = added-here cmp k v e es (insert_entry cmp es k v) (cmp k e.0) same refl (lookup-added cmp k v es same)
 
@@ -84,6 +89,7 @@ grown-here k v e es later Equal h = omega (arith, h)
 grown-here k v e es later Greater h = omega (arith, h)
 
 -- one entry more at most
-pub length-added : {K X : Type 0} (cmp : K → K → Ordering) (k : K) (v : X) (es : List (K × X)) → length (insert_entry cmp es k v) ≤ length es + 1
+pub length-added : {K X : Type 0} (cmp : K → K → Ordering) (k : K) (v : X) (es : List (K × X))
+    → length (insert_entry cmp es k v) ≤ length es + 1
 length-added cmp k v [] = omega arith
 length-added cmp k v (e ∷ es) = grown-here k v e es (insert_entry cmp es k v) (cmp k e.0) (length-added cmp k v es)

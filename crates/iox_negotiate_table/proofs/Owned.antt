@@ -19,10 +19,12 @@ module _ (hash : ServiceHash) (node : ℕ) (old new : Contents) where
   abbrev GivesUpAt : Result (Unit {0}) AllocError → Option Entry → Type 0
   GivesUpAt result entry =
       (result ≡ Ok tt)
-      × ((number : ℕ) → phase_by entry (λ number. segment_at hash number old) ≡ BeingMade (Foreign node) number → new ≡ without_entry hash old)
+      × ((number : ℕ) → phase_by entry (λ number. segment_at hash number old) ≡ BeingMade (Foreign node) number
+      → new ≡ without_entry hash old)
       × (((number : ℕ) → phase_by entry (λ number. segment_at hash number old) ≡ BeingMade (Foreign node) number → ⊥) → new ≡ old)
 
-  gives-foreign : (result : Result (Unit {0}) AllocError) (by number : ℕ) (b : Bool) → nat_eq by node ≡ b → Done (is_some (cond b (Some number) None)) (without_entry hash old) old result new
+  gives-foreign : (result : Result (Unit {0}) AllocError) (by number : ℕ) (b : Bool) → nat_eq by node ≡ b
+      → Done (is_some (cond b (Some number) None)) (without_entry hash old) old result new
       → GivesUpAt result (Some (Locked (Foreign by) number))
   gives-foreign result by number true is h = (h.0, λ n same. h.1, λ other. absurd (other number own))
     where
@@ -39,7 +41,8 @@ module _ (hash : ServiceHash) (node : ℕ) (old new : Contents) where
       differ : by ≡ node → ⊥
       differ same = grind (arith, is, same)
 
-  gives-at : (result : Result (Unit {0}) AllocError) (entry : Option Entry) → Done (is_some (foreign_lock node entry)) (without_entry hash old) old result new → GivesUpAt result entry
+  gives-at : (result : Result (Unit {0}) AllocError) (entry : Option Entry)
+      → Done (is_some (foreign_lock node entry)) (without_entry hash old) old result new → GivesUpAt result entry
   gives-at result None h = (h.0, λ n same. absurd (differ n same), λ other. h.1)
     where
       differ : (n : ℕ) → phase_by None segments ≡ BeingMade (Foreign node) n → ⊥
@@ -62,10 +65,12 @@ gives-up hash node old new result h = gives-at hash node old new result (entry_a
 module _ (hash : ServiceHash) (node : ℕ) (old new : Contents) where
   abbrev RemovesAs : Phase → Type 0
   RemovesAs phase =
-      ((number : ℕ) (bytes : List ℕ) → phase ≡ Emptied number bytes (Foreign node) → new ≡ without_segment hash number (without_entry hash old))
+      ((number : ℕ) (bytes : List ℕ) → phase ≡ Emptied number bytes (Foreign node)
+      → new ≡ without_segment hash number (without_entry hash old))
       × (((number : ℕ) (bytes : List ℕ) → phase ≡ Emptied number bytes (Foreign node) → ⊥) → new ≡ old)
 
-  removes-foreign : (by number : ℕ) (bytes : List ℕ) (b : Bool) → nat_eq by node ≡ b → new ≡ cond b (without_segment hash number (without_entry hash old)) old
+  removes-foreign : (by number : ℕ) (bytes : List ℕ) (b : Bool) → nat_eq by node ≡ b
+      → new ≡ cond b (without_segment hash number (without_entry hash old)) old
       → RemovesAs (Emptied number bytes (Foreign by))
   removes-foreign by number bytes true is h = (λ n text same. rw (← number-is n text same) h, λ other. absurd (other number bytes own))
     where
@@ -86,10 +91,12 @@ module _ (hash : ServiceHash) (node : ℕ) (old new : Contents) where
       differ same = grind (arith, is, same)
 
   -- a phase that is none of a service that was emptied
-  removes-nothing : (phase : Phase) → ((number : ℕ) (bytes : List ℕ) → phase ≡ Emptied number bytes (Foreign node) → ⊥) → new ≡ old → RemovesAs phase
+  removes-nothing : (phase : Phase) → ((number : ℕ) (bytes : List ℕ) → phase ≡ Emptied number bytes (Foreign node) → ⊥) → new ≡ old
+      → RemovesAs phase
   removes-nothing phase other h = (λ n text same. absurd (other n text same), λ _. h)
 
-  removes-segment : (number : ℕ) (bytes : List ℕ) (found : Option Segment) → new ≡ cond (is_left_by node found) (without_segment hash number (without_entry hash old)) old
+  removes-segment : (number : ℕ) (bytes : List ℕ) (found : Option Segment)
+      → new ≡ cond (is_left_by node found) (without_segment hash number (without_entry hash old)) old
       → RemovesAs (described_phase number bytes found)
   removes-segment number bytes (Some (segment.Open nodes)) h = removes-nothing _ (λ n text same. differ n text same) h
     where
@@ -105,7 +112,8 @@ module _ (hash : ServiceHash) (node : ℕ) (old new : Contents) where
       differ n text same = cc
   removes-segment number bytes (Some (segment.Emptied (Foreign by))) h = removes-foreign by number bytes (nat_eq by node) refl h
 
-  removes-at : (entry : Option Entry) → new ≡ after_removal (published_number entry) hash node old → RemovesAs (phase_by entry (λ number. segment_at hash number old))
+  removes-at : (entry : Option Entry) → new ≡ after_removal (published_number entry) hash node old
+      → RemovesAs (phase_by entry (λ number. segment_at hash number old))
   removes-at None h = removes-nothing _ (λ n text same. differ n text same) h
     where
       differ : (n : ℕ) (text : List ℕ) → phase_by None (λ number. segment_at hash number old) ≡ Emptied n text (Foreign node) → ⊥

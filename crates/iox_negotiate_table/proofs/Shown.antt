@@ -10,13 +10,15 @@ use Rattle.iox_negotiate_table.specs.Contents.{entry_at, segment_at}
 use Rattle.iox_negotiate_table.specs.Phases.{phase_by, described_phase, Shows, LookShowsThePhase}
 use Rattle.iox_negotiate_table.specs.Sights.{Looks}
 
-described : (number : ℕ) (bytes : List ℕ) (answer : LookAnswer) (found : Option Segment) → (answer ≡ look.Found number bytes) ⊎ (answer ≡ look.OutOfMemory)
+described : (number : ℕ) (bytes : List ℕ) (answer : LookAnswer) (found : Option Segment) → (answer ≡ look.Found number bytes)
+    ⊎ (answer ≡ look.OutOfMemory)
     → Shows (described_phase number bytes found) answer
 described number bytes answer (Some (segment.Open nodes)) h = h
 described number bytes answer (Some (segment.Emptied by)) h = h
 described number bytes answer None h = h
 
-by_entry : (answer : LookAnswer) (entry : Option Entry) (segments : ℕ → Option Segment) → Looks entry answer → Shows (phase_by entry segments) answer
+by_entry : (answer : LookAnswer) (entry : Option Entry) (segments : ℕ → Option Segment) → Looks entry answer
+    → Shows (phase_by entry segments) answer
 by_entry answer None segments h = h
 by_entry answer (Some (Locked by number)) segments h = h
 by_entry answer (Some (Described number bytes)) segments h = described number bytes answer (segments number) h

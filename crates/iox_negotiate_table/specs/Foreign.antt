@@ -1,5 +1,6 @@
 -- What the steps of foreign nodes find in a table, and what they leave.
-use Rattle.std.specs.Prelude.{ℕ, ◌≡◌, ◌-◌, ◌^◌, ◌↔◌, Bool, true, false, not, ◌&&◌, Option, None, Some, is_some, Result, Ok, Err, nat_eq, IsTrue, if◌then◌else◌}
+use Rattle.std.specs.Prelude.{ℕ, ◌≡◌, ◌-◌, ◌^◌, ◌↔◌, Bool, true, false, not, ◌&&◌, Option, None, Some, is_some, Result, Ok, Err, nat_eq}
+use Rattle.std.specs.Prelude.{IsTrue, if◌then◌else◌}
 use Rattle.std.specs.declared.alloc.AllocError.{AllocError}
 use Rattle.iox_negotiate_base.specs.DescribeBase.Hash.{service_hash_of}
 use Rattle.iox_negotiate_base.specs.DescribeBase.declared.hash.ServiceHash.{ServiceHash}
@@ -15,7 +16,8 @@ use Rattle.iox_negotiate_table.specs.declared.step.ForeignStep.{ForeignStep}
 use Rattle.iox_negotiate_table.specs.declared.step.ForeignStep.TheVariants.{Lock, GiveUp, Publish, Register, Leave, Remove}
 use Rattle.iox_negotiate_table.specs.Nodes.{first_foreign}
 use Rattle.iox_negotiate_table.specs.Segments.{RegistersIn, after_foreign_leave, is_emptied_by}
-use Rattle.iox_negotiate_table.specs.Contents.{Contents, entry_at, segment_at, with_entry, without_entry, with_new_segment, with_segment, without_segment, with_lock}
+use Rattle.iox_negotiate_table.specs.Contents.{Contents, entry_at, segment_at, with_entry, without_entry, with_new_segment, with_segment}
+use Rattle.iox_negotiate_table.specs.Contents.{without_segment, with_lock}
 
 -- It is done, or memory is wanting; where it doesn't fit, nothing changes and no memory is wanted.
 abbrev pub DoneOrLacking : Bool → Contents → Contents → Result (Unit {0}) AllocError → Contents → Type 0
@@ -48,7 +50,8 @@ IsFor hash agreed =
 -- the service stands, with this foreign node in it
 abbrev pub with_service : ServiceHash → ℕ → ℕ → Agreement → Contents → Contents
 with_service hash number node agreed table =
-    with_entry hash (Described number (line agreed)) (with_new_segment hash number (Open (first_foreign node (max_nodes_of agreed.settings))) table)
+    with_entry hash (Described number (line agreed))
+    (with_new_segment hash number (Open (first_foreign node (max_nodes_of agreed.settings))) table)
 
 -- where the node has the lock, its description is published, if it is one of the service under this hash
 abbrev pub PublishesForeign : Option ℕ → ServiceHash → ℕ → Agreement → Contents → Result (Unit {0}) AllocError → Contents → Type 0
@@ -89,7 +92,8 @@ after_removal None hash node old = old
 -- what the step of a foreign node under a hash leaves
 abbrev pub Acts : ServiceHash → ForeignStep → Contents → Result (Unit {0}) AllocError → Contents → Type 0
 Acts hash (Lock node) old result new =
-    DoneOrLacking (not (is_some (entry_at hash old)) && not (nat_eq old.next (2 ^ 64 - 1))) (with_lock hash (Foreign node) old) old result new
+    DoneOrLacking (not (is_some (entry_at hash old)) && not (nat_eq old.next (2 ^ 64 - 1))) (with_lock hash (Foreign node) old) old
+    result new
 Acts hash (GiveUp node) old result new = Done (is_some (foreign_lock node (entry_at hash old))) (without_entry hash old) old result new
 Acts hash (Publish node agreed) old result new = PublishesForeign (foreign_lock node (entry_at hash old)) hash node agreed old result new
 Acts hash (Register node) old result new = RegistersForeign (published_number (entry_at hash old)) hash node old result new

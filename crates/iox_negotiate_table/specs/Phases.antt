@@ -56,7 +56,8 @@ abbrev pub RemovesItsOwn : Type 0
 RemovesItsOwn = (hash : ServiceHash) (node : ℕ) (old new : Contents) (result : Result (Unit {0}) AllocError)
     → Acts hash (Remove node) old result new
     → (result ≡ Ok tt)
-    × ((number : ℕ) (bytes : List ℕ) → phase_of hash old ≡ Emptied number bytes (Foreign node) → new ≡ without_segment hash number (without_entry hash old))
+    × ((number : ℕ) (bytes : List ℕ) → phase_of hash old ≡ Emptied number bytes (Foreign node)
+    → new ≡ without_segment hash number (without_entry hash old))
     × (((number : ℕ) (bytes : List ℕ) → phase_of hash old ≡ Emptied number bytes (Foreign node) → ⊥) → new ≡ old)
 
 -- What a look shows of a phase: that nothing stands, that a service is being made, or the description that stands, for which memory

@@ -1,7 +1,8 @@
 -- What each access finds in a table, and what it leaves.
 use Rattle.std.specs.Prelude.{ℕ, ◌≡◌, ◌-◌, ◌^◌, Bool, true, false, List, Option, None, Some, nat_eq, ◌⊎◌}
 use Rattle.iox_negotiate_base.specs.DescribeBase.declared.hash.ServiceHash.{ServiceHash}
-use Rattle.iox_negotiate_base.specs.Access.{Access, Look, Lock, MakeSegment, Publish, Unlock, OpenSegment, Leave, RemoveDescription, RemoveSegment}
+use Rattle.iox_negotiate_base.specs.Access.{Access, Look, Lock, MakeSegment, Publish, Unlock, OpenSegment, Leave, RemoveDescription}
+use Rattle.iox_negotiate_base.specs.Access.{RemoveSegment}
 use Rattle.iox_negotiate_base.specs.declared.answer.LookAnswer.{LookAnswer}
 use Rattle.iox_negotiate_base.specs.declared.answer.LookAnswer.TheVariants as look
 use Rattle.iox_negotiate_base.specs.declared.answer.LockAnswer.{LockAnswer}
@@ -24,7 +25,9 @@ use Rattle.iox_negotiate_table.specs.declared.segment.Segment.{Segment}
 use Rattle.iox_negotiate_table.specs.declared.segment.Segment.TheVariants.{Open}
 use Rattle.iox_negotiate_table.specs.Nodes.{first_node}
 use Rattle.iox_negotiate_table.specs.Segments.{Opens, after_leave, leave_answer}
-use Rattle.iox_negotiate_table.specs.Contents.{Contents, entry_at, segment_at, with_entry, without_entry, with_new_segment, with_segment, without_segment, with_lock, may_make, may_publish, may_unlock, is_published, is_left, may_remove_description, may_remove_segment}
+use Rattle.iox_negotiate_table.specs.Contents.{Contents, entry_at, segment_at, with_entry, without_entry, with_new_segment, with_segment}
+use Rattle.iox_negotiate_table.specs.Contents.{without_segment, with_lock, may_make, may_publish, may_unlock, is_published, is_left}
+use Rattle.iox_negotiate_table.specs.Contents.{may_remove_description, may_remove_segment}
 
 -- A look finds a lock or a description; to copy a description takes memory.
 abbrev pub Looks : Option Entry → LookAnswer → Type 0
@@ -50,13 +53,15 @@ Locks hash node old answer new = LocksAt (entry_at hash old) hash node old answe
 -- the segment is made with the node that makes it, or it fails
 abbrev pub Makes : Bool → ServiceHash → ℕ → ℕ → ℕ → Contents → MakeSegmentAnswer → Contents → Type 0
 Makes true hash number node max_nodes old answer new =
-    ((answer ≡ making.Made) × (new ≡ with_new_segment hash number (Open (first_node node max_nodes)) old)) ⊎ ((answer ≡ making.OutOfMemory) × (new ≡ old))
+    ((answer ≡ making.Made) × (new ≡ with_new_segment hash number (Open (first_node node max_nodes)) old))
+    ⊎ ((answer ≡ making.OutOfMemory) × (new ≡ old))
 Makes false hash number node max_nodes old answer new = (answer ≡ making.Fault) × (new ≡ old)
 
 -- the description takes the place of the lock, or it fails
 abbrev pub Publishes : Bool → ServiceHash → ℕ → List ℕ → Contents → PublishAnswer → Contents → Type 0
 Publishes true hash number bytes old answer new =
-    ((answer ≡ publishing.Published) × (new ≡ with_entry hash (Described number bytes) old)) ⊎ ((answer ≡ publishing.OutOfMemory) × (new ≡ old))
+    ((answer ≡ publishing.Published) × (new ≡ with_entry hash (Described number bytes) old))
+    ⊎ ((answer ≡ publishing.OutOfMemory) × (new ≡ old))
 Publishes false hash number bytes old answer new = (answer ≡ publishing.Fault) × (new ≡ old)
 
 -- the lock ends, or nothing changes

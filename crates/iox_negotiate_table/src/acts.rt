@@ -2,7 +2,9 @@
 ghost use Rattle.std.specs.Prelude.{Ok, ◌≡◌, ◌↔◌, ◌-◌, ◌^◌, ◌&&◌, IsTrue, OnOk, OnErr, IsSome, OnSome, nat_eq, not, is_some};
 ghost use Rattle.iox_negotiate_table.specs.declared.node.Node.TheVariants.{Foreign};
 ghost use Rattle.iox_negotiate_table.specs.Contents.{entry_at, segment_at, with_lock, without_entry};
-ghost use Rattle.iox_negotiate_table.specs.Foreign.{Acts, DoneOrLacking, Done, foreign_lock, published_number, IsFor, PublishesForeign, with_service, RegistersAt, RegistersForeign, left_at, after_leaving, is_left_by, after_removal};
+ghost use Rattle.iox_negotiate_table.specs.Foreign.{Acts, DoneOrLacking, Done, foreign_lock, published_number, IsFor, PublishesForeign};
+ghost use Rattle.iox_negotiate_table.specs.Foreign.{with_service, RegistersAt, RegistersForeign, left_at, after_leaving, is_left_by};
+ghost use Rattle.iox_negotiate_table.specs.Foreign.{after_removal};
 
 use crate::entry::Entry;
 use crate::node::Node;

@@ -1,6 +1,7 @@
 //! The nodes in a service.
 ghost use Rattle.std.specs.Prelude.{◌≡◌, ◌+◌, ◌≤◌, ◌<◌, ◌^◌, length, IsSome, IfOk, OnOk, OnErr, nat_eq, nat_lt, []};
-ghost use Rattle.iox_negotiate_table.specs.Nodes.{none_in, first_node, first_foreign, count_in, factories_of, with_node, with_factories, without_foreign, has_foreign, left, Enters, Registers};
+ghost use Rattle.iox_negotiate_table.specs.Nodes.{none_in, first_node, first_foreign, count_in, factories_of, with_node, with_factories};
+ghost use Rattle.iox_negotiate_table.specs.Nodes.{without_foreign, has_foreign, left, Enters, Registers};
 
 use iox_negotiate_base::OpenSegmentAnswer;
 use std::alloc::{AllocError, Global};

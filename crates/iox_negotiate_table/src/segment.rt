@@ -16,7 +16,8 @@ pub enum Segment {
 
 impl Segment {
     ghost use Rattle.std.specs.Prelude.{◌≡◌};
-    ghost use Rattle.iox_negotiate_table.specs.Segments.{Opens, after_leave, leave_answer, RegistersIn, after_foreign_leave, is_emptied, is_emptied_by};
+    ghost use Rattle.iox_negotiate_table.specs.Segments.{Opens, after_leave, leave_answer, RegistersIn, after_foreign_leave, is_emptied};
+    ghost use Rattle.iox_negotiate_table.specs.Segments.{is_emptied_by};
 
     /// Opens the service for an own node; `Marked` where the last node left.
     pub fn open(&mut self, node: u64) -> OpenSegmentAnswer

@@ -1,6 +1,7 @@
 //! The table of services.
 ghost use Rattle.std.specs.Prelude.{◌≡◌, ◌-◌, ◌^◌, is_some, IsSome, OnOk, OnErr, nat_eq};
-ghost use Rattle.iox_negotiate_table.specs.Contents.{entry_at, with_entry, with_new_segment, segment_at, may_make, may_publish, may_unlock, is_published, is_own_lock, is_lock_of, is_left};
+ghost use Rattle.iox_negotiate_table.specs.Contents.{entry_at, with_entry, with_new_segment, segment_at, may_make, may_publish};
+ghost use Rattle.iox_negotiate_table.specs.Contents.{may_unlock, is_published, is_own_lock, is_lock_of, is_left};
 ghost use Rattle.iox_negotiate_table.specs.declared.entry.Entry.TheVariants.{Described};
 ghost use Rattle.iox_negotiate_table.specs.Sights.{Locks, LocksFree, OpensPublished, LeavesPublished};
 

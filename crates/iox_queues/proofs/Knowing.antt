@@ -1,5 +1,6 @@
 -- Each stage of a call knows what the call's own steps did so far.
-use Rattle.std.proofs.Common.{◌≡◌, ℕ, ◌+◌, ◌-◌, ◌%◌, ◌^◌, ◌<◌, ◌≤◌, Bool, true, false, if◌then◌else◌, ◌==◌, ◌&&◌, ◌||◌, nat_lt, nat_le, List, [], ◌∷◌, ◌++◌, refl, sym, ◌∙◌, ap, subst, arith, mod-eq_of_lt}
+use Rattle.std.proofs.Common.{◌≡◌, ℕ, ◌+◌, ◌-◌, ◌%◌, ◌^◌, ◌<◌, ◌≤◌, Bool, true, false, if◌then◌else◌, ◌==◌, ◌&&◌, ◌||◌, nat_lt, nat_le}
+use Rattle.std.proofs.Common.{List, [], ◌∷◌, ◌++◌, refl, sym, ◌∙◌, ap, subst, arith, mod-eq_of_lt}
 use Rattle.std.specs.List.{list_any}
 use Rattle.std.proofs.lemmas.Bool.{ltb-true, ltb-false, leb-false, eqb-true, eqb-false}
 use Rattle.std.proofs.lemmas.List.Folds.{list_any-append}
@@ -17,15 +18,18 @@ use Rattle.iox_queues.specs.declared.bits.call.SetCall.{SetCall}
 use Rattle.iox_queues.specs.declared.bits.call.SetCall.TheVariants.{Idle, Add, Adding, Next, Sweep, Taking, Found, Done}
 use Rattle.iox_queues.specs.declared.bits.machine.Event.{Event}
 
-pub more_increments : (n i : ℕ) (events : List Event) (e : Event) → increments n i (events ++ e ∷ []) ≡ increments n i events + raised_by n i e.access e.answer
+pub more_increments : (n i : ℕ) (events : List Event) (e : Event)
+    → increments n i (events ++ e ∷ []) ≡ increments n i events + raised_by n i e.access e.answer
 more_increments n i [] e = omega arith
 more_increments n i (x ∷ events) e = omega (arith, more_increments n i events e)
 
-pub more_taken : (n i : ℕ) (events : List Event) (e : Event) → taken_out n i (events ++ e ∷ []) ≡ taken_out n i events + taken_by n i e.access e.answer
+pub more_taken : (n i : ℕ) (events : List Event) (e : Event)
+    → taken_out n i (events ++ e ∷ []) ≡ taken_out n i events + taken_by n i e.access e.answer
 more_taken n i [] e = omega arith
 more_taken n i (x ∷ events) e = omega (arith, more_taken n i events e)
 
-pub more_cleared : (n i : ℕ) (events : List Event) (e : Event) → cleared n i (events ++ e ∷ []) ≡ cleared n i events + cleared_by n i e.access e.answer
+pub more_cleared : (n i : ℕ) (events : List Event) (e : Event)
+    → cleared n i (events ++ e ∷ []) ≡ cleared n i events + cleared_by n i e.access e.answer
 more_cleared n i [] e = omega arith
 more_cleared n i (x ∷ events) e = omega (arith, more_cleared n i events e)
 
@@ -44,10 +48,12 @@ any_last : (p : Event → Bool) (events : List Event) (e : Event) → p e ≡ tr
 any_last p events e h = list_any-append p events (e ∷ []) ∙ or_right (list_any p events) (list_any p (e ∷ [])) (or_left (p e) false h)
 
 -- a step that raises nothing, and one that takes nothing
-adds_on : (n : ℕ) (events : List Event) (e : Event) → AddNone n events → ((i : ℕ) → raised_by n i e.access e.answer ≡ 0) → AddNone n (events ++ e ∷ [])
+adds_on : (n : ℕ) (events : List Event) (e : Event) → AddNone n events → ((i : ℕ) → raised_by n i e.access e.answer ≡ 0)
+    → AddNone n (events ++ e ∷ [])
 adds_on n events e h none = λ i. omega (arith, more_increments n i events e, h i, none i)
 
-takes_on : (n : ℕ) (events : List Event) (e : Event) → TakeNone n events → ((i : ℕ) → taken_by n i e.access e.answer ≡ 0) → TakeNone n (events ++ e ∷ [])
+takes_on : (n : ℕ) (events : List Event) (e : Event) → TakeNone n events → ((i : ℕ) → taken_by n i e.access e.answer ≡ 0)
+    → TakeNone n (events ++ e ∷ [])
 takes_on n events e h none = λ i. omega (arith, more_taken n i events e, h i, none i)
 
 below : (place capacity n : ℕ) (b : Bool) → nat_lt place capacity ≡ b → capacity ≡ n → 0 < n → (if b then place else 0) < n
@@ -59,16 +65,24 @@ above : (left n : ℕ) → left ≤ n → (left ≡ 0 → ⊥) → 0 < n
 above left n few differs = omega (arith, few, differs)
 
 -- to the next place if one is left; else each place is behind
-goes_on : (max n : ℕ) (events : List Event) (place left capacity : ℕ) (all : Bool) → capacity ≡ n → left ≤ n → AddNone n events → (all ≡ false → TakeNone n events)
+goes_on : (max n : ℕ) (events : List Event) (place left capacity : ℕ) (all : Bool) → capacity ≡ n → left ≤ n → AddNone n events
+    → (all ≡ false → TakeNone n events)
     → (b b2 : Bool) → (left == 0) ≡ b → nat_lt place capacity ≡ b2
     → ((i : ℕ) → i < n → IsBehind n (if b2 then place else 0) left i → list_any (finds_none n i) events ≡ true)
     → Knows max n events (if b then swept_by all else Sweep (if b2 then place else 0) left capacity all)
 goes_on max n events place left capacity true same few adds takes true b2 e e2 passed =
-    let none : left ≡ 0 = eqb-true left 0 e in
-    (adds, λ i within. let low : (if b2 then place else 0) < n = below place capacity n b2 e2 same (omega (arith, within)) in passed i within ((λ h. omega arith), λ h. omega arith))
+    let none : left ≡ 0 = eqb-true left 0 e in (
+      adds,
+      λ i within. let low : (if b2 then place else 0) < n
+          = below place capacity n b2 e2 same (omega (arith, within)) in passed i within ((λ h. omega arith), λ h. omega arith),
+    )
 goes_on max n events place left capacity false same few adds takes true b2 e e2 passed =
-    let none : left ≡ 0 = eqb-true left 0 e in
-    (adds, takes refl, λ i within. let low : (if b2 then place else 0) < n = below place capacity n b2 e2 same (omega (arith, within)) in passed i within ((λ h. omega arith), λ h. omega arith))
+    let none : left ≡ 0 = eqb-true left 0 e in (
+      adds,
+      takes refl,
+      λ i within. let low : (if b2 then place else 0) < n
+          = below place capacity n b2 e2 same (omega (arith, within)) in passed i within ((λ h. omega arith), λ h. omega arith),
+    )
 goes_on max n events place left capacity all same few adds takes false true e e2 passed =
     let h : place < capacity = ltb-true place capacity e2 in
     record { whole = same; there = omega arith; few = few; adds = adds; takes = takes; passed = passed }
@@ -77,7 +91,8 @@ goes_on max n events place left capacity all same few adds takes false false e e
     record { whole = same; there = some; few = few; adds = adds; takes = takes; passed = passed }
 
 -- behind the next place: behind this one, or this one
-behind_next : (n place left i : ℕ) (b : Bool) → n < 2 ^ 64 → place < n → i < n → (place ≡ i → ⊥) → nat_lt (successor place) n ≡ b → IsBehind n (if b then successor place else 0) (left - 1) i → IsBehind n place left i
+behind_next : (n place left i : ℕ) (b : Bool) → n < 2 ^ 64 → place < n → i < n → (place ≡ i → ⊥) → nat_lt (successor place) n ≡ b
+    → IsBehind n (if b then successor place else 0) (left - 1) i → IsBehind n place left i
 behind_next n place left i true few there within differs e h =
     let lt : successor place < n = ltb-true (successor place) n e in
     let on : successor place ≡ place + 1 = omega arith in
@@ -95,27 +110,39 @@ behind_next n place left i false few there within differs e h =
     )
 
 -- the place is done with: to the next one
-moves_on : (max n : ℕ) (events : List Event) (e : Event) (place left capacity : ℕ) (all : Bool) → n < 2 ^ 64 → Sweeps n events place left capacity all
-    → ((i : ℕ) → raised_by n i e.access e.answer ≡ 0) → (all ≡ false → (i : ℕ) → taken_by n i e.access e.answer ≡ 0) → finds_none n place e ≡ true
+moves_on : (max n : ℕ) (events : List Event) (e : Event) (place left capacity : ℕ) (all : Bool) → n < 2 ^ 64
+    → Sweeps n events place left capacity all
+    → ((i : ℕ) → raised_by n i e.access e.answer ≡ 0) → (all ≡ false → (i : ℕ) → taken_by n i e.access e.answer ≡ 0)
+    → finds_none n place e ≡ true
     → Knows max n (events ++ e ∷ []) (going_on_at (successor place) (left - 1) capacity all)
 moves_on max n events e place left capacity all few s adds takes found =
-    goes_on max n (events ++ e ∷ []) (successor place) (left - 1) capacity all s.whole (omega (arith, s.few)) (adds_on n events e s.adds adds)
+    goes_on max n (events ++ e ∷ []) (successor place) (left - 1) capacity all s.whole (omega (arith, s.few))
+    (adds_on n events e s.adds adds)
     (λ one. takes_on n events e (s.takes one) (takes one))
     (left - 1 == 0) (nat_lt (successor place) capacity) refl refl
-    (λ i within behind. at i within (place == i) refl (subst (λ (c : ℕ). IsBehind n (if nat_lt (successor place) c then successor place else 0) (left - 1) i) s.whole behind))
+    (λ i within behind. at i within (place == i) refl
+    (subst (λ (c : ℕ). IsBehind n (if nat_lt (successor place) c then successor place else 0) (left - 1) i) s.whole behind))
   where
-    at : (i : ℕ) → i < n → (b : Bool) → (place == i) ≡ b → IsBehind n (if nat_lt (successor place) n then successor place else 0) (left - 1) i → list_any (finds_none n i) (events ++ e ∷ []) ≡ true
-    at i within true same behind = subst (λ (k : ℕ). list_any (finds_none n k) (events ++ e ∷ []) ≡ true) (eqb-true place i same) (any_last (finds_none n place) events e found)
-    at i within false other behind = any_first (finds_none n i) events e (s.passed i within (behind_next n place left i (nat_lt (successor place) n) few s.there within (eqb-false place i other) refl behind))
+    at : (i : ℕ) → i < n → (b : Bool) → (place == i) ≡ b
+        → IsBehind n (if nat_lt (successor place) n then successor place else 0) (left - 1) i
+        → list_any (finds_none n i) (events ++ e ∷ []) ≡ true
+    at i within true same behind = subst (λ (k : ℕ). list_any (finds_none n k) (events ++ e ∷ []) ≡ true) (eqb-true place i same)
+        (any_last (finds_none n place) events e found)
+    at i within false other behind = any_first (finds_none n i) events e
+        (s.passed i within (behind_next n place left i (nat_lt (successor place) n) few s.there within (eqb-false place i other) refl
+        behind))
 
 -- the place was looked at: 0 is passed over, another is to be taken out
-saw : (max n : ℕ) (events : List Event) (e : Event) (place left capacity : ℕ) (all : Bool) → n < 2 ^ 64 → Sweeps n events place left capacity all
+saw : (max n : ℕ) (events : List Event) (e : Event) (place left capacity : ℕ) (all : Bool) → n < 2 ^ 64
+    → Sweeps n events place left capacity all
     → ((i : ℕ) → raised_by n i e.access e.answer ≡ 0) → ((i : ℕ) → taken_by n i e.access e.answer ≡ 0) → shows n place e.access ≡ true
     → (b : Bool) → (e.answer == 0) ≡ b
-    → Knows max n (events ++ e ∷ []) (if b then going_on_at (successor place) (left - 1) capacity all else Taking place left capacity all e.answer)
+    → Knows max n (events ++ e ∷ []) (if b then going_on_at (successor place) (left - 1) capacity all else Taking place left capacity
+    all e.answer)
 saw max n events e place left capacity all few s adds takes shown true zero =
     moves_on max n events e place left capacity all few s adds (λ one. takes)
-    (or_left (shows n place e.access && (e.answer == 0)) (nat_lt 0 (taken_by n place e.access e.answer)) (both (shows n place e.access) (e.answer == 0) shown zero))
+    (or_left (shows n place e.access && (e.answer == 0)) (nat_lt 0 (taken_by n place e.access e.answer))
+    (both (shows n place e.access) (e.answer == 0) shown zero))
   where
     both : (a b : Bool) → a ≡ true → b ≡ true → (a && b) ≡ true
     both true b h k = k
@@ -166,13 +193,15 @@ own_place : (place n : ℕ) → place < n → (place % n == place) ≡ true
 own_place place n within = eqb_same (place % n) place (place % n == place) refl (mod-eq_of_lt within)
 
 -- the place was taken out
-took : (max n : ℕ) (events : List Event) (e : Event) (place left capacity : ℕ) (all : Bool) (count : ℕ) → n < 2 ^ 64 → Sweeps n events place left capacity all → 0 < count
+took : (max n : ℕ) (events : List Event) (e : Event) (place left capacity : ℕ) (all : Bool) (count : ℕ) → n < 2 ^ 64
+    → Sweeps n events place left capacity all → 0 < count
     → ((i : ℕ) → raised_by n i e.access e.answer ≡ 0)
     → taken_by n place e.access e.answer ≡ count → ((i : ℕ) → (place ≡ i → ⊥) → taken_by n i e.access e.answer ≡ 0)
     → Knows max n (events ++ e ∷ []) (found_at place left capacity all)
 took max n events e place left capacity true count few s some adds here away =
     moves_on max n events e place left capacity true few s adds (λ one. absurd (cc))
-    (or_right (shows n place e.access && (e.answer == 0)) (nat_lt 0 (taken_by n place e.access e.answer)) (lt_test (taken_by n place e.access e.answer) (nat_lt 0 (taken_by n place e.access e.answer)) refl (omega arith)))
+    (or_right (shows n place e.access && (e.answer == 0)) (nat_lt 0 (taken_by n place e.access e.answer))
+    (lt_test (taken_by n place e.access e.answer) (nat_lt 0 (taken_by n place e.access e.answer)) refl (omega arith)))
   where
     lt_test : (k : ℕ) (b : Bool) → nat_lt 0 k ≡ b → 0 < k → b ≡ true
     lt_test k true e h = refl
@@ -194,6 +223,7 @@ looked max n events e place top same within adds takes adds2 takes2 shown true l
     (same, within, adds_on n events e adds adds2, takes_on n events e takes takes2, (omega arith))
 looked max n events e place top same within adds takes adds2 takes2 shown false less =
     let h : top ≤ e.answer = ltb-false e.answer top less in (
+      within,
       adds_on n events e adds adds2,
       takes_on n events e takes takes2,
       any_last (finds_full max n place) events e (full (shows n place e.access) (nat_le max e.answer) shown refl (omega arith)),
@@ -229,16 +259,20 @@ none_behind : (n place left i : ℕ) (b : Bool) → nat_lt i place ≡ b → lef
 none_behind n place left i true e same within h = let lt : i < place = ltb-true i place e in omega (arith, h.1 lt)
 none_behind n place left i false e same within h = let le : place ≤ i = ltb-false i place e in omega (arith, h.0 le)
 
-counts : (max n : ℕ) (events : List Event) (party place top count answer : ℕ) → max < 2 ^ 64 → Knows max n events (Adding place top count) → (b : Bool) → (answer == count) ≡ b
-    → Knows max n (events ++ record { party = party; access = call_next (Adding place top count); answer = answer } ∷ []) (if b then Done (call.Set place) (Added true) else adding_at place top answer)
+counts : (max n : ℕ) (events : List Event) (party place top count answer : ℕ) → max < 2 ^ 64
+    → Knows max n events (Adding place top count) → (b : Bool) → (answer == count) ≡ b
+    → Knows max n (events ++ record { party = party; access = call_next (Adding place top count); answer = answer } ∷ [])
+    (if b then Done (call.Set place) (Added true) else adding_at place top answer)
 counts max n events party place top count answer small k true won =
     let e : Event = record { party = party; access = call_next (Adding place top count); answer = answer } in
     let up : count < successor count = omega (arith, k.4) in (
+      k.1,
       λ i. omega (
         arith,
         more_increments n i events e,
         k.2 i,
-        raised_once (place % n == i) (answer == count) (nat_lt count (successor count)) won (lt_is count (successor count) (nat_lt count (successor count)) refl up)
+        raised_once (place % n == i) (answer == count) (nat_lt count (successor count)) won
+            (lt_is count (successor count) (nat_lt count (successor count)) refl up)
             ∙ ap (λ (m : ℕ). if m == i then 1 else 0) (mod-eq_of_lt k.1),
       ),
       takes_on n events e k.3 (λ i. no_less (hits n i place answer count) (count - successor count) (omega arith)),
@@ -250,8 +284,10 @@ counts max n events party place top count answer small k false lost =
     (λ i. none_taken (place % n == i) (answer == count) (count - successor count) lost)
     (own_place place n k.1) (nat_lt answer top) refl
 
-takes : (max n : ℕ) (events : List Event) (party place left capacity : ℕ) (all : Bool) (count answer : ℕ) → n < 2 ^ 64 → Knows max n events (Taking place left capacity all count) → (b : Bool) → (answer == count) ≡ b
-    → Knows max n (events ++ record { party = party; access = call_next (Taking place left capacity all count); answer = answer } ∷ []) (if b then found_at place left capacity all else sweeping_at place left capacity all answer)
+takes : (max n : ℕ) (events : List Event) (party place left capacity : ℕ) (all : Bool) (count answer : ℕ) → n < 2 ^ 64
+    → Knows max n events (Taking place left capacity all count) → (b : Bool) → (answer == count) ≡ b
+    → Knows max n (events ++ record { party = party; access = call_next (Taking place left capacity all count); answer = answer } ∷ [])
+    (if b then found_at place left capacity all else sweeping_at place left capacity all answer)
 takes max n events party place left capacity all count answer few k true won =
     let e : Event = record { party = party; access = call_next (Taking place left capacity all count); answer = answer } in
     let whole : count - 0 ≡ count = omega arith in
@@ -259,7 +295,8 @@ takes max n events party place left capacity all count answer few k true won =
     took max n events e place left capacity all count few s k.1
     (λ i. none_raised (hits n i place answer count) count (nat_lt count 0) refl)
     (own_taken (place % n == place) (answer == count) (count - 0) (own_place place n s.there) won ∙ whole)
-    (λ i differs. else_taken (place % n == i) (answer == count) (count - 0) (eqb_differs (place % n) i (place % n == i) refl (λ same. differs (sym (mod-eq_of_lt s.there) ∙ same))))
+    (λ i differs. else_taken (place % n == i) (answer == count) (count - 0)
+    (eqb_differs (place % n) i (place % n == i) refl (λ same. differs (sym (mod-eq_of_lt s.there) ∙ same))))
 takes max n events party place left capacity all count answer few k false lost =
     let e : Event = record { party = party; access = call_next (Taking place left capacity all count); answer = answer } in
     let s : Sweeps n events place left capacity all = k.0 in
@@ -273,16 +310,22 @@ pub knows_on : (max n : ℕ) (events : List Event) (stage : SetCall) (party answ
     → Knows max n (events ++ record { party = party; access = call_next stage; answer = answer } ∷ []) (call_take stage answer)
 knows_on max n events Idle party answer small few k = tt
 knows_on max n events (Add place top) party answer small few k =
-    looked max n events (record { party = party; access = call_next (Add place top); answer = answer }) place top k.0 k.1 k.2 k.3 (λ i. refl) (λ i. refl) (own_place place n k.1) (nat_lt answer top) refl
-knows_on max n events (Adding place top count) party answer small few k = counts max n events party place top count answer small k (answer == count) refl
+    looked max n events (record { party = party; access = call_next (Add place top); answer = answer }) place top k.0 k.1 k.2 k.3
+    (λ i. refl) (λ i. refl) (own_place place n k.1) (nat_lt answer top) refl
+knows_on max n events (Adding place top count) party answer small few k
+    = counts max n events party place top count answer small k (answer == count) refl
 knows_on max n events (Next capacity) party answer small few k =
     let e : Event = record { party = party; access = call_next (Next capacity); answer = answer } in
-    goes_on max n (events ++ e ∷ []) answer capacity capacity false k.0 (omega (arith, k.0)) (adds_on n events e k.1 (λ i. refl)) (λ one. takes_on n events e k.2 (λ i. refl))
+    goes_on max n (events ++ e ∷ []) answer capacity capacity false k.0 (omega (arith, k.0)) (adds_on n events e k.1 (λ i. refl))
+    (λ one. takes_on n events e k.2 (λ i. refl))
     (capacity == 0) (nat_lt answer capacity) refl refl
-    (λ i within behind. absurd (none_behind n (if nat_lt answer capacity then answer else 0) capacity i (nat_lt i (if nat_lt answer capacity then answer else 0)) refl k.0 within behind))
+    (λ i within behind. absurd (none_behind n (if nat_lt answer capacity then answer else 0) capacity i
+    (nat_lt i (if nat_lt answer capacity then answer else 0)) refl k.0 within behind))
 knows_on max n events (Sweep place left capacity all) party answer small few k =
-    saw max n events (record { party = party; access = call_next (Sweep place left capacity all); answer = answer }) place left capacity all few k (λ i. refl) (λ i. refl) (own_place place n k.there) (answer == 0) refl
-knows_on max n events (Taking place left capacity all count) party answer small few k = takes max n events party place left capacity all count answer few k (answer == count) refl
+    saw max n events (record { party = party; access = call_next (Sweep place left capacity all); answer = answer }) place left capacity
+    all few k (λ i. refl) (λ i. refl) (own_place place n k.there) (answer == 0) refl
+knows_on max n events (Taking place left capacity all count) party answer small few k
+    = takes max n events party place left capacity all count answer few k (answer == count) refl
 knows_on max n events (Found place after) party answer small few k =
     let e : Event = record { party = party; access = call_next (Found place after); answer = answer } in (
       adds_on n events e k.0 (λ i. refl),
@@ -293,13 +336,15 @@ knows_on max n events (Found place after) party answer small few k =
 knows_on max n events (Done c answered) party answer small few k = tt
 
 -- a call that begins knows its begin
-pub knows_begun : (max n party : ℕ) (c : Call) → is_within n c ≡ true → Knows max n (record { party = party; access = Local; answer = 0 } ∷ []) (call_begun max n c)
+pub knows_begun : (max n party : ℕ) (c : Call) → is_within n c ≡ true
+    → Knows max n (record { party = party; access = Local; answer = 0 } ∷ []) (call_begun max n c)
 knows_begun max n party (call.Set place) within = (refl, ltb-true place n within, (λ i. refl), λ i. refl)
 knows_begun max n party call.ResetNext within = (refl, (λ i. refl), λ i. refl)
 knows_begun max n party call.ResetAll within =
     let event : Event = record { party = party; access = Local; answer = 0 } in
     goes_on max n (event ∷ []) 0 n n true refl (omega arith) (λ i. refl) (λ one. absurd (cc)) (n == 0) (nat_lt 0 n) refl refl
-    (λ i there behind. absurd (none_behind n (if nat_lt 0 n then 0 else 0) n i (nat_lt i (if nat_lt 0 n then 0 else 0)) refl refl there behind))
+    (λ i there behind. absurd (none_behind n (if nat_lt 0 n then 0 else 0) n i (nat_lt i (if nat_lt 0 n then 0 else 0)) refl refl there
+    behind))
 
 -- where a call touches a cell, there is one
 pub some_cells : (max n : ℕ) (events : List Event) (stage : SetCall) → Knows max n events stage → is_apart (call_next stage) ≡ false → 0 < n

@@ -1,4 +1,13 @@
 pub mod Single
 pub mod Knowing
 pub mod Balance
+pub mod OwnSteps
+pub mod Recorded
+pub mod Seats
+pub mod Asked
+pub mod Spans
+pub mod Acts
+pub mod Keeping
 pub mod Runs
+pub mod Telling
+pub mod Moments

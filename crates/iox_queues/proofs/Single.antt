@@ -48,11 +48,13 @@ module _ {M : Type 0} (answers : M → Access → ℕ → M → Type 0) where
     from-write write (value ∷ given) memory after end runs over = from-value write value given runs.1.0 after end runs.1.2 over
 
     -- a load that saw this position, and then this value
-    from-value : (write value : ℕ) (given : List ℕ) (memory after : M) (end : Loading) → Loads given memory (loading.SawValue write) after end
+    from-value : (write value : ℕ) (given : List ℕ) (memory after : M) (end : Loading)
+        → Loads given memory (loading.SawValue write) after end
         → load_is_over end ≡ true → EndsUnmoved (write ∷ value ∷ given)
     from-value write value [] memory after end runs over = absurd (let bad : load_is_over end ≡ false = ap load_is_over runs.1 in cc)
     from-value write value (found ∷ given) memory after end runs over =
-        from-seen write value found given runs.1.0 after end (found == write) refl runs.1.2 (λ again. from-write found given runs.1.0 after end again over)
+        from-seen write value found given runs.1.0 after end (found == write) refl runs.1.2
+        (λ again. from-write found given runs.1.0 after end again over)
 
   -- a load that is over saw the same position before and behind its last look at the cell
   pub load-ends : (given : List ℕ) (memory after : M) (end : Loading) → Loads given memory loading.Begun after end

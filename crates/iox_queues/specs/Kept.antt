@@ -2,6 +2,7 @@
 use Rattle.std.specs.Prelude.{ℕ, ◌≡◌, ◌+◌, ◌<◌, ◌≤◌, ◌^◌, Bool, true, false, List, length, drop}
 use Rattle.std.specs.List.{list_any}
 use Rattle.iox_queues.specs.Machine.{SetState, IsBalanced, IsTold, seat_at, stage_at}
+use Rattle.iox_queues.specs.Asked.{ChangesByActs, StepsAreOfCalls, IsRecorded}
 use Rattle.iox_queues.specs.Sums.{taken_out}
 use Rattle.iox_queues.specs.Told.{AddNone, TakeNone, Tells, finds_none, own}
 use Rattle.iox_queues.specs.declared.bits.call.SetCall.{SetCall}
@@ -35,7 +36,8 @@ Knows max n events (Found place after) =
     AddNone n events × (place < n) × (0 < taken_out n place events) × ((i : ℕ) → (place ≡ i → ⊥) → taken_out n i events ≡ 0)
 Knows max n events (Done c answer) = Tells max n c answer events
 
--- the words balance, each call that ended did what it answered, and each call in hand knows its steps
+-- the words balance, each call that ended did what it answered, each call in hand knows its steps, each step is recorded and
+-- is of one call, and places change by acts alone
 pub record IsKept (m : SetState) : Type 0 where
   pub balanced : IsBalanced m
   pub told : IsTold m
@@ -44,3 +46,6 @@ pub record IsKept (m : SetState) : Type 0 where
   pub knows : (party : ℕ) → Knows m.max (length m.words.cells) (own party (drop (seat_at m.seats party).first m.events))
       (stage_at m.seats party)
   pub began : (party : ℕ) → (seat_at m.seats party).first ≤ length m.events
+  pub recorded : IsRecorded m
+  pub counted : StepsAreOfCalls m
+  pub acts : ChangesByActs m

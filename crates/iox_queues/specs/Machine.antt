@@ -1,5 +1,6 @@
 -- A bit set or counting bit set as a machine: its steps, and what they add up to.
-use Rattle.std.specs.Prelude.{ℕ, ◌≡◌, ◌+◌, ◌<◌, ◌≤◌, ◌⊎◌, Bool, true, false, not, ◌&&◌, nat_lt, Option, Some, None, List, [], ◌∷◌, ◌++◌, length, set, slice_get, slice_index, take, drop, replicate}
+use Rattle.std.specs.Prelude.{ℕ, ◌≡◌, ◌+◌, ◌<◌, ◌≤◌, ◌⊎◌, Bool, true, false, not, ◌&&◌, nat_lt, Option, Some, None, List, [], ◌∷◌, ◌++◌}
+use Rattle.std.specs.Prelude.{length, set, slice_get, slice_index, take, drop, replicate}
 use Rattle.iox_queues_steps.specs.Access.{RingWords, answer_of, after_access}
 use Rattle.iox_queues_steps.specs.declared.access.Access.TheVariants.{Local}
 use Rattle.iox_queues_steps.specs.declared.schedule.Stepped.{Stepped}
@@ -135,11 +136,15 @@ AreTold max n events (f ∷ finished) = IsToldBy max n events f × AreTold max n
 abbrev pub IsTold : SetState → Type 0
 IsTold m = AreTold m.max (length m.words.cells) m.events m.finished
 
+-- the words of an empty set of so many places
+abbrev pub start_words : ℕ → RingWords
+start_words capacity = record { cells = replicate capacity 0; write = 0; read = 0 }
+
 -- an empty set
 abbrev pub start : ℕ → ℕ → ℕ → SetState
 start max capacity parties = record {
   max = max;
-  words = record { cells = replicate capacity 0; write = 0; read = 0 };
+  words = start_words capacity;
   seats = replicate parties idle_seat;
   events = [];
   finished = [];

@@ -1,5 +1,6 @@
 -- What the answer of a call says of the call's own steps.
-use Rattle.std.specs.Prelude.{ℕ, ◌≡◌, ◌%◌, ◌<◌, Bool, true, false, if◌then◌else◌, ◌==◌, ◌&&◌, ◌||◌, nat_lt, nat_le, Some, None, List, [], ◌∷◌}
+use Rattle.std.specs.Prelude.{ℕ, ◌≡◌, ◌%◌, ◌<◌, Bool, true, false, if◌then◌else◌, ◌==◌, ◌&&◌, ◌||◌, nat_lt, nat_le, Some, None, List, []}
+use Rattle.std.specs.Prelude.{◌∷◌}
 use Rattle.std.specs.List.{list_any}
 use Rattle.iox_queues_steps.specs.declared.access.Word.TheVariants.{Write, Read, Cell}
 use Rattle.iox_queues_steps.specs.declared.access.Access.{Access}
@@ -49,13 +50,13 @@ abbrev pub FindEachNone : ℕ → List Event → Type 0
 FindEachNone n events = (i : ℕ) → i < n → list_any (finds_none n i) events ≡ true
 
 -- what a call's answer says of its steps, in a set of n places whose largest count is max: a set
--- counted its place once and nothing else, or found it full; a reset of the next place took that
+-- counted its place, one of the n, once and nothing else, or found it full; a reset of the next place took that
 -- one place out, or found each place at 0; a reset of all left no place out; none does more
 abbrev pub Tells : ℕ → ℕ → Call → Answer → List Event → Type 0
 Tells max n (call.Set place) (Added true) events =
-    ((i : ℕ) → increments n i events ≡ (if place == i then 1 else 0)) × TakeNone n events
+    (place < n) × ((i : ℕ) → increments n i events ≡ (if place == i then 1 else 0)) × TakeNone n events
 Tells max n (call.Set place) (Added false) events =
-    AddNone n events × TakeNone n events × (list_any (finds_full max n place) events ≡ true)
+    (place < n) × AddNone n events × TakeNone n events × (list_any (finds_full max n place) events ≡ true)
 Tells max n (call.Set place) (Taken got) events = ⊥
 Tells max n (call.Set place) Swept events = ⊥
 Tells max n call.ResetNext (Taken (Some place)) events =

@@ -55,7 +55,8 @@ members-rise at (false ∷ bits) = members-rise (at + 1) bits
 members-rise at (true ∷ bits) =
     AllPairs-cons (λ i j. i < j) at (members_from (at + 1) bits)
     (λ k d within.
-    let later : MemberFrom (at + 1) bits (slice_index_or (members_from (at + 1) bits) k d) = member-told (at + 1) bits _ (Contains-get_or (members_from (at + 1) bits) k d within) in
+    let later : MemberFrom (at + 1) bits (slice_index_or (members_from (at + 1) bits) k d)
+    = member-told (at + 1) bits _ (Contains-get_or (members_from (at + 1) bits) k d within) in
     omega (arith, later.0))
     (members-rise (at + 1) bits)
 
@@ -82,7 +83,8 @@ count-told : (at : ℕ) (counts : List ℕ) (s : BitState) → Contains (counted
 count-told at [] s (k, within, is) = absurd (omega (arith, within))
 count-told at (zero ∷ counts) s there = count-behind at zero counts s (count-told (at + 1) counts s there)
 count-told at (suc n ∷ counts) s there =
-    elim (Contains-cases (record { bit = at; count = suc n }) (counted_from (at + 1) counts) s there) as (λ _. CountFrom at (suc n ∷ counts) s) [
+    elim (Contains-cases (record { bit = at; count = suc n }) (counted_from (at + 1) counts) s there) as
+    (λ _. CountFrom at (suc n ∷ counts) s) [
       | inl here ↦
           let place : at ≡ s.bit = ap (λ t. t.bit) here in
           let count : suc n ≡ s.count = ap (λ t. t.count) here in
@@ -92,7 +94,8 @@ count-told at (suc n ∷ counts) s there =
     ]
 
 -- and each place whose count is above 0 is counted
-count-has : (at : ℕ) (counts : List ℕ) (j i n : ℕ) → i ≡ at + j → 0 < n → slice_index_or counts j 0 ≡ n → Contains (counted_from at counts) (record { bit = i; count = n })
+count-has : (at : ℕ) (counts : List ℕ) (j i n : ℕ) → i ≡ at + j → 0 < n → slice_index_or counts j 0 ≡ n
+    → Contains (counted_from at counts) (record { bit = i; count = n })
 count-has at [] j i n e above is = absurd (omega (arith, above, is))
 count-has at (zero ∷ counts) zero i n e above is = absurd (omega (arith, above, is))
 count-has at (zero ∷ counts) (suc j) i n e above is = count-has (at + 1) counts j i n (omega (arith, e)) above is
@@ -100,7 +103,8 @@ count-has at (suc m ∷ counts) zero i n e above is =
     let here : i ≡ at = omega (arith, e) in
     rw (here, ← is) (Contains-first (record { bit = at; count = suc m }) (counted_from (at + 1) counts))
 count-has at (suc m ∷ counts) (suc j) i n e above is =
-    Contains-behind (record { bit = at; count = suc m }) (counted_from (at + 1) counts) (record { bit = i; count = n }) (count-has (at + 1) counts j i n (omega (arith, e)) above is)
+    Contains-behind (record { bit = at; count = suc m }) (counted_from (at + 1) counts) (record { bit = i; count = n })
+    (count-has (at + 1) counts j i n (omega (arith, e)) above is)
 
 counts-rise : (at : ℕ) (counts : List ℕ) → AllPairs (λ s t. s.bit < t.bit) (counted_from at counts)
 counts-rise at [] = λ i j d lt within. absurd (omega (arith, within))
@@ -108,7 +112,8 @@ counts-rise at (zero ∷ counts) = counts-rise (at + 1) counts
 counts-rise at (suc n ∷ counts) =
     AllPairs-cons (λ s t. s.bit < t.bit) (record { bit = at; count = suc n }) (counted_from (at + 1) counts)
     (λ k d within.
-    let later : CountFrom (at + 1) counts (slice_index_or (counted_from (at + 1) counts) k d) = count-told (at + 1) counts _ (Contains-get_or (counted_from (at + 1) counts) k d within) in
+    let later : CountFrom (at + 1) counts (slice_index_or (counted_from (at + 1) counts) k d)
+    = count-told (at + 1) counts _ (Contains-get_or (counted_from (at + 1) counts) k d within) in
     omega (arith, later.0))
     (counts-rise (at + 1) counts)
 

@@ -1,5 +1,6 @@
 -- The words of the elements of an array, one word each, and that they give it back.
-use Rattle.std.proofs.Common.{ℕ, zero, suc, ◌≡◌, ◌+◌, ◌-◌, ◌<◌, List, [], ◌∷◌, length, get_or, map, take, drop, arith, refl, ap, ◌∙◌, sym, subst, set, ◌++◌}
+use Rattle.std.proofs.Common.{ℕ, zero, suc, ◌≡◌, ◌+◌, ◌-◌, ◌<◌, List, [], ◌∷◌, length, get_or, map, take, drop, arith, refl, ap, ◌∙◌, sym}
+use Rattle.std.proofs.Common.{subst, set, ◌++◌}
 use Rattle.std.specs.Prelude.{All, slice_index}
 use Rattle.std.proofs.lemmas.List.{drop_more, take_more, take_more_set, length-map}
 use Rattle.std.proofs.lemmas.List.Elements.{All-head, All-tail}
@@ -66,6 +67,8 @@ pub each_more : {X : Type 0} (of_parts : List ℕ → X) (words : List ℕ) (ite
     → take (i + 1) (set items i x) ≡ take (i + 1) (each_of_words of_parts words)
 each_more of_parts words items i x within there before is =
     let all : List _ = each_of_words of_parts words in
-    let at : get_or all i x ≡ x = map_at (λ word. of_parts (word ∷ [])) words i x within ∙ ap of_parts (sym (one_of words i within)) ∙ sym is in
+    let at : get_or all i x ≡ x = map_at (λ word. of_parts (word ∷ [])) words i x within ∙ ap of_parts (sym (one_of words i within)) ∙
+    sym is in
     take_more_set items i x there ∙ ap (λ xs. xs ++ x ∷ []) before
-    ∙ sym (take_more all i x (subst (λ n. i < n) (sym (length-map words (λ word. of_parts (word ∷ [])))) within) ∙ ap (λ y. take i all ++ y ∷ []) at)
+    ∙ sym (take_more all i x (subst (λ n. i < n) (sym (length-map words (λ word. of_parts (word ∷ [])))) within) ∙ ap
+    (λ y. take i all ++ y ∷ []) at)

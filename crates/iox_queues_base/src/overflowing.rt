@@ -1,7 +1,8 @@
 //! Queues of numbers that hand the oldest out when they are full.
 //!
 //! Ported from `SafelyOverflowingIndexQueue` and `FixedSizeSafelyOverflowingIndexQueue` of iceoryx2.
-ghost use Rattle.std.specs.Prelude.{◌≡◌, ◌<◌, ◌≤◌, ◌==◌, ◌++◌, ◌∷◌, [], option_to_list, length, drop, nat_lt, nat_le, slice_get, IfOk, IfSome};
+ghost use Rattle.std.specs.Prelude.{◌≡◌, ◌<◌, ◌≤◌, ◌==◌, ◌++◌, ◌∷◌, [], option_to_list, length, drop, nat_lt, nat_le, slice_get, IfOk};
+ghost use Rattle.std.specs.Prelude.{IfSome};
 ghost use Rattle.iox_queues_base.specs.Waiting.{Bounded, put_over, left_out};
 
 use std::alloc::{AllocError, Global};

@@ -1,7 +1,8 @@
 //! Values that are copied as 64-bit words.
 //!
 //! New in this port: what iceoryx2 copies as bytes of any `Copy` type is copied here word by word.
-ghost use Rattle.std.specs.Prelude.{◌≡◌, ℕ, ◌+◌, ◌*◌, ◌/◌, ◌%◌, ◌^◌, ◌<◌, List, [], ◌∷◌, length, slice_index, if◌then◌else◌, ◌==◌, nat_lt, Bool, true, false, refl};
+ghost use Rattle.std.specs.Prelude.{◌≡◌, ℕ, ◌+◌, ◌*◌, ◌/◌, ◌%◌, ◌^◌, ◌<◌, List, [], ◌∷◌, length, slice_index, if◌then◌else◌, ◌==◌};
+ghost use Rattle.std.specs.Prelude.{nat_lt, Bool, true, false, refl};
 ghost use Rattle.std.proofs.Common.{arith, rules};
 ghost use Rattle.iox_queues_base.specs.Coding.{narrowed, narrowed-same, word_of_bool, wide-back};
 

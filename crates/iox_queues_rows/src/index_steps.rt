@@ -1,5 +1,6 @@
-//! A set of indices one access at a time: an acquire whose next free index is taken, and given back, before its exchange.
-use iox_index::{ReleaseMode, ReleaseState};
+//! A set of indices one access at a time: an acquire whose next free index is taken, and given back, before its exchange; and each
+//! answer of calls that are made one after the other.
+use iox_index::{ReleaseMode, ReleaseState, UniqueIndexSetAcquireFailure};
 use iox_index_steps::{Answer, Call, IndexSetMachine, Move};
 use iox_queues::sets::Event;
 use iox_queues::{Access, Word};
@@ -45,21 +46,151 @@ fn is_lost(event: &Event) -> bool {
     }
 }
 
+// Whether just these calls ended, each of its party and so answered.
+fn are_finished(set: &IndexSetMachine, answers: &[(usize, Answer)]) -> bool {
+    for (place, (party, answer)) in answers.iter().enumerate() {
+        match set.finished().get(place) {
+            Some(call) if call.party == *party && call.answer == *answer => {}
+            _ => return false,
+        }
+    }
+    set.finished().len() == answers.len()
+}
+
+// Whether the exchange of party 0 is lost.
+fn loses(set: &IndexSetMachine) -> bool {
+    match set.events().get(18) {
+        Some(event) => event.party == 0 && is_lost(event),
+        None => false,
+    }
+}
+
 fn is_overtaken(alloc: Global) -> Result<bool, AllocError> {
     let mut set = IndexSetMachine::new(alloc, 2, 2)?;
     let made = set.run(&OVERTAKEN);
-    let lost = match set.events().get(18) {
-        Some(event) => event.party == 0 && is_lost(event),
-        None => false,
-    };
-    let answers = set.finished().len() == 4
-        && set.finished().iter().zip(ANSWERS.iter()).all(|(call, answer)| call.party == answer.0
-            && call.answer == answer.1);
-    Ok(made == 22 && lost && answers)
+    Ok(made == 22 && loses(&set) && are_finished(&set, &ANSWERS))
 }
 
 #[test]
 fn an_overtaken_acquire_loses_its_exchange(rt: HostRuntime) -> Result<(), AllocError> {
     assert!(rt; is_overtaken(rt.alloc())?);
+    Ok(())
+}
+
+/// Calls of a set of so many indices, each made to its end before the next; those that fit, by their parties and answers; and whether
+/// the set is locked then.
+struct Course {
+    capacity: u8,
+    calls: &'static [(usize, Call)],
+    answers: &'static [(usize, Answer)],
+    is_locked: bool,
+}
+
+const OUT: Answer = Answer::Acquired(Err(UniqueIndexSetAcquireFailure::OutOfIndices));
+
+const LOCKED: Answer = Answer::Acquired(Err(UniqueIndexSetAcquireFailure::IsLocked));
+
+const COURSES: [Course; 6] = [
+    // the last index is given back, and the set locked
+    Course {
+        capacity: 2,
+        calls: &[
+            (0, Call::Acquire),
+            (0, Call::Release(0, ReleaseMode::LockIfLastIndex)),
+            (1, Call::Acquire),
+        ],
+        answers: &[
+            (0, Answer::Acquired(Ok(0))),
+            (0, Answer::Released(ReleaseState::Locked)),
+            (1, LOCKED),
+        ],
+        is_locked: true,
+    },
+    // another index is out, so the set isn't locked
+    Course {
+        capacity: 2,
+        calls: &[
+            (0, Call::Acquire),
+            (1, Call::Acquire),
+            (0, Call::Release(0, ReleaseMode::LockIfLastIndex)),
+            (0, Call::Acquire),
+        ],
+        answers: &[
+            (0, Answer::Acquired(Ok(0))),
+            (1, Answer::Acquired(Ok(1))),
+            (0, Answer::Released(ReleaseState::Unlocked)),
+            (0, Answer::Acquired(Ok(0))),
+        ],
+        is_locked: false,
+    },
+    // the last index is given back by a release that isn't to lock
+    Course {
+        capacity: 1,
+        calls: &[
+            (0, Call::Acquire),
+            (0, Call::Release(0, ReleaseMode::Default)),
+            (1, Call::Acquire),
+        ],
+        answers: &[
+            (0, Answer::Acquired(Ok(0))),
+            (0, Answer::Released(ReleaseState::Unlocked)),
+            (1, Answer::Acquired(Ok(0))),
+        ],
+        is_locked: false,
+    },
+    // each index is out
+    Course {
+        capacity: 1,
+        calls: &[(0, Call::Acquire), (1, Call::Acquire)],
+        answers: &[(0, Answer::Acquired(Ok(0))), (1, OUT)],
+        is_locked: false,
+    },
+    // there is no index
+    Course {
+        capacity: 0,
+        calls: &[(0, Call::Acquire)],
+        answers: &[(0, OUT)],
+        is_locked: false,
+    },
+    // an index is given back by a party that doesn't hold it, and by one that held it before
+    Course {
+        capacity: 2,
+        calls: &[
+            (0, Call::Acquire),
+            (1, Call::Release(0, ReleaseMode::Default)),
+            (0, Call::Release(0, ReleaseMode::Default)),
+            (0, Call::Release(0, ReleaseMode::Default)),
+        ],
+        answers: &[
+            (0, Answer::Acquired(Ok(0))),
+            (0, Answer::Released(ReleaseState::Unlocked)),
+        ],
+        is_locked: false,
+    },
+];
+
+fn make_call(set: &mut IndexSetMachine, party: usize, call: Call) {
+    let go_on = Move::GoOn(party);
+    let _ = set.run(&[Move::Begin(party, call), go_on, go_on, go_on, go_on]);
+}
+
+// Whether the calls of a course are answered so by a new set.
+fn go(set: &mut IndexSetMachine, course: &Course) -> bool {
+    for (party, call) in course.calls {
+        make_call(set, *party, *call);
+    }
+    are_finished(set, course.answers) && set.is_locked() == course.is_locked
+}
+
+fn is_answered(alloc: Global, course: &Course) -> Result<bool, AllocError> {
+    let capacity = usize::from(course.capacity);
+    Ok(go(&mut IndexSetMachine::new(alloc, capacity, 2)?, course))
+}
+
+#[test]
+fn calls_one_after_the_other_are_answered(rt: HostRuntime) -> Result<(), AllocError> {
+    for (place, course) in COURSES.iter().enumerate() {
+        assert!(rt; is_answered(rt.alloc(), course)?, "course {place}");
+    }
     Ok(())
 }

@@ -5,6 +5,8 @@ use iox_index::{
     Container, FixedSizeContainer, FixedSizeUniqueIndexSet, OwnerId, RobustUniqueIndexSet,
     StaticRobustUniqueIndexSet, UniqueIndexSet,
 };
+use iox_index_steps::IndexSetMachine;
+use iox_index_steps::atomic::{self, AtomicMachine};
 use iox_queues::sets::{self, SetMachine};
 use iox_queues::{
     BitSet, Call, CountingBitSet, FixedSizeBitSet, FixedSizeCountingBitSet, IndexQueue, Move,
@@ -56,7 +58,18 @@ fn add_members(container: &mut Container<u64>, len: usize, owner: OwnerId) {
     }
 }
 
-/// The capacity of a container, told where the copy of it has so many members as were added, and no more.
+/// The capacity of a container, told where the copy of it has so many members, and no fewer.
+fn copied(alloc: Global, container: &Container<u64>, len: usize) -> Result<usize, AllocError> {
+    let copy = container.get_state(alloc)?;
+    for index in 0..len {
+        if copy.get(index) != Some(7) {
+            return Ok(usize::MAX);
+        }
+    }
+    Ok(container.capacity())
+}
+
+/// The same of a new container, once as many were added.
 fn container(
     alloc: Global,
     owner: OwnerId,
@@ -65,13 +78,7 @@ fn container(
 ) -> Result<usize, AllocError> {
     let mut container = Container::<u64>::new(alloc, 1, capacity)?;
     add_members(&mut container, len, owner);
-    let copy = container.get_state(alloc)?;
-    for index in 0..len {
-        if copy.get(index) != Some(7) {
-            return Ok(usize::MAX);
-        }
-    }
-    Ok(container.capacity())
+    copied(alloc, &container, len)
 }
 
 const POP: [Move; 6] = [
@@ -135,8 +142,36 @@ fn set_machine(alloc: Global, size: usize) -> Result<usize, AllocError> {
     Ok(machine.finished().len())
 }
 
+/// The indices of a set that goes by steps, with as many parties.
+fn index_machine(alloc: Global, size: usize) -> Result<usize, AllocError> {
+    if size > MANY {
+        return Err(AllocError);
+    }
+    Ok(IndexSetMachine::new(alloc, size, size)?.capacity() as usize)
+}
+
+/// How many calls end of a store and a load of a single value of so many words: none where one found no memory.
+fn atomic_machine(alloc: Global, size: usize) -> Result<usize, AllocError> {
+    let mut values = Vec::new(alloc);
+    values.push(vec![in alloc; 7u64; size]?)?;
+    let mut machine = AtomicMachine::new(alloc, values, 1)?;
+    for call in [atomic::Call::Store(0), atomic::Call::Load] {
+        let _ = machine.step(atomic::Move::Begin(0, call));
+        for _ in 0..size {
+            let _ = machine.step(atomic::Move::GoOn(0));
+        }
+        let rest = [atomic::Move::GoOn(0); 3];
+        let _ = machine.run(&rest);
+    }
+    if machine.finished().len() == 2 {
+        Ok(size)
+    } else {
+        Err(AllocError)
+    }
+}
+
 /// What is made empty at a size, each told by that size.
-fn empty(alloc: Global, owner: OwnerId, size: usize) -> [Result<usize, AllocError>; 7] {
+fn empty(alloc: Global, owner: OwnerId, size: usize) -> [Result<usize, AllocError>; 8] {
     [
         bit_set(alloc, size),
         counting_set(alloc, size),
@@ -145,17 +180,19 @@ fn empty(alloc: Global, owner: OwnerId, size: usize) -> [Result<usize, AllocErro
         shared_indices(alloc, size),
         robust_set(alloc, size),
         container(alloc, owner, size, 0),
+        index_machine(alloc, size),
     ]
 }
 
 /// What is filled at a size, each told by that size.
-fn filled(alloc: Global, owner: OwnerId, size: usize) -> [Result<usize, AllocError>; 5] {
+fn filled(alloc: Global, owner: OwnerId, size: usize) -> [Result<usize, AllocError>; 6] {
     [
         container(alloc, owner, size, size / 2),
         container(alloc, owner, size, size),
         refusing_ring(alloc, size),
         overflowing_ring(alloc, size),
         set_machine(alloc, size),
+        atomic_machine(alloc, size),
     ]
 }
 
@@ -202,14 +239,19 @@ fn fixed_robust_set<const SIZE: usize>(alloc: Global) -> Result<usize, AllocErro
 }
 
 /// The capacity of a container, told where a copy of it is made.
-fn fixed_container<const SIZE: usize>(alloc: Global) -> Result<usize, AllocError> {
-    let container = FixedSizeContainer::<u64, SIZE>::new(alloc, 1)?;
-    let copy = container.get_state(alloc)?;
-    if copy.get(0) == None {
+fn fixed_copied<const SIZE: usize>(
+    alloc: Global,
+    container: &FixedSizeContainer<u64, SIZE>,
+) -> Result<usize, AllocError> {
+    if container.get_state(alloc)?.get(0) == None {
         Ok(container.capacity())
     } else {
         Ok(usize::MAX)
     }
+}
+
+fn fixed_container<const SIZE: usize>(alloc: Global) -> Result<usize, AllocError> {
+    fixed_copied(alloc, &FixedSizeContainer::<u64, SIZE>::new(alloc, 1)?)
 }
 
 /// What is made at a fixed size, each told by that size.

@@ -1,5 +1,6 @@
 -- The cells from a position on hold a list, one behind the other, going round.
-use Rattle.std.proofs.Common.{◌≡◌, ℕ, suc, ◌+◌, ◌*◌, ◌/◌, ◌%◌, ◌^◌, ◌<◌, ◌≤◌, List, [], ◌∷◌, ◌++◌, length, set, drop, slice_index, sym, ◌∙◌, subst, inl, inr, arith, length-append, mul-le-mul_left}
+use Rattle.std.proofs.Common.{◌≡◌, ℕ, suc, ◌+◌, ◌*◌, ◌/◌, ◌%◌, ◌^◌, ◌<◌, ◌≤◌, List, [], ◌∷◌, ◌++◌, length, set, drop, slice_index, sym}
+use Rattle.std.proofs.Common.{◌∙◌, subst, inl, inr, arith, length-append, mul-le-mul_left}
 use Rattle.std.proofs.Math.Seq.{get_or-set_same, get_or-set_other, get_or-append_seam}
 use Rattle.std.proofs.lemmas.Nat.{mod_below}
 use Rattle.iox_queues_steps.specs.Access.{successor}
@@ -16,7 +17,8 @@ cells_apart a b n less near same =
       | inr ge ↦ let h : n * (b / n) ≤ n * (a / n) = mul-le-mul_left n ge in omega arith
     ]
 
-pub held-push : (n : ℕ) (cells : List ℕ) (read : ℕ) (q : List ℕ) (value : ℕ) → Held n cells read q → slice_index cells ((read + length q) % n) ≡ value → Held n cells read (q ++ value ∷ [])
+pub held-push : (n : ℕ) (cells : List ℕ) (read : ℕ) (q : List ℕ) (value : ℕ) → Held n cells read q
+    → slice_index cells ((read + length q) % n) ≡ value → Held n cells read (q ++ value ∷ [])
 held-push n cells read q value h last = record {
   each = λ k below. elim (cases_lt k (length q)) [
     | inl lt ↦ h.each k lt ∙ sym (get_or-append q (value ∷ []) 0 k lt)
@@ -26,9 +28,11 @@ held-push n cells read q value h last = record {
 }
 
 -- a store behind the list leaves it
-pub held-set : (n : ℕ) (cells : List ℕ) (read : ℕ) (q : List ℕ) (value : ℕ) → length q < n → Held n cells read q → Held n (set cells ((read + length q) % n) value) read q
+pub held-set : (n : ℕ) (cells : List ℕ) (read : ℕ) (q : List ℕ) (value : ℕ) → length q < n → Held n cells read q
+    → Held n (set cells ((read + length q) % n) value) read q
 held-set n cells read q value room h = record {
-  each = λ k below. get_or-set_other cells ((read + length q) % n) ((read + k) % n) value 0 (λ same. cells_apart (read + k) (read + length q) n (omega arith) (omega arith) same) ∙ h.each k below;
+  each = λ k below. get_or-set_other cells ((read + length q) % n) ((read + k) % n) value 0
+      (λ same. cells_apart (read + k) (read + length q) n (omega arith) (omega arith) same) ∙ h.each k below;
 }
 
 pub held-drop : (n : ℕ) (cells : List ℕ) (read : ℕ) (q : List ℕ) → Held n cells read q → Held n cells (read + 1) (drop 1 q)
@@ -38,7 +42,9 @@ held-drop n cells read (x ∷ q) h = record {
 }
 
 -- a store of a value behind the list, and what its cell holds then
-pub store_cell : (n : ℕ) (cells : List ℕ) (read : ℕ) (q : List ℕ) (write value : ℕ) → length cells ≡ n → write ≡ read + length q → length q < n → Held n cells read q → Held n (set cells (write % length cells) value) read q × (slice_index (set cells (write % length cells) value) (write % n) ≡ value)
+pub store_cell : (n : ℕ) (cells : List ℕ) (read : ℕ) (q : List ℕ) (write value : ℕ) → length cells ≡ n → write ≡ read + length q
+    → length q < n → Held n cells read q → Held n (set cells (write % length cells) value) read q
+    × (slice_index (set cells (write % length cells) value) (write % n) ≡ value)
 store_cell n cells read q write value size is room h = (
   subst (λ (m : ℕ). Held n (set cells (write % m) value) read q) (sym size)
       (subst (λ (p : ℕ). Held n (set cells (p % n) value) read q) (sym is) (held-set n cells read q value room h)),

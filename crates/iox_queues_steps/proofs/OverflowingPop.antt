@@ -1,11 +1,14 @@
 -- Each step of a pop on the overflowing ring keeps the shape, and stands in the order as it should.
-use Rattle.std.proofs.Common.{◌≡◌, ℕ, ◌+◌, ◌^◌, ◌%◌, ◌<◌, ◌≤◌, ◌⊎◌, Bool, true, false, if◌then◌else◌, ◌==◌, nat_lt, List, [], ◌∷◌, ◌++◌, length, drop, slice_get, slice_index, not, Some, None, refl, sym, ◌∙◌, ap, subst, inl, inr, arith, length-append, append-nil}
+use Rattle.std.proofs.Common.{◌≡◌, ℕ, ◌+◌, ◌^◌, ◌%◌, ◌<◌, ◌≤◌, ◌⊎◌, Bool, true, false, if◌then◌else◌, ◌==◌, nat_lt, List, [], ◌∷◌, ◌++◌}
+use Rattle.std.proofs.Common.{length, drop, slice_get, slice_index, not, Some, None, refl, sym, ◌∙◌, ap, subst, inl, inr, arith}
+use Rattle.std.proofs.Common.{length-append, append-nil}
 use Rattle.std.proofs.lemmas.Bool.{cases_lt, lt-ltb, le-ltb, eqb-true, eqb-false, ne_eqb, cond-false}
 use Rattle.iox_queues_steps.specs.Access.{RingWords, successor, after_access, answer_of}
 use Rattle.iox_queues_steps.specs.Order.{Acts, after_acts, put_values, take_values, PutNow}
 use Rattle.iox_queues_steps.specs.Kept.{Held}
 use Rattle.iox_queues_steps.specs.Overflowing.{pop_next, pop_take, pop_emptied, pop_swapped, pop_is_idle, pop_is_over}
-use Rattle.iox_queues_steps.specs.OverflowingRing.{placed_by_pop, late_put, put_in_hand, pop_ended, IsLate, PushKnows, PopKnows, WasRead, Shape}
+use Rattle.iox_queues_steps.specs.OverflowingRing.{placed_by_pop, late_put, put_in_hand, pop_ended, IsLate, PushKnows, PopKnows, WasRead}
+use Rattle.iox_queues_steps.specs.OverflowingRing.{Shape}
 use Rattle.iox_queues_steps.specs.declared.order.PushAnswer.TheVariants.{Kept}
 use Rattle.iox_queues_steps.specs.declared.order.PopAnswer.{PopAnswer}
 use Rattle.iox_queues_steps.specs.declared.order.PopAnswer.TheVariants.{Got}
@@ -18,19 +21,21 @@ use Rattle.iox_queues_steps.specs.declared.rings.overflowing.pop.Pop.TheVariants
 use Rattle.iox_queues_steps.proofs.Held.{held-push, held-drop, successor_fits}
 use Rattle.iox_queues_steps.proofs.OverflowingPush.{put_over-room, put_answer-room}
 
-pub record PopGoes (limit : ℕ) (q : List ℕ) (push : Push) (hand : List PutNow) (new : List Act) (words : RingWords) (pop : Pop) : Type 0 where
-  pub list : List ℕ
-  pub acts : Acts true limit q new
-  pub after : after_acts true limit q new ≡ list
-  pub shape : Shape limit words list push pop
-  pub in_hand : put_in_hand words.read push ≡ hand ++ put_values new
-  pub ended : pop_ended pop ≡ take_values new
+pub record PopGoes (limit : ℕ) (q : List ℕ) (push : Push) (hand : List PutNow) (new : List Act) (words : RingWords) (pop : Pop) : Type 0
+  where
+    pub list : List ℕ
+    pub acts : Acts true limit q new
+    pub after : after_acts true limit q new ≡ list
+    pub shape : Shape limit words list push pop
+    pub in_hand : put_in_hand words.read push ≡ hand ++ put_values new
+    pub ended : pop_ended pop ≡ take_values new
 
 -- how far apart the positions are, whatever the push does
 pub record Span (limit : ℕ) (words : RingWords) (q : List ℕ) : Type 0 where
   pub apart : (words.read + length q ≡ words.write) ⊎ ((words.write ≡ words.read + limit + 1) × (length q ≡ limit))
 
-late_span : (limit : ℕ) (words : RingWords) (q : List ℕ) (value seen : ℕ) → IsLate limit words q value seen → (seen < words.read) ⊎ (words.read ≤ seen) → Span limit words q
+late_span : (limit : ℕ) (words : RingWords) (q : List ℕ) (value seen : ℕ) → IsLate limit words q value seen → (seen < words.read)
+    ⊎ (words.read ≤ seen) → Span limit words q
 late_span limit words q value seen late (inl less) = record { apart = inl (late.moved less) }
 late_span limit words q value seen late (inr same) =
     let before : seen ≤ words.read = late.seen_before in
@@ -50,14 +55,16 @@ span limit words q (push.Pushed value answer) k = record { apart = inl k }
 pub empty_since : (limit : ℕ) (words : RingWords) (q : List ℕ) → 0 < limit → Span limit words q → words.write ≤ words.read → length q ≡ 0
 empty_since limit words q some s le = elim s.apart [ inl h ↦ omega arith | inr h ↦ absurd (omega arith) ]
 
-pub some_since : (limit : ℕ) (words : RingWords) (q : List ℕ) → 0 < limit → Span limit words q → (words.write ≡ words.read → ⊥) → 0 < length q
+pub some_since : (limit : ℕ) (words : RingWords) (q : List ℕ) → 0 < limit → Span limit words q → (words.write ≡ words.read → ⊥)
+    → 0 < length q
 some_since limit words q some s ne = elim s.apart [ inl h ↦ omega arith | inr h ↦ omega arith ]
 
 pub reads_below : (limit : ℕ) (words : RingWords) (q : List ℕ) → Span limit words q → words.read ≤ words.write
 reads_below limit words q s = elim s.apart [ inl h ↦ omega arith | inr h ↦ omega arith ]
 
 -- only the pop's stage changed
-pub repop : (limit : ℕ) (words : RingWords) (q : List ℕ) (push : Push) (pop pop' : Pop) → Shape limit words q push pop → PopKnows words.read q pop' → Shape limit words q push pop'
+pub repop : (limit : ℕ) (words : RingWords) (q : List ℕ) (push : Push) (pop pop' : Pop) → Shape limit words q push pop
+    → PopKnows words.read q pop' → Shape limit words q push pop'
 repop limit words q push pop pop' s k = record {
   some = s.some;
   small = s.small;
@@ -69,7 +76,8 @@ repop limit words q push pop pop' s k = record {
 }
 
 -- a step that places nothing
-pub still : (limit : ℕ) (words : RingWords) (q : List ℕ) (push : Push) (pop : Pop) → Shape limit words q push pop → pop_ended pop ≡ [] → PopGoes limit q push (put_in_hand words.read push) [] words pop
+pub still : (limit : ℕ) (words : RingWords) (q : List ℕ) (push : Push) (pop : Pop) → Shape limit words q push pop → pop_ended pop ≡ []
+    → PopGoes limit q push (put_in_hand words.read push) [] words pop
 still limit words q push pop s e = record {
   list = q;
   acts = tt;
@@ -87,7 +95,8 @@ nothing_left : (q : List ℕ) → length q ≡ 0 → drop 1 q ≡ q
 nothing_left [] h = refl
 nothing_left (x ∷ q) h = absurd (omega arith)
 
-emptied : (limit : ℕ) (words : RingWords) (q : List ℕ) (push : Push) (seen : ℕ) (b : Bool) → (words.write == seen) ≡ b → words.write + 1 < 2 ^ 64
+emptied : (limit : ℕ) (words : RingWords) (q : List ℕ) (push : Push) (seen : ℕ) (b : Bool) → (words.write == seen) ≡ b
+    → words.write + 1 < 2 ^ 64
     → Shape limit words q push (pop.SawRead seen)
     → PopGoes limit q push (put_in_hand words.read push) ((if b then Take (Got None) ∷ [] else []) ++ []) words (pop_emptied b seen)
 emptied limit words q push seen true e fits s =
@@ -110,12 +119,14 @@ emptied limit words q push seen false e fits s =
     still limit words q push (pop.Nonempty seen (successor seen))
     (repop limit words q push (pop.SawRead seen) (pop.Nonempty seen (successor seen)) s (
       k.0,
-      elim (cases_lt seen words.read) [ inl less ↦ k.1 less | inr ge ↦ some_since limit words q s.some there (λ same. differ (omega (arith, same, k))) ],
+      elim (cases_lt seen words.read)
+          [ inl less ↦ k.1 less | inr ge ↦ some_since limit words q s.some there (λ same. differ (omega (arith, same, k))) ],
       successor_fits seen (omega (arith, k)),
     ))
     refl
 
-looked : (q : List ℕ) (read write seen : ℕ) (b : Bool) → (write == seen) ≡ b → (b ≡ true → length q ≡ 0) → (b ≡ false → 0 < length q) → not (write == seen) ≡ nat_lt 0 (length q)
+looked : (q : List ℕ) (read write seen : ℕ) (b : Bool) → (write == seen) ≡ b → (b ≡ true → length q ≡ 0) → (b ≡ false → 0 < length q)
+    → not (write == seen) ≡ nat_lt 0 (length q)
 looked q read write seen true e none some = ap not e ∙ sym (le-ltb 0 (length q) (let h : length q ≡ 0 = none refl in omega arith))
 looked q read write seen false e none some = ap not e ∙ sym (lt-ltb 0 (length q) (some refl))
 
@@ -144,11 +155,14 @@ record LateComes (limit : ℕ) (words : RingWords) (rest : List ℕ) (next value
   room : length list ≤ limit
   held : Held (limit + 1) words.cells next list
   is_late : IsLate limit (record words { read = next }) list value seen
-  in_hand : put_in_hand next (push.Full value seen next) ≡ (if b then [] else record { value = value; answer = Kept } ∷ []) ++ put_values (made_late b value)
+  in_hand : put_in_hand next (push.Full value seen next) ≡ (if b then [] else record { value = value; answer = Kept } ∷ [])
+      ++ put_values (made_late b value)
   no_takes : take_values (made_late b value) ≡ []
   before : seen < next
 
-late : (limit : ℕ) (words : RingWords) (x : ℕ) (rest : List ℕ) (next value seen : ℕ) (b : Bool) → (words.read == seen) ≡ b → next ≡ words.read + 1 → length (x ∷ rest) ≤ limit → Held (limit + 1) words.cells words.read (x ∷ rest) → IsLate limit words (x ∷ rest) value seen
+late : (limit : ℕ) (words : RingWords) (x : ℕ) (rest : List ℕ) (next value seen : ℕ) (b : Bool) → (words.read == seen) ≡ b
+    → next ≡ words.read + 1 → length (x ∷ rest) ≤ limit → Held (limit + 1) words.cells words.read (x ∷ rest)
+    → IsLate limit words (x ∷ rest) value seen
     → LateComes limit words rest next value seen b
 late limit words x rest next value seen true e on room held l =
     let same : seen ≡ words.read = sym (eqb-true words.read seen e) in
@@ -156,7 +170,8 @@ late limit words x rest next value seen true e on room held l =
     let w : words.write ≡ seen + limit + 1 = l.written in
     let space : length rest < limit = omega arith in
     let there : slice_index words.cells ((words.read + limit) % (limit + 1)) ≡ value = l.behind same in
-    let dropped : Held (limit + 1) words.cells next rest = subst (λ (r : ℕ). Held (limit + 1) words.cells r rest) (sym on) (held-drop (limit + 1) words.cells words.read (x ∷ rest) held) in
+    let dropped : Held (limit + 1) words.cells next rest
+    = subst (λ (r : ℕ). Held (limit + 1) words.cells r rest) (sym on) (held-drop (limit + 1) words.cells words.read (x ∷ rest) held) in
     let place : next + length rest ≡ words.read + limit = omega arith in record {
       list = rest ++ value ∷ [];
       acts = (sym (put_answer-room limit rest value space), tt);
@@ -199,7 +214,10 @@ late limit words x rest next value seen false e on room held l =
     }
 
 -- a push that has no put waiting
-level_goes : (limit : ℕ) (words : RingWords) (x : ℕ) (rest : List ℕ) (next : ℕ) (push : Push) → next ≡ words.read + 1 → length (x ∷ rest) ≤ limit → Held (limit + 1) words.cells words.read (x ∷ rest) → PushKnows limit (record words { read = next }) rest push → late_put words.read push ≡ [] → put_in_hand next push ≡ put_in_hand words.read push → LateGoes limit rest words.write words.read next words.cells push
+level_goes : (limit : ℕ) (words : RingWords) (x : ℕ) (rest : List ℕ) (next : ℕ) (push : Push) → next ≡ words.read + 1
+    → length (x ∷ rest) ≤ limit → Held (limit + 1) words.cells words.read (x ∷ rest)
+    → PushKnows limit (record words { read = next }) rest push → late_put words.read push ≡ []
+    → put_in_hand next push ≡ put_in_hand words.read push → LateGoes limit rest words.write words.read next words.cells push
 level_goes limit words x rest next push on room held k none hand = record {
   list = rest;
   acts = subst (Acts true limit rest) (sym none) tt;
@@ -208,34 +226,71 @@ level_goes limit words x rest next push on room held k none hand = record {
   room = omega arith;
   held = subst (λ (r : ℕ). Held (limit + 1) words.cells r rest) (sym on) (held-drop (limit + 1) words.cells words.read (x ∷ rest) held);
   push_knows = k;
-  in_hand = hand ∙ sym (append-nil (put_in_hand words.read push)) ∙ ap (λ (n : List Act). put_in_hand words.read push ++ put_values n) (sym none);
+  in_hand = hand ∙ sym (append-nil (put_in_hand words.read push)) ∙ ap (λ (n : List Act). put_in_hand words.read push ++ put_values n)
+      (sym none);
   no_takes = ap take_values none;
 }
 
-pub late_goes : (limit : ℕ) (words : RingWords) (x : ℕ) (rest : List ℕ) (next : ℕ) (push : Push) → next ≡ words.read + 1 → length (x ∷ rest) ≤ limit → Held (limit + 1) words.cells words.read (x ∷ rest) → PushKnows limit words (x ∷ rest) push → LateGoes limit rest words.write words.read next words.cells push
-late_goes limit words x rest next push.Idle on room held k = level_goes limit words x rest next push.Idle on room held (omega arith) refl refl
-late_goes limit words x rest next (push.Begun l value) on room held k = level_goes limit words x rest next (push.Begun l value) on room held (omega arith, k.1) refl refl
-late_goes limit words x rest next (push.SawWrite l value write n) on room held k = level_goes limit words x rest next (push.SawWrite l value write n) on room held (omega arith, k.1, k.2, k.3) refl refl
-late_goes limit words x rest next (push.SawRead l value write n seen) on room held k = level_goes limit words x rest next (push.SawRead l value write n seen) on room held (omega arith, k.1, k.2, k.3, omega arith, k.5) refl refl
-late_goes limit words x rest next (push.Filled l value write n seen) on room held k = level_goes limit words x rest next (push.Filled l value write n seen) on room held (omega arith, k.1, k.2, k.3, omega arith, k.5, k.6) refl refl
+pub late_goes : (limit : ℕ) (words : RingWords) (x : ℕ) (rest : List ℕ) (next : ℕ) (push : Push) → next ≡ words.read + 1
+    → length (x ∷ rest) ≤ limit → Held (limit + 1) words.cells words.read (x ∷ rest) → PushKnows limit words (x ∷ rest) push
+    → LateGoes limit rest words.write words.read next words.cells push
+late_goes limit words x rest next push.Idle on room held k
+    = level_goes limit words x rest next push.Idle on room held (omega arith) refl refl
+late_goes limit words x rest next (push.Begun l value) on room held k
+    = level_goes limit words x rest next (push.Begun l value) on room held (omega arith, k.1) refl refl
+late_goes limit words x rest next (push.SawWrite l value write n) on room held k
+    = level_goes limit words x rest next (push.SawWrite l value write n) on room held (omega arith, k.1, k.2, k.3) refl refl
+late_goes limit words x rest next (push.SawRead l value write n seen) on room held k
+    = level_goes limit words x rest next (push.SawRead l value write n seen) on room held (omega arith, k.1, k.2, k.3, omega arith, k.5)
+    refl refl
+late_goes limit words x rest next (push.Filled l value write n seen) on room held k
+    = level_goes limit words x rest next (push.Filled l value write n seen) on room held
+    (omega arith, k.1, k.2, k.3, omega arith, k.5, k.6) refl refl
 late_goes limit words x rest next (push.Full value seen n) on room held k =
     let g = late limit words x rest next value seen (words.read == seen) refl on room held k.0 in
-    record { list = g.list; acts = g.acts; after = g.after; longer = g.longer; room = g.room; held = g.held; push_knows = (g.is_late, k.1); in_hand = g.in_hand; no_takes = g.no_takes }
+    record {
+      list = g.list;
+      acts = g.acts;
+      after = g.after;
+      longer = g.longer;
+      room = g.room;
+      held = g.held;
+      push_knows
+          = (g.is_late, k.1);
+      in_hand = g.in_hand;
+      no_takes = g.no_takes;
+    }
 late_goes limit words x rest next (push.SawOldest value seen n oldest) on room held k =
     let g = late limit words x rest next value seen (words.read == seen) refl on room held k.0 in
-    record { list = g.list; acts = g.acts; after = g.after; longer = g.longer; room = g.room; held = g.held; push_knows = (g.is_late, k.1, λ same. absurd (let less : seen < next = g.before in omega arith)); in_hand = g.in_hand; no_takes = g.no_takes }
-late_goes limit words x rest next (push.Pushed value answer) on room held k = level_goes limit words x rest next (push.Pushed value answer) on room held (omega arith) refl refl
+    record {
+      list = g.list;
+      acts = g.acts;
+      after = g.after;
+      longer = g.longer;
+      room = g.room;
+      held = g.held;
+      push_knows
+          = (g.is_late, k.1, λ same. absurd (let less : seen < next = g.before in omega arith));
+      in_hand = g.in_hand;
+      no_takes = g.no_takes;
+    }
+late_goes limit words x rest next (push.Pushed value answer) on room held k
+    = level_goes limit words x rest next (push.Pushed value answer) on room held (omega arith) refl refl
 
-swapped : (limit : ℕ) (words : RingWords) (q : List ℕ) (push : Push) (seen next value : ℕ) (b : Bool) → (words.read == seen) ≡ b → words.write + 1 < 2 ^ 64
+swapped : (limit : ℕ) (words : RingWords) (q : List ℕ) (push : Push) (seen next value : ℕ) (b : Bool) → (words.read == seen) ≡ b
+    → words.write + 1 < 2 ^ 64
     → Shape limit words q push (pop.SawCell seen next value)
-    → PopGoes limit q push (put_in_hand words.read push) ((if b then Take (Got (Some value)) ∷ [] else []) ++ (if b then late_put words.read push else [])) (if b then record words { read = next } else words) (pop_swapped b words.read value)
+    → PopGoes limit q push (put_in_hand words.read push)
+    ((if b then Take (Got (Some value)) ∷ [] else []) ++ (if b then late_put words.read push else []))
+    (if b then record words { read = next } else words) (pop_swapped b words.read value)
 swapped limit words [] push seen next value true e fits s =
     let k : PopKnows words.read [] (pop.SawCell seen next value) = s.pop_knows in absurd (omega (arith, k))
 swapped limit words (x ∷ rest) push seen next value true e fits s =
     let k : PopKnows words.read (x ∷ rest) (pop.SawCell seen next value) = s.pop_knows in
     let same : seen ≡ words.read = sym (eqb-true words.read seen e) in
     let on : next ≡ words.read + 1 = omega (arith, k) in
-    let g : LateGoes limit rest words.write words.read next words.cells push = late_goes limit words x rest next push on s.room s.held s.push_knows in
+    let g : LateGoes limit rest words.write words.read next words.cells push
+    = late_goes limit words x rest next push on s.room s.held s.push_knows in
     record {
       list = g.list;
       acts = (ap (λ (v : ℕ). Some v) (k.3 same), g.acts);
@@ -256,14 +311,18 @@ swapped limit words q push seen next value false e fits s =
     let k : PopKnows words.read q (pop.SawCell seen next value) = s.pop_knows in
     let below : words.read ≤ words.write = reads_below limit words q (span limit words q push s.push_knows) in
     still limit words q push (pop.Nonempty words.read (successor words.read))
-    (repop limit words q push (pop.SawCell seen next value) (pop.Nonempty words.read (successor words.read)) s (omega arith, k.1, successor_fits words.read (omega arith))) refl
+    (repop limit words q push (pop.SawCell seen next value) (pop.Nonempty words.read (successor words.read)) s
+    (omega arith, k.1, successor_fits words.read (omega arith))) refl
 
 -- every step of a pop or a look
-pub pop_goes : (limit : ℕ) (words : RingWords) (q : List ℕ) (push : Push) (pop : Pop) → words.write + 1 < 2 ^ 64 → Shape limit words q push pop
-    → PopGoes limit q push (put_in_hand words.read push) (placed_by_pop words push pop) (after_access words (pop_next pop)) (pop_take pop (answer_of words (pop_next pop)))
+pub pop_goes : (limit : ℕ) (words : RingWords) (q : List ℕ) (push : Push) (pop : Pop) → words.write + 1 < 2 ^ 64
+    → Shape limit words q push pop
+    → PopGoes limit q push (put_in_hand words.read push) (placed_by_pop words push pop) (after_access words (pop_next pop))
+    (pop_take pop (answer_of words (pop_next pop)))
 pop_goes limit words q push pop.Idle fits s = still limit words q push pop.Idle s refl
 pop_goes limit words q push pop.Begun fits s =
-    still limit words q push (pop.SawRead words.read) (repop limit words q push pop.Begun (pop.SawRead words.read) s (omega arith, λ less. absurd (omega arith))) refl
+    still limit words q push (pop.SawRead words.read)
+    (repop limit words q push pop.Begun (pop.SawRead words.read) s (omega arith, λ less. absurd (omega arith))) refl
 pop_goes limit words q push (pop.SawRead seen) fits s = emptied limit words q push seen (words.write == seen) refl fits s
 pop_goes limit words q push (pop.Nonempty seen next) fits s =
     let k : PopKnows words.read q (pop.Nonempty seen next) = s.pop_knows in
@@ -275,10 +334,13 @@ pop_goes limit words q push (pop.Nonempty seen next) fits s =
       λ same. let at : words.read + 0 ≡ seen = omega arith in
           rw s.size (subst (λ (p : ℕ). slice_index words.cells (p % (limit + 1)) ≡ slice_index q 0) at (s.held.each 0 k.1)),
     )) refl
-pop_goes limit words q push (pop.SawCell seen next value) fits s = swapped limit words q push seen next value (words.read == seen) refl fits s
-pop_goes limit words q push (pop.Popped got) fits s = still limit words q push pop.Idle (repop limit words q push (pop.Popped got) pop.Idle s tt) refl
+pop_goes limit words q push (pop.SawCell seen next value) fits s
+    = swapped limit words q push seen next value (words.read == seen) refl fits s
+pop_goes limit words q push (pop.Popped got) fits s
+    = still limit words q push pop.Idle (repop limit words q push (pop.Popped got) pop.Idle s tt) refl
 pop_goes limit words q push pop.LookBegun fits s =
-    still limit words q push (pop.LookRead words.read) (repop limit words q push pop.LookBegun (pop.LookRead words.read) s (omega arith, λ less. absurd (omega arith))) refl
+    still limit words q push (pop.LookRead words.read)
+    (repop limit words q push pop.LookBegun (pop.LookRead words.read) s (omega arith, λ less. absurd (omega arith))) refl
 pop_goes limit words q push (pop.LookRead seen) fits s =
     let k : WasRead words.read q seen = s.pop_knows in
     let there : Span limit words q = span limit words q push s.push_knows in
@@ -288,7 +350,8 @@ pop_goes limit words q push (pop.LookRead seen) fits s =
         looked q words.read words.write seen (words.write == seen) refl
             (λ t. let same : words.write ≡ seen = eqb-true words.write seen t in empty_since limit words q s.some there (omega (arith, k)))
             (λ f. let differ : words.write ≡ seen → ⊥ = eqb-false words.write seen f in
-            elim (cases_lt seen words.read) [ inl less ↦ k.1 less | inr ge ↦ some_since limit words q s.some there (λ same. differ (omega (arith, same, k))) ]),
+            elim (cases_lt seen words.read)
+            [ inl less ↦ k.1 less | inr ge ↦ some_since limit words q s.some there (λ same. differ (omega (arith, same, k))) ]),
         tt,
       );
       after = refl;
@@ -296,7 +359,8 @@ pop_goes limit words q push (pop.LookRead seen) fits s =
       in_hand = sym (append-nil (put_in_hand words.read push));
       ended = refl;
     }
-pop_goes limit words q push (pop.Looked waiting) fits s = still limit words q push pop.Idle (repop limit words q push (pop.Looked waiting) pop.Idle s tt) refl
+pop_goes limit words q push (pop.Looked waiting) fits s
+    = still limit words q push pop.Idle (repop limit words q push (pop.Looked waiting) pop.Idle s tt) refl
 
 pub pop_grows : (words : RingWords) (pop : Pop) → (after_access words (pop_next pop)).write ≡ words.write
 pop_grows words pop.Idle = refl

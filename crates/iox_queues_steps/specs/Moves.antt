@@ -36,10 +36,12 @@ Moves q beside q' beside' =
 abbrev pub PushMoves : Type 0
 PushMoves = (kind : RingKind) (limit : ℕ) (words : RingWords) (q : List ℕ) (push : Push) (pop : Pop) → words.write + 1 < 2 ^ 64
     → Shape kind limit words q push pop
-    → Moves q (aside words.read push) (after_acts (overflows kind) limit q (placed_by_push limit words.read push)) (aside (after_access words (push_next push)).read (push_take push (answer_of words (push_next push))))
+    → Moves q (aside words.read push) (after_acts (overflows kind) limit q (placed_by_push limit words.read push))
+    (aside (after_access words (push_next push)).read (push_take push (answer_of words (push_next push))))
 
 -- every step of a pop or a look
 abbrev pub PopMoves : Type 0
 PopMoves = (kind : RingKind) (limit : ℕ) (words : RingWords) (q : List ℕ) (push : Push) (pop : Pop) → words.write + 1 < 2 ^ 64
     → Shape kind limit words q push pop
-    → MovesOut q (aside words.read push) (after_acts (overflows kind) limit q (placed_by_pop words push pop)) (aside (after_access words (pop_next pop)).read push)
+    → MovesOut q (aside words.read push) (after_acts (overflows kind) limit q (placed_by_pop words push pop))
+    (aside (after_access words (pop_next pop)).read push)

@@ -1,5 +1,6 @@
 -- The overflowing ring step by step: where puts and takes stand, and what each step keeps.
-use Rattle.std.specs.Prelude.{ℕ, ◌≡◌, ◌+◌, ◌-◌, ◌^◌, ◌%◌, ◌<◌, ◌≤◌, Bool, false, not, if◌then◌else◌, ◌==◌, nat_lt, Some, None, List, [], ◌∷◌, ◌++◌, length, slice_index}
+use Rattle.std.specs.Prelude.{ℕ, ◌≡◌, ◌+◌, ◌-◌, ◌^◌, ◌%◌, ◌<◌, ◌≤◌, Bool, false, not, if◌then◌else◌, ◌==◌, nat_lt, Some, None, List, []}
+use Rattle.std.specs.Prelude.{◌∷◌, ◌++◌, length, slice_index}
 use Rattle.iox_queues_steps.specs.Access.{RingWords}
 use Rattle.iox_queues_steps.specs.Order.{PutNow}
 use Rattle.iox_queues_steps.specs.Kept.{Held}

@@ -1,5 +1,6 @@
 -- The steps of a push and of a pop on the ring that refuses, by the stage where each stands.
-use Rattle.std.specs.Prelude.{ℕ, ◌+◌, ◌-◌, ◌<◌, ◌≤◌, ◌≡◌, ◌%◌, ◌^◌, Bool, true, false, not, if◌then◌else◌, ◌==◌, nat_lt, Some, None, List, [], ◌∷◌, length, slice_index}
+use Rattle.std.specs.Prelude.{ℕ, ◌+◌, ◌-◌, ◌<◌, ◌≤◌, ◌≡◌, ◌%◌, ◌^◌, Bool, true, false, not, if◌then◌else◌, ◌==◌, nat_lt, Some, None, List}
+use Rattle.std.specs.Prelude.{[], ◌∷◌, length, slice_index}
 use Rattle.iox_queues_steps.specs.Access.{RingWords, successor}
 use Rattle.iox_queues_steps.specs.Order.{PutNow}
 use Rattle.iox_queues_steps.specs.Kept.{Held}

@@ -2,9 +2,13 @@
 use Rattle.std.specs.Prelude.{ℕ, ◌≡◌, ◌+◌, ◌-◌, ◌≤◌, ◌⊎◌, Bool, true, false, not, List, [], ◌∷◌, ◌++◌, map, length, replicate}
 use Rattle.std.specs.List.{AllZip}
 use Rattle.iox_queues_steps.specs.Access.{RingWords, answer_of, after_access}
-use Rattle.iox_queues_steps.specs.Order.{Acts, after_acts, acts_of, Rises, puts, takes, push_call, pop_call, PutInside, TakeInside, Log, logged}
+use Rattle.iox_queues_steps.specs.Order.{Acts, after_acts, acts_of, Rises, puts, takes, push_call, pop_call, PutInside, TakeInside, Log}
+use Rattle.iox_queues_steps.specs.Order.{logged}
 use Rattle.iox_queues_steps.specs.Told.{Answered, Timed, own, IsWhole, InHand, Spans}
-use Rattle.iox_queues_steps.specs.Ends.{overflows, cells_of, push_idle, push_begun, push_done, push_next, push_take, push_is_idle, push_is_over, push_value, push_ended, put_in_hand, placed_by_push, pop_idle, pop_begun, pop_look, pop_done, pop_asked, pop_first, pop_next, pop_take, pop_is_idle, pop_is_over, pop_looks, pop_ended, placed_by_pop, Shape}
+use Rattle.iox_queues_steps.specs.Ends.{overflows, cells_of, push_idle, push_begun, push_done, push_next, push_take, push_is_idle}
+use Rattle.iox_queues_steps.specs.Ends.{push_is_over, push_value, push_ended, put_in_hand, placed_by_push, pop_idle, pop_begun, pop_look}
+use Rattle.iox_queues_steps.specs.Ends.{pop_done, pop_asked, pop_first, pop_next, pop_take, pop_is_idle, pop_is_over, pop_looks}
+use Rattle.iox_queues_steps.specs.Ends.{pop_ended, placed_by_pop, Shape}
 use Rattle.iox_queues_steps.specs.declared.access.Access.TheVariants.{Local}
 use Rattle.iox_queues_steps.specs.declared.order.PushCall.{PushCall}
 use Rattle.iox_queues_steps.specs.declared.order.PopCall.{PopCall}
@@ -161,7 +165,8 @@ first_words kind limit waiting =
 -- the steps of a push that ended are those of its value's push, up to its answer
 abbrev pub IsPushTold : RingKind → ℕ → PushCall → List Timed → Type 0
 IsPushTold kind limit call steps =
-    IsWhole Push push_next push_take Producer (push_begun kind limit call.value) (push_done kind call.value call.answer) call.first call.last steps
+    IsWhole Push push_next push_take Producer (push_begun kind limit call.value) (push_done kind call.value call.answer) call.first
+    call.last steps
 
 -- the steps of a pop or look that ended are those of such a call, up to its answer
 abbrev pub IsPopTold : RingKind → PopCall → List Timed → Type 0
@@ -171,7 +176,8 @@ IsPopTold kind call steps =
 -- the steps of the producer: those of its pushes that ended, and those of the push in hand
 abbrev pub ArePushesTold : RingKind → ℕ → Push → ℕ → List PushCall → List Timed → Type 0
 ArePushesTold kind limit push first calls steps =
-    Spans (IsPushTold kind limit) (InHand Push push_next push_take Producer (push_is_idle push) (push_begun kind limit (push_value push)) push first) calls steps
+    Spans (IsPushTold kind limit) (InHand Push push_next push_take Producer (push_is_idle push)
+    (push_begun kind limit (push_value push)) push first) calls steps
 
 -- the steps of the consumer: those of its pops and looks that ended, and those of the one in hand
 abbrev pub ArePopsTold : RingKind → Pop → ℕ → List PopCall → List Timed → Type 0

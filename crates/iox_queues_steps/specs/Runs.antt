@@ -7,4 +7,5 @@ use Rattle.iox_queues_steps.specs.declared.access.Access.{Access}
 abbrev pub Runs : {M S : Type 0} → (M → Access → ℕ → M → Type 0) → (S → Access) → (S → ℕ → S) → (S → Bool) → List ℕ → M → S → M → S → Type 0
 Runs answers asks takes over [] memory stage after end = (after ≡ memory) × (end ≡ stage)
 Runs {M} {S} answers asks takes over (answer ∷ given) memory stage after end =
-    (over stage ≡ false) × ((between : M) × answers memory (asks stage) answer between × Runs answers asks takes over given between (takes stage answer) after end)
+    (over stage ≡ false) × ((between : M) × answers memory (asks stage) answer between
+    × Runs answers asks takes over given between (takes stage answer) after end)

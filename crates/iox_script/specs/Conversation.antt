@@ -5,7 +5,7 @@ use Rattle.iox_hub_commands.specs.Command.declared.command.Command.{Command}
 use Rattle.iox_hub_commands.specs.Command.declared.reply.Reply.{Reply}
 use Rattle.iox_conversation.specs.Conversation.{BreaksOff, WritesABeginning}
 use Rattle.iox_conversation.specs.declared.error.ServeError.{ServeError}
-use Rattle.iox_line.specs.DescribeBase.Detail.{Detail, detail}
+use Rattle.iox_line.specs.DescribeBase.Detail.{detail}
 use Rattle.iox_line.specs.DescribeBase.declared.type_detail.TypeVariant.TheVariants.{FixedSize}
 use Rattle.iox_line.specs.DomainValues.Actions.{decision_of}
 use Rattle.iox_hub_commands.specs.HubBase.declared.hub.HubConfig.{HubConfig}

@@ -1,2 +1,3 @@
 -- The definitions that contracts about scripts cite.
 pub mod Conversation
+pub mod Answered

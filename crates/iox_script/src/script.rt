@@ -3,14 +3,17 @@ ghost use Rattle.std.specs.Prelude.{◌≡◌, ◌⊎◌, ◌+◌, ◌<◌, ◌�
 ghost use Rattle.std.specs.Io.{StartsWith};
 ghost use Rattle.std.specs.Io.KnownBytes.{Appends};
 ghost use Rattle.iox_conversation.specs.Conversation.{IsConversation};
+ghost use Rattle.iox_conversation.specs.Lines.{heard};
 ghost use Rattle.iox_conversation.specs.declared.error.ServeError.TheVariants as failed;
 ghost use Rattle.iox_hub_commands.specs.Numbers.{numbers_used};
 ghost use Rattle.iox_line.specs.LineFault.{fault_text};
+ghost use Rattle.iox_script.specs.Answered.{AnswersAsNewMachine, BeginsAsNewMachine};
 ghost use Rattle.iox_script.specs.Conversation.{AnswersLine, IsNewScript, BreaksOffAnew, WritesABeginningAnew};
 ghost use Rattle.iox_script.specs.declared.script.Script.{Script};
 
 use iox_conversation::{AnswersLines, Input, Output, ServeError};
 use iox_hub_commands::{FixedDegradation, FixedHandlers, HubConfig, NumberedHub};
+use iox_hub_machine::runs::runs_answer;
 use iox_line::{LineError, Scratch, print_reply, read_command, read_port_command};
 use std::alloc::{AllocError, Global};
 use std::io::{Read, Write};
@@ -87,6 +90,9 @@ fn print_fault(fault: LineError, out: &mut Vec<u8>) -> Result<(), AllocError>
 /// those are all of them; after `WriteFault` all to what was read before the last read, and a beginning of the others; after
 /// `OutOfMemory` those to all lines before the one for which no memory was found.
 ///
+/// What is written, or begun after an error, is what a new machine (`docs/MACHINE.md`) may answer to the lines. The premises are that
+/// the reader and the writer tell their bytes, and that no two services of the names that the lines ask for share a hash.
+///
 /// A read or write that a signal interrupts is made again. Each such read counts as a read call, and a write that is interrupted
 /// 2^20 times one after the other has failed.
 pub fn serve<R: Read, W: Write>(
@@ -98,16 +104,25 @@ pub fn serve<R: Read, W: Write>(
     requires { input.old.calls + 2 ^ 20 < 2 ^ 64 }
     // The premise is that the reader tells the bytes that it has left.
     ensures conversation { OnOk result (IfSome (R.remaining input.old.reader) (λ bytes.
-        (text : List ℕ) × (script : Script) × IsNewScript config script × Appends (W.contents output.old.writer) (W.contents output.new.writer) text
+        (text : List ℕ) × (script : Script) × IsNewScript config script
+        × Appends (W.contents output.old.writer) (W.contents output.new.writer) text
         × IsConversation AnswersLine script bytes text)) }
+    // The same in the machine's words, where no two services of the names asked for share a hash (`NamesHaveOwnHashes`).
+    ensures answered { OnOk result (IfSome (R.remaining input.old.reader) (λ bytes.
+        (text : List ℕ) × Appends (W.contents output.old.writer) (W.contents output.new.writer) text
+        × AnswersAsNewMachine config.expired_connection_buffer (heard bytes) text)) }
     ensures broken { IfErr result (λ error. BreaksOffAnew config error input.new.ended (R.remaining input.old.reader)
         (R.remaining input.new.reader) (W.contents output.old.writer) (W.contents output.new.writer)) }
     ensures beginning { OnErr result (WritesABeginningAnew config input.new.ended (R.remaining input.old.reader)
         (R.remaining input.new.reader) (W.contents output.old.writer) (W.contents output.new.writer)) }
+    // The same of where it broke off, by the same premise.
+    ensures begun { IfErr result (λ error. BeginsAsNewMachine config.expired_connection_buffer error input.new.ended
+        (R.remaining input.old.reader) (R.remaining input.new.reader) (W.contents output.old.writer) (W.contents output.new.writer)) }
     ensures ended { OnOk result (input.new.ended ≡ true) }
     ensures read_fault { result ≡ Err failed.ReadFault → (input.new.failed ≡ true) ⊎ (input.new.calls ≡ input.old.calls + 2 ^ 20) }
     ensures write_fault { result ≡ Err failed.WriteFault → output.new.failed ≡ true }
 {
+    runs_answer::<u64, u64, FixedHandlers, FixedDegradation>();
     let hub = NumberedHub::new(alloc, config);
     let Ok(scratch) = Scratch::new(alloc) else {
         return Err(ServeError::OutOfMemory);

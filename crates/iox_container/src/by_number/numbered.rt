@@ -1,5 +1,6 @@
 //! The table.
-ghost use Rattle.std.specs.Prelude.{◌≡◌, ◌+◌, ◌<◌, ◌≤◌, ◌^◌, [], length, is_some, option_copied, IsOk, IsSome, OnOk, OnErr, Some, if◌then◌else◌};
+ghost use Rattle.std.specs.Prelude.{◌≡◌, ◌+◌, ◌<◌, ◌≤◌, ◌^◌, [], length, is_some, option_copied, IsOk, IsSome, OnOk, OnErr, Some};
+ghost use Rattle.std.specs.Prelude.{if◌then◌else◌};
 ghost use Rattle.std.specs.Borrow.{sem};
 ghost use Rattle.std.specs.Option.{option_copied_mut};
 ghost use Rattle.iox_container.specs.NumberTable.{Rises, value_at, inserted, removed, with_room};
@@ -38,7 +39,8 @@ impl<V> Model for Numbered<V> {
 
     ghost Value = { NumberTable V };
 
-    ghost view = { λ t. record { entries = t.aged.items ++ present t.first t.places.items; next = t.first + length t.places.items; room = t.room } };
+    ghost view = { λ t. record
+        { entries = t.aged.items ++ present t.first t.places.items; next = t.first + length t.places.items; room = t.room } };
 
     ghost invariant = { λ t. Rises 1 t.aged.items t.first
         × (t.first + length t.places.items < 2 ^ 64)

@@ -1,5 +1,6 @@
 //! A text that its rules accept.
-ghost use Rattle.std.specs.Prelude.{◌≡◌, ℕ, ◌+◌, ◌-◌, ◌<◌, ◌≤◌, ◌↔◌, List, [], ◌∷◌, ◌++◌, length, take, remove, slice_get, IsTrue, IsOk, IfOk, OnOk, OnErr, Ok, Some, false, nat_eq, refl};
+ghost use Rattle.std.specs.Prelude.{◌≡◌, ℕ, ◌+◌, ◌-◌, ◌<◌, ◌≤◌, ◌↔◌, List, [], ◌∷◌, ◌++◌, length, take, remove, slice_get, IsTrue, IsOk};
+ghost use Rattle.std.specs.Prelude.{IfOk, OnOk, OnErr, Ok, Some, false, nat_eq, refl};
 ghost use Rattle.std.specs.Ordering.{nat_cmp};
 ghost use Rattle.std.specs.Hash as fed;
 ghost use Rattle.std.specs.Cmp.Rules.{hashing};

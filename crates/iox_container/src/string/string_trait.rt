@@ -1,5 +1,6 @@
 //! What every string does, whatever its bytes lie in.
-ghost use Rattle.std.specs.Prelude.{◌≡◌, ℕ, ◌+◌, ◌-◌, ◌<◌, ◌≤◌, ◌↔◌, List, [], ◌∷◌, ◌++◌, length, take, drop, remove, slice_get, slice_set, IsTrue, IsSome, IfNone, OnOk, OnErr, Bool, nat_eq};
+ghost use Rattle.std.specs.Prelude.{◌≡◌, ℕ, ◌+◌, ◌-◌, ◌<◌, ◌≤◌, ◌↔◌, List, [], ◌∷◌, ◌++◌, length, take, drop, remove, slice_get};
+ghost use Rattle.std.specs.Prelude.{slice_set, IsTrue, IsSome, IfNone, OnOk, OnErr, Bool, nat_eq};
 ghost use Rattle.std.specs.Bool.{OnTrue, OnFalse};
 ghost use Rattle.std.specs.Option.{option_to_list};
 ghost use Rattle.std.specs.List.Retain.{IsFiltered};

@@ -1,5 +1,6 @@
 //! What every vector does, wherever its items lie.
-ghost use Rattle.std.specs.Prelude.{◌≡◌, ℕ, ◌+◌, ◌-◌, ◌<◌, ◌≤◌, ◌↔◌, List, [], ◌∷◌, ◌++◌, length, take, insert, remove, replicate, slice_get, All, IsTrue, IsSome, IfNone, OnOk, OnErr, Some};
+ghost use Rattle.std.specs.Prelude.{◌≡◌, ℕ, ◌+◌, ◌-◌, ◌<◌, ◌≤◌, ◌↔◌, List, [], ◌∷◌, ◌++◌, length, take, insert, remove, replicate};
+ghost use Rattle.std.specs.Prelude.{slice_get, All, IsTrue, IsSome, IfNone, OnOk, OnErr, Some};
 ghost use Rattle.std.specs.Option.{option_to_list};
 ghost use Rattle.std.specs.Borrow.{Array, Lends, sem};
 ghost use Rattle.std.specs.List.{AppendsResults};

@@ -92,7 +92,11 @@ pub enum Setting {
 impl PatternSetting for Setting {
     ghost use Rattle.std.specs.Prelude.{refl};
     ghost use Rattle.iox_describe_settings.specs.EventSettings.{all, changed, key, rule, value};
-    ghost use Rattle.iox_describe_settings.specs.declared.static_config.event.Setting.TheVariants.{Deadline, EventIdMaxValue, MaxListeners, MaxNodes, MaxNotifiers, NotifierCreatedEvent, NotifierDeadEvent, NotifierDroppedEvent};
+    ghost use Rattle.iox_describe_settings.specs.declared.static_config.event.Setting.TheVariants.{Deadline, EventIdMaxValue};
+    ghost use Rattle.iox_describe_settings.specs.declared.static_config.event.Setting.TheVariants.{MaxListeners, MaxNodes, MaxNotifiers};
+    ghost use Rattle.iox_describe_settings.specs.declared.static_config.event.Setting.TheVariants.{NotifierCreatedEvent};
+    ghost use Rattle.iox_describe_settings.specs.declared.static_config.event.Setting.TheVariants.{NotifierDeadEvent};
+    ghost use Rattle.iox_describe_settings.specs.declared.static_config.event.Setting.TheVariants.{NotifierDroppedEvent};
 
     type Config = StaticConfig;
 
@@ -182,7 +186,8 @@ impl PatternSetting for Setting {
 
     ghost in_order = { refl };
 
-    ghost of_kind = { elim [ Deadline ↦ λ c. tt | EventIdMaxValue ↦ λ c. tt | MaxListeners ↦ λ c. tt | MaxNodes ↦ λ c. tt | MaxNotifiers ↦ λ c. tt | NotifierCreatedEvent ↦ λ c. tt | NotifierDeadEvent ↦ λ c. tt | NotifierDroppedEvent ↦ λ c. tt ] };
+    ghost of_kind = { elim
+        [ Deadline ↦ λ c. tt | EventIdMaxValue ↦ λ c. tt | MaxListeners ↦ λ c. tt | MaxNodes ↦ λ c. tt | MaxNotifiers ↦ λ c. tt | NotifierCreatedEvent ↦ λ c. tt | NotifierDeadEvent ↦ λ c. tt | NotifierDroppedEvent ↦ λ c. tt ] };
 
     ghost is_whole = { λ target config. refl };
 }

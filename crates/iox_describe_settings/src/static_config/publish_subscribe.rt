@@ -101,7 +101,13 @@ pub enum Setting {
 impl PatternSetting for Setting {
     ghost use Rattle.std.specs.Prelude.{refl};
     ghost use Rattle.iox_describe_settings.specs.PublishSubscribeSettings.{all, changed, key, rule, value};
-    ghost use Rattle.iox_describe_settings.specs.declared.static_config.publish_subscribe.Setting.TheVariants.{EnableSafeOverflow, HistorySize, MaxNodes, MaxPublishers, MaxSubscribers, SubscriberMaxBorrowedSamples, SubscriberMaxBufferSize, Types};
+    ghost use Rattle.iox_describe_settings.specs.declared.static_config.publish_subscribe.Setting.TheVariants.{EnableSafeOverflow};
+    ghost use Rattle.iox_describe_settings.specs.declared.static_config.publish_subscribe.Setting.TheVariants.{HistorySize, MaxNodes};
+    ghost use Rattle.iox_describe_settings.specs.declared.static_config.publish_subscribe.Setting.TheVariants.{MaxPublishers};
+    ghost use Rattle.iox_describe_settings.specs.declared.static_config.publish_subscribe.Setting.TheVariants.{MaxSubscribers};
+    ghost use Rattle.iox_describe_settings.specs.declared.static_config.publish_subscribe.Setting.TheVariants.{SubscriberMaxBorrowedSamples};
+    ghost use Rattle.iox_describe_settings.specs.declared.static_config.publish_subscribe.Setting.TheVariants.{SubscriberMaxBufferSize};
+    ghost use Rattle.iox_describe_settings.specs.declared.static_config.publish_subscribe.Setting.TheVariants.{Types};
 
     type Config = StaticConfig;
 
@@ -196,7 +202,8 @@ impl PatternSetting for Setting {
 
     ghost in_order = { refl };
 
-    ghost of_kind = { elim [ EnableSafeOverflow ↦ λ c. tt | HistorySize ↦ λ c. tt | MaxNodes ↦ λ c. tt | MaxPublishers ↦ λ c. tt | MaxSubscribers ↦ λ c. tt | SubscriberMaxBorrowedSamples ↦ λ c. tt | SubscriberMaxBufferSize ↦ λ c. tt | Types ↦ λ c. tt ] };
+    ghost of_kind = { elim
+        [ EnableSafeOverflow ↦ λ c. tt | HistorySize ↦ λ c. tt | MaxNodes ↦ λ c. tt | MaxPublishers ↦ λ c. tt | MaxSubscribers ↦ λ c. tt | SubscriberMaxBorrowedSamples ↦ λ c. tt | SubscriberMaxBufferSize ↦ λ c. tt | Types ↦ λ c. tt ] };
 
     ghost is_whole = { λ target config. refl };
 }

@@ -113,7 +113,17 @@ pub enum Setting {
 impl PatternSetting for Setting {
     ghost use Rattle.std.specs.Prelude.{refl};
     ghost use Rattle.iox_describe_settings.specs.RequestResponseSettings.{all, changed, key, rule, value};
-    ghost use Rattle.iox_describe_settings.specs.declared.static_config.request_response.Setting.TheVariants.{EnableFireAndForgetRequests, EnableSafeOverflowForRequests, EnableSafeOverflowForResponses, MaxActiveRequestsPerClient, MaxBorrowedResponsesPerPendingResponse, MaxClients, MaxLoanedRequests, MaxNodes, MaxResponseBufferSize, MaxServers, RequestTypes, ResponseTypes};
+    ghost use Rattle.iox_describe_settings.specs.declared.static_config.request_response.Setting.TheVariants.{EnableFireAndForgetRequests};
+    ghost use Rattle.iox_describe_settings.specs.declared.static_config.request_response.Setting.TheVariants.{EnableSafeOverflowForRequests};
+    ghost use Rattle.iox_describe_settings.specs.declared.static_config.request_response.Setting.TheVariants.{EnableSafeOverflowForResponses};
+    ghost use Rattle.iox_describe_settings.specs.declared.static_config.request_response.Setting.TheVariants.{MaxActiveRequestsPerClient};
+    ghost use Rattle.iox_describe_settings.specs.declared.static_config.request_response.Setting.TheVariants.{MaxBorrowedResponsesPerPendingResponse};
+    ghost use Rattle.iox_describe_settings.specs.declared.static_config.request_response.Setting.TheVariants.{MaxClients};
+    ghost use Rattle.iox_describe_settings.specs.declared.static_config.request_response.Setting.TheVariants.{MaxLoanedRequests};
+    ghost use Rattle.iox_describe_settings.specs.declared.static_config.request_response.Setting.TheVariants.{MaxNodes};
+    ghost use Rattle.iox_describe_settings.specs.declared.static_config.request_response.Setting.TheVariants.{MaxResponseBufferSize};
+    ghost use Rattle.iox_describe_settings.specs.declared.static_config.request_response.Setting.TheVariants.{MaxServers, RequestTypes};
+    ghost use Rattle.iox_describe_settings.specs.declared.static_config.request_response.Setting.TheVariants.{ResponseTypes};
 
     type Config = StaticConfig;
 
@@ -233,7 +243,8 @@ impl PatternSetting for Setting {
 
     ghost in_order = { refl };
 
-    ghost of_kind = { elim [ EnableFireAndForgetRequests ↦ λ c. tt | EnableSafeOverflowForRequests ↦ λ c. tt | EnableSafeOverflowForResponses ↦ λ c. tt | MaxActiveRequestsPerClient ↦ λ c. tt | MaxBorrowedResponsesPerPendingResponse ↦ λ c. tt | MaxClients ↦ λ c. tt | MaxLoanedRequests ↦ λ c. tt | MaxNodes ↦ λ c. tt | MaxResponseBufferSize ↦ λ c. tt | MaxServers ↦ λ c. tt | RequestTypes ↦ λ c. tt | ResponseTypes ↦ λ c. tt ] };
+    ghost of_kind = { elim
+        [ EnableFireAndForgetRequests ↦ λ c. tt | EnableSafeOverflowForRequests ↦ λ c. tt | EnableSafeOverflowForResponses ↦ λ c. tt | MaxActiveRequestsPerClient ↦ λ c. tt | MaxBorrowedResponsesPerPendingResponse ↦ λ c. tt | MaxClients ↦ λ c. tt | MaxLoanedRequests ↦ λ c. tt | MaxNodes ↦ λ c. tt | MaxResponseBufferSize ↦ λ c. tt | MaxServers ↦ λ c. tt | RequestTypes ↦ λ c. tt | ResponseTypes ↦ λ c. tt ] };
 
     ghost is_whole = { λ target config. refl };
 }

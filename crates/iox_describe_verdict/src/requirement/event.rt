@@ -149,7 +149,11 @@ impl Requirement {
 
 impl RequiredSetting for Setting {
     ghost use Rattle.iox_describe_settings.specs.EventSettings.{rule};
-    ghost use Rattle.iox_describe_settings.specs.declared.static_config.event.Setting.TheVariants.{Deadline, EventIdMaxValue, MaxListeners, MaxNodes, MaxNotifiers, NotifierCreatedEvent, NotifierDeadEvent, NotifierDroppedEvent};
+    ghost use Rattle.iox_describe_settings.specs.declared.static_config.event.Setting.TheVariants.{Deadline, EventIdMaxValue};
+    ghost use Rattle.iox_describe_settings.specs.declared.static_config.event.Setting.TheVariants.{MaxListeners, MaxNodes, MaxNotifiers};
+    ghost use Rattle.iox_describe_settings.specs.declared.static_config.event.Setting.TheVariants.{NotifierCreatedEvent};
+    ghost use Rattle.iox_describe_settings.specs.declared.static_config.event.Setting.TheVariants.{NotifierDeadEvent};
+    ghost use Rattle.iox_describe_settings.specs.declared.static_config.event.Setting.TheVariants.{NotifierDroppedEvent};
     ghost use Rattle.iox_describe_verdict.specs.Verdict.{number_is_of_kind, optional_number_is_of_kind};
     ghost use Rattle.iox_describe_verdict.specs.EventClauses.{error_of, named};
 
@@ -193,5 +197,6 @@ impl RequiredSetting for Setting {
         }
     }
 
-    ghost named_is_of_kind = { elim [ Deadline ↦ λ r. optional_number_is_of_kind (rule Deadline) tt r.deadline | EventIdMaxValue ↦ λ r. number_is_of_kind (rule EventIdMaxValue) tt r.event_id_max_value | MaxListeners ↦ λ r. number_is_of_kind (rule MaxListeners) tt r.max_listeners | MaxNodes ↦ λ r. number_is_of_kind (rule MaxNodes) tt r.max_nodes | MaxNotifiers ↦ λ r. number_is_of_kind (rule MaxNotifiers) tt r.max_notifiers | NotifierCreatedEvent ↦ λ r. optional_number_is_of_kind (rule NotifierCreatedEvent) tt r.notifier_created_event | NotifierDeadEvent ↦ λ r. optional_number_is_of_kind (rule NotifierDeadEvent) tt r.notifier_dead_event | NotifierDroppedEvent ↦ λ r. optional_number_is_of_kind (rule NotifierDroppedEvent) tt r.notifier_dropped_event ] };
+    ghost named_is_of_kind = { elim
+        [ Deadline ↦ λ r. optional_number_is_of_kind (rule Deadline) tt r.deadline | EventIdMaxValue ↦ λ r. number_is_of_kind (rule EventIdMaxValue) tt r.event_id_max_value | MaxListeners ↦ λ r. number_is_of_kind (rule MaxListeners) tt r.max_listeners | MaxNodes ↦ λ r. number_is_of_kind (rule MaxNodes) tt r.max_nodes | MaxNotifiers ↦ λ r. number_is_of_kind (rule MaxNotifiers) tt r.max_notifiers | NotifierCreatedEvent ↦ λ r. optional_number_is_of_kind (rule NotifierCreatedEvent) tt r.notifier_created_event | NotifierDeadEvent ↦ λ r. optional_number_is_of_kind (rule NotifierDeadEvent) tt r.notifier_dead_event | NotifierDroppedEvent ↦ λ r. optional_number_is_of_kind (rule NotifierDroppedEvent) tt r.notifier_dropped_event ] };
 }

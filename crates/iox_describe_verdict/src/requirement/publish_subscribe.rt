@@ -150,7 +150,13 @@ impl Requirement {
 
 impl RequiredSetting for Setting {
     ghost use Rattle.iox_describe_settings.specs.PublishSubscribeSettings.{rule};
-    ghost use Rattle.iox_describe_settings.specs.declared.static_config.publish_subscribe.Setting.TheVariants.{EnableSafeOverflow, HistorySize, MaxNodes, MaxPublishers, MaxSubscribers, SubscriberMaxBorrowedSamples, SubscriberMaxBufferSize, Types};
+    ghost use Rattle.iox_describe_settings.specs.declared.static_config.publish_subscribe.Setting.TheVariants.{EnableSafeOverflow};
+    ghost use Rattle.iox_describe_settings.specs.declared.static_config.publish_subscribe.Setting.TheVariants.{HistorySize, MaxNodes};
+    ghost use Rattle.iox_describe_settings.specs.declared.static_config.publish_subscribe.Setting.TheVariants.{MaxPublishers};
+    ghost use Rattle.iox_describe_settings.specs.declared.static_config.publish_subscribe.Setting.TheVariants.{MaxSubscribers};
+    ghost use Rattle.iox_describe_settings.specs.declared.static_config.publish_subscribe.Setting.TheVariants.{SubscriberMaxBorrowedSamples};
+    ghost use Rattle.iox_describe_settings.specs.declared.static_config.publish_subscribe.Setting.TheVariants.{SubscriberMaxBufferSize};
+    ghost use Rattle.iox_describe_settings.specs.declared.static_config.publish_subscribe.Setting.TheVariants.{Types};
     ghost use Rattle.iox_describe_verdict.specs.Verdict.{number_is_of_kind, switch_is_of_kind};
     ghost use Rattle.iox_describe_verdict.specs.PublishSubscribeClauses.{error_of, named};
 
@@ -195,5 +201,6 @@ impl RequiredSetting for Setting {
         }
     }
 
-    ghost named_is_of_kind = { elim [ EnableSafeOverflow ↦ λ r. switch_is_of_kind (rule EnableSafeOverflow) tt r.enable_safe_overflow | HistorySize ↦ λ r. number_is_of_kind (rule HistorySize) tt r.history_size | MaxNodes ↦ λ r. number_is_of_kind (rule MaxNodes) tt r.max_nodes | MaxPublishers ↦ λ r. number_is_of_kind (rule MaxPublishers) tt r.max_publishers | MaxSubscribers ↦ λ r. number_is_of_kind (rule MaxSubscribers) tt r.max_subscribers | SubscriberMaxBorrowedSamples ↦ λ r. number_is_of_kind (rule SubscriberMaxBorrowedSamples) tt r.subscriber_max_borrowed_samples | SubscriberMaxBufferSize ↦ λ r. number_is_of_kind (rule SubscriberMaxBufferSize) tt r.subscriber_max_buffer_size | Types ↦ λ r. tt ] };
+    ghost named_is_of_kind = { elim
+        [ EnableSafeOverflow ↦ λ r. switch_is_of_kind (rule EnableSafeOverflow) tt r.enable_safe_overflow | HistorySize ↦ λ r. number_is_of_kind (rule HistorySize) tt r.history_size | MaxNodes ↦ λ r. number_is_of_kind (rule MaxNodes) tt r.max_nodes | MaxPublishers ↦ λ r. number_is_of_kind (rule MaxPublishers) tt r.max_publishers | MaxSubscribers ↦ λ r. number_is_of_kind (rule MaxSubscribers) tt r.max_subscribers | SubscriberMaxBorrowedSamples ↦ λ r. number_is_of_kind (rule SubscriberMaxBorrowedSamples) tt r.subscriber_max_borrowed_samples | SubscriberMaxBufferSize ↦ λ r. number_is_of_kind (rule SubscriberMaxBufferSize) tt r.subscriber_max_buffer_size | Types ↦ λ r. tt ] };
 }

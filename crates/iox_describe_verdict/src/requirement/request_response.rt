@@ -185,7 +185,17 @@ impl Requirement {
 
 impl RequiredSetting for Setting {
     ghost use Rattle.iox_describe_settings.specs.RequestResponseSettings.{rule};
-    ghost use Rattle.iox_describe_settings.specs.declared.static_config.request_response.Setting.TheVariants.{EnableFireAndForgetRequests, EnableSafeOverflowForRequests, EnableSafeOverflowForResponses, MaxActiveRequestsPerClient, MaxBorrowedResponsesPerPendingResponse, MaxClients, MaxLoanedRequests, MaxNodes, MaxResponseBufferSize, MaxServers, RequestTypes, ResponseTypes};
+    ghost use Rattle.iox_describe_settings.specs.declared.static_config.request_response.Setting.TheVariants.{EnableFireAndForgetRequests};
+    ghost use Rattle.iox_describe_settings.specs.declared.static_config.request_response.Setting.TheVariants.{EnableSafeOverflowForRequests};
+    ghost use Rattle.iox_describe_settings.specs.declared.static_config.request_response.Setting.TheVariants.{EnableSafeOverflowForResponses};
+    ghost use Rattle.iox_describe_settings.specs.declared.static_config.request_response.Setting.TheVariants.{MaxActiveRequestsPerClient};
+    ghost use Rattle.iox_describe_settings.specs.declared.static_config.request_response.Setting.TheVariants.{MaxBorrowedResponsesPerPendingResponse};
+    ghost use Rattle.iox_describe_settings.specs.declared.static_config.request_response.Setting.TheVariants.{MaxClients};
+    ghost use Rattle.iox_describe_settings.specs.declared.static_config.request_response.Setting.TheVariants.{MaxLoanedRequests};
+    ghost use Rattle.iox_describe_settings.specs.declared.static_config.request_response.Setting.TheVariants.{MaxNodes};
+    ghost use Rattle.iox_describe_settings.specs.declared.static_config.request_response.Setting.TheVariants.{MaxResponseBufferSize};
+    ghost use Rattle.iox_describe_settings.specs.declared.static_config.request_response.Setting.TheVariants.{MaxServers, RequestTypes};
+    ghost use Rattle.iox_describe_settings.specs.declared.static_config.request_response.Setting.TheVariants.{ResponseTypes};
     ghost use Rattle.iox_describe_verdict.specs.Verdict.{number_is_of_kind, switch_is_of_kind};
     ghost use Rattle.iox_describe_verdict.specs.RequestResponseClauses.{error_of, named};
 
@@ -250,5 +260,6 @@ impl RequiredSetting for Setting {
         }
     }
 
-    ghost named_is_of_kind = { elim [ EnableFireAndForgetRequests ↦ λ r. switch_is_of_kind (rule EnableFireAndForgetRequests) tt r.enable_fire_and_forget_requests | EnableSafeOverflowForRequests ↦ λ r. switch_is_of_kind (rule EnableSafeOverflowForRequests) tt r.enable_safe_overflow_for_requests | EnableSafeOverflowForResponses ↦ λ r. switch_is_of_kind (rule EnableSafeOverflowForResponses) tt r.enable_safe_overflow_for_responses | MaxActiveRequestsPerClient ↦ λ r. number_is_of_kind (rule MaxActiveRequestsPerClient) tt r.max_active_requests_per_client | MaxBorrowedResponsesPerPendingResponse ↦ λ r. number_is_of_kind (rule MaxBorrowedResponsesPerPendingResponse) tt r.max_borrowed_responses_per_pending_response | MaxClients ↦ λ r. number_is_of_kind (rule MaxClients) tt r.max_clients | MaxLoanedRequests ↦ λ r. number_is_of_kind (rule MaxLoanedRequests) tt r.max_loaned_requests | MaxNodes ↦ λ r. number_is_of_kind (rule MaxNodes) tt r.max_nodes | MaxResponseBufferSize ↦ λ r. number_is_of_kind (rule MaxResponseBufferSize) tt r.max_response_buffer_size | MaxServers ↦ λ r. number_is_of_kind (rule MaxServers) tt r.max_servers | RequestTypes ↦ λ r. tt | ResponseTypes ↦ λ r. tt ] };
+    ghost named_is_of_kind = { elim
+        [ EnableFireAndForgetRequests ↦ λ r. switch_is_of_kind (rule EnableFireAndForgetRequests) tt r.enable_fire_and_forget_requests | EnableSafeOverflowForRequests ↦ λ r. switch_is_of_kind (rule EnableSafeOverflowForRequests) tt r.enable_safe_overflow_for_requests | EnableSafeOverflowForResponses ↦ λ r. switch_is_of_kind (rule EnableSafeOverflowForResponses) tt r.enable_safe_overflow_for_responses | MaxActiveRequestsPerClient ↦ λ r. number_is_of_kind (rule MaxActiveRequestsPerClient) tt r.max_active_requests_per_client | MaxBorrowedResponsesPerPendingResponse ↦ λ r. number_is_of_kind (rule MaxBorrowedResponsesPerPendingResponse) tt r.max_borrowed_responses_per_pending_response | MaxClients ↦ λ r. number_is_of_kind (rule MaxClients) tt r.max_clients | MaxLoanedRequests ↦ λ r. number_is_of_kind (rule MaxLoanedRequests) tt r.max_loaned_requests | MaxNodes ↦ λ r. number_is_of_kind (rule MaxNodes) tt r.max_nodes | MaxResponseBufferSize ↦ λ r. number_is_of_kind (rule MaxResponseBufferSize) tt r.max_response_buffer_size | MaxServers ↦ λ r. number_is_of_kind (rule MaxServers) tt r.max_servers | RequestTypes ↦ λ r. tt | ResponseTypes ↦ λ r. tt ] };
 }

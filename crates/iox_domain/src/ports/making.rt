@@ -3,7 +3,9 @@ ghost use Rattle.std.specs.Prelude.{◌≡◌, ◌+◌, ◌<◌, ◌^◌, Some, 
 ghost use Rattle.iox_domain_ports.specs.DomainValues.declared.degradation.DegradationCause.TheVariants as cause;
 ghost use Rattle.iox_domain_ports.specs.DomainValues.Sizes.{buffer_of};
 ghost use Rattle.iox_domain.specs.Subscribers.{subscriber_of};
-ghost use Rattle.iox_domain.specs.Making.{slots_needed, publisher_place, subscriber_place, publisher_refusal, subscriber_refusal, segments_of, sender_config, identity_of, AddsPublisher, CreatesPublisher, FollowsFirst, AddsSubscriber, CreatesSubscriber};
+ghost use Rattle.iox_domain.specs.Making.{slots_needed, publisher_place, subscriber_place, publisher_refusal, subscriber_refusal};
+ghost use Rattle.iox_domain.specs.Making.{segments_of, sender_config, identity_of, AddsPublisher, CreatesPublisher, FollowsFirst};
+ghost use Rattle.iox_domain.specs.Making.{AddsSubscriber, CreatesSubscriber};
 
 use crate::ports::service_ports::ServicePorts;
 use iox_domain_ports::{

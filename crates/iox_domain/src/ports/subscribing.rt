@@ -3,7 +3,8 @@ ghost use Rattle.std.specs.Prelude.{◌≡◌, None};
 ghost use Rattle.iox_domain_ports.specs.DomainValues.declared.degradation.DegradationCause.TheVariants as cause;
 ghost use Rattle.iox_domain.specs.Ports.{AtSubscriber};
 ghost use Rattle.iox_domain.specs.Subscribers.{subscriber_of};
-ghost use Rattle.iox_domain.specs.PortsSubscribing.{UpdatesOne, HasSamplesOne, ReceivesOne, LeavesOne, LeavesAt, counted_by, let_go, Releases};
+ghost use Rattle.iox_domain.specs.PortsSubscribing.{UpdatesOne, HasSamplesOne, ReceivesOne, LeavesOne, LeavesAt, counted_by, let_go};
+ghost use Rattle.iox_domain.specs.PortsSubscribing.{Releases};
 
 use crate::ports::roll::Roll;
 use crate::ports::service_ports::ServicePorts;

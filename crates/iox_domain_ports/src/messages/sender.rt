@@ -1,11 +1,16 @@
 //! One publisher with its messages.
-ghost use Rattle.std.specs.Prelude.{◌≡◌, ℕ, ◌+◌, ◌<◌, ◌≤◌, length, get_or, set, map, is_some, option_copied, slice_get, position, nat_lt, IsSome, IfSome, IfOk, OnErr, ◌-◌, ◌^◌, ◌==◌, ◌++◌, ◌∷◌, [], true, false, None, Some};
+ghost use Rattle.std.specs.Prelude.{◌≡◌, ℕ, ◌+◌, ◌<◌, ◌≤◌, length, get_or, set, map, is_some, option_copied, slice_get, position, nat_lt};
+ghost use Rattle.std.specs.Prelude.{IsSome, IfSome, IfOk, OnErr, ◌-◌, ◌^◌, ◌==◌, ◌++◌, ◌∷◌, [], true, false, None, Some};
 ghost use Rattle.iox_domain_slots.specs.declared.stage.Stage.TheVariants as stage;
-ghost use Rattle.iox_domain_slots.specs.Uses.{Uses, nobody, placed, connected, is_there, worst_case, accepts, offered, taken, given_back, ended, emptied, newest, welcomed, dropped, begun, finished, connection_at, with_connection, in_use};
+ghost use Rattle.iox_domain_slots.specs.Uses.{Uses, nobody, placed, connected, is_there, worst_case, accepts, offered, taken, given_back};
+ghost use Rattle.iox_domain_slots.specs.Uses.{ended, emptied, newest, welcomed, dropped, begun, finished, connection_at, with_connection};
+ghost use Rattle.iox_domain_slots.specs.Uses.{in_use};
 ghost use Rattle.iox_domain_slots.specs.Counting.{times};
 ghost use Rattle.std.specs.Borrow.{sem};
 ghost use Rattle.iox_domain_ports.specs.Messages.{Message, Loan, write_value, write_all, write_user_header, written_of, sent_as};
-ghost use Rattle.iox_domain_ports.specs.MessagesSending.{SenderState, LoanMade, slots_of, with_uses, change_loan, has_loan, has_place, has_value, has_length, is_written_loan, loan_at, place_in, opened_for, StandsAlone};
+ghost use Rattle.iox_domain_ports.specs.MessagesSending.{SenderState, LoanMade, slots_of, with_uses, change_loan, has_loan, has_place};
+ghost use Rattle.iox_domain_ports.specs.MessagesSending.{has_value, has_length, is_written_loan, loan_at, place_in, opened_for};
+ghost use Rattle.iox_domain_ports.specs.MessagesSending.{StandsAlone};
 
 use crate::messages::marks::Marks;
 use crate::messages::payloads::Payloads;
@@ -33,9 +38,11 @@ impl<T, U> Model for Sender<T, U> {
 
     ghost Value = { SenderState T U };
 
-    ghost view = { λ s. seen_sender (record { values = s.values; written = s.written; headers = s.headers.items; blank = s.blank }) s.uses };
+    ghost view = { λ s. seen_sender (record { values = s.values; written = s.written; headers = s.headers.items; blank = s.blank })
+        s.uses };
 
-    ghost invariant = { λ s. IsSender (record { values = s.values; written = s.written; headers = s.headers.items; blank = s.blank }) s.uses };
+    ghost invariant = { λ s. IsSender (record { values = s.values; written = s.written; headers = s.headers.items; blank = s.blank })
+        s.uses };
 }
 
 impl<T: Copy, U: Copy> Sender<T, U> {
@@ -282,7 +289,8 @@ impl<T: Copy, U: Copy> Sender<T, U> {
     /// Makes the message that is being sent the newest of the history; of more than may be kept the oldest leaves.
     pub fn remember(&mut self)
         ensures sent { (message : Message T U) → self.old.uses.sending ≡ Some message →
-            self.new ≡ with_uses (record self.old.uses { history = newest self.old.uses.kept (self.old.uses.history ++ message ∷ []) }) self.old }
+            self.new ≡ with_uses (record self.old.uses { history = newest self.old.uses.kept (self.old.uses.history ++ message ∷ []) })
+            self.old }
         ensures none { self.old.uses.sending ≡ None → self.new ≡ self.old }
     {
         self.uses.remember();
@@ -385,7 +393,8 @@ impl<T: Copy, U: Copy> Sender<T, U> {
         requires live { (connection_at index self.old.uses).stage ≡ stage.Live }
         ensures answer { result ≡ accepts self.old.uses.overflows (connection_at index self.old.uses) }
         ensures new { (message : Message T U) → self.old.uses.sending ≡ Some message →
-            self.new ≡ with_uses (with_connection index (offered self.old.uses.overflows message (connection_at index self.old.uses)) self.old.uses) self.old }
+            self.new ≡ with_uses (with_connection index (offered self.old.uses.overflows message (connection_at index self.old.uses))
+            self.old.uses) self.old }
     {
         self.uses.offer(index)
     }

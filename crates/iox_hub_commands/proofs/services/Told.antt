@@ -10,13 +10,17 @@ use Rattle.iox_hub_commands.specs.ServicesNumbering.{Numbers}
 use Rattle.iox_hub_commands.specs.ServicesTables.{FactoryTable, pattern_in, parts_of}
 use Rattle.iox_hub_commands.specs.declared.services.made.MadeFactory.{MadeFactory}
 
-pub numbers : {E : Type 0} (pattern : MessagingPattern) (refusal : E → Refusal) (answer : Result Made E) (table after : FactoryTable) (factory : MadeFactory) (number : ℕ) → pattern_in factory ≡ pattern
-    → Ok (parts_of factory) ≡ result_map_both (λ made. made) refusal answer → after ≡ inserted table factory → number ≡ table.next → HasForm (parts_of factory).0.service.description → Numbers pattern refusal answer table (Ok number) after
+pub numbers : {E : Type 0} (pattern : MessagingPattern) (refusal : E → Refusal) (answer : Result Made E) (table after : FactoryTable)
+    (factory : MadeFactory) (number : ℕ) → pattern_in factory ≡ pattern
+    → Ok (parts_of factory) ≡ result_map_both (λ made. made) refusal answer → after ≡ inserted table factory → number ≡ table.next
+    → HasForm (parts_of factory).0.service.description → Numbers pattern refusal answer table (Ok number) after
 numbers pattern refusal (Ok parts) table after factory number is told becomes next form =
-    let same : parts_of factory ≡ parts = cc in (factory, is, same, becomes, ap Ok next, subst (λ p. HasForm p.0.service.description) same form)
+    let same : parts_of factory ≡ parts
+    = cc in (factory, is, same, becomes, ap Ok next, subst (λ p. HasForm p.0.service.description) same form)
 numbers pattern refusal (Err error) table after factory number is told becomes next form = absurd cc
 
-pub refuses : {E : Type 0} (pattern : MessagingPattern) (refusal : E → Refusal) (answer : Result Made E) (table : FactoryTable) (reply : Refusal)
+pub refuses : {E : Type 0} (pattern : MessagingPattern) (refusal : E → Refusal) (answer : Result Made E) (table : FactoryTable)
+    (reply : Refusal)
     → Err reply ≡ result_map_both (λ made. made) refusal answer → Numbers pattern refusal answer table (Err reply) table
 refuses pattern refusal (Ok parts) table reply told = absurd cc
 refuses pattern refusal (Err error) table reply told = let same : reply ≡ refusal error = cc in (ap Err same, refl)

@@ -1,10 +1,10 @@
 //! Services are created.
-ghost use Rattle.std.specs.Prelude.{Result, ◌≡◌, ◌<◌, ◌+◌, ◌^◌, length, true, Some, Err};
+ghost use Rattle.std.specs.Prelude.{Result, ◌≡◌, ◌<◌, ◌+◌, ◌^◌, length, true, None, Some, Err};
 ghost use Rattle.iox_hub_base.specs.DescribeBase.Detail.{detail};
 ghost use Rattle.iox_hub_base.specs.DescribeBase.declared.type_detail.TypeVariant.TheVariants.{FixedSize};
 ghost use Rattle.iox_hub_base.specs.Hubs.{is_node};
 ghost use Rattle.iox_hub_commands.specs.Asked.{types_of};
-ghost use Rattle.iox_hub_commands.specs.Creating.{CreatesAs, CreatesNumbered, create_lacking};
+ghost use Rattle.iox_hub_commands.specs.Creating.{CreatesAs, CreatesNumbered, CreatesUnlessRefused, create_lacking};
 ghost use Rattle.iox_hub_commands.specs.Described.{settings_of};
 ghost use Rattle.iox_command.specs.NegotiateBase.declared.failure.CreateFailure.{CreateFailure};
 ghost use Rattle.iox_hub_commands.specs.Refusing.{IsUncreated, create_refused};
@@ -99,7 +99,7 @@ impl Factories {
         steps: &[StepBefore],
     ) -> Result<u64, Refusal>
         requires number { self.old.made.next + 1 < 2 ^ 64 }
-        ensures { CreatesNumbered true (detail FixedSize T.name T.size T.alignment) (detail FixedSize U.name U.size U.alignment)
+        ensures { CreatesUnlessRefused None (detail FixedSize T.name T.size T.alignment) (detail FixedSize U.name U.size U.alignment)
             (types_of T.name T.size T.alignment U.name U.size U.alignment) asked.now attributes.now steps.now self.old.made hub.old
             (Some result) self.new.made hub.new }
     {

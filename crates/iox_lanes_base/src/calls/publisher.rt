@@ -1,7 +1,9 @@
 //! The calls of a publisher.
 ghost use Rattle.std.specs.Prelude.{◌≡◌};
 ghost use Rattle.iox_lanes_base.specs.Answers.{refusing_pop_answer};
-ghost use Rattle.iox_lanes_base.specs.Publishing.{publisher_next, publisher_take, publisher_change, publisher_is_idle, publisher_is_over, header_word, loan_at, write_at, head_at, sweep_at, push_at, counted, taken_back, push_change};
+ghost use Rattle.iox_lanes_base.specs.Publishing.{publisher_next, publisher_take, publisher_change, publisher_is_idle, publisher_is_over};
+ghost use Rattle.iox_lanes_base.specs.Publishing.{header_word, loan_at, write_at, head_at, sweep_at, push_at, counted, taken_back};
+ghost use Rattle.iox_lanes_base.specs.Publishing.{push_change};
 
 use crate::calls::answers::{push_answer, refusing_pop_answer};
 use crate::calls::route::Route;

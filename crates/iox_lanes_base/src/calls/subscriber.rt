@@ -1,7 +1,9 @@
 //! The calls of a subscriber.
 ghost use Rattle.std.specs.Prelude.{◌≡◌, false};
 ghost use Rattle.iox_lanes_base.specs.Answers.{pop_answer};
-ghost use Rattle.iox_lanes_base.specs.Subscribing.{subscriber_next, subscriber_take, subscriber_change, subscriber_is_idle, subscriber_is_over, is_full_at, receive_at, nothing_received, read_at, word_at, borrowed_by, given_back_by};
+ghost use Rattle.iox_lanes_base.specs.Subscribing.{subscriber_next, subscriber_take, subscriber_change, subscriber_is_idle};
+ghost use Rattle.iox_lanes_base.specs.Subscribing.{subscriber_is_over, is_full_at, receive_at, nothing_received, read_at, word_at};
+ghost use Rattle.iox_lanes_base.specs.Subscribing.{borrowed_by, given_back_by};
 
 use crate::calls::answers::{pop_answer, refusing_push_answer};
 use crate::calls::route::Route;

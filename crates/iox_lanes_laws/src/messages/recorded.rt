@@ -1,5 +1,6 @@
 //! Lanes that keep the messages which are sent on them.
-ghost use Rattle.std.specs.Prelude.{◌≡◌, ◌<◌, ◌==◌, [], ◌∷◌, Some, slice_get, option_copied, option_to_list, IfOk, OnErr, true, length, if◌then◌else◌};
+ghost use Rattle.std.specs.Prelude.{◌≡◌, ◌<◌, ◌==◌, [], ◌∷◌, Some, slice_get, option_copied, option_to_list, IfOk, OnErr, true, length};
+ghost use Rattle.std.specs.Prelude.{if◌then◌else◌};
 
 use crate::messages::message::Message;
 use iox_lanes_machine::Lanes;

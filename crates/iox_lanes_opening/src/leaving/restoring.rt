@@ -5,7 +5,8 @@ ghost use Rattle.iox_domain_ports.specs.DomainSlots.declared.stage.Stage.TheVari
 ghost use Rattle.iox_domain_ports.specs.DomainSlots.Uses.{connection_at, with_connection, offered, newest};
 ghost use Rattle.iox_lanes_machine.specs.LanesBase.Numbers.{words_of};
 ghost use Rattle.iox_lanes_opening.specs.Leaving.{message_in};
-ghost use Rattle.iox_lanes_opening.specs.Restoring.{IsOwn, AreLeft, MayBeSent, MayCome, OnlyWaits, OnlyRemembers, MayWaitAll, MayRememberAll, messages_in};
+ghost use Rattle.iox_lanes_opening.specs.Restoring.{IsOwn, AreLeft, MayBeSent, MayCome, OnlyWaits, OnlyRemembers, MayWaitAll};
+ghost use Rattle.iox_lanes_opening.specs.Restoring.{MayRememberAll, messages_in};
 ghost use Rattle.iox_lanes_machine.specs.Resting.{mail_at};
 
 use crate::leaving::words::{elements, payload, user_header};
@@ -69,7 +70,10 @@ fn remember<T: Words, U: Words>(
     one: &mut Vec<T>,
 )
     requires { MayBeSent T.of_parts U.of_parts T.WORDS U.WORDS table.now first slot (vec_capacity one.old) sender.old }
-    ensures remembered { sender.new ≡ with_uses (record sender.old.uses { history = newest sender.old.uses.kept (sender.old.uses.history ++ message_in T.of_parts U.of_parts table.now first slot ∷ []) }) sender.old }
+    ensures remembered { sender.new
+        ≡ with_uses (record sender.old.uses
+        { history = newest sender.old.uses.kept (sender.old.uses.history ++ message_in T.of_parts U.of_parts table.now first slot ∷ []) })
+        sender.old }
     ensures left { AreLeft T.of_parts U.of_parts table.now first sender.new.uses }
     ensures room { vec_capacity one.new ≡ vec_capacity one.old }
 {
@@ -109,7 +113,10 @@ fn put_own<T: Words, U: Words>(
 )
     requires { MayCome T.of_parts U.of_parts T.WORDS U.WORDS table.now first (vec_capacity one.old) sender.old }
     ensures put { IsOwn first slot table.now.sizes.slots sender.old.uses → (connection_at index sender.old.uses).stage ≡ stage.Live
-        → sender.new ≡ with_uses (with_connection index (offered sender.old.uses.overflows (message_in T.of_parts U.of_parts table.now first (slot - first)) (connection_at index sender.old.uses)) sender.old.uses) sender.old }
+        → sender.new ≡ with_uses
+        (with_connection index
+        (offered sender.old.uses.overflows (message_in T.of_parts U.of_parts table.now first (slot - first))
+        (connection_at index sender.old.uses)) sender.old.uses) sender.old }
     ensures rest { OnlyWaits index sender.old sender.new }
     ensures left { AreLeft T.of_parts U.of_parts table.now first sender.new.uses }
     ensures room { vec_capacity one.new ≡ vec_capacity one.old }
@@ -160,7 +167,11 @@ fn remember_own<T: Words, U: Words>(
 )
     requires { MayCome T.of_parts U.of_parts T.WORDS U.WORDS table.now first (vec_capacity one.old) sender.old }
     ensures remembered { IsOwn first slot table.now.sizes.slots sender.old.uses
-        → sender.new ≡ with_uses (record sender.old.uses { history = newest sender.old.uses.kept (sender.old.uses.history ++ message_in T.of_parts U.of_parts table.now first (slot - first) ∷ []) }) sender.old }
+        → sender.new ≡ with_uses
+        (record sender.old.uses {
+          history = newest sender.old.uses.kept
+              (sender.old.uses.history ++ message_in T.of_parts U.of_parts table.now first (slot - first) ∷ []);
+        }) sender.old }
     ensures rest { OnlyRemembers sender.old sender.new }
     ensures left { AreLeft T.of_parts U.of_parts table.now first sender.new.uses }
     ensures room { vec_capacity one.new ≡ vec_capacity one.old }

@@ -2,7 +2,8 @@
 ghost use Rattle.std.specs.Prelude.{◌≡◌, option_copied};
 ghost use Rattle.std.specs.List.{list_any};
 ghost use Rattle.iox_domain.specs.Kept.{kept_under};
-ghost use Rattle.iox_lanes_opening.specs.Deciding.{asks_object, is_object, has_object, is_kept_object, has_handlers, is_failure, is_retry, fixed_answer, would_fail, would_wait, retries, is_retrying};
+ghost use Rattle.iox_lanes_opening.specs.Deciding.{asks_object, is_object, has_object, is_kept_object, has_handlers, is_failure};
+ghost use Rattle.iox_lanes_opening.specs.Deciding.{is_retry, fixed_answer, would_fail, would_wait, retries, is_retrying};
 
 use iox_domain::{Domain, Kept};
 use iox_domain_ports::PublisherPort;

@@ -22,6 +22,9 @@ pub enum IntoLanesError {
     Lingering,
     /// The messages are slices, or some publisher has room for another number of values than one.
     HasSlices,
+    /// The ports are such as no calls leave: one is listed at another place than its own, or a publisher isn't made for what is agreed,
+    /// or its messages don't keep to that, or two connections of a subscriber come from one publisher.
+    Unsound,
     /// No memory was found.
     OutOfMemory,
 }
@@ -39,6 +42,7 @@ impl IntoLanesError {
             IntoLanesError::Retrying => "IntoLanesError::Retrying",
             IntoLanesError::Lingering => "IntoLanesError::Lingering",
             IntoLanesError::HasSlices => "IntoLanesError::HasSlices",
+            IntoLanesError::Unsound => "IntoLanesError::Unsound",
             IntoLanesError::OutOfMemory => "IntoLanesError::OutOfMemory",
         }
     }

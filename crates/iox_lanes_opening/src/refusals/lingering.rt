@@ -3,7 +3,8 @@ ghost use Rattle.std.specs.Prelude.{◌≡◌};
 ghost use Rattle.std.specs.List.{list_any};
 ghost use Rattle.iox_domain.specs.DomainPorts.Ports.{connection_of};
 ghost use Rattle.iox_domain.specs.DomainPorts.Subscribing.{attached_at};
-ghost use Rattle.iox_lanes_opening.specs.Lingering.{connection_lingers, has_out, is_listed_publisher, publisher_lingers, leads_nowhere, has_left_over, is_listed_subscriber, subscriber_lingers, is_lingering};
+ghost use Rattle.iox_lanes_opening.specs.Lingering.{connection_lingers, has_out, is_listed_publisher, publisher_lingers, leads_nowhere};
+ghost use Rattle.iox_lanes_opening.specs.Lingering.{has_left_over, is_listed_subscriber, subscriber_lingers, is_lingering};
 
 use iox_domain::ports::ServicePorts;
 use iox_domain_ports::{PublisherPort, Publishers, Stage, SubscriberPort};

@@ -6,6 +6,7 @@ use crate::refusals::deciding::{has_handlers, is_retrying};
 use crate::refusals::into_lanes_error::IntoLanesError;
 use crate::refusals::lingering::is_lingering;
 use crate::refusals::slices::has_slices;
+use crate::refusals::soundness::is_unsound;
 use crate::refusals::up_to_date::is_up_to_date;
 use iox_domain::Domain;
 use iox_domain::ports::ServicePorts;
@@ -18,7 +19,7 @@ use iox_domain_values::AllocationStrategy;
 /// `HasHandlers`: an object that the caller made decides for some port. `Retrying`: a full mailbox doesn't drop its oldest message, and a
 /// send of some publisher would wait there. `Lingering`: a loan or a sample is out, a connection whose publisher left still stands, or a
 /// port that left isn't gone. `HasSlices`: the messages are slices, or some publisher deals in another number of values than one.
-/// `OutOfMemory` is not told here.
+/// `Unsound`: the ports are such as no calls leave. `OutOfMemory` is not told here.
 pub fn refusal<T: Copy, U: Copy>(domain: &Domain<T, U>) -> Option<IntoLanesError>
     ensures { result ≡ first_reason domain.now }
 {
@@ -42,6 +43,9 @@ pub fn refusal<T: Copy, U: Copy>(domain: &Domain<T, U>) -> Option<IntoLanesError
     }
     if has_slices(domain) {
         return Some(IntoLanesError::HasSlices);
+    }
+    if is_unsound(&domain.state.ports) {
+        return Some(IntoLanesError::Unsound);
     }
     None
 }

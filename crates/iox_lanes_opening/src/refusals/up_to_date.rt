@@ -2,7 +2,8 @@
 ghost use Rattle.std.specs.Prelude.{◌≡◌, get_or, None};
 ghost use Rattle.iox_domain.specs.DomainPorts.Ports.{is_live};
 ghost use Rattle.iox_lanes_opening.specs.Listed.{holds_at, of_each_listed};
-ghost use Rattle.iox_lanes_opening.specs.UpToDate.{is_reader, is_read_by, reads_from, is_joined_to, is_connected, is_current_publisher, is_current_subscriber, is_up_to_date};
+ghost use Rattle.iox_lanes_opening.specs.UpToDate.{is_reader, is_read_by, reads_from, is_joined_to, is_connected, is_current_publisher};
+ghost use Rattle.iox_lanes_opening.specs.UpToDate.{is_current_subscriber, is_up_to_date};
 
 use iox_domain::ports::ServicePorts;
 use iox_domain_ports::{

@@ -2,7 +2,8 @@
 ghost use Rattle.std.specs.Prelude.{◌≡◌, true, if◌then◌else◌, length, replicate, slice_get, IfOk};
 ghost use Rattle.iox_lanes_base.specs.Publishing.{publisher_next, publisher_is_idle, publisher_is_over};
 ghost use Rattle.iox_lanes_parties.specs.PublisherKeeping.{loan_of, may_have, may_remember, may_resize};
-ghost use Rattle.iox_lanes_parties.specs.Publishers.{after_answer, found_at, found_last, with_slots, met_anew, begun_loan, begun_write, begun_send, begun_drop, new_publisher, words_of};
+ghost use Rattle.iox_lanes_parties.specs.Publishers.{after_answer, found_at, found_last, with_slots, met_anew, begun_loan, begun_write};
+ghost use Rattle.iox_lanes_parties.specs.Publishers.{begun_send, begun_drop, new_publisher, words_of};
 
 use crate::publisher::slot_book::{LoanAnswer, LoanMark, SlotBook};
 use iox_lanes_base::calls::{PublisherCall, PublisherChange, Route, reroute};

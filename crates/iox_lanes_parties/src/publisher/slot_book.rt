@@ -1,6 +1,10 @@
 //! What the slots of a publisher are used for.
-ghost use Rattle.std.specs.Prelude.{◌≡◌, ◌+◌, ◌-◌, ◌*◌, ◌<◌, ◌≤◌, ◌^◌, ◌++◌, ◌∷◌, [], None, true, false, length, take, get_or, remove, replicate, IfOk, vec_len, vec_capacity};
-ghost use Rattle.iox_lanes_parties.specs.PublisherKeeping.{put_at, counted_up, counted_down, first_free, number_in, new_book, loan_of, changed, lent, remembered, dropped, marked, referred_at, unreferred_at, newest_of, is_own, may_have, stands_in, may_remember, found_newest, are_unused, may_resize, resized};
+ghost use Rattle.std.specs.Prelude.{◌≡◌, ◌+◌, ◌-◌, ◌*◌, ◌<◌, ◌≤◌, ◌^◌, ◌++◌, ◌∷◌, [], None, true, false, length, take, get_or, remove};
+ghost use Rattle.std.specs.Prelude.{replicate, IfOk, vec_len, vec_capacity};
+ghost use Rattle.iox_lanes_parties.specs.PublisherKeeping.{put_at, counted_up, counted_down, first_free, number_in, new_book, loan_of};
+ghost use Rattle.iox_lanes_parties.specs.PublisherKeeping.{changed, lent, remembered, dropped, marked, referred_at, unreferred_at};
+ghost use Rattle.iox_lanes_parties.specs.PublisherKeeping.{newest_of, is_own, may_have, stands_in, may_remember, found_newest};
+ghost use Rattle.iox_lanes_parties.specs.PublisherKeeping.{are_unused, may_resize, resized};
 
 use iox_lanes_base::calls::PublisherChange;
 use std::alloc::{AllocError, Global};

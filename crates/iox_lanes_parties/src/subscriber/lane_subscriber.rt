@@ -1,7 +1,8 @@
 //! A subscriber, free of any words.
 ghost use Rattle.std.specs.Prelude.{◌≡◌, ◌-◌, ◌<◌, true, false, None, Some, get_or, slice_get, length, replicate, IfOk};
 ghost use Rattle.iox_lanes_base.specs.Subscribing.{subscriber_next, subscriber_is_idle, subscriber_is_over};
-ghost use Rattle.iox_lanes_parties.specs.Keeping.{put_at, met_anew, swapped, counted_up, counted_down, changed, after_answer, begun_receive, begun_read, begun_release, new_subscriber};
+ghost use Rattle.iox_lanes_parties.specs.Keeping.{put_at, met_anew, swapped, counted_up, counted_down, changed, after_answer};
+ghost use Rattle.iox_lanes_parties.specs.Keeping.{begun_receive, begun_read, begun_release, new_subscriber};
 
 use iox_lanes_base::calls::subscriber::SlotExtent;
 use iox_lanes_base::calls::{Route, SubscriberCall, SubscriberChange, reroute};

@@ -1,7 +1,9 @@
 //! The options of each pattern.
 ghost use Rattle.std.specs.Prelude.{◌≡◌};
 ghost use Rattle.std.specs.Option.{option_map};
-ghost use Rattle.iox_line.specs.ServicesReading.{publish_subscribe_options, publish_subscribe_parts, publish_subscribe_of, event_options, event_parts, event_of, request_response_options, request_response_parts, request_response_of};
+ghost use Rattle.iox_line.specs.ServicesReading.{publish_subscribe_options, publish_subscribe_parts, publish_subscribe_of, event_options};
+ghost use Rattle.iox_line.specs.ServicesReading.{event_parts, event_of, request_response_options, request_response_parts};
+ghost use Rattle.iox_line.specs.ServicesReading.{request_response_of};
 
 use crate::services::value::{named_number_or_off, named_switch};
 use crate::text::Words;

@@ -13,7 +13,10 @@ impl ServiceBuilder<PublishSubscribe> {
     /// Asks for this user header of messages.
     /// Example: `builder.user_header::<u64>()`
     pub fn user_header<U: ZeroCopySend>(mut self) -> Self
-        ensures { result ≡ record self { requirement = record self.requirement { types = record self.requirement.types { user_header = detail FixedSize U.name U.size U.alignment } } } }
+        ensures { result ≡ record self {
+          requirement = record self.requirement
+              { types = record self.requirement.types { user_header = detail FixedSize U.name U.size U.alignment } };
+        } }
     {
         self.requirement.types.user_header = U::type_detail(TypeVariant::FixedSize);
         self
@@ -22,7 +25,10 @@ impl ServiceBuilder<PublishSubscribe> {
     /// Asks for this alignment of the payload of messages, in bytes, or for that of its type where it is larger.
     /// Example: `builder.payload_alignment(16)`
     pub fn payload_alignment(mut self, alignment: u64) -> Self
-        ensures { result ≡ record self { requirement = record self.requirement { types = record self.requirement.types { payload = aligned self.requirement.types.payload alignment } } } }
+        ensures { result ≡ record self {
+          requirement = record self.requirement
+              { types = record self.requirement.types { payload = aligned self.requirement.types.payload alignment } };
+        } }
     {
         self.requirement.types.payload = aligned(&self.requirement.types.payload, alignment);
         self
@@ -31,7 +37,8 @@ impl ServiceBuilder<PublishSubscribe> {
     /// Asks for this payload, whatever type it is of.
     /// Example: `builder.internal_set_payload_type_details(detail)`
     pub fn internal_set_payload_type_details(mut self, value: TypeDetail) -> Self
-        ensures { result ≡ record self { requirement = record self.requirement { types = record self.requirement.types { payload = value } } } }
+        ensures { result ≡ record self
+            { requirement = record self.requirement { types = record self.requirement.types { payload = value } } } }
     {
         self.requirement.types.payload = value;
         self
@@ -40,7 +47,8 @@ impl ServiceBuilder<PublishSubscribe> {
     /// Asks for this user header, whatever type it is of.
     /// Example: `builder.internal_set_user_header_type_details(detail)`
     pub fn internal_set_user_header_type_details(mut self, value: TypeDetail) -> Self
-        ensures { result ≡ record self { requirement = record self.requirement { types = record self.requirement.types { user_header = value } } } }
+        ensures { result ≡ record self
+            { requirement = record self.requirement { types = record self.requirement.types { user_header = value } } } }
     {
         self.requirement.types.user_header = value;
         self

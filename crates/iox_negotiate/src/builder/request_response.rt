@@ -13,7 +13,10 @@ impl ServiceBuilder<RequestResponse> {
     /// Asks for this user header of requests.
     /// Example: `builder.request_user_header::<u64>()`
     pub fn request_user_header<U: ZeroCopySend>(mut self) -> Self
-        ensures { result ≡ record self { requirement = record self.requirement { request_types = record self.requirement.request_types { user_header = detail FixedSize U.name U.size U.alignment } } } }
+        ensures { result ≡ record self {
+          requirement = record self.requirement
+              { request_types = record self.requirement.request_types { user_header = detail FixedSize U.name U.size U.alignment } };
+        } }
     {
         self.requirement.request_types.user_header = U::type_detail(TypeVariant::FixedSize);
         self
@@ -22,7 +25,10 @@ impl ServiceBuilder<RequestResponse> {
     /// Asks for this user header of responses.
     /// Example: `builder.response_user_header::<u64>()`
     pub fn response_user_header<U: ZeroCopySend>(mut self) -> Self
-        ensures { result ≡ record self { requirement = record self.requirement { response_types = record self.requirement.response_types { user_header = detail FixedSize U.name U.size U.alignment } } } }
+        ensures { result ≡ record self {
+          requirement = record self.requirement
+              { response_types = record self.requirement.response_types { user_header = detail FixedSize U.name U.size U.alignment } };
+        } }
     {
         self.requirement.response_types.user_header = U::type_detail(TypeVariant::FixedSize);
         self
@@ -31,7 +37,12 @@ impl ServiceBuilder<RequestResponse> {
     /// Asks for this alignment of the payload of requests, in bytes, or for that of its type where it is larger.
     /// Example: `builder.request_payload_alignment(16)`
     pub fn request_payload_alignment(mut self, alignment: u64) -> Self
-        ensures { result ≡ record self { requirement = record self.requirement { request_types = record self.requirement.request_types { payload = aligned self.requirement.request_types.payload alignment } } } }
+        ensures { result ≡ record self {
+          requirement = record self.requirement {
+            request_types = record self.requirement.request_types
+                { payload = aligned self.requirement.request_types.payload alignment };
+          };
+        } }
     {
         self.requirement.request_types.payload = aligned(
             &self.requirement.request_types.payload,
@@ -43,7 +54,12 @@ impl ServiceBuilder<RequestResponse> {
     /// Asks for this alignment of the payload of responses, in bytes, or for that of its type where it is larger.
     /// Example: `builder.response_payload_alignment(16)`
     pub fn response_payload_alignment(mut self, alignment: u64) -> Self
-        ensures { result ≡ record self { requirement = record self.requirement { response_types = record self.requirement.response_types { payload = aligned self.requirement.response_types.payload alignment } } } }
+        ensures { result ≡ record self {
+          requirement = record self.requirement {
+            response_types = record self.requirement.response_types
+                { payload = aligned self.requirement.response_types.payload alignment };
+          };
+        } }
     {
         self.requirement.response_types.payload = aligned(
             &self.requirement.response_types.payload,
@@ -55,7 +71,8 @@ impl ServiceBuilder<RequestResponse> {
     /// Asks for this payload of requests, whatever type it is of.
     /// Example: `builder.internal_set_request_payload_type_details(detail)`
     pub fn internal_set_request_payload_type_details(mut self, value: TypeDetail) -> Self
-        ensures { result ≡ record self { requirement = record self.requirement { request_types = record self.requirement.request_types { payload = value } } } }
+        ensures { result ≡ record self
+            { requirement = record self.requirement { request_types = record self.requirement.request_types { payload = value } } } }
     {
         self.requirement.request_types.payload = value;
         self
@@ -64,7 +81,8 @@ impl ServiceBuilder<RequestResponse> {
     /// Asks for this payload of responses, whatever type it is of.
     /// Example: `builder.internal_set_response_payload_type_details(detail)`
     pub fn internal_set_response_payload_type_details(mut self, value: TypeDetail) -> Self
-        ensures { result ≡ record self { requirement = record self.requirement { response_types = record self.requirement.response_types { payload = value } } } }
+        ensures { result ≡ record self
+            { requirement = record self.requirement { response_types = record self.requirement.response_types { payload = value } } } }
     {
         self.requirement.response_types.payload = value;
         self
@@ -73,7 +91,8 @@ impl ServiceBuilder<RequestResponse> {
     /// Asks for this user header of requests, whatever type it is of.
     /// Example: `builder.internal_set_request_header_type_details(detail)`
     pub fn internal_set_request_header_type_details(mut self, value: TypeDetail) -> Self
-        ensures { result ≡ record self { requirement = record self.requirement { request_types = record self.requirement.request_types { user_header = value } } } }
+        ensures { result ≡ record self
+            { requirement = record self.requirement { request_types = record self.requirement.request_types { user_header = value } } } }
     {
         self.requirement.request_types.user_header = value;
         self
@@ -82,7 +101,8 @@ impl ServiceBuilder<RequestResponse> {
     /// Asks for this user header of responses, whatever type it is of.
     /// Example: `builder.internal_set_response_header_type_details(detail)`
     pub fn internal_set_response_header_type_details(mut self, value: TypeDetail) -> Self
-        ensures { result ≡ record self { requirement = record self.requirement { response_types = record self.requirement.response_types { user_header = value } } } }
+        ensures { result ≡ record self
+            { requirement = record self.requirement { response_types = record self.requirement.response_types { user_header = value } } } }
     {
         self.requirement.response_types.user_header = value;
         self
@@ -169,7 +189,8 @@ impl ServiceBuilder<RequestResponse> {
     /// and so many of one that is created.
     /// Example: `builder.max_borrowed_responses_per_pending_response(2)`
     pub fn max_borrowed_responses_per_pending_response(mut self, value: u64) -> Self
-        ensures { result ≡ record self { requirement = record self.requirement { max_borrowed_responses_per_pending_response = Some value } } }
+        ensures { result ≡ record self
+            { requirement = record self.requirement { max_borrowed_responses_per_pending_response = Some value } } }
     {
         self.requirement.max_borrowed_responses_per_pending_response = Some(value);
         self

@@ -1,6 +1,7 @@
 //! A call on a bit set, one access at a time.
 ghost use Rattle.std.specs.Prelude.{◌≡◌};
-ghost use Rattle.iox_queues.specs.Steps.{call_next, call_take, call_is_idle, call_is_over, adding_at, going_on_at, sweeping_at, swept_by, found_at, call_begun};
+ghost use Rattle.iox_queues.specs.Steps.{call_next, call_take, call_is_idle, call_is_over, adding_at, going_on_at, sweeping_at, swept_by};
+ghost use Rattle.iox_queues.specs.Steps.{found_at, call_begun};
 
 use iox_queues_steps::{Access, Word};
 

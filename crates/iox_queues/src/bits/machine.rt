@@ -35,7 +35,9 @@ pub struct Finished {
 /// A set whose parties go one step at a time, in any order that the caller wants.
 ///
 /// Any party may stop anywhere. For each place, what was counted in is what was taken out and what
-/// is there now; no count passes the largest. What a call that ended did is what it answered.
+/// is there now; no count passes the largest. What a call that ended did is what it answered, at moments of its own. Each step got
+/// what its word held, and is one that a call asked for. The count of a place changes at just those steps that count it once more
+/// or take it out.
 #[derive(Debug, Drop)]
 pub struct SetMachine {
     state: State,
@@ -57,6 +59,8 @@ impl Model for SetMachine {
 
 impl SetMachine {
     ghost use Rattle.iox_queues.specs.Machine.{IsBalanced, IsTold, StepsTo, RunsTo, start, stage_at};
+    ghost use Rattle.iox_queues.specs.Asked.{ChangesByActs, IsRecorded, StepsAreOfCalls, TellsStep};
+    ghost use Rattle.iox_queues.specs.Moments.{CallsHaveMoments};
 
     /// An empty set of this capacity, with this many parties. No count passes `max`, which is 1 for
     /// a bit set.
@@ -76,8 +80,13 @@ impl SetMachine {
     /// Begins a call, or goes on inside one.
     pub fn step(&mut self, step: Move) -> Stepped
         ensures steps { StepsTo self.old step result self.new }
+        ensures tells { TellsStep self.old step result self.new }
         ensures balanced { IsBalanced self.new }
         ensures told { IsTold self.new }
+        ensures recorded { IsRecorded self.new }
+        ensures counted { StepsAreOfCalls self.new }
+        ensures acts { ChangesByActs self.new }
+        ensures moments { CallsHaveMoments self.new }
     {
         self.state.step(step)
     }
@@ -88,6 +97,10 @@ impl SetMachine {
         ensures runs { RunsTo self.old schedule.now result self.new }
         ensures balanced { IsBalanced self.new }
         ensures told { IsTold self.new }
+        ensures recorded { IsRecorded self.new }
+        ensures counted { StepsAreOfCalls self.new }
+        ensures acts { ChangesByActs self.new }
+        ensures moments { CallsHaveMoments self.new }
     {
         self.keeps();
         let mut made = 0;
@@ -107,6 +120,10 @@ impl SetMachine {
     fn keeps(&self)
         ensures balanced { IsBalanced self.now }
         ensures told { IsTold self.now }
+        ensures recorded { IsRecorded self.now }
+        ensures counted { StepsAreOfCalls self.now }
+        ensures acts { ChangesByActs self.now }
+        ensures moments { CallsHaveMoments self.now }
     {
         let _ = &self.state;
     }
@@ -115,6 +132,9 @@ impl SetMachine {
     pub fn events(&self) -> &[Event]
         ensures value { result.now ≡ self.now.events }
         ensures balanced { IsBalanced self.now }
+        ensures recorded { IsRecorded self.now }
+        ensures counted { StepsAreOfCalls self.now }
+        ensures acts { ChangesByActs self.now }
     {
         self.state.events.as_slice()
     }
@@ -123,6 +143,9 @@ impl SetMachine {
     pub fn finished(&self) -> &[Finished]
         ensures value { result.now ≡ self.now.finished }
         ensures told { IsTold self.now }
+        ensures recorded { IsRecorded self.now }
+        ensures counted { StepsAreOfCalls self.now }
+        ensures moments { CallsHaveMoments self.now }
     {
         self.state.finished.as_slice()
     }

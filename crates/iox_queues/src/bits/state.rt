@@ -1,6 +1,7 @@
 //! The state of a set's machine, and its steps.
 ghost use Rattle.std.specs.Prelude.{◌≡◌, ℕ, false, ◌+◌, ◌≤◌, ◌<◌, ◌++◌, IfOk, OnOk, length, slice_index, true, vec_len, vec_capacity};
-ghost use Rattle.iox_queues.specs.Machine.{StepsTo, begun, call_ended, ends, fits, happens, idle_seat, is_within, seat_at, start, stage_at, went};
+ghost use Rattle.iox_queues.specs.Machine.{StepsTo, begun, call_ended, ends, fits, happens, idle_seat, is_within, seat_at, start};
+ghost use Rattle.iox_queues.specs.Machine.{stage_at, went};
 ghost use Rattle.iox_queues.specs.Steps.{call_is_over, call_next, is_apart};
 ghost use Rattle.iox_queues_steps.specs.Access.{after_access, answer_of};
 

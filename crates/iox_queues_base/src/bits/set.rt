@@ -1,4 +1,5 @@
-ghost use Rattle.std.specs.Prelude.{◌≡◌, ◌+◌, ◌-◌, ◌<◌, ◌≤◌, ◌^◌, ℕ, true, false, not, length, replicate, set, slice_index_or, slice_set, IfOk, MatchOption, IfSome, IfNone};
+ghost use Rattle.std.specs.Prelude.{◌≡◌, ◌+◌, ◌-◌, ◌<◌, ◌≤◌, ◌^◌, ℕ, true, false, not, length, replicate, set, slice_index_or, slice_set};
+ghost use Rattle.std.specs.Prelude.{IfOk, MatchOption, IfSome, IfNone};
 ghost use Rattle.std.specs.List.{FoldsTo};
 ghost use Rattle.iox_queues_base.specs.Bits.{BitList, IsNext, AreClear, ListsMembers, members};
 

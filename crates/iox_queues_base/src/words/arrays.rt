@@ -44,7 +44,8 @@ impl<T: OneWord, const N: usize> Words for [T; N] {
 
     ghost as_many = { many_first T.parts N };
 
-    ghost given_back = { λ xs h. each_given_back T.parts T.of_parts T.is_value (one_each T.parts T.WORDS T.as_many T.one) T.given_back N xs h.0 h.1 };
+    ghost given_back = { λ xs h. each_given_back T.parts T.of_parts T.is_value (one_each T.parts T.WORDS T.as_many T.one) T.given_back N
+        xs h.0 h.1 };
 }
 
 impl OneWord for u8 {

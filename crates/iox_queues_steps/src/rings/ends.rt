@@ -1,7 +1,9 @@
 //! A push, and a pop or a look, on a ring of either kind.
 ghost use Rattle.std.specs.Prelude.{◌≡◌, if◌then◌else◌, [], map, length};
 ghost use Rattle.std.specs.Option.{option_to_list};
-ghost use Rattle.iox_queues_steps.specs.Ends.{late_put, placed_by_push, pop_begun, pop_ended, pop_idle, pop_is_idle, pop_is_over, pop_look, pop_moves, pop_next, pop_take, push_begun, push_ended, push_idle, push_is_idle, push_is_over, push_next, push_take, taken_by_pop};
+ghost use Rattle.iox_queues_steps.specs.Ends.{late_put, placed_by_push, pop_begun, pop_ended, pop_idle, pop_is_idle, pop_is_over};
+ghost use Rattle.iox_queues_steps.specs.Ends.{pop_look, pop_moves, pop_next, pop_take, push_begun, push_ended, push_idle, push_is_idle};
+ghost use Rattle.iox_queues_steps.specs.Ends.{push_is_over, push_next, push_take, taken_by_pop};
 
 use crate::rings::overflowing::{Pop as OverflowingPop, Push as OverflowingPush};
 use crate::rings::refusing::{Pop as RefusingPop, Push as RefusingPush};

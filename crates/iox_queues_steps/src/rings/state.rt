@@ -1,9 +1,11 @@
 //! The state of a ring machine, and its steps.
-ghost use Rattle.std.specs.Prelude.{◌≡◌, ◌+◌, ◌<◌, ◌≤◌, ◌^◌, ◌++◌, [], if◌then◌else◌, true, false, OnOk, OnErr, length, map, replicate, ◌-◌, vec_len, vec_capacity};
+ghost use Rattle.std.specs.Prelude.{◌≡◌, ◌+◌, ◌<◌, ◌≤◌, ◌^◌, ◌++◌, [], if◌then◌else◌, true, false, OnOk, OnErr, length, map, replicate};
+ghost use Rattle.std.specs.Prelude.{◌-◌, vec_len, vec_capacity};
 ghost use Rattle.std.specs.Option.{option_to_list};
 ghost use Rattle.iox_queues_steps.specs.Order.{push_call, pop_call};
 ghost use Rattle.iox_queues_steps.specs.Ends.{cells_of, push_ended, pop_ended, placed_by_pop, placed_by_push, late_put};
-ghost use Rattle.iox_queues_steps.specs.RingMachine.{fits, ends, happens, push_goes_on, pop_goes_on, push_begins, pop_begins, StepsTo, start};
+ghost use Rattle.iox_queues_steps.specs.RingMachine.{fits, ends, happens, push_goes_on, pop_goes_on, push_begins, pop_begins, StepsTo};
+ghost use Rattle.iox_queues_steps.specs.RingMachine.{start};
 
 use crate::log::Record;
 use crate::rings::ends::{Pop, Push, RingKind};

@@ -11,7 +11,8 @@ loop-receipt-init c = rw c.new-arrows.ensures.items start
 pub loop-receipt-preserved : goal.loop-receipt-preserved
 loop-receipt-preserved c = elim c.match-received_at.branch [
   | in-Some+in_ok-push w ↦
-      let led : IsArrow c.args.conversation.now c.loop-receipt.arrows.items c.loop-receipt.receipt (seen w.in-Some.received) w.way-way.result = rw (← w.deref.ensures.value) w.way-way.ensures in
+      let led : IsArrow c.args.conversation.now c.loop-receipt.arrows.items c.loop-receipt.receipt (seen w.in-Some.received)
+      w.way-way.result = rw (← w.deref.ensures.value) w.way-way.ensures in
       rw (w.arrows-is, w.in_ok-push.ensures.items, add-one) (sample c.loop-receipt.invariant (sym w.in-Some.ensures) led)
   | in_default w ↦ rw (w.arrows-is, add-one) (silent c.loop-receipt.invariant (sym w.in_default.ensures))
 ]

@@ -3,4 +3,5 @@ use Rattle.example_tracer.proofs.DrawingLemmas.{renamed}
 use Rattle.example_tracer.proofs.drawing.push_stroke.Goals as goal
 
 pub returns : goal.returns
-returns c = renamed c.write.result (string_bytes c.args.out.now) (string_bytes c.write.new.self) _ _ c.write.ensures.bytes (rw (c.middle-y.ensures, c.middle-to_y.ensures) (simp append_assoc refl))
+returns c = renamed c.write.result (string_bytes c.args.out.now) (string_bytes c.write.new.self) _ _ c.write.ensures.bytes
+    (rw (c.middle-y.ensures, c.middle-to_y.ensures) (simp append_assoc refl))

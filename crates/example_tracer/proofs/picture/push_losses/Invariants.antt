@@ -9,4 +9,5 @@ use Rattle.example_tracer.proofs.picture.push_losses.Given as goal
 -- behind what was there, a stroke for each of the lines so far that is lost
 abbrev pub invariant-loop-line : goal.invariant-loop-line
 invariant-loop-line l =
-    ways_in l.shapes.items ≡ ways_in l.fn.shapes.items ++ filter (λ rows. is_lost l.before l.arrow rows.1 l.since (sent_at l.conversation rows.1)) (map across (range_with_len 0 l.line))
+    ways_in l.shapes.items ≡ ways_in l.fn.shapes.items
+    ++ filter (λ rows. is_lost l.before l.arrow rows.1 l.since (sent_at l.conversation rows.1)) (map across (range_with_len 0 l.line))

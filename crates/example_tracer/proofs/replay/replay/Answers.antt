@@ -32,7 +32,8 @@ loop-row-preserved c =
     let before = c.loop-row.invariant in
     let read = rw (c.in-Some.is, c.in_ok-row.was) at ((c.next.ensures.steps before.turns before.untrimmed).0 before.ready) in
     let row = fields_of c.in_ok-row.row in
-    let further = rows-more (λ (s : Bor (List ℕ)). Some s.now) c.loop-row.row-iterator.rdr c.next.new.self.rdr row default_config st.StartRecord (strip_bom c.args.text.now) before.rest before.rows before.config before.rest_is before.reached read.0 in
+    let further = rows-more (λ (s : Bor (List ℕ)). Some s.now) c.loop-row.row-iterator.rdr c.next.new.self.rdr row default_config
+    st.StartRecord (strip_bom c.args.text.now) before.rest before.rows before.config before.rest_is before.reached read.0 in
     record {
       untrimmed = read.0.3 ∙ before.untrimmed;
       ready = inl read.1;
@@ -43,7 +44,8 @@ loop-row-preserved c =
       rows = before.rows ++ row ∷ [];
       reached = further.2;
       header = sym (no_longer before.rows row);
-      script = c.in-Ok.ensures ∙ ap (λ (header : Bool). c.loop-row.script.items ++ added header row) before.header ∙ ap (λ (script : List ℕ). script ++ added (none_yet before.rows) row) before.script ∙ sym (one_more before.rows row);
+      script = c.in-Ok.ensures ∙ ap (λ (header : Bool). c.loop-row.script.items ++ added header row) before.header ∙ ap
+          (λ (script : List ℕ). script ++ added (none_yet before.rows) row) before.script ∙ sym (one_more before.rows row);
     }
 
 -- no row is left
@@ -52,6 +54,12 @@ returns c =
     let before = c.loop-row.invariant in
     let read = rw c.in-None.is at ((c.next.ensures.steps before.turns before.untrimmed).0 before.ready) in (
       before.rows,
-      (c.loop-row.row-iterator.rdr.state, before.rest, before.reached, rows-end (λ (s : Bor (List ℕ)). Some s.now) c.loop-row.row-iterator.rdr c.next.new.self.rdr [] default_config before.rest before.config before.rest_is read),
+      (
+        c.loop-row.row-iterator.rdr.state,
+        before.rest,
+        before.reached,
+        rows-end (λ (s : Bor (List ℕ)). Some s.now)
+            c.loop-row.row-iterator.rdr c.next.new.self.rdr [] default_config before.rest before.config before.rest_is read,
+      ),
       before.script,
     )

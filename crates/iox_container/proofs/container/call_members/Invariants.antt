@@ -9,7 +9,8 @@ invariant-loop-found g l =
     goal.F-IsAlwaysCallable g l.callback
     × (l.owner ≡ l.initial.owner)
     × (l.id ≡ l.initial.id)
-    × ((last : _) → FoldsTo (λ p x q. goal.F-step g p x.0 x.1 tt q) l.callback (rest_from (told_of l.fn.owner l.fn.id) l.fn.members l.at) last
+    × ((last : _) → FoldsTo (λ p x q. goal.F-step g p x.0 x.1 tt q) l.callback
+    (rest_from (told_of l.fn.owner l.fn.id) l.fn.members l.at) last
     → FoldsTo (λ p x q. goal.F-step g p x.0 x.1 tt q) l.fn.callback (rest_from (told_of l.fn.owner l.fn.id) l.fn.members 0) last)
 
 abbrev pub decreases-loop-found : goal.decreases-loop-found

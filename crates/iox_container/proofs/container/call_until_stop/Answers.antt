@@ -14,7 +14,8 @@ loop-split-preserved g c =
       omega (arith, c.loop-split.invariant.2, c.in-Some.ensures.cases.1),
       λ last rest.
           c.loop-split.invariant.3 last
-          (rw (asked-first (told c.args.id) c.loop-split.at c.loop-split.rest.now c.in-Some.split.0.now c.in-Some.split.1.now c.in-Some-told.found split is)
+          (rw (asked-first (told c.args.id) c.loop-split.at c.loop-split.rest.now c.in-Some.split.0.now c.in-Some.split.1.now
+          c.in-Some-told.found split is)
           (Continue, c.callback.new.self, c.in-Continue.ensures, rest)),
     )
 
@@ -23,5 +24,6 @@ returns-in-Stop-clause-called g c =
     let is : told c.args.id c.loop-split.at c.in-Some.split.0.now ≡ Some c.in-Some-told.found = sym c.told.ensures ∙ c.in-Some-told.is in
     let split : c.loop-split.rest.now ≡ c.in-Some.split.0.now ∷ c.in-Some.split.1.now = c.in-Some.ensures.cases.0 in
     c.loop-split.invariant.3 c.callback.new.self
-    (rw (asked-first (told c.args.id) c.loop-split.at c.loop-split.rest.now c.in-Some.split.0.now c.in-Some.split.1.now c.in-Some-told.found split is)
+    (rw (asked-first (told c.args.id) c.loop-split.at c.loop-split.rest.now c.in-Some.split.0.now c.in-Some.split.1.now
+    c.in-Some-told.found split is)
     (Stop, c.callback.new.self, c.in-Stop.ensures, refl))

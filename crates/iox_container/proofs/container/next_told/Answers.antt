@@ -13,11 +13,14 @@ of-another owner id index member other =
 
 pub returns-in-Some-told_of-clause-some : goal.returns-in-Some-told_of-clause-some
 returns-in-Some-told_of-clause-some g c =
-    let is : told_of c.args.owner c.args.id c.in-Some.index c.get.result ≡ Some c.in-Some-told_of.found = sym c.told_of.ensures ∙ c.in-Some-told_of.is in
+    let is : told_of c.args.owner c.args.id c.in-Some.index c.get.result ≡ Some c.in-Some-told_of.found
+    = sym c.told_of.ensures ∙ c.in-Some-told_of.is in
     subst (λ (place : ℕ). IsToldNext (told_of c.args.owner c.args.id) c.args.members.now c.args.from place c.in-Some-told_of.found)
     (sym (told_of-index c.args.owner c.args.id c.in-Some.index c.get.result c.in-Some-told_of.found is))
-    (told-next (λ member. member.owner) (told_of c.args.owner c.args.id) c.args.owner (λ at. refl) (of-another c.args.owner c.args.id) c.args.members.now c.args.owners.now c.requires
-    c.args.from c.loop-index.at c.in-Some.index c.in-Some-told_of.found c.loop-index.invariant.2 c.loop-index.invariant.3 c.in-Some.ensures.some
+    (told-next (λ member. member.owner) (told_of c.args.owner c.args.id) c.args.owner (λ at. refl) (of-another c.args.owner c.args.id)
+    c.args.members.now c.args.owners.now c.requires
+    c.args.from c.loop-index.at c.in-Some.index c.in-Some-told_of.found c.loop-index.invariant.2 c.loop-index.invariant.3
+    c.in-Some.ensures.some
     (ap (λ (m : Option (Member g.row.T.Denot)). told_of c.args.owner c.args.id c.in-Some.index m) (sym c.get.ensures) ∙ is))
 
 pub loop-index-preserved : goal.loop-index-preserved
@@ -25,13 +28,16 @@ loop-index-preserved g c = (
   refl,
   refl,
   omega (arith, c.loop-index.invariant.2, c.in-Some.ensures.some.from_there),
-  passed-next (λ member. member.owner) (told_of c.args.owner c.args.id) c.args.owner (λ at. refl) (of-another c.args.owner c.args.id) c.args.members.now c.args.owners.now c.requires
+  passed-next (λ member. member.owner) (told_of c.args.owner c.args.id) c.args.owner (λ at. refl) (of-another c.args.owner c.args.id)
+      c.args.members.now c.args.owners.now c.requires
       c.args.from c.loop-index.at c.in-Some.index c.loop-index.invariant.3 c.in-Some.ensures.some
-      (ap (λ (m : Option (Member g.row.T.Denot)). told_of c.args.owner c.args.id c.in-Some.index m) (sym c.get.ensures) ∙ sym c.told_of.ensures ∙ c.in_default-told_of.is),
+      (ap (λ (m : Option (Member g.row.T.Denot)). told_of c.args.owner c.args.id c.in-Some.index m) (sym c.get.ensures) ∙ sym
+      c.told_of.ensures ∙ c.in_default-told_of.is),
 )
 
 pub returns-clause-none : goal.returns-clause-none
 returns-clause-none g c =
     c.loop-index.invariant.3
-    ∙ none-left (λ member. member.owner) (told_of c.args.owner c.args.id) c.args.owner (λ at. refl) (of-another c.args.owner c.args.id) c.args.members.now c.args.owners.now c.requires
+    ∙ none-left (λ member. member.owner) (told_of c.args.owner c.args.id) c.args.owner (λ at. refl) (of-another c.args.owner c.args.id)
+    c.args.members.now c.args.owners.now c.requires
     c.loop-index.at c.in_default.ensures.none

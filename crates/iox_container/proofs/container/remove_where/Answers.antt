@@ -11,9 +11,11 @@ loop-found-preserved-then-decide g c = (
   refl,
   refl,
   rw c.empty.ensures (length-set _ _ _ ∙ c.loop-found.invariant.3),
-  rw c.empty.ensures (owned-emptied (λ member. member.owner) c.loop-found.members c.args.owners.now c.in-Some.found.0.index c.loop-found.invariant.4),
+  rw c.empty.ensures (owned-emptied (λ member. member.owner) c.loop-found.members c.args.owners.now c.in-Some.found.0.index
+      c.loop-found.invariant.4),
   rw c.empty.ensures
-      (Leads-freed _ _ _ _ _ _ _ _ _ c.in-Some.found.0.index c.in-Some.found _ c.loop-found.invariant.5 c.in-Some.ensures.some.rest refl (rw c.if-decide.true at c.decide.ensures)),
+      (Leads-freed _ _ _ _ _ _ _ _ _ c.in-Some.found.0.index c.in-Some.found _ c.loop-found.invariant.5 c.in-Some.ensures.some.rest refl
+      (rw c.if-decide.true at c.decide.ensures)),
 )
 
 pub loop-found-preserved : goal.loop-found-preserved
@@ -23,7 +25,8 @@ loop-found-preserved g c = (
   refl,
   c.loop-found.invariant.3,
   c.loop-found.invariant.4,
-  Leads-kept _ _ _ _ _ _ _ _ _ c.in-Some.found.0.index c.in-Some.found _ c.loop-found.invariant.5 c.in-Some.ensures.some.rest (rw c.if-decide.false at c.decide.ensures),
+  Leads-kept _ _ _ _ _ _ _ _ _ c.in-Some.found.0.index c.in-Some.found _ c.loop-found.invariant.5 c.in-Some.ensures.some.rest
+      (rw c.if-decide.false at c.decide.ensures),
 )
 
 pub returns-clause-removed : goal.returns-clause-removed

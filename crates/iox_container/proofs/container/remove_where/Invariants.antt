@@ -12,7 +12,8 @@ invariant-loop-found g l =
     × (l.id ≡ l.fn.id)
     × (length l.members ≡ length l.fn.members)
     × AreOwned (λ member. member.owner) l.members l.owners
-    × Leads (told_of l.fn.owner l.fn.id) (λ x. x.0.index) None (λ p x answer q. goal.F-step g p x.0 x.1 answer q) l.fn.decide l.fn.members l.decide l.at l.members
+    × Leads (told_of l.fn.owner l.fn.id) (λ x. x.0.index) None (λ p x answer q. goal.F-step g p x.0 x.1 answer q) l.fn.decide
+    l.fn.members l.decide l.at l.members
 
 abbrev pub decreases-loop-found : goal.decreases-loop-found
 decreases-loop-found g l = length l.members - l.at

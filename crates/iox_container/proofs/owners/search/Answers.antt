@@ -9,7 +9,8 @@ loop-low-preserved-then-is_before c = record {
   owner = refl;
   place = refl;
   before =
-      lower-half c.args.entries.now (c.args.owner, c.args.place) (c.loop-low.low + (c.loop-low.high - c.loop-low.low) / 2) (0, 0) c.requires (omega arith)
+      lower-half c.args.entries.now (c.args.owner, c.args.place) (c.loop-low.low + (c.loop-low.high - c.loop-low.low) / 2) (0, 0)
+      c.requires (omega arith)
       (c.is_before.ensures.yes c.if-is_before.true);
   behind = c.loop-low.invariant.behind;
 }
@@ -22,6 +23,7 @@ loop-low-preserved c = record {
   place = refl;
   before = c.loop-low.invariant.before;
   behind =
-      upper-half c.args.entries.now (c.args.owner, c.args.place) (c.loop-low.low + (c.loop-low.high - c.loop-low.low) / 2) (0, 0) c.requires (omega arith)
+      upper-half c.args.entries.now (c.args.owner, c.args.place) (c.loop-low.low + (c.loop-low.high - c.loop-low.low) / 2) (0, 0)
+      c.requires (omega arith)
       (c.is_before.ensures.no c.if-is_before.false);
 }

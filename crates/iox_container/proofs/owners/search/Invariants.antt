@@ -10,7 +10,8 @@ invariant-loop-low l =
       owner : l.owner ≡ l.fn.owner;
       place : l.place ≡ l.fn.place;
       before : (k : ℕ) (default : ℕ × ℕ) → k < l.low → IsBefore (get_or l.fn.entries k default) (l.fn.owner, l.fn.place);
-      behind : (k : ℕ) (default : ℕ × ℕ) → l.high ≤ k → k < length l.fn.entries → IsBehind (get_or l.fn.entries k default) (l.fn.owner, l.fn.place);
+      behind : (k : ℕ) (default : ℕ × ℕ) → l.high ≤ k → k < length l.fn.entries
+          → IsBehind (get_or l.fn.entries k default) (l.fn.owner, l.fn.place);
     }
 
 abbrev pub decreases-loop-low : goal.decreases-loop-low

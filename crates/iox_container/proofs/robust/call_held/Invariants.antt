@@ -8,7 +8,8 @@ abbrev pub invariant-loop-index : goal.invariant-loop-index
 invariant-loop-index g l =
     goal.F-IsAlwaysCallable g l.callback
     × (l.owner ≡ l.initial.owner)
-    × ((last : _) → FoldsTo (λ p x q. goal.F-step g p x tt q) l.callback (rest_from (index_of l.fn.owner) l.fn.cells l.at) last → FoldsTo (λ p x q. goal.F-step g p x tt q) l.fn.callback (rest_from (index_of l.fn.owner) l.fn.cells 0) last)
+    × ((last : _) → FoldsTo (λ p x q. goal.F-step g p x tt q) l.callback (rest_from (index_of l.fn.owner) l.fn.cells l.at) last
+    → FoldsTo (λ p x q. goal.F-step g p x tt q) l.fn.callback (rest_from (index_of l.fn.owner) l.fn.cells 0) last)
 
 abbrev pub decreases-loop-index : goal.decreases-loop-index
 decreases-loop-index g l = length l.fn.cells - l.at

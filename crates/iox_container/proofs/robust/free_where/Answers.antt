@@ -12,7 +12,8 @@ loop-index-preserved-then-decide g c = (
   rw c.empty.ensures (length-set _ _ _ ∙ c.loop-index.invariant.2),
   rw c.empty.ensures (owned-emptied (λ owner. owner) c.loop-index.cells c.args.owners.now c.in-Some.index c.loop-index.invariant.3),
   rw c.empty.ensures
-      (Leads-freed _ _ _ _ _ _ _ _ _ c.in-Some.index c.in-Some.index _ c.loop-index.invariant.4 c.in-Some.ensures.some.rest refl (rw c.if-decide.true at c.decide.ensures)),
+      (Leads-freed _ _ _ _ _ _ _ _ _ c.in-Some.index c.in-Some.index _ c.loop-index.invariant.4 c.in-Some.ensures.some.rest refl
+      (rw c.if-decide.true at c.decide.ensures)),
 )
 
 pub loop-index-preserved : goal.loop-index-preserved
@@ -21,7 +22,8 @@ loop-index-preserved g c = (
   refl,
   c.loop-index.invariant.2,
   c.loop-index.invariant.3,
-  Leads-kept _ _ _ _ _ _ _ _ _ c.in-Some.index c.in-Some.index _ c.loop-index.invariant.4 c.in-Some.ensures.some.rest (rw c.if-decide.false at c.decide.ensures),
+  Leads-kept _ _ _ _ _ _ _ _ _ c.in-Some.index c.in-Some.index _ c.loop-index.invariant.4 c.in-Some.ensures.some.rest
+      (rw c.if-decide.false at c.decide.ensures),
 )
 
 pub returns-clause-freed : goal.returns-clause-freed

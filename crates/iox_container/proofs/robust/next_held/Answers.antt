@@ -16,21 +16,26 @@ of-another owner index holder other =
 
 pub returns-then-is_of-clause-some : goal.returns-then-is_of-clause-some
 returns-then-is_of-clause-some c =
-    told-next (λ owner. owner) (index_of c.args.owner) c.args.owner (λ at. refl) (of-another c.args.owner) c.args.cells.now c.args.owners.now c.requires
+    told-next (λ owner. owner) (index_of c.args.owner) c.args.owner (λ at. refl) (of-another c.args.owner) c.args.cells.now
+    c.args.owners.now c.requires
     c.args.from c.loop-index.at c.in-Some.index c.in-Some.index c.loop-index.invariant.1 c.loop-index.invariant.2 c.in-Some.ensures.some
-    (own c.args.owner c.in-Some.index (get_or c.args.cells.now c.in-Some.index None) (ap (λ (h : Option ℕ). is_of c.args.owner h) (sym c.get.ensures) ∙ sym c.is_of.ensures ∙ c.if-is_of.true))
+    (own c.args.owner c.in-Some.index (get_or c.args.cells.now c.in-Some.index None)
+    (ap (λ (h : Option ℕ). is_of c.args.owner h) (sym c.get.ensures) ∙ sym c.is_of.ensures ∙ c.if-is_of.true))
 
 pub loop-index-preserved : goal.loop-index-preserved
 loop-index-preserved c = (
   refl,
   omega (arith, c.loop-index.invariant.1, c.in-Some.ensures.some.from_there),
-  passed-next (λ owner. owner) (index_of c.args.owner) c.args.owner (λ at. refl) (of-another c.args.owner) c.args.cells.now c.args.owners.now c.requires
+  passed-next (λ owner. owner) (index_of c.args.owner) c.args.owner (λ at. refl) (of-another c.args.owner) c.args.cells.now
+      c.args.owners.now c.requires
       c.args.from c.loop-index.at c.in-Some.index c.loop-index.invariant.2 c.in-Some.ensures.some
-      (another c.args.owner c.in-Some.index (get_or c.args.cells.now c.in-Some.index None) (ap (λ (h : Option ℕ). is_of c.args.owner h) (sym c.get.ensures) ∙ sym c.is_of.ensures ∙ c.if-is_of.false)),
+      (another c.args.owner c.in-Some.index (get_or c.args.cells.now c.in-Some.index None)
+      (ap (λ (h : Option ℕ). is_of c.args.owner h) (sym c.get.ensures) ∙ sym c.is_of.ensures ∙ c.if-is_of.false)),
 )
 
 pub returns-clause-none : goal.returns-clause-none
 returns-clause-none c =
     c.loop-index.invariant.2
-    ∙ none-left (λ owner. owner) (index_of c.args.owner) c.args.owner (λ at. refl) (of-another c.args.owner) c.args.cells.now c.args.owners.now c.requires
+    ∙ none-left (λ owner. owner) (index_of c.args.owner) c.args.owner (λ at. refl) (of-another c.args.owner) c.args.cells.now
+    c.args.owners.now c.requires
     c.loop-index.at c.in_default.ensures.none

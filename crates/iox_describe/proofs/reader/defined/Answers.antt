@@ -17,7 +17,8 @@ returns-in_err-define c =
     λ pairs within is.
     let items = items_are c.in-Some.list.now.items pairs (view c.args.value.now) is c.in-Some.ensures in
     let all = subst (λ values. map view values ≡ map attribute_tree pairs) (sym c.deref-item-items.ensures.value) items in
-    let n = next c.deref-item-items.result.now pairs c.loop-item.attributes c.loop-item.item-index c.item-item.result all within (c.loop-item.invariant pairs within is) c.loop-item-test.true c.item-item.is in
+    let n = next c.deref-item-items.result.now pairs c.loop-item.attributes c.loop-item.item-index c.item-item.result all within
+    (c.loop-item.invariant pairs within is) c.loop-item-test.true c.item-item.is in
     let lacks = c.in_err-define.ensures (get_or pairs c.loop-item.item-index (attribute [] [])) n.good n.room n.is in
     only_told _ _ c.from_residual.ensures.1 lacks
 
@@ -26,7 +27,8 @@ loop-item-preserved c =
     λ pairs within is.
     let items = items_are c.in-Some.list.now.items pairs (view c.args.value.now) is c.in-Some.ensures in
     let all = subst (λ values. map view values ≡ map attribute_tree pairs) (sym c.deref-item-items.ensures.value) items in
-    let n = next c.deref-item-items.result.now pairs c.loop-item.attributes c.loop-item.item-index c.item-item.result all within (c.loop-item.invariant pairs within is) c.loop-item-test.true c.item-item.is in
+    let n = next c.deref-item-items.result.now pairs c.loop-item.attributes c.loop-item.item-index c.item-item.result all within
+    (c.loop-item.invariant pairs within is) c.loop-item-test.true c.item-item.is in
     c.in_ok-define.ensures (get_or pairs c.loop-item.item-index (attribute [] [])) n.good n.room n.is ∙ n.grown
 
 pub returns : goal.returns

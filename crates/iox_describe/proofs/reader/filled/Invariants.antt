@@ -13,5 +13,6 @@ invariant-loop-setting g l =
     → record {
       values : AreValues g.S.PatternSetting.value target (drop l.setting-index l.setting-items);
       found : AreFound g.S.PatternSetting.key g.S.PatternSetting.value (drop l.setting-index l.setting-items) target (view l.value);
-      fills : all_settings.filled g.S.PatternSetting.value g.S.PatternSetting.changed (drop l.setting-index l.setting-items) target l.config ≡ target;
+      fills : all_settings.filled g.S.PatternSetting.value g.S.PatternSetting.changed (drop l.setting-index l.setting-items) target
+          l.config ≡ target;
     }

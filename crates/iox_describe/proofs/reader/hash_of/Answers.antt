@@ -12,6 +12,8 @@ of_digest digest = record { digest = digest }
 pub returns : goal.returns
 returns c =
     λ hash twenty is.
-    let read : decode_sized c.as_bytes.result.now 20 ≡ Ok hash.digest = ap (λ t. decode_sized t 20) (c.as_bytes.ensures.value ∙ is) ∙ decode_sized-encode_lower hash.digest 20 twenty.whole twenty.bytes in
+    let read : decode_sized c.as_bytes.result.now 20 ≡ Ok hash.digest
+    = ap (λ t. decode_sized t 20) (c.as_bytes.ensures.value ∙ is) ∙ decode_sized-encode_lower hash.digest 20 twenty.whole
+    twenty.bytes in
     let written = rw read at c.decode_to_slice.ensures.value in
     ap of_digest written.1

@@ -11,7 +11,8 @@ use Rattle.iox_describe.specs.Line.{tree}
 use Rattle.iox_describe.proofs.Plain.{line-read, line-utf8}
 use Rattle.iox_describe.proofs.reader.value_of.Goals as goal
 
-only_memory : {T M : Type 0} (r : Result T DescriptionError) (P : T → Type 0) → IsErrAnd r (λ e. (e ≡ OutOfMemory) ⊎ ((e ≡ Invalid) × (¬ M))) → (¬ M → ⊥)
+only_memory : {T M : Type 0} (r : Result T DescriptionError) (P : T → Type 0)
+    → IsErrAnd r (λ e. (e ≡ OutOfMemory) ⊎ ((e ≡ Invalid) × (¬ M))) → (¬ M → ⊥)
     → MatchResult r P (λ e. e ≡ OutOfMemory)
 only_memory (Ok v) P h never = absurd h
 only_memory (Err e) P h never = elim h [ inl memory ↦ memory | inr refused ↦ absurd (never refused.1) ]
@@ -32,5 +33,6 @@ returns-in_err-from_slice c =
 pub returns : goal.returns
 returns c =
     λ a within is.
-    let read_so : Some (view c.in_ok-from_slice.field-0) ≡ Some (tree a) = sym c.in_ok-from_slice.ensures.ok.1 ∙ ap read is ∙ line-read a within in
+    let read_so : Some (view c.in_ok-from_slice.field-0) ≡ Some (tree a)
+    = sym c.in_ok-from_slice.ensures.ok.1 ∙ ap read is ∙ line-read a within in
     let same : view c.in_ok-from_slice.field-0 ≡ tree a = cc in same

@@ -7,7 +7,13 @@ use Rattle.iox_domain.proofs.calls.create_publisher.Goals as goal
 
 pub returns : goal.returns
 returns g c =
-    comes_here g.H.Home.domain_of g.H.Home.changed g.met.H.Home.alike g.met.H.Home.again g.met.H.Home.unchanged c.args.id (λ number. publisher_kept number c.args.handlers)
-    (PublisherComes (g.O.Overrides.overrides c.args.overriding.now) (g.H.ForPublishers.Degrades.degrades c.args.handlers FailedToEstablishConnection) c.args.config c.args.user_header) (why_no_publisher c.args.config)
-    c.args.home.now c.in_ok-domain.domain.now c.create_publisher.new.self c.create_publisher.result (search (rules, c.in_ok-domain.ensures.value))
-    (publisher_comes (g.O.Overrides.overrides c.args.overriding.now) (g.H.ForPublishers.Degrades.degrades c.args.handlers FailedToEstablishConnection) c.args.config c.args.user_header c.args.handlers c.in_ok-domain.domain.now c.create_publisher.new.self c.create_publisher.result c.create_publisher.ensures)
+    comes_here g.H.Home.domain_of g.H.Home.changed g.met.H.Home.alike g.met.H.Home.again g.met.H.Home.unchanged c.args.id
+    (λ number. publisher_kept number c.args.handlers)
+    (PublisherComes (g.O.Overrides.overrides c.args.overriding.now)
+    (g.H.ForPublishers.Degrades.degrades c.args.handlers FailedToEstablishConnection) c.args.config c.args.user_header)
+    (why_no_publisher c.args.config)
+    c.args.home.now c.in_ok-domain.domain.now c.create_publisher.new.self c.create_publisher.result
+    (search (rules, c.in_ok-domain.ensures.value))
+    (publisher_comes (g.O.Overrides.overrides c.args.overriding.now)
+    (g.H.ForPublishers.Degrades.degrades c.args.handlers FailedToEstablishConnection) c.args.config c.args.user_header
+    c.args.handlers c.in_ok-domain.domain.now c.create_publisher.new.self c.create_publisher.result c.create_publisher.ensures)

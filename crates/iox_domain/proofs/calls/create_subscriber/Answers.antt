@@ -7,7 +7,11 @@ use Rattle.iox_domain.proofs.calls.create_subscriber.Goals as goal
 
 pub returns : goal.returns
 returns g c =
-    comes_here g.H.Home.domain_of g.H.Home.changed g.met.H.Home.alike g.met.H.Home.again g.met.H.Home.unchanged c.args.id (λ number. subscriber_kept number c.args.handler)
-    (SubscriberComes (g.H.ForSubscribers.Degrades.degrades c.args.handler FailedToEstablishConnection) c.args.config) (why_no_subscriber c.args.config)
-    c.args.home.now c.in_ok-domain.domain.now c.create_subscriber.new.self c.create_subscriber.result (search (rules, c.in_ok-domain.ensures.value))
-    (subscriber_comes (g.H.ForSubscribers.Degrades.degrades c.args.handler FailedToEstablishConnection) c.args.config c.args.handler c.in_ok-domain.domain.now c.create_subscriber.new.self c.create_subscriber.result c.create_subscriber.ensures)
+    comes_here g.H.Home.domain_of g.H.Home.changed g.met.H.Home.alike g.met.H.Home.again g.met.H.Home.unchanged c.args.id
+    (λ number. subscriber_kept number c.args.handler)
+    (SubscriberComes (g.H.ForSubscribers.Degrades.degrades c.args.handler FailedToEstablishConnection) c.args.config)
+    (why_no_subscriber c.args.config)
+    c.args.home.now c.in_ok-domain.domain.now c.create_subscriber.new.self c.create_subscriber.result
+    (search (rules, c.in_ok-domain.ensures.value))
+    (subscriber_comes (g.H.ForSubscribers.Degrades.degrades c.args.handler FailedToEstablishConnection) c.args.config c.args.handler
+    c.in_ok-domain.domain.now c.create_subscriber.new.self c.create_subscriber.result c.create_subscriber.ensures)

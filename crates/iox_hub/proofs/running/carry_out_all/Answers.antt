@@ -19,8 +19,17 @@ loop-command-preserved g c =
     let longer : length (at.yielded ++ command ∷ []) ≡ length at.yielded + 1 = length-append at.yielded (command ∷ []) in record {
       all = append_assoc at.yielded (command ∷ []) _ ∙ rw (← steps) at.invariant.all;
       left = let short = ap length steps in omega (arith, at.invariant.left, c.in-Some.ensures.steps.1, short);
-      ran = rw c.push_reserved.ensures.items (runs_more (HandledStep (detail FixedSize g.T.ZeroCopySend.name g.T.ZeroCopySend.size g.T.ZeroCopySend.alignment) (detail FixedSize g.U.ZeroCopySend.name g.U.ZeroCopySend.size g.U.ZeroCopySend.alignment) (types_of g.T.ZeroCopySend.name g.T.ZeroCopySend.size g.T.ZeroCopySend.alignment g.U.ZeroCopySend.name g.U.ZeroCopySend.size g.U.ZeroCopySend.alignment) (λ value. g.T.Default.is_default value) (λ value. g.U.Default.is_default value) g.B.PublisherHandlers.fixed (λ strategy action degrading at_full at_failure. g.B.TakesHandlers.handled strategy action degrading at_full at_failure) (λ handlers. g.B.Degrades.degrades handlers) (λ handlers. g.B.Decides.decides handlers) g.D.SubscriberHandler.fixed (λ handler. g.D.Degrades.degrades handler))
-          at.yielded command (c.args.hub.now, c.args.given.now.places.items) (at.hub, at.given.places.items) (c.step.new.hub, c.step.new.given.places.items) at.replies.items c.in-Ok-step.reply at.invariant.ran c.in-Ok-step.ensures.steps);
+      ran = rw c.push_reserved.ensures.items
+          (runs_more (HandledStep (detail FixedSize g.T.ZeroCopySend.name g.T.ZeroCopySend.size g.T.ZeroCopySend.alignment)
+          (detail FixedSize g.U.ZeroCopySend.name g.U.ZeroCopySend.size g.U.ZeroCopySend.alignment)
+          (types_of g.T.ZeroCopySend.name g.T.ZeroCopySend.size g.T.ZeroCopySend.alignment g.U.ZeroCopySend.name g.U.ZeroCopySend.size
+          g.U.ZeroCopySend.alignment) (λ value. g.T.Default.is_default value) (λ value. g.U.Default.is_default value)
+          g.B.PublisherHandlers.fixed (λ strategy action degrading at_full at_failure. g.B.TakesHandlers.handled strategy action
+          degrading at_full at_failure) (λ handlers. g.B.Degrades.degrades handlers) (λ handlers. g.B.Decides.decides handlers)
+          g.D.SubscriberHandler.fixed (λ handler. g.D.Degrades.degrades handler))
+          at.yielded command (c.args.hub.now, c.args.given.now.places.items) (at.hub, at.given.places.items)
+          (c.step.new.hub, c.step.new.given.places.items) at.replies.items c.in-Ok-step.reply at.invariant.ran
+          c.in-Ok-step.ensures.steps);
       counts = omega (arith, at.invariant.counts, c.step.ensures.counts, longer);
       answered = omega (arith, at.invariant.answered, c.push_reserved.ensures.len, longer);
       room = omega (arith, at.invariant.room, c.push_reserved.ensures.capacity);
@@ -37,7 +46,8 @@ returns-in_default-step-clause-ran g c =
       into_iter_items c.next.new.self,
       (at.hub, at.given.places.items),
       c.in_default-step.field-0,
-      sym c.into_iter-command-iterator.ensures.into_iter_gives.0 ∙ (sym at.invariant.all ∙ ap (λ left. at.yielded ++ left) c.in-Some.ensures.steps.0),
+      sym c.into_iter-command-iterator.ensures.into_iter_gives.0 ∙
+          (sym at.invariant.all ∙ ap (λ left. at.yielded ++ left) c.in-Some.ensures.steps.0),
       at.invariant.ran,
       c.in_default-step.ensures.steps,
     )
@@ -53,8 +63,11 @@ returns-in_default-step-clause-stops g c = λ (loans, samples) grown stopped.
     inr (
       command,
       rw (← all, count) (at_seam at.yielded command (into_iter_items c.next.new.self)),
-      lacks_for_values command at.hub c.step.new.hub (c.in_default-step.ensures.lacks (at.invariant.kept.0 loans, at.invariant.kept.1 grown samples)),
+      lacks_for_values command at.hub c.step.new.hub
+          (c.in_default-step.ensures.lacks (at.invariant.kept.0 loans, at.invariant.kept.1 grown samples)),
     )
 
 pub returns-in_default-step-clause-room : goal.returns-in_default-step-clause-room
-returns-in_default-step-clause-room g c = keeps_on c.args.hub.now c.loop-command.hub c.step.new.hub c.loop-command.invariant.grows c.loop-command.invariant.kept c.step.ensures.room
+returns-in_default-step-clause-room g c
+    = keeps_on c.args.hub.now c.loop-command.hub c.step.new.hub c.loop-command.invariant.grows c.loop-command.invariant.kept
+    c.step.ensures.room

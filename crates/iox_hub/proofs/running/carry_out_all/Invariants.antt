@@ -15,7 +15,14 @@ abbrev pub invariant-loop-command : goal.invariant-loop-command
 invariant-loop-command g l = record {
   all : l.yielded ++ into_iter_items l.command-iterator ≡ into_iter_items l.initial.command-iterator;
   left : into_iter_len l.command-iterator ≡ length (into_iter_items l.command-iterator);
-  ran : Runs (HandledStep (detail FixedSize g.T.ZeroCopySend.name g.T.ZeroCopySend.size g.T.ZeroCopySend.alignment) (detail FixedSize g.U.ZeroCopySend.name g.U.ZeroCopySend.size g.U.ZeroCopySend.alignment) (types_of g.T.ZeroCopySend.name g.T.ZeroCopySend.size g.T.ZeroCopySend.alignment g.U.ZeroCopySend.name g.U.ZeroCopySend.size g.U.ZeroCopySend.alignment) (λ value. g.T.Default.is_default value) (λ value. g.U.Default.is_default value) g.B.PublisherHandlers.fixed (λ strategy action degrading at_full at_failure. g.B.TakesHandlers.handled strategy action degrading at_full at_failure) (λ handlers. g.B.Degrades.degrades handlers) (λ handlers. g.B.Decides.decides handlers) g.D.SubscriberHandler.fixed (λ handler. g.D.Degrades.degrades handler)) l.yielded (l.initial.hub, l.initial.given.places.items) l.replies.items (l.hub, l.given.places.items);
+  ran : Runs (HandledStep (detail FixedSize g.T.ZeroCopySend.name g.T.ZeroCopySend.size g.T.ZeroCopySend.alignment)
+      (detail FixedSize g.U.ZeroCopySend.name g.U.ZeroCopySend.size g.U.ZeroCopySend.alignment)
+      (types_of g.T.ZeroCopySend.name g.T.ZeroCopySend.size g.T.ZeroCopySend.alignment g.U.ZeroCopySend.name g.U.ZeroCopySend.size
+      g.U.ZeroCopySend.alignment) (λ value. g.T.Default.is_default value) (λ value. g.U.Default.is_default value)
+      g.B.PublisherHandlers.fixed (λ strategy action degrading at_full at_failure. g.B.TakesHandlers.handled strategy action degrading
+      at_full at_failure) (λ handlers. g.B.Degrades.degrades handlers) (λ handlers. g.B.Decides.decides handlers)
+      g.D.SubscriberHandler.fixed (λ handler. g.D.Degrades.degrades handler)) l.yielded (l.initial.hub, l.initial.given.places.items)
+      l.replies.items (l.hub, l.given.places.items);
   counts : numbers_used l.hub ≤ numbers_used l.initial.hub + length l.yielded;
   answered : vec_len l.replies ≡ length l.yielded;
   room : length (into_iter_items l.initial.command-iterator) ≤ vec_capacity l.replies;

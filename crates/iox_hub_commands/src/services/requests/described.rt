@@ -1,21 +1,29 @@
 //! The service that a foreign node publishes.
 ghost use Rattle.std.specs.Prelude.{◌≡◌};
+ghost use Rattle.iox_negotiate_table.specs.Describe.Within.{HasForm};
 ghost use Rattle.iox_hub_commands.specs.Described.{settings_of, described};
 
 use crate::services::requests::asked::{event, publish_subscribe, request_response};
 use iox_command::ServiceOptions;
-use iox_describe_base::{AttributeSpecifier, MessageTypeDetails, ServiceName};
+use iox_describe_base::{AttributeSpecifier, MessageTypeDetails, ServiceName, service_hash};
 use iox_describe_settings::{Description, Settings};
+use iox_negotiate::laws::parts_have_form;
 
-/// What a foreign node publishes of these options: the defaults for what isn't named, adjusted, with no attributes. It takes no memory.
+/// What a foreign node publishes of these options: the defaults for what isn't named, adjusted, with no attributes. It has the form of a
+/// description, and takes no memory.
 pub fn description(
     name: &ServiceName,
     options: &ServiceOptions,
     types: &MessageTypeDetails,
 ) -> Description
-    ensures { result ≡ described name.now options.now types.now }
+    ensures value { result ≡ described name.now options.now types.now }
+    ensures form { HasForm result }
 {
-    Description::new(*name, settings(options, *types), AttributeSpecifier::new())
+    let settings = settings(options, *types);
+    let hash = service_hash(settings.pattern(), name);
+    let attributes = AttributeSpecifier::new();
+    parts_have_form(*name, hash, settings, &attributes);
+    Description::of_parts(*name, hash, settings, attributes)
 }
 
 fn settings(options: &ServiceOptions, types: MessageTypeDetails) -> Settings

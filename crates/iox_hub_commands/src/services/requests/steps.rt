@@ -1,6 +1,7 @@
 //! The steps of foreign nodes before each access.
 ghost use Rattle.std.specs.Prelude.{◌≡◌, ℕ, [], map, min, IfOk, IsOk};
-ghost use Rattle.iox_hub_commands.specs.Steps.{step_of, list_of, list_before, last_access, lists_of};
+ghost use Rattle.std.specs.List.{AllByRecursion};
+ghost use Rattle.iox_hub_commands.specs.Steps.{PublishesInForm, step_of, list_of, list_before, last_access, lists_of};
 
 use crate::services::requests::described::description;
 use iox_command::{ForeignStep as Named, StepBefore};
@@ -11,7 +12,7 @@ use std::alloc::{AllocError, Global};
 /// How many lists of steps a call can come to at most: no call makes more accesses before which foreign nodes act.
 pub const MOST_LISTS: u64 = 16;
 
-/// The steps on the service of a name, in their order.
+/// The steps on the service of a name, in their order; what they publish has the form of a description.
 ///
 /// Refused only where an allocation fails, which doesn't happen where there are no steps.
 pub fn step_list(
@@ -21,6 +22,7 @@ pub fn step_list(
     steps: &[Named],
 ) -> Result<StepList, AllocError>
     ensures list { IfOk result (λ list. list ≡ list_of name.now types.now steps.now) }
+    ensures form { IfOk result (λ list. AllByRecursion PublishesInForm list) }
     ensures empty { steps.now ≡ [] → IsOk result }
 {
     let mut list = Vec::new(alloc);
@@ -30,7 +32,7 @@ pub fn step_list(
     Ok(StepList::new(list))
 }
 
-/// The steps before each access, up to the last that has any, and to the sixteenth.
+/// The steps before each access, up to the last that has any, and to the sixteenth; what they publish has the form of a description.
 ///
 /// Refused only where an allocation fails, which doesn't happen where there are no steps.
 pub fn step_lists(
@@ -40,6 +42,7 @@ pub fn step_lists(
     steps: &[StepBefore],
 ) -> Result<Vec<StepList>, AllocError>
     ensures lists { IfOk result (λ lists. lists.items ≡ lists_of name.now types.now steps.now) }
+    ensures form { IfOk result (λ lists. AllByRecursion (AllByRecursion PublishesInForm) lists.items) }
     ensures empty { steps.now ≡ [] → IsOk result }
 {
     let mut lists = Vec::new(alloc);
@@ -61,7 +64,8 @@ fn list_before(
     types: &MessageTypeDetails,
     steps: &[StepBefore],
 ) -> Result<StepList, AllocError>
-    ensures { IfOk result (λ list. list ≡ list_before name.now types.now steps.now access) }
+    ensures list { IfOk result (λ list. list ≡ list_before name.now types.now steps.now access) }
+    ensures form { IfOk result (λ list. AllByRecursion PublishesInForm list) }
 {
     let mut list = Vec::new(alloc);
     for before in steps {
@@ -87,7 +91,8 @@ fn last_access(steps: &[StepBefore]) -> u64
 
 // A step on the service of a name.
 fn step(named: &Named, name: &ServiceName, types: &MessageTypeDetails) -> ForeignStep
-    ensures { result ≡ step_of name.now types.now named.now }
+    ensures value { result ≡ step_of name.now types.now named.now }
+    ensures form { PublishesInForm result }
 {
     match named {
         Named::Lock(node) => ForeignStep::Lock { node: *node },

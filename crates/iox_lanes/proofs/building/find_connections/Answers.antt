@@ -13,7 +13,8 @@ use Rattle.iox_lanes.proofs.Rows.{one_more}
 use Rattle.iox_lanes.proofs.building.find_connections.Goals as goal
 
 pub loop-other-init : goal.loop-other-init
-loop-other-init g c = (search rules, search rules, search rules, sym (behind_none c.args.lanes.now.lanes), λ k below. absurd (omega (arith, below)))
+loop-other-init g c =
+    (search rules, search rules, search rules, sym (behind_none c.args.lanes.now.lanes), λ k below. absurd (omega (arith, below)))
 
 pub loop-other-preserved : goal.loop-other-preserved
 loop-other-preserved g c =
@@ -30,14 +31,21 @@ loop-other-preserved g c =
           c.args.port.now (tie_for c.args.port.now
           (subscriber_of (slice_index c.args.subscribers.now other) c.args.domain.now.state.ports.subscribers))) c.loop-other.other
           c.loop-other.invariant.3
-          (behind_one c.loop-other.lanes.lanes c.find.new.self.lanes c.find_waiting.new.lanes.lanes (found.Buffer c.args.place c.loop-other.other (connection_of c.tie_to-index.result c.args.port.now).limit)
-          (waiting_findings g.T.Words.parts g.U.Words.parts g.T.Words.WORDS g.U.Words.WORDS c.args.place c.loop-other.other c.args.first c.args.port.now (connection_of c.tie_to-index.result c.args.port.now).waiting)
-          (c.in_ok-find.ensures.behind ∙ ap (λ n. behind_finding c.loop-other.lanes.lanes (found.Buffer c.args.place c.loop-other.other n)) c.limit_at.ensures) c.in_ok-find_waiting.ensures.behind
-          ∙ ap (λ index. behind_findings c.loop-other.lanes.lanes (link_findings g.T.Words.parts g.U.Words.parts g.T.Words.WORDS g.U.Words.WORDS c.args.place c.loop-other.other c.args.first c.args.port.now index)) c.tie_to-index.ensures),
+          (behind_one c.loop-other.lanes.lanes c.find.new.self.lanes c.find_waiting.new.lanes.lanes
+          (found.Buffer c.args.place c.loop-other.other (connection_of c.tie_to-index.result c.args.port.now).limit)
+          (waiting_findings g.T.Words.parts g.U.Words.parts g.T.Words.WORDS g.U.Words.WORDS c.args.place c.loop-other.other c.args.first
+          c.args.port.now (connection_of c.tie_to-index.result c.args.port.now).waiting)
+          (c.in_ok-find.ensures.behind ∙ ap (λ n. behind_finding c.loop-other.lanes.lanes
+          (found.Buffer c.args.place c.loop-other.other n)) c.limit_at.ensures) c.in_ok-find_waiting.ensures.behind
+          ∙ ap (λ index. behind_findings c.loop-other.lanes.lanes
+          (link_findings g.T.Words.parts g.U.Words.parts g.T.Words.WORDS g.U.Words.WORDS c.args.place c.loop-other.other
+          c.args.first c.args.port.now index)) c.tie_to-index.ensures),
       below_more (λ k. AreAlone c.args.port.now
           (connection_of (tie_for c.args.port.now
           (subscriber_of (slice_index c.args.subscribers.now k) c.args.domain.now.state.ports.subscribers)) c.args.port.now).waiting)
-          c.loop-other.other c.loop-other.invariant.4 (subst (λ index. AreAlone c.args.port.now (connection_of index c.args.port.now).waiting) c.tie_to-index.ensures c.in_ok-find_waiting.ensures.alone),
+          c.loop-other.other c.loop-other.invariant.4
+          (subst (λ index. AreAlone c.args.port.now (connection_of index c.args.port.now).waiting) c.tie_to-index.ensures
+          c.in_ok-find_waiting.ensures.alone),
     )
 
 pub returns-clause-alone : goal.returns-clause-alone

@@ -14,4 +14,5 @@ loop-place-preserved g c = (
 
 pub returns-clause-behind : goal.returns-clause-behind
 returns-clause-behind g c = c.loop-place.invariant.2
-    ∙ ap (readers_behind c.args.publishers.now c.args.domain.now.state.ports.subscribers c.args.subscribers.now c.args.lanes.now.lanes) (omega (arith, c.loop-place-test.false, c.loop-place.auto.place-end))
+    ∙ ap (readers_behind c.args.publishers.now c.args.domain.now.state.ports.subscribers c.args.subscribers.now c.args.lanes.now.lanes)
+    (omega (arith, c.loop-place-test.false, c.loop-place.auto.place-end))

@@ -22,11 +22,13 @@ loop-place-preserved g c =
     let wanted = asked c.args.domain.now.state.publisher_handlers c.args.publishers.now in
     let there : slice_get c.args.publishers.now c.loop-place.place ≡ Some (slice_index_or c.args.publishers.now c.loop-place.place 0) =
     slice_get-get_or c.args.publishers.now c.loop-place.place 0 (search rules) in
-    let is = slice_get-map (λ number. would_fail (kept_under number c.args.domain.now.state.publisher_handlers)) c.args.publishers.now c.loop-place.place
+    let is = slice_get-map (λ number. would_fail (kept_under number c.args.domain.now.state.publisher_handlers)) c.args.publishers.now
+    c.loop-place.place
     ∙ ap (option_map (λ number. would_fail (kept_under number c.args.domain.now.state.publisher_handlers))) there in
     let as_many : length (failing c.args.lanes.now.lanes) ≡ length wanted = c.requires.publishers
     ∙ sym (length-map c.args.publishers.now (λ number. would_fail (kept_under number c.args.domain.now.state.publisher_handlers))) in
-    let next = ties_next c.args.domain.now.state.ports c.args.publishers.now c.args.subscribers.now c.loop-place.connections.items c.find_connections.new.connections.items c.loop-place.place _ c.publisher_of-port.result.now there
+    let next = ties_next c.args.domain.now.state.ports c.args.publishers.now c.args.subscribers.now c.loop-place.connections.items
+    c.find_connections.new.connections.items c.loop-place.place _ c.publisher_of-port.result.now there
     c.publisher_of-port.ensures c.loop-place.invariant.2 c.in_ok-find_connections.ensures.ties c.loop-place.invariant.3 in (
       search rules,
       next_said wanted (failing c.args.lanes.now.lanes) (failing c.loop-place.lanes.lanes) _ c.loop-place.place _ is as_many
@@ -37,17 +39,21 @@ loop-place-preserved g c =
       next_publisher g.T.Words.parts g.U.Words.parts g.T.Words.WORDS g.U.Words.WORDS c.args.domain.now c.args.publishers.now
           c.args.subscribers.now c.args.lanes.now.lanes c.loop-place.lanes.lanes c.find_publisher.new.lanes.lanes
           c.find_history.new.lanes.lanes c.find_connections.new.lanes.lanes
-          c.loop-place.place c.first_slot-first.result c.publisher_of-port.result.now c.publisher_of-port.ensures c.loop-place.invariant.4 c.in_ok-find_publisher.ensures.behind
-          (c.first_slot-first.ensures ∙ ap (λ w. first_slot (slice_get w.publishers c.loop-place.place)) c.lanes.ensures) c.in_ok-find_history.ensures.behind c.in_ok-find_connections.ensures.behind,
+          c.loop-place.place c.first_slot-first.result c.publisher_of-port.result.now c.publisher_of-port.ensures
+          c.loop-place.invariant.4 c.in_ok-find_publisher.ensures.behind
+          (c.first_slot-first.ensures ∙ ap (λ w. first_slot (slice_get w.publishers c.loop-place.place)) c.lanes.ensures)
+          c.in_ok-find_history.ensures.behind c.in_ok-find_connections.ensures.behind,
       below_more (λ k. KeepAloneAt c.args.domain.now.state.ports c.args.publishers.now c.args.subscribers.now k) c.loop-place.place
           c.loop-place.invariant.5
-          (keeps_at c.args.domain.now.state.ports c.args.publishers.now c.args.subscribers.now c.loop-place.place _ c.publisher_of-port.result.now there c.publisher_of-port.ensures
+          (keeps_at c.args.domain.now.state.ports c.args.publishers.now c.args.subscribers.now c.loop-place.place _
+          c.publisher_of-port.result.now there c.publisher_of-port.ensures
           (record { remembered = c.in_ok-find_history.ensures.alone; waiting = c.in_ok-find_connections.ensures.alone })),
     )
 
 pub returns-clause-alone : goal.returns-clause-alone
 returns-clause-alone g c = λ at number port there found.
-    c.loop-place.invariant.5 at (omega (arith, c.loop-place-test.false, slice_get_within c.args.publishers.now at number there)) number port there found
+    c.loop-place.invariant.5 at (omega (arith, c.loop-place-test.false, slice_get_within c.args.publishers.now at number there)) number
+    port there found
 
 pub returns-clause-ties : goal.returns-clause-ties
 returns-clause-ties g c = record {

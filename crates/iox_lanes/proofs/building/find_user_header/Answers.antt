@@ -12,6 +12,9 @@ pub loop-word-preserved : goal.loop-word-preserved
 loop-word-preserved g c = (
   search rules,
   search rules,
-  next_listed c.args.lanes.now.lanes c.loop-word.lanes.lanes c.find_word.new.lanes.lanes (λ word. found.Held c.args.slot (UserHeader word) (slice_index (g.U.Words.parts c.args.user_header.now) word)) c.loop-word.word c.loop-word.invariant.2
-      (c.in_ok-find_word.ensures.behind ∙ ap (λ held. behind_finding c.loop-word.lanes.lanes (found.Held c.args.slot (UserHeader c.loop-word.word) held)) c.word.ensures),
+  next_listed c.args.lanes.now.lanes c.loop-word.lanes.lanes c.find_word.new.lanes.lanes
+      (λ word. found.Held c.args.slot (UserHeader word) (slice_index (g.U.Words.parts c.args.user_header.now) word)) c.loop-word.word
+      c.loop-word.invariant.2
+      (c.in_ok-find_word.ensures.behind ∙ ap
+      (λ held. behind_finding c.loop-word.lanes.lanes (found.Held c.args.slot (UserHeader c.loop-word.word) held)) c.word.ensures),
 )

@@ -18,11 +18,22 @@ loop-at-preserved g c = (
   next_message g.T.Words.parts g.U.Words.parts g.T.Words.WORDS g.U.Words.WORDS c.args.first c.args.port.now
       (λ slot. found.Waiting c.args.place c.args.other slot) (connection_of c.args.index c.args.port.now).waiting c.loop-at.at
       c.waiting_slot-slot.result c.saturating_add.result
-      c.args.lanes.now.lanes c.loop-at.lanes.lanes c.find_message.new.lanes.lanes c.find.new.self.lanes c.waiting_slot-slot.ensures.slot c.loop-at.invariant.2
-      (λ message there same. c.in_ok-find_message.ensures.waiting c.args.index c.loop-at.at message there same) c.saturating_add.ensures c.in_ok-find.ensures.behind,
+      c.args.lanes.now.lanes c.loop-at.lanes.lanes c.find_message.new.lanes.lanes c.find.new.self.lanes c.waiting_slot-slot.ensures.slot
+      c.loop-at.invariant.2
+      (λ message there same. c.in_ok-find_message.ensures.waiting c.args.index c.loop-at.at message there same) c.saturating_add.ensures
+      c.in_ok-find.ensures.behind,
   below_more (λ k. IsAloneAt c.args.port.now (connection_of c.args.index c.args.port.now).waiting k) c.loop-at.at c.loop-at.invariant.3
-      (λ message there. alone_at c.args.port.now (connection_of c.args.index c.args.port.now).waiting c.loop-at.at c.waiting_slot-slot.result message c.waiting_slot-slot.ensures.slot c.waiting_slot-slot.ensures.inside c.in_ok-find_message.ensures.one there),
+      (λ message there. alone_at c.args.port.now (connection_of c.args.index c.args.port.now).waiting c.loop-at.at
+      c.waiting_slot-slot.result message c.waiting_slot-slot.ensures.slot c.waiting_slot-slot.ensures.inside
+      c.in_ok-find_message.ensures.one there),
 )
 
 pub returns-clause-alone : goal.returns-clause-alone
-returns-clause-alone g c = λ at message there. c.loop-at.invariant.3 at (omega (arith, slice_get_within (connection_of c.args.index c.args.port.now).waiting at message there, c.loop-at-test.false, c.waiting_at-at-end.ensures)) message there
+returns-clause-alone g c
+    = λ at message there. c.loop-at.invariant.3 at
+    (omega (
+      arith,
+      slice_get_within (connection_of c.args.index c.args.port.now).waiting at message there,
+      c.loop-at-test.false,
+      c.waiting_at-at-end.ensures,
+    )) message there

@@ -8,5 +8,7 @@ use Rattle.iox_lanes.proofs.building.find_waiting.Given as goal
 
 abbrev pub invariant-loop-at : goal.invariant-loop-at
 invariant-loop-at g l = (l.lanes.sizes ≡ l.fn.lanes.sizes) × (failing l.lanes.lanes ≡ failing l.fn.lanes.lanes)
-    × (l.lanes.lanes ≡ behind_findings l.fn.lanes.lanes (waiting_findings g.T.Words.parts g.U.Words.parts g.T.Words.WORDS g.U.Words.WORDS l.place l.other l.first l.port (take l.at (connection_of l.index l.port).waiting)))
+    × (l.lanes.lanes ≡ behind_findings l.fn.lanes.lanes
+    (waiting_findings g.T.Words.parts g.U.Words.parts g.T.Words.WORDS g.U.Words.WORDS l.place l.other l.first l.port
+    (take l.at (connection_of l.index l.port).waiting)))
     × ((k : ℕ) → k < l.at → IsAloneAt l.port (connection_of l.index l.port).waiting k)

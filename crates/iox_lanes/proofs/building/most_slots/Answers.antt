@@ -12,9 +12,11 @@ loop-place-preserved g c =
     (λ k below number port there found. omega (arith, c.loop-place.invariant k below number port there found, c.max-most.ensures))
     (λ number port there found.
     let here : c.slots_at.result ≡ slots_in port = c.slots_at.ensures
-    ∙ ap (λ n. slots_if (port_of n c.args.domain.now.state.ports.publishers)) (get_or_from_slice_get c.args.numbers.now c.loop-place.place number 0 there) ∙ ap slots_if found in
+    ∙ ap (λ n. slots_if (port_of n c.args.domain.now.state.ports.publishers))
+    (get_or_from_slice_get c.args.numbers.now c.loop-place.place number 0 there) ∙ ap slots_if found in
     omega (arith, here, c.max-most.ensures))
 
 pub returns : goal.returns
 returns g c = λ place number port there found.
-    c.loop-place.invariant place (omega (arith, c.loop-place-test.false, slice_get_within c.args.numbers.now place number there)) number port there found
+    c.loop-place.invariant place (omega (arith, c.loop-place-test.false, slice_get_within c.args.numbers.now place number there)) number
+    port there found

@@ -5,6 +5,7 @@ use Rattle.iox_lanes.proofs.JoinedLanes.{LeftSoFar}
 use Rattle.iox_lanes.proofs.returning.restore_publishers.Given as goal
 
 abbrev pub invariant-loop-place : goal.invariant-loop-place
-invariant-loop-place g l = (AllRest l.lanes → (places : ℕ) → IsJoined g.T.Words.WORDS g.U.Words.WORDS places l.lanes l.fn.publishers l.numbers l.fn.readers l.indices
+invariant-loop-place g l = (AllRest l.lanes → (places : ℕ)
+    → IsJoined g.T.Words.WORDS g.U.Words.WORDS places l.lanes l.fn.publishers l.numbers l.fn.readers l.indices
     → LeftSoFar g.T.Words.of_parts g.U.Words.of_parts l.lanes l.numbers l.fn.readers l.indices l.fn.publishers l.publishers l.place)
     × (vec_capacity l.one ≡ vec_capacity l.fn.one)

@@ -14,9 +14,11 @@ loop-lane-preserved c =
     let lane : PublisherLaneState = c.lane-item.result in
     let few : lane.port.book.first + length lane.port.book.loans ≤ c.args.slots =
     subst (λ (x : PublisherLaneState). x.port.book.first + length x.port.book.loans ≤ c.args.slots) (sym c.lane-item.is)
-    (All-get_or (λ (x : PublisherLaneState). x.port.book.first + length x.port.book.loans ≤ c.args.slots) c.args.lanes.now c.loop-lane.lane-index lane c.loop-lane-test.true c.requires.slots) in
+    (All-get_or (λ (x : PublisherLaneState). x.port.book.first + length x.port.book.loans ≤ c.args.slots) c.args.lanes.now
+    c.loop-lane.lane-index lane c.loop-lane-test.true c.requires.slots) in
     All-more IsFree c.args.lanes.now c.loop-lane.lane-index lane c.loop-lane-test.true c.loop-lane.invariant
     (subst IsFree c.lane-item.is (free_beyond c.args.slots lane few (c.has_loan.ensures.none c.if-has_loan.false)))
 
 pub returns-clause-none : goal.returns-clause-none
-returns-clause-none c = λ e. All-same IsFree c.args.lanes.now _ (sym (take_all c.loop-lane.lane-index c.args.lanes.now c.loop-lane-test.false)) c.loop-lane.invariant
+returns-clause-none c = λ e. All-same IsFree c.args.lanes.now _
+    (sym (take_all c.loop-lane.lane-index c.args.lanes.now c.loop-lane-test.false)) c.loop-lane.invariant

@@ -5,4 +5,5 @@ use Rattle.iox_lanes_machine.specs.LanesParties.Parties.{PublisherLaneState, is_
 use Rattle.iox_lanes_machine.proofs.resting.have_loans.Given as goal
 
 abbrev pub invariant-loop-lane : goal.invariant-loop-lane
-invariant-loop-lane l = All (λ (lane : PublisherLaneState). (slot : ℕ) → is_out (loan_of slot lane.port.book) ≡ false) (take l.lane-index l.lanes)
+invariant-loop-lane l = All (λ (lane : PublisherLaneState). (slot : ℕ) → is_out (loan_of slot lane.port.book) ≡ false)
+    (take l.lane-index l.lanes)

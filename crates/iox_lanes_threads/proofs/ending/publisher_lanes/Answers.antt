@@ -13,7 +13,9 @@ pub loop-port-preserved : goal.loop-port-preserved
 loop-port-preserved c =
     let rest : List BoardPublisher = into_iter_items c.next.new.self in
     let k : Left lane_of c.loop-port.lanes.items (c.in-Some.port ∷ rest) c.args.ports.items (vec_capacity c.loop-port.lanes) =
-    subst (λ (xs : List BoardPublisher). Left lane_of c.loop-port.lanes.items xs c.args.ports.items (vec_capacity c.loop-port.lanes)) c.in-Some.ensures.items c.loop-port.invariant in
+    subst (λ (xs : List BoardPublisher). Left lane_of c.loop-port.lanes.items xs c.args.ports.items (vec_capacity c.loop-port.lanes))
+    c.in-Some.ensures.items c.loop-port.invariant in
     subst (λ (n : ℕ). Left lane_of c.push_reserved.new.self.items rest c.args.ports.items n) (sym c.push_reserved.ensures.capacity)
-    (leaves lane_of c.loop-port.lanes.items c.push_reserved.new.self.items c.in-Some.port rest c.args.ports.items (vec_capacity c.loop-port.lanes) k
+    (leaves lane_of c.loop-port.lanes.items c.push_reserved.new.self.items c.in-Some.port rest c.args.ports.items
+    (vec_capacity c.loop-port.lanes) k
     (c.push_reserved.ensures.items ∙ ap (λ (x : PublisherLaneState). c.loop-port.lanes.items ++ x ∷ []) c.into_lane.ensures))

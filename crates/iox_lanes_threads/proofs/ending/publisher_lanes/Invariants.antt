@@ -6,7 +6,8 @@ use Rattle.iox_lanes_threads.proofs.Leaving.{Left}
 use Rattle.iox_lanes_threads.proofs.ending.publisher_lanes.Given as goal
 
 abbrev pub invariant-loop-port : goal.invariant-loop-port
-invariant-loop-port l = Left {X = BoardPublisher} {Y = PublisherLaneState} (λ p. p.own.lane) l.lanes.items (into_iter_items l.rest) l.fn.ports.items (vec_capacity l.lanes)
+invariant-loop-port l = Left {X = BoardPublisher} {Y = PublisherLaneState} (λ p. p.own.lane) l.lanes.items (into_iter_items l.rest)
+    l.fn.ports.items (vec_capacity l.lanes)
 
 abbrev pub decreases-loop-port : goal.decreases-loop-port
 decreases-loop-port l = into_iter_len l.rest

@@ -4,7 +4,8 @@ use Rattle.iox_lanes_threads.proofs.Seating.{Subscribers}
 use Rattle.iox_lanes_threads.proofs.room.seat_subscribers.Given as goal
 
 abbrev pub invariant-loop-lane : goal.invariant-loop-lane
-invariant-loop-lane l = Subscribers l.of.value l.board l.sizes l.initial.home.table_id l.home.table_id l.home.me (into_iter_items l.rest) l.shares.items l.seated.items (vec_capacity l.seated)
+invariant-loop-lane l = Subscribers l.of.value l.board l.sizes l.initial.home.table_id l.home.table_id l.home.me
+    (into_iter_items l.rest) l.shares.items l.seated.items (vec_capacity l.seated)
 
 abbrev pub decreases-loop-lane : goal.decreases-loop-lane
 decreases-loop-lane l = goal.left-loop-lane l

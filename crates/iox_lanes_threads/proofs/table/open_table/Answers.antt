@@ -3,4 +3,5 @@ use Rattle.iox_lanes_threads.proofs.Giving.{opens_with}
 use Rattle.iox_lanes_threads.proofs.table.open_table.Goals as goal
 
 pub of_words-requires : goal.of_words-requires
-of_words-requires c = opens_with c.args.lanes.now c.of.result.value c.words.result.now c.of.ensures (c.words.ensures ∙ ap (λ z. z.words) c.table.ensures) c.requires
+of_words-requires c = opens_with c.args.lanes.now c.of.result.value c.words.result.now c.of.ensures
+    (c.words.ensures ∙ ap (λ z. z.words) c.table.ensures) c.requires

@@ -1,7 +1,8 @@
 use Rattle.std.proofs.Common.{ℕ, ◌≡◌, refl, sym, subst, ◌∙◌, arith}
 use Rattle.iox_lanes_machine.specs.LanesBase.Numbers.{IsSmall}
 use Rattle.iox_lanes_threads_rule.specs.Acts.{port_of}
-use Rattle.iox_lanes_threads_ports.proofs.Running.{Paced, publishes, publishes_on, paced, publisher_stops, publisher_stays_inside, ends_alone}
+use Rattle.iox_lanes_threads_ports.proofs.Running.{Paced, publishes, publishes_on, paced, publisher_stops, publisher_stays_inside}
+use Rattle.iox_lanes_threads_ports.proofs.Running.{ends_alone}
 use Rattle.iox_lanes_threads_ports.proofs.Striding.{paced_along, publishes_along}
 use Rattle.iox_lanes_threads_ports.proofs.publishing.run.Goals as goal
 
@@ -21,16 +22,21 @@ loop-made-preserved g c =
     let test = c.loop-made-test.true in (
       c.stride-made.ensures.table.0 ∙ c.loop-made.invariant.0,
       c.stride-made.ensures.table.1 ∙ c.loop-made.invariant.1,
-      publishes_along (port_of c.args.seat.now.me) c.loop-made.seat.me c.loop-made.lane c.stride-made.result c.stride-made.new.seat.me c.stride-made.new.lane run c.stride-made.ensures.strode,
-      (paced_along c.args.most c.loop-made.made (port_of c.args.seat.now.me) c.args.lane.now (port_of c.loop-made.seat.me) c.loop-made.lane c.stride-made.result (port_of c.stride-made.new.seat.me) c.stride-made.new.lane
-          (subst IsSmall (sym c.requires.seat.1) c.requires.table.2) run.seat.service run.stands c.loop-made.invariant.3 c.stride-made.ensures.strode.strides).2,
+      publishes_along (port_of c.args.seat.now.me) c.loop-made.seat.me c.loop-made.lane c.stride-made.result c.stride-made.new.seat.me
+          c.stride-made.new.lane run c.stride-made.ensures.strode,
+      (paced_along c.args.most c.loop-made.made (port_of c.args.seat.now.me) c.args.lane.now (port_of c.loop-made.seat.me)
+          c.loop-made.lane c.stride-made.result (port_of c.stride-made.new.seat.me) c.stride-made.new.lane
+          (subst IsSmall (sym c.requires.seat.1) c.requires.table.2) run.seat.service run.stands c.loop-made.invariant.3
+          c.stride-made.ensures.strode.strides).2,
       omega (arith, some, test),
     )
 
 pub returns-then-is_over-clause-stands : goal.returns-then-is_over-clause-stands
 returns-then-is_over-clause-stands g c =
-    let steps = ends_alone c.loop-made.seat.me c.loop-made.lane c.go_on.new.self c.loop-made.invariant.2.seat.alone (sym c.is_over.ensures ∙ c.if-is_over.true) c.go_on.ensures.lane in
-    (publishes_on (port_of c.args.seat.now.me) c.loop-made.seat.me c.loop-made.lane c.loop-made.seat.me c.go_on.new.self c.loop-made.invariant.2 steps).stands
+    let steps = ends_alone c.loop-made.seat.me c.loop-made.lane c.go_on.new.self c.loop-made.invariant.2.seat.alone
+    (sym c.is_over.ensures ∙ c.if-is_over.true) c.go_on.ensures.lane in
+    (publishes_on (port_of c.args.seat.now.me) c.loop-made.seat.me c.loop-made.lane c.loop-made.seat.me c.go_on.new.self
+    c.loop-made.invariant.2 steps).stands
 
 pub returns-then-is_over-clause-seat : goal.returns-then-is_over-clause-seat
 returns-then-is_over-clause-seat g c =
@@ -39,9 +45,12 @@ returns-then-is_over-clause-seat g c =
 
 pub returns-then-is_over-clause-runs : goal.returns-then-is_over-clause-runs
 returns-then-is_over-clause-runs g c =
-    let steps = ends_alone c.loop-made.seat.me c.loop-made.lane c.go_on.new.self c.loop-made.invariant.2.seat.alone (sym c.is_over.ensures ∙ c.if-is_over.true) c.go_on.ensures.lane in
-    publisher_stops c.args.most c.loop-made.made (port_of c.args.seat.now.me) c.args.lane.now c.loop-made.seat.me c.loop-made.lane c.loop-made.seat.me c.go_on.new.self c.go_on.result c.loop-made-test.true
-    c.loop-made.invariant.3 steps c.go_on.ensures.answer c.go_on.ensures.ends (c.go_on.ensures.ends ∙ sym c.is_over.ensures ∙ c.if-is_over.true)
+    let steps = ends_alone c.loop-made.seat.me c.loop-made.lane c.go_on.new.self c.loop-made.invariant.2.seat.alone
+    (sym c.is_over.ensures ∙ c.if-is_over.true) c.go_on.ensures.lane in
+    publisher_stops c.args.most c.loop-made.made (port_of c.args.seat.now.me) c.args.lane.now c.loop-made.seat.me c.loop-made.lane
+    c.loop-made.seat.me c.go_on.new.self c.go_on.result c.loop-made-test.true
+    c.loop-made.invariant.3 steps c.go_on.ensures.answer c.go_on.ensures.ends
+    (c.go_on.ensures.ends ∙ sym c.is_over.ensures ∙ c.if-is_over.true)
 
 pub returns-clause-runs : goal.returns-clause-runs
 returns-clause-runs g c =
@@ -49,4 +58,5 @@ returns-clause-runs g c =
     let past = c.loop-made-test.false in
     let all : c.loop-made.made ≡ c.args.most = omega (arith, below, past) in
     publisher_stays_inside c.args.most (port_of c.args.seat.now.me) c.args.lane.now (port_of c.loop-made.seat.me) c.loop-made.lane
-    (subst (λ (k : ℕ). Paced c.args.most k (port_of c.args.seat.now.me) c.args.lane.now (port_of c.loop-made.seat.me) c.loop-made.lane) all c.loop-made.invariant.3)
+    (subst (λ (k : ℕ). Paced c.args.most k (port_of c.args.seat.now.me) c.args.lane.now (port_of c.loop-made.seat.me) c.loop-made.lane)
+    all c.loop-made.invariant.3)

@@ -6,4 +6,5 @@ use Rattle.iox_lanes_threads_ports.proofs.publishing.step_as.Goals as goal
 
 pub act-given-requires-clause-may : goal.act-given-requires-clause-may
 act-given-requires-clause-may g c =
-    subst (λ (access : SharedAccess). MayAct g.M.Doing.port access) (sym c.next.ensures) (may_act g.M.Doing.port c.args.lane.now c.requires.stands)
+    subst (λ (access : SharedAccess). MayAct g.M.Doing.port access) (sym c.next.ensures)
+    (may_act g.M.Doing.port c.args.lane.now c.requires.stands)

@@ -19,9 +19,11 @@ store_ahead-requires-clause-next g c =
 
 pub returns-clause-strode : goal.returns-clause-strode
 returns-clause-strode g c p begun made run =
-    subst (λ stage. StrodeBy g.L.Ahead.kind p begun (made + 1) c.store_ahead.new.seat.me (g.L.Ahead.kind.after 0 (g.L.Ahead.kind.called stage c.args.lane.now))) c.stage.ensures
+    subst (λ stage. StrodeBy g.L.Ahead.kind p begun (made + 1) c.store_ahead.new.seat.me
+    (g.L.Ahead.kind.after 0 (g.L.Ahead.kind.called stage c.args.lane.now))) c.stage.ensures
     (c.store_ahead.ensures.strode p begun made
-    (subst (λ stage. StrodeBy g.L.Ahead.kind p begun made c.args.seat.now.me (g.L.Ahead.kind.called stage c.args.lane.now)) (sym c.stage.ensures) run))
+    (subst (λ stage. StrodeBy g.L.Ahead.kind p begun made c.args.seat.now.me (g.L.Ahead.kind.called stage c.args.lane.now))
+    (sym c.stage.ensures) run))
 
 pub returns-clause-goes_on : goal.returns-clause-goes_on
 returns-clause-goes_on g c p begun made run keeps going =
@@ -34,10 +36,12 @@ returns-clause-seat g c =
     let p = port_of c.args.seat.now.me in
     let here = g.L.Ahead.kind.called (g.C.RingCall.stage c.args.call c.args.state) c.args.lane.now in
     same_sizes p c.store_ahead.new.seat.me (g.L.Ahead.kind.after 0 here) c.args.sizes.now
-    (returns-clause-strode g c p here 0 (strode_none c.goes_ahead.ensures c.args.seat.now.me here c.requires.seat.0 c.requires.stands)) c.requires.seat.1
+    (returns-clause-strode g c p here 0 (strode_none c.goes_ahead.ensures c.args.seat.now.me here c.requires.seat.0 c.requires.stands))
+    c.requires.seat.1
 
 pub returns-clause-stands : goal.returns-clause-stands
 returns-clause-stands g c keeps going =
     let p = port_of c.args.seat.now.me in
     let here = g.L.Ahead.kind.called (g.C.RingCall.stage c.args.call c.args.state) c.args.lane.now in
-    (returns-clause-goes_on g c p here 0 (strode_none c.goes_ahead.ensures c.args.seat.now.me here c.requires.seat.0 c.requires.stands) keeps going).stands
+    (returns-clause-goes_on g c p here 0 (strode_none c.goes_ahead.ensures c.args.seat.now.me here c.requires.seat.0 c.requires.stands)
+    keeps going).stands

@@ -8,7 +8,8 @@ use Rattle.iox_lanes_threads_rule.specs.Acts.{port_of}
 use Rattle.iox_lanes_threads_ports.specs.Ports.{PublisherStands}
 use Rattle.iox_lanes_threads_ports.specs.SlotParts.{storing, storing_at}
 use Rattle.iox_lanes_threads_ports.specs.Strides.{called, PublisherStrode}
-use Rattle.iox_lanes_threads_ports.proofs.Striding.{publisher_goes_ahead, strode_none, at_first, storing_first, storing_here, storing_on, few_stored}
+use Rattle.iox_lanes_threads_ports.proofs.Striding.{publisher_goes_ahead, strode_none, at_first, storing_first, storing_here, storing_on}
+use Rattle.iox_lanes_threads_ports.proofs.Striding.{few_stored}
 use Rattle.iox_lanes_threads_ports.proofs.strides.store_words.Goals as goal
 
 pub loop-at-init : goal.loop-at-init
@@ -16,7 +17,9 @@ loop-at-init g c = (
   refl,
   refl,
   subst (PublisherStrode (port_of c.args.seat.now.me) c.args.lane.now 0 c.args.seat.now.me)
-      (at_first c.args.lane.now (storing c.args.part c.args.slot 0 c.args.first) (storing_at c.args.part (call_words c.args.lane.now.port) c.args.slot 0) c.requires.call (storing_first c.args.part (call_words c.args.lane.now.port) c.args.slot c.args.first c.requires.first))
+      (at_first c.args.lane.now (storing c.args.part c.args.slot 0 c.args.first)
+      (storing_at c.args.part (call_words c.args.lane.now.port) c.args.slot 0) c.requires.call
+      (storing_first c.args.part (call_words c.args.lane.now.port) c.args.slot c.args.first c.requires.first))
       (strode_none publisher_goes_ahead c.args.seat.now.me c.args.lane.now c.requires.seat.0 c.requires.stands),
 )
 
@@ -27,7 +30,9 @@ store_ahead-requires-clause-stands g c =
     let same = ap (λ (xs : List ℕ). length xs) stored in
     let test = c.loop-at-test.true in
     let less : c.loop-at.at < length (call_words lane.port) = omega (arith, same, test) in
-    let here = storing_here c.args.part (call_words lane.port) c.args.slot c.loop-at.at less ∙ ap (λ (xs : List ℕ). storing c.args.part c.args.slot c.loop-at.at (get_or xs c.loop-at.at 0)) (sym stored) ∙ sym c.storing-call.ensures in
+    let here = storing_here c.args.part (call_words lane.port) c.args.slot c.loop-at.at less ∙ ap
+    (λ (xs : List ℕ). storing c.args.part c.args.slot c.loop-at.at (get_or xs c.loop-at.at 0)) (sym stored) ∙ sym
+    c.storing-call.ensures in
     subst (λ (call : PublisherCall). PublisherStands (port_of c.loop-at.seat.me) (called call lane)) here c.loop-at.invariant.2.stands
 
 pub loop-at-preserved : goal.loop-at-preserved
@@ -38,14 +43,20 @@ loop-at-preserved g c =
     let same = ap (λ (xs : List ℕ). length xs) stored in
     let test = c.loop-at-test.true in
     let less : c.loop-at.at < length (call_words lane.port) = omega (arith, same, test) in
-    let few = few_stored c.args.part p lane c.args.slot 0 c.args.first c.requires.stands (subst IsSmall (sym c.requires.seat.1) c.requires.table.2) c.requires.call in
+    let few = few_stored c.args.part p lane c.args.slot 0 c.args.first c.requires.stands
+    (subst IsSmall (sym c.requires.seat.1) c.requires.table.2) c.requires.call in
     let next : c.loop-at.at + 1 < 2 ^ 64 = omega (arith, less, few) in
-    let here = storing_here c.args.part (call_words lane.port) c.args.slot c.loop-at.at less ∙ ap (λ (xs : List ℕ). storing c.args.part c.args.slot c.loop-at.at (get_or xs c.loop-at.at 0)) (sym stored) ∙ sym c.storing-call.ensures in (
+    let here = storing_here c.args.part (call_words lane.port) c.args.slot c.loop-at.at less ∙ ap
+    (λ (xs : List ℕ). storing c.args.part c.args.slot c.loop-at.at (get_or xs c.loop-at.at 0)) (sym stored) ∙ sym
+    c.storing-call.ensures in (
       c.store_ahead.ensures.table.0 ∙ c.loop-at.invariant.0,
       c.store_ahead.ensures.table.1 ∙ c.loop-at.invariant.1,
       subst (PublisherStrode p lane (c.loop-at.at + 1) c.store_ahead.new.seat.me)
-          (ap (λ (call : PublisherCall). publisher_after 0 (called call lane)) c.storing-call.ensures ∙ storing_on c.args.part lane c.args.slot c.loop-at.at (get_or c.stored-stored.result.now c.loop-at.at 0) next)
-          (c.store_ahead.ensures.strode p lane c.loop-at.at (subst (λ (call : PublisherCall). PublisherStrode p lane c.loop-at.at c.loop-at.seat.me (called call lane)) here c.loop-at.invariant.2)),
+          (ap (λ (call : PublisherCall). publisher_after 0 (called call lane)) c.storing-call.ensures ∙ storing_on c.args.part lane
+          c.args.slot c.loop-at.at (get_or c.stored-stored.result.now c.loop-at.at 0) next)
+          (c.store_ahead.ensures.strode p lane c.loop-at.at
+          (subst (λ (call : PublisherCall). PublisherStrode p lane c.loop-at.at c.loop-at.seat.me (called call lane)) here
+          c.loop-at.invariant.2)),
     )
 
 pub returns-clause-strode : goal.returns-clause-strode
@@ -55,7 +66,8 @@ returns-clause-strode g c =
     let count = length c.stored-stored.result.now in
     let same = ap (λ (xs : List ℕ). length xs) c.stored-stored.ensures in
     let some = slice_get_within (call_words lane.port) 0 c.args.first c.requires.first in
-    let few = few_stored c.args.part p lane c.args.slot 0 c.args.first c.requires.stands (subst IsSmall (sym c.requires.seat.1) c.requires.table.2) c.requires.call in
+    let few = few_stored c.args.part p lane c.args.slot 0 c.args.first c.requires.stands
+    (subst IsSmall (sym c.requires.seat.1) c.requires.table.2) c.requires.call in
     let next : count - 1 + 1 < 2 ^ 64 = omega (arith, same, some, few) in
     let test = c.loop-at-test.false in
     let end = c.loop-at.auto.at-end in
@@ -66,4 +78,5 @@ returns-clause-strode g c =
     ∙ sym (storing_on c.args.part lane c.args.slot (count - 1) (get_or c.stored-stored.result.now (count - 1) 0) next)
     ∙ ap (λ (call : PublisherCall). publisher_after 0 (called call lane)) (sym c.storing-last.ensures)
     ∙ sym c.go_on_from.ensures)
-    (subst (λ (k : ℕ). PublisherStrode p lane k c.loop-at.seat.me (called (storing_at c.args.part (call_words lane.port) c.args.slot k) lane)) all c.loop-at.invariant.2)
+    (subst (λ (k : ℕ). PublisherStrode p lane k c.loop-at.seat.me
+    (called (storing_at c.args.part (call_words lane.port) c.args.slot k) lane)) all c.loop-at.invariant.2)

@@ -6,4 +6,5 @@ use Rattle.iox_lanes_threads_ports.proofs.subscriber_strides.read_words.Given as
 
 abbrev pub invariant-loop-word : goal.invariant-loop-word
 invariant-loop-word g l =
-    (l.seat.table_id ≡ l.initial.seat.table_id) × (l.seat.id ≡ l.initial.seat.id) × SubscriberStrode (port_of l.initial.seat.me) l.fn.lane l.seat.me (subscriber_called (read_at l.slot l.extent l.word) l.lane)
+    (l.seat.table_id ≡ l.initial.seat.table_id) × (l.seat.id ≡ l.initial.seat.id)
+    × SubscriberStrode (port_of l.initial.seat.me) l.fn.lane l.seat.me (subscriber_called (read_at l.slot l.extent l.word) l.lane)

@@ -7,7 +7,17 @@ pub returns-clause-strode : goal.returns-clause-strode
 returns-clause-strode g c = strode_none subscriber_goes_ahead c.args.seat.now.me c.args.lane.now c.requires.seat.0 c.requires.stands
 
 pub returns-2 : goal.returns-2
-returns-2 g c = record { table = (refl, refl); short = c.requires.short; strode = strode_none subscriber_goes_ahead c.args.seat.now.me c.args.lane.now c.requires.seat.0 c.requires.stands }
+returns-2 g c = record {
+  table = (refl, refl);
+  short = c.requires.short;
+  strode
+      = strode_none subscriber_goes_ahead c.args.seat.now.me c.args.lane.now c.requires.seat.0 c.requires.stands;
+}
 
 pub returns-3 : goal.returns-3
-returns-3 g c = record { table = (refl, refl); short = c.requires.short; strode = strode_none subscriber_goes_ahead c.args.seat.now.me c.args.lane.now c.requires.seat.0 c.requires.stands }
+returns-3 g c = record {
+  table = (refl, refl);
+  short = c.requires.short;
+  strode
+      = strode_none subscriber_goes_ahead c.args.seat.now.me c.args.lane.now c.requires.seat.0 c.requires.stands;
+}

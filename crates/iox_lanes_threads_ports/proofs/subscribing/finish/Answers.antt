@@ -20,10 +20,14 @@ loop-seat-init g c = (
 pub loop-seat-preserved : goal.loop-seat-preserved
 loop-seat-preserved g c =
     let run = c.loop-seat.invariant.2 in
-    let same : (port_of c.loop-seat.seat.me).service.sizes ≡ c.args.sizes.now = ap (λ (s : Service). s.sizes) run.seat.service ∙ c.requires.seat.1 in
-    let near = nearer (port_of c.loop-seat.seat.me).service.sizes c.loop-seat.lane c.step.ensures.steps.0 (subst IsSmall (sym same) c.requires.table.2) run.stands.within c.loop-seat.invariant.3 (sym c.is_over.ensures ∙ c.loop-seat-test.true) in (
+    let same : (port_of c.loop-seat.seat.me).service.sizes ≡ c.args.sizes.now
+    = ap (λ (s : Service). s.sizes) run.seat.service ∙ c.requires.seat.1 in
+    let near = nearer (port_of c.loop-seat.seat.me).service.sizes c.loop-seat.lane c.step.ensures.steps.0
+    (subst IsSmall (sym same) c.requires.table.2) run.stands.within c.loop-seat.invariant.3
+    (sym c.is_over.ensures ∙ c.loop-seat-test.true) in (
       c.step.ensures.table.0 ∙ c.loop-seat.invariant.0,
       c.step.ensures.table.1 ∙ c.loop-seat.invariant.1,
-      subscribes_on (port_of c.args.seat.now.me) c.args.lane.now c.loop-seat.seat.me c.loop-seat.lane c.step.new.seat.me c.step.new.lane c.loop-seat.invariant.2 c.step.ensures.steps,
+      subscribes_on (port_of c.args.seat.now.me) c.args.lane.now c.loop-seat.seat.me c.loop-seat.lane c.step.new.seat.me c.step.new.lane
+          c.loop-seat.invariant.2 c.step.ensures.steps,
       subst (λ (l : SubscriberLaneState). IsShort l.port.call) (sym c.step.ensures.steps.3) near.0,
     )

@@ -4,7 +4,8 @@ use Rattle.iox_line.specs.Reading.{numbers}
 use Rattle.iox_line.proofs.arguments.numbers.Given as goal
 
 abbrev pub invariant-loop-word : goal.invariant-loop-word
-invariant-loop-word l = (length l.scratch + length l.rest ≤ 1025) × (numbers l.fn.words ≡ option_map (λ ns. l.scratch ++ ns) (numbers l.rest))
+invariant-loop-word l = (length l.scratch + length l.rest ≤ 1025)
+    × (numbers l.fn.words ≡ option_map (λ ns. l.scratch ++ ns) (numbers l.rest))
 
 abbrev pub decreases-loop-word : goal.decreases-loop-word
 decreases-loop-word l = length l.rest

@@ -9,12 +9,20 @@ pub of_words-requires : goal.of_words-requires
 of_words-requires c = rw c.new.ensures (omega (arith, c.if-line-gt1024.false, words_length c.args.line.now))
 
 pub returns-in-Ok-Some : goal.returns-in-Ok-Some
-returns-in-Ok-Some c =
-    (omega (arith, c.if-line-gt1024.false), line_sound c.args.line.now c.in-Ok-Some.command (ap of_words (sym c.new.ensures) ∙ answered takes_memory (of_words c.new.result) (Some c.in-Ok-Some.command) c.of_words.result c.of_words.ensures (c.in-Ok-Some.is ∙ ap (λ o. Ok o) c.in-Ok-Some.field-0-is)))
+returns-in-Ok-Some c = (
+  omega (arith, c.if-line-gt1024.false),
+  line_sound c.args.line.now c.in-Ok-Some.command
+      (ap of_words (sym c.new.ensures) ∙ answered takes_memory (of_words c.new.result) (Some c.in-Ok-Some.command) c.of_words.result
+      c.of_words.ensures (c.in-Ok-Some.is ∙ ap (λ o. Ok o) c.in-Ok-Some.field-0-is)),
+)
 
 pub returns-in-Ok-None : goal.returns-in-Ok-None
-returns-in-Ok-None c =
-    (omega (arith, c.if-line-gt1024.false), unread c.args.line.now (ap of_words (sym c.new.ensures) ∙ answered takes_memory (of_words c.new.result) None c.of_words.result c.of_words.ensures (c.in-Ok-None.is ∙ ap (λ o. Ok o) c.in-Ok-None.field-0-is)))
+returns-in-Ok-None c = (
+  omega (arith, c.if-line-gt1024.false),
+  unread c.args.line.now
+      (ap of_words (sym c.new.ensures) ∙ answered takes_memory (of_words c.new.result) None c.of_words.result c.of_words.ensures
+      (c.in-Ok-None.is ∙ ap (λ o. Ok o) c.in-Ok-None.field-0-is)),
+)
 
 pub returns-in-Err : goal.returns-in-Err
 returns-in-Err c =

@@ -10,7 +10,8 @@ pub returns-in_err-verb-clause-none : goal.returns-in_err-verb-clause-none
 returns-in_err-verb-clause-none c = λ is command short spells.
     let split : words_of c.args.line.now ≡ c.in_ok-word.word.now ∷ c.next.new.self = sym c.new-words.ensures ∙ c.in_ok-word.ensures.some in
     let first : verb_of c.in_ok-word.word.now ≡ None = sym c.first_verb.ensures ∙ c.in_err-verb.was in
-    spells_no_port c.args.line.now command (ap (λ ws. if_of_port (of_words ws)) split ∙ no_port_words c.in_ok-word.word.now c.next.new.self first) spells
+    spells_no_port c.args.line.now command
+    (ap (λ ws. if_of_port (of_words ws)) split ∙ no_port_words c.in_ok-word.word.now c.next.new.self first) spells
 
 pub of_port_verb-requires : goal.of_port_verb-requires
 of_port_verb-requires c =
@@ -19,10 +20,12 @@ of_port_verb-requires c =
 
 pub returns-clause-some : goal.returns-clause-some
 returns-clause-some c =
-    reads_some c.args.line.now c.in_ok-word.word.now c.next.new.self c.in_ok-verb.verb (sym c.new-words.ensures ∙ c.in_ok-word.ensures.some) (sym c.first_verb.ensures ∙ c.in_ok-verb.was)
+    reads_some c.args.line.now c.in_ok-word.word.now c.next.new.self c.in_ok-verb.verb
+    (sym c.new-words.ensures ∙ c.in_ok-word.ensures.some) (sym c.first_verb.ensures ∙ c.in_ok-verb.was)
     (omega (arith, c.if-line-gt1024.false)) c.of_port_verb.result c.of_port_verb.ensures
 
 pub returns-clause-none : goal.returns-clause-none
 returns-clause-none c = λ is command short spells.
-    reads_none c.args.line.now c.in_ok-word.word.now c.next.new.self c.in_ok-verb.verb (sym c.new-words.ensures ∙ c.in_ok-word.ensures.some) (sym c.first_verb.ensures ∙ c.in_ok-verb.was)
+    reads_none c.args.line.now c.in_ok-word.word.now c.next.new.self c.in_ok-verb.verb
+    (sym c.new-words.ensures ∙ c.in_ok-word.ensures.some) (sym c.first_verb.ensures ∙ c.in_ok-verb.was)
     short c.of_port_verb.result c.of_port_verb.ensures is command spells

@@ -8,7 +8,8 @@ loop-round-init g c = idle _ _ refl
 
 pub loop-round-preserved : goal.loop-round-preserved
 loop-round-preserved g c =
-    led-more (OpenRound (g.R.Request.hash c.args.request.now) (g.R.Request.node c.args.request.now) (g.R.Request.verdict c.args.request.now)) _ _ _ _ _ (omega arith) c.loop-round.invariant c.in_default.ensures
+    led-more (OpenRound (g.R.Request.hash c.args.request.now) (g.R.Request.node c.args.request.now)
+    (g.R.Request.verdict c.args.request.now)) _ _ _ _ _ (omega arith) c.loop-round.invariant c.in_default.ensures
 
 pub returns-in-Some : goal.returns-in-Some
 returns-in-Some g c = round-ends _ _ _ _ _ _ _ (omega (arith, c.loop-round-test.true)) c.loop-round.invariant c.in-Some.ensures

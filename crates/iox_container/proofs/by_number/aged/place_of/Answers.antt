@@ -11,4 +11,5 @@ returns-clause-found g c =
 pub returns-clause-none : goal.returns-clause-none
 returns-clause-none g c =
     let found = c.binary_search_by_key.ensures.position (λ entry. entry.0) (answers_always _ _ _ (λ f a r after called. search rules)) in
-    rw c.ok.ensures.value (found-nowhere c.args.number c.requires.0 c.args.entries.now.items c.requires.1 c.binary_search_by_key.result found)
+    rw c.ok.ensures.value (found-nowhere c.args.number c.requires.0 c.args.entries.now.items c.requires.1 c.binary_search_by_key.result
+    found)

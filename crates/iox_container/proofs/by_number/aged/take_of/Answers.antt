@@ -10,9 +10,13 @@ returns-in_err-place-clause-after g c = sym (remove-absent (nat_eq c.args.number
 pub returns-clause-value : goal.returns-clause-value
 returns-clause-value g c =
     let here = c.in_ok-_number.ensures.value in
-    sym (lookup-place c.args.number (c.in_ok-_number._number, c.in_ok-_number.value) (ap (λ e. e.0) here ∙ c.in_ok-place.ensures.found _) 1 c.requires.0 c.in_ok-place.place c.args.entries.now.items c.requires.1 c.in_ok-place.ensures.within here)
+    sym (lookup-place c.args.number (c.in_ok-_number._number, c.in_ok-_number.value)
+    (ap (λ e. e.0) here ∙ c.in_ok-place.ensures.found _) 1 c.requires.0 c.in_ok-place.place c.args.entries.now.items c.requires.1
+    c.in_ok-place.ensures.within here)
 
 pub returns-clause-after : goal.returns-clause-after
 returns-clause-after g c =
     let here = c.in_ok-_number.ensures.value in
-    rw c.in_ok-_number.ensures.items (remove-place c.args.number (c.in_ok-_number._number, c.in_ok-_number.value) (ap (λ e. e.0) here ∙ c.in_ok-place.ensures.found _) 1 c.requires.0 c.in_ok-place.place c.args.entries.now.items c.requires.1 c.in_ok-place.ensures.within here)
+    rw c.in_ok-_number.ensures.items (remove-place c.args.number (c.in_ok-_number._number, c.in_ok-_number.value)
+    (ap (λ e. e.0) here ∙ c.in_ok-place.ensures.found _) 1 c.requires.0 c.in_ok-place.place c.args.entries.now.items c.requires.1
+    c.in_ok-place.ensures.within here)

@@ -24,11 +24,13 @@ pub returns-else-place-len-clause-value : goal.returns-else-place-len-clause-val
 returns-else-place-len-clause-value g c =
     let place = c.args.number - c.args.first in
     let here : c.args.number ≡ c.args.first + place = omega arith in
-    sym (lookup-present c.args.number c.args.first place c.args.places.now.items here ∙ get_or_past c.args.places.now.items place None (omega arith))
+    sym (lookup-present c.args.number c.args.first place c.args.places.now.items here ∙ get_or_past c.args.places.now.items place None
+    (omega arith))
 
 pub returns-else-place-len-clause-after : goal.returns-else-place-len-clause-after
 returns-else-place-len-clause-after g c =
     let place = c.args.number - c.args.first in
     let here : c.args.number ≡ c.args.first + place = omega arith in
     sym (remove-absent (nat_eq c.args.number) (present c.args.first c.args.places.now.items)
-    (lookup-present c.args.number c.args.first place c.args.places.now.items here ∙ get_or_past c.args.places.now.items place None (omega arith)))
+    (lookup-present c.args.number c.args.first place c.args.places.now.items here ∙ get_or_past c.args.places.now.items place None
+    (omega arith)))

@@ -15,4 +15,5 @@ pub returns-else-place-len : goal.returns-else-place-len
 returns-else-place-len g c =
     let place = c.args.number - c.args.first in
     let here : c.args.number ≡ c.args.first + place = omega arith in
-    sym (lookup-present c.args.number c.args.first place c.args.places.now.items here ∙ get_or_past c.args.places.now.items place None (omega arith))
+    sym (lookup-present c.args.number c.args.first place c.args.places.now.items here ∙ get_or_past c.args.places.now.items place None
+    (omega arith))

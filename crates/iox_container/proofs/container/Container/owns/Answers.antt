@@ -9,4 +9,5 @@ returns-in-Some g c =
     let read : Some c.in-Some.member ≡ get_or c.self.inside.members c.args.handle.index None = sym c.in-Some.is ∙ c.get.ensures in
     let same : nat_eq c.args.handle.container c.self.inside.id ≡ true = eq-eqb _ _ c.if-handle-self.false in
     rw (← c.self.view_is, same)
-    (ap (λ member. is_numbered c.args.handle.number (Some member)) read ∙ is_numbered-read c.args.handle.number c.self.inside.members c.args.handle.index)
+    (ap (λ member. is_numbered c.args.handle.number (Some member)) read ∙ is_numbered-read c.args.handle.number c.self.inside.members
+    c.args.handle.index)

@@ -37,4 +37,5 @@ returns-clause-answer g c =
 pub returns-clause-some : goal.returns-clause-some
 returns-clause-some g c =
     let at : c.len-index.result ≡ length c.self.inside.cells.items = omega (arith, c.len-index.ensures, c.self.inside.cells.ok.0) in
-    rw (← c.self.view_is, at, c.push_reserved.ensures.items) (sym (next-padded c.self.inside.count c.self.inside.cells.items c.args.content (omega (arith, c.self.invariant.0))))
+    rw (← c.self.view_is, at, c.push_reserved.ensures.items)
+    (sym (next-padded c.self.inside.count c.self.inside.cells.items c.args.content (omega (arith, c.self.invariant.0))))

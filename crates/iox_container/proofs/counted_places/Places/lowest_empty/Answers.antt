@@ -15,4 +15,5 @@ returns g c =
     let none : lowest_empty c.self.inside.cells.items ≡ None =
     ap (λ cells. lowest_empty cells) (sym c.as_slice.ensures.value) ∙ sym c.lowest_empty.ensures ∙ c.in_default.is in
     let at : c.len-next.result ≡ length c.self.inside.cells.items = omega (arith, c.len-next.ensures, c.self.inside.cells.ok.0) in
-    rw (← c.self.view_is, at) (sym (lowest-next c.self.inside.count c.self.inside.cells.items none (omega (arith, c.self.invariant.0, c.if-next-self.false, at))))
+    rw (← c.self.view_is, at) (sym (lowest-next c.self.inside.count c.self.inside.cells.items none
+    (omega (arith, c.self.invariant.0, c.if-next-self.false, at))))

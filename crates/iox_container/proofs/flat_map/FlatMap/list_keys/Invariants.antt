@@ -8,5 +8,6 @@ use Rattle.iox_container.proofs.flat_map.FlatMap.list_keys.Given as goal
 abbrev pub invariant-loop-index : goal.invariant-loop-index
 invariant-loop-index g l =
     always_mut g.F.FnMut l.callback
-    × ((last : _) → CallsAtKeys (CalledAt g.F.FnMut) l.callback (pairs (drop l.index l.self.values)) last → CallsAtKeys (CalledAt g.F.FnMut) l.fn.callback (pairs l.self.values) last)
+    × ((last : _) → CallsAtKeys (CalledAt g.F.FnMut) l.callback (pairs (drop l.index l.self.values)) last
+    → CallsAtKeys (CalledAt g.F.FnMut) l.fn.callback (pairs l.self.values) last)
     × (l.unseen ≡ length (pairs (drop l.index l.self.values)))

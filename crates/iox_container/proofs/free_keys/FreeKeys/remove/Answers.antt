@@ -5,7 +5,8 @@ use Rattle.iox_container.proofs.free_keys.FreeKeys.remove.Goals as goal
 
 pub remove-requires : goal.remove-requires
 remove-requires c =
-    made-linked c.make_up_to.new.keys c.args.key c.make_up_to.ensures.made (rw (← c.self.view_is, sym c.make_up_to.ensures.all) at c.requires.free)
+    made-linked c.make_up_to.new.keys c.args.key c.make_up_to.ensures.made
+    (rw (← c.self.view_is, sym c.make_up_to.ensures.all) at c.requires.free)
 
 pub returns : goal.returns
 returns c =

@@ -8,8 +8,18 @@ invariant_of-self c =
     let l = c.self.inside in
     let at : c.len-key.result ≡ length l.next.items = omega (arith, c.len-key.ensures, l.next.ok.0) in
     let grown = LinksKeys-grown _ _ _ _ _ _ c.self.invariant.0 in
-    rw (c.push_reserved.ensures.items, c.push_reserved-2.ensures.items, c.push_reserved.ensures.capacity, c.push_reserved-2.ensures.capacity, at)
-    (LinksKeys-walked _ _ _ _ _ _ grown, omega (arith, c.self.invariant.1, length_push l.next.items (length l.next.items + 1)), c.self.invariant.2, c.self.invariant.3)
+    rw (
+      c.push_reserved.ensures.items,
+      c.push_reserved-2.ensures.items,
+      c.push_reserved.ensures.capacity,
+      c.push_reserved-2.ensures.capacity,
+      at,
+    ) (
+      LinksKeys-walked _ _ _ _ _ _ grown,
+      omega (arith, c.self.invariant.1, length_push l.next.items (length l.next.items + 1)),
+      c.self.invariant.2,
+      c.self.invariant.3,
+    )
 
 pub returns : goal.returns
 returns c =

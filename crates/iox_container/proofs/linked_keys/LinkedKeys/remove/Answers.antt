@@ -13,8 +13,12 @@ invariant_of-self c =
     let f = c.self.inside in
     let there = rw (← c.self.view_is) at c.requires in
     let low = c.self.invariant.0.below c.args.key there in
-    let behind = get_or_read f.next.items _ _ (omega (arith, c.self.invariant.0.forth)) c.index-next.ensures 0 in
-    (LinksKeys-walked _ _ _ _ _ _ (LinksKeys-first_removed _ _ _ _ _ c.args.key _ _ c.self.invariant.0 there c.if-key-self.true behind), omega (arith, c.self.invariant.1), c.self.invariant.2, c.self.invariant.3)
+    let behind = get_or_read f.next.items _ _ (omega (arith, c.self.invariant.0.forth)) c.index-next.ensures 0 in (
+      LinksKeys-walked _ _ _ _ _ _ (LinksKeys-first_removed _ _ _ _ _ c.args.key _ _ c.self.invariant.0 there c.if-key-self.true behind),
+      omega (arith, c.self.invariant.1),
+      c.self.invariant.2,
+      c.self.invariant.3,
+    )
 
 pub returns-then-key-self : goal.returns-then-key-self
 returns-then-key-self c =
@@ -36,7 +40,13 @@ index_mut-requires c =
     let there = rw (← c.self.view_is) at c.requires in
     let low = c.self.invariant.0.below c.args.key there in
     let before = get_or_read f.previous.items _ _ (omega (arith, c.self.invariant.0.back)) c.index-previous.ensures 0 in
-    omega (arith, before, (links_within _ _ _ _ _ c.args.key _ c.self.invariant.0 there c.if-key-self.false).1, c.self.invariant.0.forth, f.next.ok.0)
+    omega (
+      arith,
+      before,
+      (links_within _ _ _ _ _ c.args.key _ c.self.invariant.0 there c.if-key-self.false).1,
+      c.self.invariant.0.forth,
+      f.next.ok.0,
+    )
 
 pub index_mut-requires-2 : goal.index_mut-requires-2
 index_mut-requires-2 c =
@@ -44,7 +54,13 @@ index_mut-requires-2 c =
     let there = rw (← c.self.view_is) at c.requires in
     let low = c.self.invariant.0.below c.args.key there in
     let behind = get_or_read f.next.items _ _ (omega (arith, c.self.invariant.0.forth)) c.index-next.ensures 0 in
-    omega (arith, behind, (links_within _ _ _ _ _ c.args.key _ c.self.invariant.0 there c.if-key-self.false).0, c.self.invariant.0.back, f.previous.ok.0)
+    omega (
+      arith,
+      behind,
+      (links_within _ _ _ _ _ c.args.key _ c.self.invariant.0 there c.if-key-self.false).0,
+      c.self.invariant.0.back,
+      f.previous.ok.0,
+    )
 
 pub invariant_of-self-2 : goal.invariant_of-self-2
 invariant_of-self-2 c =
@@ -53,8 +69,13 @@ invariant_of-self-2 c =
     let low = c.self.invariant.0.below c.args.key there in
     let before = get_or_read f.previous.items _ _ (omega (arith, c.self.invariant.0.back)) c.index-previous.ensures 0 in
     let behind = get_or_read f.next.items _ _ (omega (arith, c.self.invariant.0.forth)) c.index-next.ensures 0 in
-    let long = length-set f.next.items c.index-previous.result.now c.index-next.result.now in
-    (LinksKeys-walked _ _ _ _ _ _ (LinksKeys-removed _ _ _ _ _ c.args.key _ _ _ c.self.invariant.0 there c.if-key-self.false before behind), omega (arith, c.self.invariant.1, long), c.self.invariant.2, c.self.invariant.3)
+    let long = length-set f.next.items c.index-previous.result.now c.index-next.result.now in (
+      LinksKeys-walked _ _ _ _ _ _
+          (LinksKeys-removed _ _ _ _ _ c.args.key _ _ _ c.self.invariant.0 there c.if-key-self.false before behind),
+      omega (arith, c.self.invariant.1, long),
+      c.self.invariant.2,
+      c.self.invariant.3,
+    )
 
 pub returns : goal.returns
 returns c =
@@ -63,6 +84,7 @@ returns c =
     let low = c.self.invariant.0.below c.args.key there in
     let before = get_or_read f.previous.items _ _ (omega (arith, c.self.invariant.0.back)) c.index-previous.ensures 0 in
     let behind = get_or_read f.next.items _ _ (omega (arith, c.self.invariant.0.forth)) c.index-next.ensures 0 in
-    let is = walk-is _ _ _ _ _ _ (LinksKeys-removed _ _ _ _ _ c.args.key _ _ _ c.self.invariant.0 there c.if-key-self.false before behind) in
+    let is = walk-is _ _ _ _ _ _ (LinksKeys-removed _ _ _ _ _ c.args.key _ _ _ c.self.invariant.0 there c.if-key-self.false before
+    behind) in
     let long = length-set f.next.items c.index-previous.result.now c.index-next.result.now in
     rw (← c.self.view_is) (cc (is, long))

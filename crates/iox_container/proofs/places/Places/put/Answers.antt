@@ -8,7 +8,8 @@ returns g c =
     let p = c.self.inside in
     let more = c.args.index + 1 - length p.cells.items in
     let cells = p.cells.items ++ replicate more None in
-    let within : c.args.index < p.count = omega (arith, length-padded p.count p.cells.items c.self.invariant.0, rw (← c.self.view_is) at c.requires) in
+    let within : c.args.index < p.count
+    = omega (arith, length-padded p.count p.cells.items c.self.invariant.0, rw (← c.self.view_is) at c.requires) in
     let long = length-append p.cells.items (replicate more None) in
     let added = length-replicate {A = Option g.row.T.Denot} more None in
     let same = padded-more p.count more p.cells.items (omega (arith, c.self.invariant.0)) in

@@ -4,7 +4,15 @@ use Rattle.iox_container.proofs.relocatable_option.RelocatableOption.take_if.Goa
 
 pub returns-then-predicate-clause-some : goal.returns-then-predicate-clause-some
 returns-then-predicate-clause-some g c =
-    rw c.in-Some.is (_, _, c.predicate.result, refl, c.predicate.ensures, rw c.if-predicate.true (ap option_of c.take.ensures.before, c.take.ensures.after))
+    rw c.in-Some.is (
+      _,
+      _,
+      c.predicate.result,
+      refl,
+      c.predicate.ensures,
+      rw c.if-predicate.true
+          (ap option_of c.take.ensures.before, c.take.ensures.after),
+    )
 
 pub returns-else-predicate-clause-some : goal.returns-else-predicate-clause-some
 returns-else-predicate-clause-some g c =

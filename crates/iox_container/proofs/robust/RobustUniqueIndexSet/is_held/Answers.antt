@@ -9,4 +9,5 @@ held-read (Some owner ∷ holders) zero = refl
 held-read (holder ∷ holders) (suc index) = held-read holders index
 
 pub returns : goal.returns
-returns c = rw (← c.self.view_is) (c.is_some.ensures ∙ ap (λ (holder : Option ℕ). is_some holder) c.get.ensures ∙ held-read c.self.inside.cells c.args.index)
+returns c = rw (← c.self.view_is) (c.is_some.ensures ∙ ap (λ (holder : Option ℕ). is_some holder) c.get.ensures ∙ held-read
+    c.self.inside.cells c.args.index)

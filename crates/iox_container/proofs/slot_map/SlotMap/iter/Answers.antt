@@ -8,4 +8,5 @@ returns-clause-items g c =
 
 pub returns-clause-each_once : goal.returns-clause-each_once
 returns-clause-each_once g c =
-    rw (← c.self.view_is, held_from-padded 0 _ c.used.result.now c.self.inside.values c.used.ensures.whole) (ListsHeldKeys-held_from c.self.inside.values)
+    rw (← c.self.view_is, held_from-padded 0 _ c.used.result.now c.self.inside.values c.used.ensures.whole)
+    (ListsHeldKeys-held_from c.self.inside.values)

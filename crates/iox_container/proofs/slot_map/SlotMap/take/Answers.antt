@@ -10,4 +10,8 @@ invariant_of-self g c =
     let told : IsSome (value_at c.args.self.now.values c.args.key) = search rules in
     let S : ℕ → Type 0 = λ k. IsSome (value_at m.values k) in
     let held : IsSome (value_at m.values c.value-index.result) = subst S (sym c.value-index.ensures) (rw (← c.self.view_is) at told) in
-    rw (c.add.ensures, c.take-value.ensures.after) (FreeKeysAreExact-released _ _ c.self.invariant.0 (held_from_some m.values _ held), c.self.invariant.1 ∙ sym (length-set m.values c.value-index.result None))
+    rw (c.add.ensures, c.take-value.ensures.after) (
+      FreeKeysAreExact-released _ _ c.self.invariant.0 (held_from_some m.values _ held),
+      c.self.invariant.1 ∙ sym
+          (length-set m.values c.value-index.result None),
+    )

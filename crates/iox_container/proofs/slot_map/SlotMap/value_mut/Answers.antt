@@ -8,4 +8,8 @@ invariant_of-self-lent g c w =
     let table = c.self.invariant.0 in
     let values = c.self.inside.values in
     let some = held_from_some values c.args.key (rw (← c.self.view_is) at c.requires) in
-    rw (c.value.ensures) (FreeKeysAreExact-replaced _ c.args.key w table some, c.self.invariant.1 ∙ sym (length-set values c.args.key (Some w)))
+    rw (c.value.ensures) (
+      FreeKeysAreExact-replaced _ c.args.key w table some,
+      c.self.invariant.1 ∙ sym
+          (length-set values c.args.key (Some w)),
+    )

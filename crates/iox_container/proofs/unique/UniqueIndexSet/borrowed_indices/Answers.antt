@@ -15,4 +15,5 @@ returns-clause-counted c =
     let set : UniqueSetState =
     record { capacity = length c.self.inside.held.items; free = reverse c.self.inside.free.items; locked = c.self.inside.locked } in
     let long = length-reverse c.self.inside.free.items in
-    rw (← c.self.view_is) (omega (arith, held-counted c.self.inside.held.items set refl c.self.invariant.0, long, c.len.ensures, c.len-2.ensures))
+    rw (← c.self.view_is)
+    (omega (arith, held-counted c.self.inside.held.items set refl c.self.invariant.0, long, c.len.ensures, c.len-2.ensures))

@@ -13,4 +13,5 @@ nobody held free locked index f none =
 
 pub returns-clause-unheld : goal.returns-clause-unheld
 returns-clause-unheld c = λ locked index.
-    rw (← c.self.view_is) (nobody c.self.inside.held.items (reverse c.self.inside.free.items) c.self.inside.locked index c.self.invariant.0 (c.self.invariant.2 locked))
+    rw (← c.self.view_is) (nobody c.self.inside.held.items (reverse c.self.inside.free.items) c.self.inside.locked index
+    c.self.invariant.0 (c.self.invariant.2 locked))

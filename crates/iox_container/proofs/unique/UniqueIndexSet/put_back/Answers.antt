@@ -43,4 +43,5 @@ returns-clause-one_fewer c =
     record { capacity = length c.self.inside.held.items; free = reverse c.self.inside.free.items; locked = c.self.inside.locked } in
     let held = held-means c.args.index before (rw (← c.self.view_is) at c.requires) in
     let room = AreFree-room c.self.inside.held.items c.args.index before.free c.self.invariant.0 held.0 held.1 in
-    rw (← c.self.view_is, reverse-last _ _ _ c.push_reserved.ensures.items, length-set c.self.inside.held.items c.args.index false) (omega (arith, room))
+    rw (← c.self.view_is, reverse-last _ _ _ c.push_reserved.ensures.items, length-set c.self.inside.held.items c.args.index false)
+    (omega (arith, room))

@@ -12,6 +12,16 @@ loop-at-preserved g c =
     let i : ℕ = c.loop-at.at in
     let inside : i < length xs = omega (arith, c.len-at-end.ensures.value) in
     let same_length : length ys ≡ length xs =
-    omega (arith, ap length c.loop-at.invariant, length-append (map lower_case (take i xs)) (drop i xs), length-map (take i xs) lower_case, length-take-le i xs (omega arith), length-drop i xs) in
-    let e = map_over_more lower_case xs ys i (get_or ys i 0) inside c.loop-at.invariant (get_or_default ys i 0 (get_or ys i 0) (omega arith)) in
-    c.set_byte.ensures.written ∙ ap (λ b. set ys i b) (c.small.ensures.value ∙ ap (λ bytes. lower_case (get_or bytes i 0)) c.as_bytes.ensures.value) ∙ e
+    omega (
+      arith,
+      ap length c.loop-at.invariant,
+      length-append (map lower_case (take i xs)) (drop i xs),
+      length-map (take i xs)
+          lower_case,
+      length-take-le i xs (omega arith),
+      length-drop i xs,
+    ) in
+    let e = map_over_more lower_case xs ys i (get_or ys i 0) inside c.loop-at.invariant
+    (get_or_default ys i 0 (get_or ys i 0) (omega arith)) in
+    c.set_byte.ensures.written ∙ ap (λ b. set ys i b)
+    (c.small.ensures.value ∙ ap (λ bytes. lower_case (get_or bytes i 0)) c.as_bytes.ensures.value) ∙ e

@@ -19,7 +19,8 @@ loop-end-preserved g c =
     let line = take c.in-Some.end c.loop-end.rest.now ++ 10 ∷ [] in
     let first = c.in-Some.ensures.0 in (
       before.0 ++ line,
-      before.1 ∙ (ap (λ l. before.0 ++ l) (newline-at c.loop-end.rest.now c.in-Some.end first.high c.in-Some.ensures.1) ∙ sym (append_assoc before.0 line _)),
+      before.1 ∙ (ap (λ l. before.0 ++ l) (newline-at c.loop-end.rest.now c.in-Some.end first.high c.in-Some.ensures.1) ∙ sym
+          (append_assoc before.0 line _)),
       before.2 ++ next.0,
       next.1 ∙ (ap (λ items. items ++ next.0) before.3 ∙ append_assoc c.args.out.now.items before.2 next.0),
       Advances-append _ _ _ _ _ _ _ _ _ before.4 next.2,
@@ -32,7 +33,8 @@ returns-clause-answers g c =
       before.2 ++ [],
       rw (append-nil before.2) before.3,
       rw before.1 (Advances-append _ _ _ _ _ _ _ _ _ before.4
-          (Advances-heard _ _ _ _ c.loop-end.rest.now before.5 (unbroken-whole c.loop-end.rest.now c.in_default.ensures) c.hear.ensures.machine c.hear.ensures.line)),
+          (Advances-heard _ _ _ _ c.loop-end.rest.now before.5 (unbroken-whole c.loop-end.rest.now c.in_default.ensures)
+          c.hear.ensures.machine c.hear.ensures.line)),
     )
 
 pub returns-in_err-end_line-clause-kept : goal.returns-in_err-end_line-clause-kept

@@ -9,8 +9,10 @@ pub loop-place-preserved : goal.loop-place-preserved
 loop-place-preserved g c =
     let values = c.loop-place.invariant.0 in (
       values ++ c.make.result ∷ [],
-      MakesInTurn-push _ _ 0 values _ c.loop-place.place _ _ c.loop-place.invariant.1 (omega (arith, c.loop-place.invariant.2)) c.make.ensures,
+      MakesInTurn-push _ _ 0 values _ c.loop-place.place _ _ c.loop-place.invariant.1 (omega (arith, c.loop-place.invariant.2))
+          c.make.ensures,
       rw length_push (omega (arith, c.loop-place.invariant.2)),
-      made_more c.args.slot c.loop-place.place values c.make.result c.args.publisher.now c.loop-place.publisher _ c.loop-place.invariant.2 c.loop-place.invariant.3 c.write.ensures.after,
+      made_more c.args.slot c.loop-place.place values c.make.result c.args.publisher.now c.loop-place.publisher _
+          c.loop-place.invariant.2 c.loop-place.invariant.3 c.write.ensures.after,
       search of_calls,
     )

@@ -1,4 +1,5 @@
-use Rattle.iox_domain.proofs.Calling.{loan_adds, write_counts, drop_takes, update_counts, send_takes, retry_takes, give_up_takes, leave_takes}
+use Rattle.iox_domain.proofs.Calling.{loan_adds, write_counts, drop_takes, update_counts, send_takes, retry_takes, give_up_takes}
+use Rattle.iox_domain.proofs.Calling.{leave_takes}
 use Rattle.iox_domain.proofs.port_laws.living.publisher_steps.Goals as goal
 
 pub returns : goal.returns

@@ -8,7 +8,8 @@ returns-clause-begun g c =
     ∙ begins_at c.args.self.now c.begin_send.new.self c.args.slot c.requires.written c.begin_send.ensures
 
 pub returns-clause-under_way : goal.returns-clause-under_way
-returns-clause-under_way g c = (under_way c.args.self.now.sender c.begin_send.new.self c.args.slot c.requires.written c.begin_send.ensures).0
+returns-clause-under_way g c = (under_way c.args.self.now.sender c.begin_send.new.self c.args.slot c.requires.written
+    c.begin_send.ensures).0
 
 pub returns-clause-kind : goal.returns-clause-kind
 returns-clause-kind g c = (under_way c.args.self.now.sender c.begin_send.new.self c.args.slot c.requires.written c.begin_send.ensures).1

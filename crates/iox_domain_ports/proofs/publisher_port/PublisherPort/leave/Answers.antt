@@ -4,7 +4,8 @@ use Rattle.iox_domain_ports.proofs.Parting.{parting_on, parted}
 use Rattle.iox_domain_ports.proofs.publisher_port.PublisherPort.leave.Goals as goal
 
 pub loop-index-preserved : goal.loop-index-preserved
-loop-index-preserved g c = parting_on (length c.args.self.now.sender.uses.connections) c.loop-index.index (departed c.args.self.now) c.loop-index.self c.part.new.self
+loop-index-preserved g c = parting_on (length c.args.self.now.sender.uses.connections) c.loop-index.index (departed c.args.self.now)
+    c.loop-index.self c.part.new.self
     c.loop-index.invariant (omega (arith, c.loop-index-test.true, c.indices-index-end.ensures.value)) c.part.ensures
 
 pub returns : goal.returns

@@ -6,20 +6,25 @@ use Rattle.iox_domain_ports.proofs.publisher_port.PublisherPort.send.Goals as go
 
 pub returns-in-Err-clause-sends : goal.returns-in-Err-clause-sends
 returns-in-Err-clause-sends g c =
-    let ready : ready_loan c.args.slot c.args.self.now ≡ Some (place_in c.args.slot c.args.self.now.sender.uses) = search (rules, c.is_ready.ensures.ready, c.if-not-is_ready.false) in
+    let ready : ready_loan c.args.slot c.args.self.now ≡ Some (place_in c.args.slot c.args.self.now.sender.uses)
+    = search (rules, c.is_ready.ensures.ready, c.if-not-is_ready.false) in
     let same : place_in c.args.slot c.update.new.self.sender.uses ≡ place_in c.args.slot c.args.self.now.sender.uses =
     ap (λ port. place_in c.args.slot port.sender.uses) c.update.ensures.only in
-    sends_refused _ _ _ _ _ (place_in c.args.slot c.args.self.now.sender.uses) _ c.update.new.self _ c.update.result c.in-Err.failure ready (search (rules, c.if-not-self.false)) c.update.ensures.updates c.in-Err.is
+    sends_refused _ _ _ _ _ (place_in c.args.slot c.args.self.now.sender.uses) _ c.update.new.self _ c.update.result c.in-Err.failure
+    ready (search (rules, c.if-not-self.false)) c.update.ensures.updates c.in-Err.is
     (c.drop_loan-in-Err.ensures ∙ ap (λ at. dropped_at at c.update.new.self) same)
 
 pub returns-clause-sends : goal.returns-clause-sends
 returns-clause-sends g c =
-    let ready : ready_loan c.args.slot c.args.self.now ≡ Some (place_in c.args.slot c.args.self.now.sender.uses) = search (rules, c.is_ready.ensures.ready, c.if-not-is_ready.false) in
+    let ready : ready_loan c.args.slot c.args.self.now ≡ Some (place_in c.args.slot c.args.self.now.sender.uses)
+    = search (rules, c.is_ready.ensures.ready, c.if-not-is_ready.false) in
     let same : place_in c.args.slot c.update.new.self.sender.uses ≡ place_in c.args.slot c.args.self.now.sender.uses =
     ap (λ port. place_in c.args.slot port.sender.uses) c.update.ensures.only in
-    sends_sent _ _ _ _ _ (place_in c.args.slot c.args.self.now.sender.uses) _ c.update.new.self c.begin.new.self _ c.update.result _ c.deliver.result ready (search (rules, c.if-not-self.false)) c.update.ensures.updates c.in_default.is
+    sends_sent _ _ _ _ _ (place_in c.args.slot c.args.self.now.sender.uses) _ c.update.new.self c.begin.new.self _ c.update.result _
+    c.deliver.result ready (search (rules, c.if-not-self.false)) c.update.ensures.updates c.in_default.is
     (c.begin.ensures.begun ∙ ap (λ at. begun_at at c.update.new.self) same) c.deliver.ensures.sends
 
 pub returns-clause-enough : goal.returns-clause-enough
 returns-clause-enough g c = λ room failure.
-    finishes_else (g.B.Decides.decides c.args.handlers.now) c.begin.new.self c.deliver.new.self c.deliver.result c.deliver.ensures.sends failure
+    finishes_else (g.B.Decides.decides c.args.handlers.now) c.begin.new.self c.deliver.new.self c.deliver.result c.deliver.ensures.sends
+    failure

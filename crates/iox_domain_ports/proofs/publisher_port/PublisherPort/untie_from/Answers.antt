@@ -6,10 +6,12 @@ pub loop-place-init : goal.loop-place-init
 loop-place-init g c = untying_none _ _ _
 
 pub loop-place-preserved : goal.loop-place-preserved
-loop-place-preserved g c = untying_on _ _ _ _ (length c.args.self.now.ties.items) c.loop-place.place c.loop-place.invariant (omega (arith, c.loop-place-test.true, c.len-place-end.ensures)) c.untie.ensures.untied c.untie.ensures.same
+loop-place-preserved g c = untying_on _ _ _ _ (length c.args.self.now.ties.items) c.loop-place.place c.loop-place.invariant
+    (omega (arith, c.loop-place-test.true, c.len-place-end.ensures)) c.untie.ensures.untied c.untie.ensures.same
 
 pub returns-clause-untied : goal.returns-clause-untied
-returns-clause-untied g c = untying_over _ _ _ (length c.args.self.now.ties.items) c.loop-place.place c.loop-place.invariant (omega (arith, c.loop-place-test.false, c.len-place-end.ensures))
+returns-clause-untied g c = untying_over _ _ _ (length c.args.self.now.ties.items) c.loop-place.place c.loop-place.invariant
+    (omega (arith, c.loop-place-test.false, c.len-place-end.ensures))
 
 pub returns-clause-same : goal.returns-clause-same
 returns-clause-same g c = c.loop-place.invariant.only

@@ -6,5 +6,6 @@ use Rattle.iox_domain_ports.proofs.publishers.Publishers.give_back.Goals as goal
 
 pub returns-then-not-give_back_there-clause-new : goal.returns-then-not-give_back_there-clause-new
 returns-then-not-give_back_there-clause-new g c =
-    nothing_given c.args.number c.args.index (place_of c.args.slot (connection_in c.args.number c.args.index c.args.self.now)) c.args.self.now c.give_back_there.new.self
+    nothing_given c.args.number c.args.index (place_of c.args.slot (connection_in c.args.number c.args.index c.args.self.now))
+    c.args.self.now c.give_back_there.new.self
     (sym c.give_back_there.ensures.answer ∙ search (rules, c.if-not-give_back_there.true)) c.give_back_there.ensures.new

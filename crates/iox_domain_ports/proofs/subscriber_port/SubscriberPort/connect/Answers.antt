@@ -7,9 +7,11 @@ use Rattle.iox_domain_ports.proofs.subscriber_port.SubscriberPort.connect.Goals 
 
 pub returns-in-Some-Err : goal.returns-in-Some-Err
 returns-in-Some-Err g c =
-    let attaches : AttachesTo c.args.number c.args.self.now.number c.args.self.now.buffer_size c.args.publishers.now (Some (Err c.in-Some-Err.field-0-0)) c.attach.new.self =
+    let attaches : AttachesTo c.args.number c.args.self.now.number c.args.self.now.buffer_size c.args.publishers.now
+    (Some (Err c.in-Some-Err.field-0-0)) c.attach.new.self =
     rw c.in-Some-Err.field-0-is at c.in-Some-Err.ensures in
-    let refused = attach_refused c.args.place c.args.number c.args.self.now.number c.args.self.now.buffer_size c.args.self.now c.args.publishers.now c.attach.new.self c.in-Some-Err.field-0-0 refl attaches in
+    let refused = attach_refused c.args.place c.args.number c.args.self.now.number c.args.self.now.buffer_size c.args.self.now
+    c.args.publishers.now c.attach.new.self c.in-Some-Err.field-0-0 refl attaches in
     let kept : c.cut.new.self ≡ c.args.self.now.places = grind (arith, common_steps) in
     let port : SubscriberPort = c.args.self.now in
     (refl, refused.0, ap (λ places. record port { places = places }) kept, refused.1)

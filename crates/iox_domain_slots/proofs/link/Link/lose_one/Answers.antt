@@ -8,19 +8,44 @@ use Rattle.iox_domain_slots.proofs.link.Link.lose_one.Goals as goal
 
 pub let_go-requires : goal.let_go-requires
 let_go-requires c =
-    let split : Covers c.args.slots.now (waiting_in c.self.inside.mailbox ++ (c.self.inside.borrowed.items ++ c.self.inside.returned.items)) = rw (← c.self.view_is) at c.requires.covered in
-    let head : times c.in-Some.slot (waiting_in c.self.inside.mailbox) ≡ one c.in-Some.slot c.in-Some.slot + times c.in-Some.slot (drop 1 (waiting_in c.self.inside.mailbox)) =
+    let split : Covers c.args.slots.now
+    (waiting_in c.self.inside.mailbox ++ (c.self.inside.borrowed.items ++ c.self.inside.returned.items))
+    = rw (← c.self.view_is) at c.requires.covered in
+    let head : times c.in-Some.slot (waiting_in c.self.inside.mailbox)
+    ≡ one c.in-Some.slot c.in-Some.slot + times c.in-Some.slot (drop 1 (waiting_in c.self.inside.mailbox)) =
     head_times _ _ (sym c.in-Some.ensures.answer) c.in-Some.slot in
     record {
-      used = covered_use c.args.slots.now (waiting_in c.self.inside.mailbox ++ (c.self.inside.borrowed.items ++ c.self.inside.returned.items)) c.in-Some.slot split
-          (omega (arith, head, one_same c.in-Some.slot, times_all c.in-Some.slot (waiting_in c.self.inside.mailbox) c.self.inside.borrowed.items c.self.inside.returned.items));
+      used = covered_use c.args.slots.now
+          (waiting_in c.self.inside.mailbox ++ (c.self.inside.borrowed.items ++ c.self.inside.returned.items)) c.in-Some.slot split
+          (omega (
+            arith,
+            head,
+            one_same c.in-Some.slot,
+            times_all c.in-Some.slot (waiting_in c.self.inside.mailbox)
+                c.self.inside.borrowed.items c.self.inside.returned.items,
+          ));
     }
 
 pub returns-clause-moved : goal.returns-clause-moved
 returns-clause-moved c =
-    let split : Covers c.args.slots.now (waiting_in c.self.inside.mailbox ++ (c.self.inside.borrowed.items ++ c.self.inside.returned.items)) = rw (← c.self.view_is) at c.requires.covered in
-    let head : (k : ℕ) → times k (waiting_in c.self.inside.mailbox) ≡ one k c.in-Some.slot + times k (drop 1 (waiting_in c.self.inside.mailbox)) =
+    let split : Covers c.args.slots.now
+    (waiting_in c.self.inside.mailbox ++ (c.self.inside.borrowed.items ++ c.self.inside.returned.items))
+    = rw (← c.self.view_is) at c.requires.covered in
+    let head : (k : ℕ) → times k (waiting_in c.self.inside.mailbox)
+    ≡ one k c.in-Some.slot + times k (drop 1 (waiting_in c.self.inside.mailbox)) =
     head_times _ _ (sym c.in-Some.ensures.answer) in
     rw (← c.self.view_is) (rw c.let_go.ensures (rw c.pop.ensures.after (let_go_moves c.args.slots.now c.in-Some.slot _ _
-    (omega (arith, split c.in-Some.slot, head c.in-Some.slot, one_same c.in-Some.slot, times_all c.in-Some.slot (waiting_in c.self.inside.mailbox) c.self.inside.borrowed.items c.self.inside.returned.items))
-    (λ k. omega (arith, head k, times_all k (waiting_in c.self.inside.mailbox) c.self.inside.borrowed.items c.self.inside.returned.items, times_all k (drop 1 (waiting_in c.self.inside.mailbox)) c.self.inside.borrowed.items c.self.inside.returned.items)))))
+    (omega (
+      arith,
+      split c.in-Some.slot,
+      head c.in-Some.slot,
+      one_same c.in-Some.slot,
+      times_all c.in-Some.slot
+          (waiting_in c.self.inside.mailbox) c.self.inside.borrowed.items c.self.inside.returned.items,
+    ))
+    (λ k. omega (
+      arith,
+      head k,
+      times_all k (waiting_in c.self.inside.mailbox) c.self.inside.borrowed.items c.self.inside.returned.items,
+      times_all k (drop 1 (waiting_in c.self.inside.mailbox)) c.self.inside.borrowed.items c.self.inside.returned.items,
+    )))))

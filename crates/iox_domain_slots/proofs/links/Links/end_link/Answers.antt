@@ -18,7 +18,8 @@ end-requires c =
 
 pub returns-clause-after : goal.returns-clause-after
 returns-clause-after c = rw (← c.self.view_is) (
-    rw (found c.before.before) (seen_set c.self.inside.items.items c.args.index c.end.new.self (record (connection_of c.in-Some.link) { stage = stage.Ended; waiting = [] }) (ap connection_of c.end.ensures.after)))
+    rw (found c.before.before) (seen_set c.self.inside.items.items c.args.index c.end.new.self
+    (record (connection_of c.in-Some.link) { stage = stage.Ended; waiting = [] }) (ap connection_of c.end.ensures.after)))
 
 pub returns-clause-moved : goal.returns-clause-moved
 returns-clause-moved c = rw (← c.self.view_is) (

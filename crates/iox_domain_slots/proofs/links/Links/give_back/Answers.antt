@@ -5,5 +5,6 @@ use Rattle.iox_domain_slots.proofs.links.Links.give_back.Goals as goal
 
 pub returns-clause-after : goal.returns-clause-after
 returns-clause-after c = then_settled c.args.self.now.links c.let_go.new.self.links c.settle.new.self.links c.args.index
-    (record (seen (get_or c.args.self.now.links c.args.index None)) { borrowed = remove (seen (get_or c.args.self.now.links c.args.index None)).borrowed c.args.at })
+    (record (seen (get_or c.args.self.now.links c.args.index None))
+    { borrowed = remove (seen (get_or c.args.self.now.links c.args.index None)).borrowed c.args.at })
     (link_within c.args.self.now.links c.args.index c.requires.there) c.let_go.ensures.after c.settle.ensures.after

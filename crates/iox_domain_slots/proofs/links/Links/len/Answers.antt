@@ -7,7 +7,8 @@ pub returns-clause-countable : goal.returns-clause-countable
 returns-clause-countable c = rw (← c.self.view_is) (λ k. omega (
   arith,
   c.self.invariant.0,
-  all_length c.self.inside.overflows c.self.inside.most_waiting c.self.inside.most_borrowed c.self.inside.items.items c.self.invariant.2 c.self.invariant.3 c.self.invariant.1 k,
+  all_length c.self.inside.overflows c.self.inside.most_waiting c.self.inside.most_borrowed c.self.inside.items.items c.self.invariant.2
+      c.self.invariant.3 c.self.invariant.1 k,
 ))
 
 pub returns-clause-few : goal.returns-clause-few

@@ -17,7 +17,9 @@ let_go-requires-clause-covered c =
 
 pub returns-clause-after : goal.returns-clause-after
 returns-clause-after c = rw (← c.self.view_is) (
-    rw (found c.before.before) (seen_set c.self.inside.items.items c.args.index c.let_go.new.self (record (connection_of c.in-Some.link) { borrowed = remove c.in-Some.link.borrowed c.args.at }) (ap connection_of c.let_go.ensures.after)))
+    rw (found c.before.before) (seen_set c.self.inside.items.items c.args.index c.let_go.new.self
+    (record (connection_of c.in-Some.link) { borrowed = remove c.in-Some.link.borrowed c.args.at })
+    (ap connection_of c.let_go.ensures.after)))
 
 pub returns-clause-moved : goal.returns-clause-moved
 returns-clause-moved c = rw (← c.self.view_is) (

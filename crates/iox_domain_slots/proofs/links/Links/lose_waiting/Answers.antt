@@ -17,7 +17,8 @@ lose_waiting-requires c =
 
 pub returns-clause-after : goal.returns-clause-after
 returns-clause-after c = rw (← c.self.view_is) (
-    rw (found c.before.before) (seen_set c.self.inside.items.items c.args.index c.lose_waiting.new.self (record (connection_of c.in-Some.link) { waiting = [] }) (ap connection_of c.lose_waiting.ensures.after)))
+    rw (found c.before.before) (seen_set c.self.inside.items.items c.args.index c.lose_waiting.new.self
+    (record (connection_of c.in-Some.link) { waiting = [] }) (ap connection_of c.lose_waiting.ensures.after)))
 
 pub returns-clause-moved : goal.returns-clause-moved
 returns-clause-moved c = rw (← c.self.view_is) (

@@ -18,24 +18,30 @@ offer-requires-clause-covered c =
 
 pub offer-requires-clause-besides : goal.offer-requires-clause-besides
 offer-requires-clause-besides c =
-    let besides : times c.args.slot (all_slots c.self.inside.items.items) < uses_of c.args.slot c.args.slots.now = rw (← c.self.view_is) at c.requires.besides in
+    let besides : times c.args.slot (all_slots c.self.inside.items.items) < uses_of c.args.slot c.args.slots.now
+    = rw (← c.self.view_is) at c.requires.besides in
     besides_one c.args.slots.now c.self.inside.items.items c.args.index c.args.slot c.in-Some.link (found c) besides
 
 pub offer-requires-clause-room : goal.offer-requires-clause-room
 offer-requires-clause-room c =
-    let others : uses_of c.args.slot c.args.slots.now < 2 ^ 62 + times c.args.slot (all_slots c.self.inside.items.items) = rw (← c.self.view_is) at c.requires.others in
+    let others : uses_of c.args.slot c.args.slots.now < 2 ^ 62 + times c.args.slot (all_slots c.self.inside.items.items)
+    = rw (← c.self.view_is) at c.requires.others in
     omega (
       arith,
       others,
       c.self.invariant.0,
-      all_length c.self.inside.overflows c.self.inside.most_waiting c.self.inside.most_borrowed c.self.inside.items.items c.self.invariant.2 c.self.invariant.3 c.self.invariant.1 c.args.slot,
+      all_length c.self.inside.overflows c.self.inside.most_waiting c.self.inside.most_borrowed c.self.inside.items.items
+          c.self.invariant.2 c.self.invariant.3 c.self.invariant.1 c.args.slot,
     )
 
 pub returns-clause-after : goal.returns-clause-after
 returns-clause-after c = rw (← c.self.view_is) (
-    let kind = kind_of c.self.inside.items.items c.args.index c.self.inside.overflows c.self.inside.most_waiting c.self.inside.most_borrowed c.in-Some.link c.self.invariant.1 (found c.before.before) in
-    let after : connection_of c.offer.new.self ≡ offered c.self.inside.overflows c.args.slot (connection_of c.in-Some.link) = rw (← kind.0) c.offer.ensures.after in
-    rw (found c.before.before) (seen_set c.self.inside.items.items c.args.index c.offer.new.self (offered c.self.inside.overflows c.args.slot (connection_of c.in-Some.link)) after))
+    let kind = kind_of c.self.inside.items.items c.args.index c.self.inside.overflows c.self.inside.most_waiting
+    c.self.inside.most_borrowed c.in-Some.link c.self.invariant.1 (found c.before.before) in
+    let after : connection_of c.offer.new.self ≡ offered c.self.inside.overflows c.args.slot (connection_of c.in-Some.link)
+    = rw (← kind.0) c.offer.ensures.after in
+    rw (found c.before.before) (seen_set c.self.inside.items.items c.args.index c.offer.new.self
+    (offered c.self.inside.overflows c.args.slot (connection_of c.in-Some.link)) after))
 
 pub returns-clause-moved : goal.returns-clause-moved
 returns-clause-moved c = rw (← c.self.view_is) (

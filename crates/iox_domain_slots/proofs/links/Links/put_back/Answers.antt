@@ -13,11 +13,14 @@ found c =
 
 pub returns-clause-after : goal.returns-clause-after
 returns-clause-after c =
-    let before : (seen (get_or c.self.inside.items.items c.args.index None)).stage ≡ stage.Live = rw (← c.self.view_is) at c.requires.live in
+    let before : (seen (get_or c.self.inside.items.items c.args.index None)).stage ≡ stage.Live
+    = rw (← c.self.view_is) at c.requires.live in
     let live : (connection_of c.in-Some.link).stage ≡ stage.Live = subst (λ it. (seen it).stage ≡ stage.Live) (found c) before in
-    let gave : c.give_back.new.self ≡ record c.in-Some.link { borrowed = remove c.in-Some.link.borrowed c.args.at; returned = c.give_back.new.self.returned } =
+    let gave : c.give_back.new.self ≡ record c.in-Some.link
+    { borrowed = remove c.in-Some.link.borrowed c.args.at; returned = c.give_back.new.self.returned } =
     c.give_back.ensures.after ∙ rw c.give_back.ensures.after refl in
-    rw (← c.self.view_is) (rw (found c) (seen_set c.self.inside.items.items c.args.index c.give_back.new.self (given_back c.args.at (connection_of c.in-Some.link))
+    rw (← c.self.view_is) (rw (found c)
+    (seen_set c.self.inside.items.items c.args.index c.give_back.new.self (given_back c.args.at (connection_of c.in-Some.link))
     (given_back_live c.in-Some.link c.give_back.new.self c.args.at live gave)))
 
 pub returns-clause-uses : goal.returns-clause-uses

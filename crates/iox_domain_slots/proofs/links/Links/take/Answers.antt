@@ -12,7 +12,8 @@ found c =
 
 pub returns-clause-after : goal.returns-clause-after
 returns-clause-after c = rw (← c.self.view_is) (
-    rw (found c) (seen_set c.self.inside.items.items c.args.index c.take.new.self (taken (connection_of c.in-Some.link)) c.take.ensures.after))
+    rw (found c) (seen_set c.self.inside.items.items c.args.index c.take.new.self (taken (connection_of c.in-Some.link))
+    c.take.ensures.after))
 
 pub returns-clause-uses : goal.returns-clause-uses
 returns-clause-uses c = rw (← c.self.view_is) (

@@ -3,7 +3,8 @@ use Rattle.iox_domain_slots.proofs.AllSlots.{none_left_of, taking_step}
 use Rattle.iox_domain_slots.proofs.links.Links.take_back.Goals as goal
 
 pub loop-index-preserved : goal.loop-index-preserved
-loop-index-preserved c = taking_step c.args.self.now c.args.slots.now c.loop-index.self c.loop-index.slots c.loop-index.index c.take_back_one.new.self c.take_back_one.new.slots
+loop-index-preserved c = taking_step c.args.self.now c.args.slots.now c.loop-index.self c.loop-index.slots c.loop-index.index
+    c.take_back_one.new.self c.take_back_one.new.slots
     c.loop-index.invariant within c.take_back_one.ensures.after c.take_back_one.ensures.moved
   where
     within : c.loop-index.index < length c.args.self.now.links

@@ -5,14 +5,21 @@ use Rattle.iox_domain_slots.proofs.Loaned.{grown}
 use Rattle.iox_domain_slots.proofs.loans.Loans.append.Goals as goal
 
 few : (c : goal.After-self-1) → c.self.inside.len + 2 < 2 ^ 64
-few c = omega (arith, c.self.invariant.0.counted, length-reverse (walk c.self.inside.older.items c.self.inside.len c.self.inside.newest), rw (← c.self.view_is) at c.requires)
+few c = omega (
+  arith,
+  c.self.invariant.0.counted,
+  length-reverse (walk c.self.inside.older.items c.self.inside.len c.self.inside.newest),
+  rw (← c.self.view_is) at c.requires,
+)
 
 slot_is : (c : goal.After-self-1) → c.len-slot.result ≡ length c.self.inside.older.items
 slot_is c = search (rules, c.len-slot.ensures, c.in_ok-reserve.ensures.len, c.in_ok-reserve.ensures.items)
 
-older_is : (c : goal.After-self-1) → c.push_reserved.new.self.items ≡ c.self.inside.older.items ++ (length c.self.inside.older.items + 1) ∷ []
+older_is : (c : goal.After-self-1) → c.push_reserved.new.self.items ≡ c.self.inside.older.items
+    ++ (length c.self.inside.older.items + 1) ∷ []
 older_is c =
-    let items : c.push_reserved.new.self.items ≡ c.self.inside.older.items ++ (c.len-slot.result + 1) ∷ [] = search (rules, c.push_reserved.ensures.items, c.in_ok-reserve.ensures.items) in
+    let items : c.push_reserved.new.self.items ≡ c.self.inside.older.items ++ (c.len-slot.result + 1) ∷ []
+    = search (rules, c.push_reserved.ensures.items, c.in_ok-reserve.ensures.items) in
     rw (slot_is c) at items
 
 newer_is : (c : goal.After-self-1) → c.push_reserved-2.new.self.items ≡ c.self.inside.newer.items ++ length c.self.inside.older.items ∷ []

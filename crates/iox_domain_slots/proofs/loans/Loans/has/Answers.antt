@@ -10,7 +10,8 @@ pub returns-then-slot-len : goal.returns-then-slot-len
 returns-then-slot-len c =
     let l = c.self.inside in
     get_or_read l.lent.items _ _ (grind (arith, nat_tests, c.if-slot-len.true, c.len.ensures)) c.index.ensures false
-    ∙ c.self.invariant.1 c.args.slot ∙ sym (among_reverse c.args.slot (walk l.older.items l.len l.newest)) ∙ ap (λ s. is_among c.args.slot s.items) c.self.view_is
+    ∙ c.self.invariant.1 c.args.slot ∙ sym (among_reverse c.args.slot (walk l.older.items l.len l.newest)) ∙ ap
+    (λ s. is_among c.args.slot s.items) c.self.view_is
 
 pub returns-else-slot-len : goal.returns-else-slot-len
 returns-else-slot-len c =
@@ -18,4 +19,5 @@ returns-else-slot-len c =
     let past : length l.lent.items ≤ c.args.slot = omega (arith, c.if-slot-len.false, c.len.ensures) in
     let test : nat_lt c.args.slot c.len.result ≡ false = grind (arith, nat_tests, c.if-slot-len.false) in
     test ∙ sym (get_or_past l.lent.items c.args.slot false past)
-    ∙ c.self.invariant.1 c.args.slot ∙ sym (among_reverse c.args.slot (walk l.older.items l.len l.newest)) ∙ ap (λ s. is_among c.args.slot s.items) c.self.view_is
+    ∙ c.self.invariant.1 c.args.slot ∙ sym (among_reverse c.args.slot (walk l.older.items l.len l.newest)) ∙ ap
+    (λ s. is_among c.args.slot s.items) c.self.view_is

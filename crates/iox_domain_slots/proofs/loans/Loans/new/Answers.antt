@@ -10,4 +10,5 @@ invariant_of-result c =
     let lent : c.in_ok-lent.lent.items ≡ replicate c.args.slots false = search (rules, c.in_ok-lent.ensures) in
     let pushed : c.push.new.self.items ≡ c.in_ok-newer.newer.items ++ 0 ∷ [] = search (rules, c.in_ok-push.ensures.items) in
     none_yet _ _ _ c.args.slots (ap length older ∙ length-replicate c.args.slots 0)
-    (omega (arith, ap length pushed, length_push c.in_ok-newer.newer.items 0, ap length newer, length-replicate {A = ℕ} c.args.slots 0)) lent
+    (omega (arith, ap length pushed, length_push c.in_ok-newer.newer.items 0, ap length newer, length-replicate {A = ℕ} c.args.slots 0))
+    lent

@@ -9,15 +9,22 @@ pub index_mut-requires-3 : goal.index_mut-requires-3
 index_mut-requires-3 c = omega (arith, first_within _ _ _ _ _ _ c.self.invariant.0, c.self.invariant.0.back, c.self.inside.newer.ok.0)
 
 few : (c : goal.After-self-5-1) → c.self.inside.len + 2 < 2 ^ 64
-few c = omega (arith, c.self.invariant.0.counted, length-reverse (walk c.self.inside.older.items c.self.inside.len c.self.inside.newest), rw (← c.self.view_is) at c.requires.few)
+few c = omega (
+  arith,
+  c.self.invariant.0.counted,
+  length-reverse (walk c.self.inside.older.items c.self.inside.len c.self.inside.newest),
+  rw (← c.self.view_is) at c.requires.few,
+)
 
 pub invariant_of-self : goal.invariant_of-self
 invariant_of-self c =
     let l = c.self.inside in
-    (added l.older.items l.newer.items l.newest l.len c.args.slot l.lent.items c.self.invariant (rw (← c.self.view_is) at c.requires.made) (rw (← c.self.view_is) at c.requires.free) (few c)).0
+    (added l.older.items l.newer.items l.newest l.len c.args.slot l.lent.items c.self.invariant
+    (rw (← c.self.view_is) at c.requires.made) (rw (← c.self.view_is) at c.requires.free) (few c)).0
 
 pub returns-clause-items : goal.returns-clause-items
 returns-clause-items c =
     let l = c.self.inside in
-    let is = (added l.older.items l.newer.items l.newest l.len c.args.slot l.lent.items c.self.invariant (rw (← c.self.view_is) at c.requires.made) (rw (← c.self.view_is) at c.requires.free) (few c)).1 in
+    let is = (added l.older.items l.newer.items l.newest l.len c.args.slot l.lent.items c.self.invariant
+    (rw (← c.self.view_is) at c.requires.made) (rw (← c.self.view_is) at c.requires.free) (few c)).1 in
     rw (← c.self.view_is) (ap reverse is ∙ reverse_step c.args.slot (walk l.older.items l.len l.newest))

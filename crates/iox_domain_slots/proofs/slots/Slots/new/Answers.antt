@@ -11,7 +11,8 @@ invariant_of-result c =
     let size : length c.in_ok-vec.field-0.items ≡ c.args.size = ap length items ∙ length-replicate c.args.size 0 in (
       omega (arith, size, ap (λ s. s.capacity) same),
       ap (λ s. s.locked) same,
-      (λ index below. rw same (rw items (none_held c.args.size index (subst (λ s. index < s.capacity) same below) ∙ sym (none_used c.args.size index)))),
+      (λ index below. rw same (rw items (none_held c.args.size index (subst (λ s. index < s.capacity) same below) ∙ sym
+          (none_used c.args.size index)))),
       (λ slot. rw c.in_ok-new-2.ensures.loans (rw c.in_ok-new-3.ensures.empty (omega arith))),
       rw c.in_ok-new-2.ensures.loans (omega arith),
       c.requires.loans,

@@ -13,12 +13,28 @@ invariant_of-self-2 c =
     let resized : c.resize.new.self.items ≡ take (length before + size) before ++ replicate (length before + size - length before) 0 =
     search (rules, c.in_ok-resize.ensures.items, c.in_ok-reserve.ensures.items, c.in_ok-reserve.ensures.len, length_is) in
     let items : c.resize.new.self.items ≡ before ++ replicate size 0 = resized ∙ filled_up before size in (
-      omega (arith, length_is, ap length items, length-append before (replicate {A = ℕ} size 0), length-replicate {A = ℕ} size 0, ap (λ s. s.capacity) same),
+      omega (
+        arith,
+        length_is,
+        ap length items,
+        length-append before (replicate {A = ℕ} size 0),
+        length-replicate {A = ℕ} size 0,
+        ap
+            (λ s. s.capacity) same,
+      ),
       ap (λ s. s.locked) same,
-      (λ index below. rw same (rw items (rw length_is (none_held size index (subst (λ s. index < s.capacity) same below) ∙ sym (segment_unused before size index))))),
+      (λ index below. rw same (rw items (rw length_is
+          (none_held size index (subst (λ s. index < s.capacity) same below) ∙ sym (segment_unused before size index))))),
       (λ slot. rw items (rw (count_stays before size slot) (rw c.in_ok-grow.ensures.loans (c.self.invariant.3 slot)))),
       rw c.in_ok-grow.ensures.loans c.self.invariant.4,
       c.self.invariant.5,
       c.self.invariant.6,
-      omega (arith, ap length items, length-append before (replicate {A = ℕ} size 0), length-replicate {A = ℕ} size 0, c.self.invariant.7, c.in_ok-grow.ensures.made),
+      omega (
+        arith,
+        ap length items,
+        length-append before (replicate {A = ℕ} size 0),
+        length-replicate {A = ℕ} size 0,
+        c.self.invariant.7,
+        c.in_ok-grow.ensures.made,
+      ),
     )

@@ -3,5 +3,7 @@ use Rattle.iox_domain_slots.proofs.Welcoming.{welcome_step}
 use Rattle.iox_domain_slots.proofs.uses.SlotUses.welcome.Goals as goal
 
 pub loop-place-preserved : goal.loop-place-preserved
-loop-place-preserved c = welcome_step c.args.index c.args.self.now c.loop-place.self c.put-has_room.new.self c.loop-place.place c.remembered-slot.result
-    c.loop-place.invariant (omega (arith, c.loop-place-test.true, c.history-end.ensures)) c.requires.live c.remembered-slot.ensures c.put-has_room.ensures.new
+loop-place-preserved c = welcome_step c.args.index c.args.self.now c.loop-place.self c.put-has_room.new.self c.loop-place.place
+    c.remembered-slot.result
+    c.loop-place.invariant (omega (arith, c.loop-place-test.true, c.history-end.ensures)) c.requires.live c.remembered-slot.ensures
+    c.put-has_room.ensures.new

@@ -8,5 +8,6 @@ settle-requires g c = if-of-the-table _ _ _ _ _ c.open_or_create-answer.result _
 
 pub returns : goal.returns
 returns g c =
-    opens-in-hub _ _ _ _ _ _ _ _ _ _ _ _ c.lend_table-table.ensures.lent c.lend_table-table.ensures.rest (rw c.builder.ensures at c.open_or_create-answer.ensures)
+    opens-in-hub _ _ _ _ _ _ _ _ _ _ _ _ c.lend_table-table.ensures.lent c.lend_table-table.ensures.rest
+    (rw c.builder.ensures at c.open_or_create-answer.ensures)
     (c.settle.ensures _ (sym c.lacking_either.ensures.opened) (sym c.lacking_either.ensures.created))

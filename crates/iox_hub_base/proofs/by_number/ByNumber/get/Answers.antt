@@ -5,6 +5,10 @@ use Rattle.iox_hub_base.proofs.by_number.ByNumber.get.Goals as goal
 
 pub returns-in-Some : goal.returns-in-Some
 returns-in-Some g c =
-    let within : c.in-Some.place < length c.self.inside.entries.items = subst (λ items. c.in-Some.place < length items) c.deref.ensures.value c.in-Some.ensures.within in
-    let found : HoldsAt (λ entry. entry.0 ≡ c.args.number) c.self.inside.entries.items c.in-Some.place = subst (λ items. HoldsAt (λ entry. entry.0 ≡ c.args.number) items c.in-Some.place) c.deref.ensures.value c.in-Some.ensures.found in
-    rw (← c.self.view_is) (ap Some c.deref-in-Some.ensures ∙ sym (lookup-place c.args.number c.in-Some.place c.index.result.now c.self.inside.entries.items c.self.invariant within found c.index.ensures))
+    let within : c.in-Some.place < length c.self.inside.entries.items
+    = subst (λ items. c.in-Some.place < length items) c.deref.ensures.value c.in-Some.ensures.within in
+    let found : HoldsAt (λ entry. entry.0 ≡ c.args.number) c.self.inside.entries.items c.in-Some.place
+    = subst (λ items. HoldsAt (λ entry. entry.0 ≡ c.args.number) items c.in-Some.place) c.deref.ensures.value c.in-Some.ensures.found in
+    rw (← c.self.view_is) (ap Some c.deref-in-Some.ensures ∙ sym
+    (lookup-place c.args.number c.in-Some.place c.index.result.now c.self.inside.entries.items c.self.invariant within found
+    c.index.ensures))

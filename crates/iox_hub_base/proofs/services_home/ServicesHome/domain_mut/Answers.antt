@@ -5,4 +5,5 @@ use Rattle.iox_hub_base.proofs.services_home.ServicesHome.domain_mut.Goals as go
 
 pub invariant_of-self-lent : goal.invariant_of-self-lent
 invariant_of-self-lent g c = λ state.
-    own_stepped c.self.inside.hub c.args.id.service c.self.inside.presences c.in-Some.domain.now (in_state (λ before. state) c.in-Some.domain.now) c.self.invariant (search (rules, c.in-Some.ensures.value)) refl
+    own_stepped c.self.inside.hub c.args.id.service c.self.inside.presences c.in-Some.domain.now
+    (in_state (λ before. state) c.in-Some.domain.now) c.self.invariant (search (rules, c.in-Some.ensures.value)) refl

@@ -3,9 +3,13 @@ use Rattle.iox_hub_commands.proofs.PortRooms.{few_samples, more_pledges, anew_pl
 use Rattle.iox_hub_commands.proofs.numbered_hub.NumberedHub.pledge_samples.Goals as goal
 
 pub returns-in-Some-clause-room : goal.returns-in-Some-clause-room
-returns-in-Some-clause-room g c = λ room. more_pledges c.args.self.now.made.samples (samples_left_in c.args.self.now.hub.services.domains) c.args.more c.args.self.now.pledged.samples c.in-Some.pledged c.in-Some.ensures.0 c.in-Some.ensures.1 room.0
+returns-in-Some-clause-room g c = λ room. more_pledges c.args.self.now.made.samples
+    (samples_left_in c.args.self.now.hub.services.domains) c.args.more c.args.self.now.pledged.samples c.in-Some.pledged
+    c.in-Some.ensures.0 c.in-Some.ensures.1 room.0
 
 pub returns-clause-room : goal.returns-clause-room
 returns-clause-room g c = λ room.
     let domains = c.args.self.now.hub.services.domains in
-    anew_pledges c.pledged_anew.new.numbers (samples_left_in domains) (samples_at_most_in domains) c.samples_at_most-most.result c.args.more c.in_ok-self.field-0 (few_samples domains) c.samples_at_most-most.ensures c.in_ok-self.ensures.room c.in_ok-self.ensures.small
+    anew_pledges c.pledged_anew.new.numbers (samples_left_in domains) (samples_at_most_in domains) c.samples_at_most-most.result
+    c.args.more c.in_ok-self.field-0 (few_samples domains) c.samples_at_most-most.ensures c.in_ok-self.ensures.room
+    c.in_ok-self.ensures.small

@@ -4,5 +4,6 @@ use Rattle.iox_hub_commands.proofs.numbered_hub.NumberedHub.subscriber.Goals as 
 
 pub returns-clause-comes : goal.returns-clause-comes
 returns-clause-comes g c =
-    subscriber_comes g.D.SubscriberHandler.fixed (λ handler. g.D.Degrades.degrades handler) _ c.in-Some.domain c.in-Some.owner c.args.options.now c.args.self.now c.subscriber_with.new.self c.subscriber_with.result (sym c.place.ensures ∙ c.in-Some.is)
+    subscriber_comes g.D.SubscriberHandler.fixed (λ handler. g.D.Degrades.degrades handler) _ c.in-Some.domain c.in-Some.owner
+    c.args.options.now c.args.self.now c.subscriber_with.new.self c.subscriber_with.result (sym c.place.ensures ∙ c.in-Some.is)
     (rw c.subscriber_handler.ensures at c.subscriber_with.ensures.comes.0) c.subscriber_with.ensures.comes.1

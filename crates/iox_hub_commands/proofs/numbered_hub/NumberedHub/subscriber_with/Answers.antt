@@ -8,12 +8,15 @@ use Rattle.iox_hub_commands.proofs.Rooms.{when_ok}
 use Rattle.iox_hub_commands.proofs.numbered_hub.NumberedHub.subscriber_with.Goals as goal
 
 pub returns-then-is_err-clause-room : goal.returns-then-is_err-clause-room
-returns-then-is_err-clause-room g c = samples_pledged c.pledge_samples.result c.most_samples.result c.args.self.now c.pledge_samples.new.self c.pledge_samples.ensures.same c.pledge_samples.ensures.room c.pledge_samples.ensures.stays c.pledge_samples.ensures.loans
+returns-then-is_err-clause-room g c
+    = samples_pledged c.pledge_samples.result c.most_samples.result c.args.self.now c.pledge_samples.new.self
+    c.pledge_samples.ensures.same c.pledge_samples.ensures.room c.pledge_samples.ensures.stays c.pledge_samples.ensures.loans
 
 pub returns-then-is_err-clause-comes : goal.returns-then-is_err-clause-comes
 returns-then-is_err-clause-comes g c =
     let mid = c.pledge_samples.new.self in (
-      subscriber_in_room (λ handler. g.D.Degrades.degrades handler) c.args.domain (subscriber_config c.args.owner c.args.options.now) c.args.handler c.args.self.now mid mid c.subscriber_refused.result
+      subscriber_in_room (λ handler. g.D.Degrades.degrades handler) c.args.domain (subscriber_config c.args.owner c.args.options.now)
+          c.args.handler c.args.self.now mid mid c.subscriber_refused.result
           c.pledge_samples.ensures.same (c.subscriber_refused.ensures mid.made c.args.handler),
       ap (λ hub. hub.factories) c.pledge_samples.ensures.same.1,
     )
@@ -22,15 +25,23 @@ pub returns-clause-room : goal.returns-clause-room
 returns-clause-room g c =
     let mid = c.pledge_samples.new.self in
     let well = sym c.is_err.ensures.value ∙ c.if-is_err.false in
-    subscriber_room (λ handler. g.D.Degrades.degrades handler) c.args.domain (subscriber_config c.args.owner c.args.options.now) c.args.handler c.args.self.now mid
-    (record mid { hub = c.subscriber.new.home; made = c.subscriber.new.made }) c.subscriber.result c.pledge_samples.ensures.same c.pledge_samples.ensures.loans
-    (λ room. when_ok c.pledge_samples.result (pledges_brought c.pledge_samples.result (samples_left_in c.args.self.now.hub.services.domains) (samples_left_in c.args.self.now.hub.services.domains) c.most_samples.result (most_samples_at c.args.domain c.args.self.now) mid.pledged.samples mid.made.samples refl c.most_samples.ensures (c.pledge_samples.ensures.room room) c.pledge_samples.ensures.small) well)
+    subscriber_room (λ handler. g.D.Degrades.degrades handler) c.args.domain (subscriber_config c.args.owner c.args.options.now)
+    c.args.handler c.args.self.now mid
+    (record mid { hub = c.subscriber.new.home; made = c.subscriber.new.made }) c.subscriber.result c.pledge_samples.ensures.same
+    c.pledge_samples.ensures.loans
+    (λ room. when_ok c.pledge_samples.result
+    (pledges_brought c.pledge_samples.result (samples_left_in c.args.self.now.hub.services.domains)
+    (samples_left_in c.args.self.now.hub.services.domains) c.most_samples.result (most_samples_at c.args.domain c.args.self.now)
+    mid.pledged.samples mid.made.samples refl c.most_samples.ensures (c.pledge_samples.ensures.room room)
+    c.pledge_samples.ensures.small) well)
     refl c.subscriber.ensures
 
 pub returns-clause-comes : goal.returns-clause-comes
 returns-clause-comes g c =
     let mid = c.pledge_samples.new.self in (
-      subscriber_in_room (λ handler. g.D.Degrades.degrades handler) c.args.domain (subscriber_config c.args.owner c.args.options.now) c.args.handler c.args.self.now mid
-          (record mid { hub = c.subscriber.new.home; made = c.subscriber.new.made }) c.subscriber.result c.pledge_samples.ensures.same c.subscriber.ensures,
+      subscriber_in_room (λ handler. g.D.Degrades.degrades handler) c.args.domain (subscriber_config c.args.owner c.args.options.now)
+          c.args.handler c.args.self.now mid
+          (record mid { hub = c.subscriber.new.home; made = c.subscriber.new.made }) c.subscriber.result c.pledge_samples.ensures.same
+          c.subscriber.ensures,
       ap (λ hub. hub.factories) c.pledge_samples.ensures.same.1,
     )

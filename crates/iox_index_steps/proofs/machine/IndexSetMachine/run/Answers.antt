@@ -12,12 +12,24 @@ returns-then-is_stopped-clause-runs c =
     subst (λ (i : ℕ). RunsTo c.args.self.now c.args.schedule.now i c.step-stepped.new.self) e
     ((c.loop-step.invariant.0) c.step-stepped.new.self 0
     (subst (λ (xs : List Move). RunsTo c.loop-step.self xs 0 c.step-stepped.new.self) (sym is)
-    (run_stops c.loop-step.self c.in-Some.step.now c.in-Some.tail.now c.step-stepped.result c.step-stepped.new.self c.step-stepped.ensures.steps (sym c.is_stopped.ensures ∙ c.if-is_stopped.true))))
+    (run_stops c.loop-step.self c.in-Some.step.now c.in-Some.tail.now c.step-stepped.result c.step-stepped.new.self
+    c.step-stepped.ensures.steps (sym c.is_stopped.ensures ∙ c.if-is_stopped.true))))
 
 pub returns-then-is_stopped-clause-locked : goal.returns-then-is_stopped-clause-locked
 returns-then-is_stopped-clause-locked c = λ few.
     let goes : HasFewChanges c.args.self.now × StaysLocked c.args.self.now c.step-stepped.new.self =
-    goes_on c.args.self.now c.loop-step.self c.step-stepped.new.self c.loop-step.invariant.3 (λ few. (c.step-stepped.ensures.few few, c.step-stepped.ensures.locked few)) few in goes.1
+    goes_on c.args.self.now c.loop-step.self c.step-stepped.new.self c.loop-step.invariant.3
+    (λ few. (c.step-stepped.ensures.few few, c.step-stepped.ensures.locked few)) few in goes.1
+
+pub returns-then-is_stopped-clause-few : goal.returns-then-is_stopped-clause-few
+returns-then-is_stopped-clause-few c = λ few.
+    let goes : HasFewChanges c.args.self.now × StaysLocked c.args.self.now c.step-stepped.new.self =
+    goes_on c.args.self.now c.loop-step.self c.step-stepped.new.self c.loop-step.invariant.3
+    (λ few. (c.step-stepped.ensures.few few, c.step-stepped.ensures.locked few)) few in goes.0
+
+pub returns-clause-few : goal.returns-clause-few
+returns-clause-few c = λ few.
+    let goes : HasFewChanges c.args.self.now × StaysLocked c.args.self.now c.loop-step.self = c.loop-step.invariant.3 few in goes.0
 
 pub loop-step-preserved : goal.loop-step-preserved
 loop-step-preserved c =
@@ -27,7 +39,9 @@ loop-step-preserved c =
       λ n k runs. subst (λ (i : ℕ). RunsTo c.args.self.now c.args.schedule.now i n) (omega arith)
           ((c.loop-step.invariant.0) n (c.count-made.result + k)
           (subst (λ (xs : List Move). RunsTo c.loop-step.self xs (c.count-made.result + k) n) (sym is)
-          (run_more c.loop-step.self c.in-Some.step.now c.in-Some.tail.now c.step-stepped.result c.step-stepped.new.self n k (c.count-made.result + k) c.step-stepped.ensures.steps (sym c.is_stopped.ensures ∙ c.if-is_stopped.false) (ap (λ (x : ℕ). x + k) c.count-made.ensures) runs))),
+          (run_more c.loop-step.self c.in-Some.step.now c.in-Some.tail.now c.step-stepped.result c.step-stepped.new.self n k
+          (c.count-made.result + k) c.step-stepped.ensures.steps (sym c.is_stopped.ensures ∙ c.if-is_stopped.false)
+          (ap (λ (x : ℕ). x + k) c.count-made.ensures) runs))),
       omega (arith, c.loop-step.invariant.1),
       c.step-stepped.ensures.orderly,
       goes_on c.args.self.now c.loop-step.self c.step-stepped.new.self c.loop-step.invariant.3

@@ -22,23 +22,29 @@ invariant_of-self c = (
 
 pub returns-clause-orderly : goal.returns-clause-orderly
 returns-clause-orderly c =
-    orderly (machine_of c.step.new.self) (steps_keep (machine_of c.self.inside.state) c.args.step c.step.result (machine_of c.step.new.self) c.step.ensures.steps c.self.invariant.0)
+    orderly (machine_of c.step.new.self)
+    (steps_keep (machine_of c.self.inside.state) c.args.step c.step.result (machine_of c.step.new.self) c.step.ensures.steps
+    c.self.invariant.0)
 
 pub returns-clause-locked : goal.returns-clause-locked
 returns-clause-locked c = λ few.
     let goes : HasFewChanges (machine_of c.self.inside.state) × StaysLocked (machine_of c.self.inside.state) (machine_of c.step.new.self) =
-    steps_go (machine_of c.self.inside.state) c.args.step c.step.result (machine_of c.step.new.self) c.step.ensures.steps c.self.invariant.0 few in
+    steps_go (machine_of c.self.inside.state) c.args.step c.step.result (machine_of c.step.new.self) c.step.ensures.steps
+    c.self.invariant.0 few in
     subst (λ (m : IndexSetState). StaysLocked m (machine_of c.step.new.self)) c.self.view_is goes.1
 
 pub returns-clause-few : goal.returns-clause-few
 returns-clause-few c = λ few.
     let goes : HasFewChanges (machine_of c.self.inside.state) × StaysLocked (machine_of c.self.inside.state) (machine_of c.step.new.self) =
-    steps_go (machine_of c.self.inside.state) c.args.step c.step.result (machine_of c.step.new.self) c.step.ensures.steps c.self.invariant.0 few in
+    steps_go (machine_of c.self.inside.state) c.args.step c.step.result (machine_of c.step.new.self) c.step.ensures.steps
+    c.self.invariant.0 few in
     subst HasFewChanges c.self.view_is goes.0
 
 pub returns-clause-recorded : goal.returns-clause-recorded
 returns-clause-recorded c =
-    let kept : IsKept (machine_of c.step.new.self) = steps_keep (machine_of c.self.inside.state) c.args.step c.step.result (machine_of c.step.new.self) c.step.ensures.steps c.self.invariant.0 in
+    let kept : IsKept (machine_of c.step.new.self)
+    = steps_keep (machine_of c.self.inside.state) c.args.step c.step.result (machine_of c.step.new.self) c.step.ensures.steps
+    c.self.invariant.0 in
     kept.recorded
 
 pub returns-clause-short : goal.returns-clause-short

@@ -11,17 +11,20 @@ use Rattle.iox_lanes_machine.proofs.lanes.Lanes.are_of_one_service.Goals as goal
 pub returns-clause-near : goal.returns-clause-near
 returns-clause-near c =
     let is : c.args.self.now ≡ world_of c.self.inside.state = cc c.self.view_is in
-    subst (λ (m : World). (connection : ℕ) → PositionsNear m connection (positions_of m.table connection)) (sym is) (λ connection. positions_near (world_of c.self.inside.state) connection c.self.invariant)
+    subst (λ (m : World). (connection : ℕ) → PositionsNear m connection (positions_of m.table connection)) (sym is)
+    (λ connection. positions_near (world_of c.self.inside.state) connection c.self.invariant)
 
 pub returns-clause-mail : goal.returns-clause-mail
 returns-clause-mail c =
     let is : c.args.self.now ≡ world_of c.self.inside.state = cc c.self.view_is in
-    subst (λ (m : World). (connection : ℕ) → MailIsOwn m connection) (sym is) (λ connection. mail_is_own (world_of c.self.inside.state) connection c.self.invariant)
+    subst (λ (m : World). (connection : ℕ) → MailIsOwn m connection) (sym is)
+    (λ connection. mail_is_own (world_of c.self.inside.state) connection c.self.invariant)
 
 pub returns-clause-room : goal.returns-clause-room
 returns-clause-room c =
     let is : c.args.self.now ≡ world_of c.self.inside.state = cc c.self.view_is in
-    subst (λ (m : World). (connection : ℕ) → MailHasRoom m connection) (sym is) (λ connection. mail_has_room (world_of c.self.inside.state) connection c.self.invariant)
+    subst (λ (m : World). (connection : ℕ) → MailHasRoom m connection) (sym is)
+    (λ connection. mail_has_room (world_of c.self.inside.state) connection c.self.invariant)
 
 pub returns-clause-histories : goal.returns-clause-histories
 returns-clause-histories c =

@@ -12,7 +12,8 @@ returns-clause-follows c =
     let is : c.args.self.now ≡ world_of c.self.inside.state = cc c.self.view_is in
     let value : c.order.result.now ≡ get_or c.args.self.now.orders c.args.connection [] = search rules in
     subst (OrderFollows c.args.self.now c.args.connection) (sym value)
-    (subst (λ (m : World). OrderFollows m c.args.connection (get_or m.orders c.args.connection [])) (sym is) (order_follows (world_of c.self.inside.state) c.args.connection c.self.invariant))
+    (subst (λ (m : World). OrderFollows m c.args.connection (get_or m.orders c.args.connection [])) (sym is)
+    (order_follows (world_of c.self.inside.state) c.args.connection c.self.invariant))
 
 pub returns-clause-arrives : goal.returns-clause-arrives
 returns-clause-arrives c =
@@ -20,4 +21,5 @@ returns-clause-arrives c =
     let value : c.order.result.now ≡ get_or c.args.self.now.orders c.args.connection [] = search rules in
     subst (OrderArrives c.args.self.now c.args.connection) (sym value)
     (subst (λ (m : World). OrderArrives m c.args.connection (get_or m.orders c.args.connection [])) (sym is)
-    (order_arrives (world_of c.self.inside.state) c.args.connection (get_or (world_of c.self.inside.state).orders c.args.connection []) (order_follows (world_of c.self.inside.state) c.args.connection c.self.invariant)))
+    (order_arrives (world_of c.self.inside.state) c.args.connection (get_or (world_of c.self.inside.state).orders c.args.connection [])
+    (order_follows (world_of c.self.inside.state) c.args.connection c.self.invariant)))

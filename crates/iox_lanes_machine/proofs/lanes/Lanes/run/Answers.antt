@@ -13,7 +13,8 @@ loop-entry-preserved c =
       λ n k runs. subst (λ (i : ℕ). RunsTo c.args.self.now c.args.schedule.now i n) (omega arith)
           ((c.loop-entry.invariant.0) n (c.count-made.result + k)
           (subst (λ (xs : List Entry). RunsTo c.loop-entry.self xs (c.count-made.result + k) n) (sym is)
-          (run_more c.loop-entry.self c.in-Some.entry.now c.in-Some.tail.now c.step.result c.step.new.self n k (c.count-made.result + k) c.step.ensures.steps (ap (λ (x : ℕ). x + k) c.count-made.ensures) runs))),
+          (run_more c.loop-entry.self c.in-Some.entry.now c.in-Some.tail.now c.step.result c.step.new.self n k (c.count-made.result + k)
+          c.step.ensures.steps (ap (λ (x : ℕ). x + k) c.count-made.ensures) runs))),
       omega (arith, c.loop-entry.invariant.1),
       fixed_on c.args.self.now c.loop-entry.self c.step.new.self c.loop-entry.invariant.2 c.step.ensures.fixed,
       c.step.ensures.orders,

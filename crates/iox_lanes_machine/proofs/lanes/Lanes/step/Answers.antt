@@ -24,30 +24,37 @@ use Rattle.iox_lanes_machine.proofs.Whole.{steps_keep}
 use Rattle.iox_lanes_machine.proofs.lanes.Lanes.step.Goals as goal
 
 pub invariant_of-self : goal.invariant_of-self
-invariant_of-self c = steps_keep (world_of c.self.inside.state) c.args.party c.args.step.now c.step.result (world_of c.step.new.self) c.step.ensures c.self.invariant
+invariant_of-self c = steps_keep (world_of c.self.inside.state) c.args.party c.args.step.now c.step.result (world_of c.step.new.self)
+    c.step.ensures c.self.invariant
 
 pub returns-clause-orders : goal.returns-clause-orders
-returns-clause-orders c = orders_follow (world_of c.step.new.self) (steps_keep (world_of c.self.inside.state) c.args.party c.args.step.now c.step.result (world_of c.step.new.self) c.step.ensures c.self.invariant)
+returns-clause-orders c = orders_follow (world_of c.step.new.self)
+    (steps_keep (world_of c.self.inside.state) c.args.party c.args.step.now c.step.result (world_of c.step.new.self) c.step.ensures
+    c.self.invariant)
 
 pub returns-clause-apart : goal.returns-clause-apart
 returns-clause-apart c =
     let is : c.args.self.now ≡ world_of c.self.inside.state = cc c.self.view_is in
     subst (λ (m : World). StaysApart m c.args.party c.args.step.now c.step.result (world_of c.step.new.self)) (sym is)
-    (steps_apart (world_of c.self.inside.state) c.args.party c.args.step.now c.step.result (world_of c.step.new.self) c.step.ensures c.self.invariant.within)
+    (steps_apart (world_of c.self.inside.state) c.args.party c.args.step.now c.step.result (world_of c.step.new.self) c.step.ensures
+    c.self.invariant.within)
 
 pub returns-clause-receipts : goal.returns-clause-receipts
 returns-clause-receipts c =
-    let kept = steps_keep (world_of c.self.inside.state) c.args.party c.args.step.now c.step.result (world_of c.step.new.self) c.step.ensures c.self.invariant in
+    let kept = steps_keep (world_of c.self.inside.state) c.args.party c.args.step.now c.step.result (world_of c.step.new.self)
+    c.step.ensures c.self.invariant in
     kept.receipts
 
 pub returns-clause-sends : goal.returns-clause-sends
 returns-clause-sends c =
-    let kept = steps_keep (world_of c.self.inside.state) c.args.party c.args.step.now c.step.result (world_of c.step.new.self) c.step.ensures c.self.invariant in
+    let kept = steps_keep (world_of c.self.inside.state) c.args.party c.args.step.now c.step.result (world_of c.step.new.self)
+    c.step.ensures c.self.invariant in
     kept.sends
 
 pub returns-clause-calls : goal.returns-clause-calls
 returns-clause-calls c =
-    let kept = steps_keep (world_of c.self.inside.state) c.args.party c.args.step.now c.step.result (world_of c.step.new.self) c.step.ensures c.self.invariant in
+    let kept = steps_keep (world_of c.self.inside.state) c.args.party c.args.step.now c.step.result (world_of c.step.new.self)
+    c.step.ensures c.self.invariant in
     kept.calls
 
 pub returns-clause-slots : goal.returns-clause-slots
@@ -55,7 +62,8 @@ returns-clause-slots c =
     let is : c.args.self.now ≡ world_of c.self.inside.state = cc c.self.view_is in
     subst (λ (m : World). SlotsStay m c.args.party (world_of c.step.new.self)) (sym is)
     (slots_stay (world_of c.self.inside.state) c.args.party c.args.step.now c.step.result (world_of c.step.new.self) c.self.invariant.loans
-    (steps_apart (world_of c.self.inside.state) c.args.party c.args.step.now c.step.result (world_of c.step.new.self) c.step.ensures c.self.invariant.within))
+    (steps_apart (world_of c.self.inside.state) c.args.party c.args.step.now c.step.result (world_of c.step.new.self) c.step.ensures
+    c.self.invariant.within))
 
 pub returns-clause-fixed : goal.returns-clause-fixed
 returns-clause-fixed c =
@@ -65,7 +73,8 @@ returns-clause-fixed c =
 
 pub returns-clause-loans : goal.returns-clause-loans
 returns-clause-loans c =
-    let kept = steps_keep (world_of c.self.inside.state) c.args.party c.args.step.now c.step.result (world_of c.step.new.self) c.step.ensures c.self.invariant in
+    let kept = steps_keep (world_of c.self.inside.state) c.args.party c.args.step.now c.step.result (world_of c.step.new.self)
+    c.step.ensures c.self.invariant in
     loans_apart (world_of c.step.new.self) kept.loans
 
 pub returns-clause-told : goal.returns-clause-told
@@ -76,11 +85,14 @@ returns-clause-told c =
 
 pub returns-clause-reads : goal.returns-clause-reads
 returns-clause-reads c =
-    let kept = steps_keep (world_of c.self.inside.state) c.args.party c.args.step.now c.step.result (world_of c.step.new.self) c.step.ensures c.self.invariant in
+    let kept = steps_keep (world_of c.self.inside.state) c.args.party c.args.step.now c.step.result (world_of c.step.new.self)
+    c.step.ensures c.self.invariant in
     kept.reads
 
 pub returns-clause-alone : goal.returns-clause-alone
-returns-clause-alone c = loans_alone (world_of c.step.new.self) (steps_keep (world_of c.self.inside.state) c.args.party c.args.step.now c.step.result (world_of c.step.new.self) c.step.ensures c.self.invariant)
+returns-clause-alone c = loans_alone (world_of c.step.new.self)
+    (steps_keep (world_of c.self.inside.state) c.args.party c.args.step.now c.step.result (world_of c.step.new.self) c.step.ensures
+    c.self.invariant)
 
 pub returns-clause-uses : goal.returns-clause-uses
 returns-clause-uses c =
@@ -88,7 +100,8 @@ returns-clause-uses c =
     subst (λ (m : World). UsedSlotsStay m (world_of c.step.new.self)) (sym is)
     (used_stay (world_of c.self.inside.state) c.args.party (world_of c.step.new.self) c.self.invariant
     (slots_stay (world_of c.self.inside.state) c.args.party c.args.step.now c.step.result (world_of c.step.new.self) c.self.invariant.loans
-    (steps_apart (world_of c.self.inside.state) c.args.party c.args.step.now c.step.result (world_of c.step.new.self) c.step.ensures c.self.invariant.within)))
+    (steps_apart (world_of c.self.inside.state) c.args.party c.args.step.now c.step.result (world_of c.step.new.self) c.step.ensures
+    c.self.invariant.within)))
 
 pub returns-clause-whole : goal.returns-clause-whole
 returns-clause-whole c =
@@ -108,7 +121,8 @@ returns-clause-left c =
 
 pub returns-clause-releases : goal.returns-clause-releases
 returns-clause-releases c =
-    let kept = steps_keep (world_of c.self.inside.state) c.args.party c.args.step.now c.step.result (world_of c.step.new.self) c.step.ensures c.self.invariant in
+    let kept = steps_keep (world_of c.self.inside.state) c.args.party c.args.step.now c.step.result (world_of c.step.new.self)
+    c.step.ensures c.self.invariant in
     λ few. (kept.rooms few).releases
 
 pub returns-clause-lent : goal.returns-clause-lent
@@ -123,4 +137,5 @@ pub returns-clause-turns : goal.returns-clause-turns
 returns-clause-turns c =
     let is : c.args.self.now ≡ world_of c.self.inside.state = cc c.self.view_is in
     subst (λ (m : World). GivenBackInTurn m c.args.party (world_of c.step.new.self)) (sym is)
-    (steps_in_turn (world_of c.self.inside.state) c.args.party c.args.step.now c.step.result (world_of c.step.new.self) c.step.ensures c.self.invariant)
+    (steps_in_turn (world_of c.self.inside.state) c.args.party c.args.step.now c.step.result (world_of c.step.new.self) c.step.ensures
+    c.self.invariant)

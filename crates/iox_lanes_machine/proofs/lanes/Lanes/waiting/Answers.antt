@@ -11,7 +11,8 @@ use Rattle.iox_lanes_machine.proofs.lanes.Lanes.waiting.Goals as goal
 pub message_count-requires : goal.message_count-requires
 message_count-requires c =
     let is : c.args.self.now ≡ world_of c.self.inside.state = cc c.self.view_is in
-    is_connection (world_of c.self.inside.state) c.args.connection c.self.invariant (subst (λ (m : World). c.args.connection < length m.links) is c.requires)
+    is_connection (world_of c.self.inside.state) c.args.connection c.self.invariant
+    (subst (λ (m : World). c.args.connection < length m.links) is c.requires)
 
 pub returns-clause-waits : goal.returns-clause-waits
 returns-clause-waits c =
@@ -23,4 +24,5 @@ returns-clause-waits c =
 pub returns-clause-own : goal.returns-clause-own
 returns-clause-own c =
     let is : c.args.self.now ≡ world_of c.self.inside.state = cc c.self.view_is in
-    subst (λ (m : World). MailIsOwn m c.args.connection) (sym is) (mail_is_own (world_of c.self.inside.state) c.args.connection c.self.invariant)
+    subst (λ (m : World). MailIsOwn m c.args.connection) (sym is)
+    (mail_is_own (world_of c.self.inside.state) c.args.connection c.self.invariant)

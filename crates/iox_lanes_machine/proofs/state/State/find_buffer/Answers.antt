@@ -14,7 +14,8 @@ with_buffer-known-requires c =
     let m : World = world_of c.args.self.now in
     let lane : PublisherLaneState = c.in-Some.lane.now in
     let route : Route = c.in-Some-route.route in
-    let found : slice_get m.publishers c.args.publisher ≡ Some lane = get_is m.publishers c.args.publisher lane ((c.in-Some.ensures.item).3).0 (c.in-Some.ensures.item).1 in
+    let found : slice_get m.publishers c.args.publisher ≡ Some lane
+    = get_is m.publishers c.args.publisher lane ((c.in-Some.ensures.item).3).0 (c.in-Some.ensures.item).1 in
     let here : slice_get lane.port.routes c.args.place ≡ Some route = sym c.route.ensures ∙ c.in-Some-route.is in
     buffer_fits m c.args.publisher c.args.place c.args.messages lane route c.requires.within found here
     (subst (λ (at : Option PublisherLaneState). buffers_of m c.args.place c.args.messages at ≡ true) found c.requires.fits)
@@ -27,14 +28,17 @@ returns c =
     let link : LinkState = c.in-Some-get_mut.link.now in
     let after : LinkState = record link { limit = c.args.messages } in
     let known : Route = with_buffer c.args.messages route in
-    let found : slice_get m.publishers c.args.publisher ≡ Some lane = get_is m.publishers c.args.publisher lane ((c.in-Some.ensures.item).3).0 (c.in-Some.ensures.item).1 in
+    let found : slice_get m.publishers c.args.publisher ≡ Some lane
+    = get_is m.publishers c.args.publisher lane ((c.in-Some.ensures.item).3).0 (c.in-Some.ensures.item).1 in
     let here : slice_get lane.port.routes c.args.place ≡ Some route = sym c.route.ensures ∙ c.in-Some-route.is in
-    let there : slice_get m.links route.connection ≡ Some link = get_is m.links route.connection link ((c.in-Some-get_mut.ensures.item).3).0 (c.in-Some-get_mut.ensures.item).1 in
+    let there : slice_get m.links route.connection ≡ Some link
+    = get_is m.links route.connection link ((c.in-Some-get_mut.ensures.item).3).0 (c.in-Some-get_mut.ensures.item).1 in
     c.subscriber_meets.ensures
     ∙ ap (λ (l : LinkState). record m {
       links = set m.links route.connection l;
       publishers = set m.publishers c.args.publisher c.meet.new.self;
-      subscribers = subscribers_meet m.subscribers c.subscriber-receiver.result c.with_buffer-known.result (slice_get m.subscribers c.subscriber-receiver.result);
+      subscribers = subscribers_meet m.subscribers c.subscriber-receiver.result c.with_buffer-known.result
+          (slice_get m.subscribers c.subscriber-receiver.result);
     }) c.resize.ensures
     ∙ ap (λ (s : ℕ). record m {
       links = set m.links route.connection after;

@@ -9,4 +9,5 @@ loop-index-preserved g c =
     none_of_one_more c.args.sender.now.uses c.loop-index.index c.loop-index.invariant this
 
 pub returns-clause-none : goal.returns-clause-none
-returns-clause-none g c = none_of_any c.args.sender.now.uses c.indices-index-end.result c.indices-index-end.ensures.value (λ k below. c.loop-index.invariant k (omega (arith, below, c.loop-index-test.false)))
+returns-clause-none g c = none_of_any c.args.sender.now.uses c.indices-index-end.result c.indices-index-end.ensures.value
+    (λ k below. c.loop-index.invariant k (omega (arith, below, c.loop-index-test.false)))

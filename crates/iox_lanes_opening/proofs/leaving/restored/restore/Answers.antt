@@ -8,8 +8,10 @@ restore_connections-requires g c = record {
   room = c.requires.room;
   connections = c.requires.connections;
   whole = c.requires.whole;
-  quiet = cleared_quiet c.args.sender.now c.forget_messages.new.sender c.forget_messages.ensures.rest c.forget_messages.ensures.cleared (c.if-not-is_rested.ensures.rested).quiet;
-  left = cleared_left g.T.Words.of_parts g.U.Words.of_parts c.args.lanes.now.table c.args.first c.args.sender.now c.forget_messages.new.sender c.forget_messages.ensures.cleared (c.if-not-is_rested.ensures.rested).none;
+  quiet = cleared_quiet c.args.sender.now c.forget_messages.new.sender c.forget_messages.ensures.rest c.forget_messages.ensures.cleared
+      (c.if-not-is_rested.ensures.rested).quiet;
+  left = cleared_left g.T.Words.of_parts g.U.Words.of_parts c.args.lanes.now.table c.args.first c.args.sender.now
+      c.forget_messages.new.sender c.forget_messages.ensures.cleared (c.if-not-is_rested.ensures.rested).none;
   empty = cleared_empty c.args.sender.now c.forget_messages.new.sender c.forget_messages.ensures.cleared;
 }
 
@@ -19,13 +21,18 @@ restore_history-requires g c = record {
     room = subst (λ n. 0 < n) (sym c.restore_connections.ensures.room) c.requires.room;
     whole = subst (IsWhole g.T.Words.WORDS g.U.Words.WORDS) (sym c.table.ensures) c.requires.whole;
     quiet = filled_quiet c.forget_messages.new.sender c.restore_connections.new.sender c.restore_connections.ensures.rest
-        (cleared_quiet c.args.sender.now c.forget_messages.new.sender c.forget_messages.ensures.rest c.forget_messages.ensures.cleared (c.if-not-is_rested.ensures.rested).quiet);
-    left = subst (λ t. AreLeft g.T.Words.of_parts g.U.Words.of_parts t c.args.first c.restore_connections.new.sender.uses) (sym c.table.ensures) c.restore_connections.ensures.left;
+        (cleared_quiet c.args.sender.now c.forget_messages.new.sender c.forget_messages.ensures.rest c.forget_messages.ensures.cleared
+        (c.if-not-is_rested.ensures.rested).quiet);
+    left = subst (λ t. AreLeft g.T.Words.of_parts g.U.Words.of_parts t c.args.first c.restore_connections.new.sender.uses)
+        (sym c.table.ensures) c.restore_connections.ensures.left;
   };
   empty = ap (λ s. s.uses.history) c.restore_connections.ensures.rest ∙ ap (λ uses. uses.history) (c.forget_messages.ensures.cleared).same;
 }
 
 pub returns-clause-restored : goal.returns-clause-restored
-returns-clause-restored g c = restored_is g.T.Words.of_parts g.U.Words.of_parts c.args.lanes.now c.args.from c.args.indices.now c.args.first c.args.history.now c.args.sender.now c.forget_messages.new.sender c.restore_connections.new.sender c.restore_history.new.sender
-    c.forget_messages.ensures.rest c.forget_messages.ensures.cleared c.restore_connections.ensures.rest c.restore_connections.ensures.count c.restore_connections.ensures.each c.restore_connections.ensures.waits
+returns-clause-restored g c = restored_is g.T.Words.of_parts g.U.Words.of_parts c.args.lanes.now c.args.from c.args.indices.now
+    c.args.first c.args.history.now c.args.sender.now c.forget_messages.new.sender c.restore_connections.new.sender
+    c.restore_history.new.sender
+    c.forget_messages.ensures.rest c.forget_messages.ensures.cleared c.restore_connections.ensures.rest
+    c.restore_connections.ensures.count c.restore_connections.ensures.each c.restore_connections.ensures.waits
     c.restore_history.ensures.rest (rw c.table.ensures at c.restore_history.ensures.remembers)

@@ -3,7 +3,11 @@ use Rattle.iox_lanes_opening.proofs.Filling.{none_filled, one_filled, all_filled
 use Rattle.iox_lanes_opening.proofs.leaving.restored.restore_connections.Goals as goal
 
 pub loop-index-init : goal.loop-index-init
-loop-index-init g c = (none_filled g.T.Words.of_parts g.U.Words.of_parts c.args.lanes.now c.args.from c.args.indices.now c.args.first c.args.sender.now c.requires.left c.requires.empty, refl)
+loop-index-init g c = (
+  none_filled g.T.Words.of_parts g.U.Words.of_parts c.args.lanes.now c.args.from c.args.indices.now c.args.first c.args.sender.now
+      c.requires.left c.requires.empty,
+  refl,
+)
 
 pub restore_at-requires : goal.restore_at-requires
 restore_at-requires g c = record {
@@ -17,8 +21,10 @@ restore_at-requires g c = record {
 
 pub loop-index-preserved : goal.loop-index-preserved
 loop-index-preserved g c = (
-  one_filled g.T.Words.of_parts g.U.Words.of_parts c.args.lanes.now c.args.from c.args.indices.now c.args.first c.args.sender.now c.loop-index.sender c.restore_at.new.sender c.loop-index.index
-      c.loop-index.invariant.0 (omega (arith, c.loop-index-test.true, c.indices-index-end.ensures.value)) c.restore_at.ensures.rest c.restore_at.ensures.waits c.restore_at.ensures.left,
+  one_filled g.T.Words.of_parts g.U.Words.of_parts c.args.lanes.now c.args.from c.args.indices.now c.args.first c.args.sender.now
+      c.loop-index.sender c.restore_at.new.sender c.loop-index.index
+      c.loop-index.invariant.0 (omega (arith, c.loop-index-test.true, c.indices-index-end.ensures.value)) c.restore_at.ensures.rest
+      c.restore_at.ensures.waits c.restore_at.ensures.left,
   c.restore_at.ensures.room ∙ c.loop-index.invariant.1,
 )
 
@@ -32,7 +38,8 @@ pub returns-clause-each : goal.returns-clause-each
 returns-clause-each g c = c.loop-index.invariant.0.each
 
 pub returns-clause-waits : goal.returns-clause-waits
-returns-clause-waits g c = all_filled g.T.Words.of_parts g.U.Words.of_parts c.args.lanes.now c.args.from c.args.indices.now c.args.first c.args.sender.now c.loop-index.sender c.loop-index.index c.loop-index.invariant.0
+returns-clause-waits g c = all_filled g.T.Words.of_parts g.U.Words.of_parts c.args.lanes.now c.args.from c.args.indices.now c.args.first
+    c.args.sender.now c.loop-index.sender c.loop-index.index c.loop-index.invariant.0
     (omega (arith, c.loop-index-test.false, c.loop-index.auto.index-end, c.indices-index-end.ensures.value))
 
 pub returns-clause-left : goal.returns-clause-left

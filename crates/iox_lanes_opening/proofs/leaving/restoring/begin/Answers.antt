@@ -9,7 +9,15 @@ pub begin_again-requires-clause-only : goal.begin_again-requires-clause-only
 begin_again-requires-clause-only g c =
     let values : c.deref.result.now ≡ g.T.Words.of_parts (payload_in c.args.table.now (c.args.first + c.args.slot)) ∷ [] =
     search (rules, c.deref.ensures.value, c.push_reserved.ensures.items, c.clear.ensures.items, c.payload.ensures) in
-    let same : (record { slot = c.args.slot; elements = c.elements.result; user_header = c.user_header-header.result; values = c.deref.result.now })
-    ≡ message_in g.T.Words.of_parts g.U.Words.of_parts c.args.table.now c.args.first c.args.slot = cc (c.elements.ensures, c.user_header-header.ensures, values) in
+    let same : (record {
+      slot = c.args.slot;
+      elements = c.elements.result;
+      user_header = c.user_header-header.result;
+      values
+          = c.deref.result.now;
+    })
+    ≡ message_in g.T.Words.of_parts g.U.Words.of_parts c.args.table.now c.args.first c.args.slot
+    = cc (c.elements.ensures, c.user_header-header.ensures, values) in
     subst (λ (m : Message g.row.T.Denot g.row.U.Denot). StandsAlone m c.args.sender.now.uses) (sym same)
-    (left_alone g.T.Words.of_parts g.U.Words.of_parts c.args.table.now c.args.first c.args.sender.now.uses c.args.slot c.requires.stands.unlent c.requires.left)
+    (left_alone g.T.Words.of_parts g.U.Words.of_parts c.args.table.now c.args.first c.args.sender.now.uses c.args.slot
+    c.requires.stands.unlent c.requires.left)

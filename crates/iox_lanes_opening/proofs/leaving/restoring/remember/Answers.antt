@@ -10,7 +10,8 @@ pub returns-clause-left : goal.returns-clause-left
 returns-clause-left g c =
     let remembered : c.finish_send.new.self ≡ with_uses (record c.args.sender.now.uses {
       history = newest c.args.sender.now.uses.kept
-          (c.args.sender.now.uses.history ++ message_in g.T.Words.of_parts g.U.Words.of_parts c.args.table.now c.args.first c.args.slot ∷ []);
+          (c.args.sender.now.uses.history ++ message_in g.T.Words.of_parts g.U.Words.of_parts c.args.table.now c.args.first c.args.slot
+          ∷ []);
     }) c.args.sender.now = search rules in
     subst (λ s. AreLeft g.T.Words.of_parts g.U.Words.of_parts c.args.table.now c.args.first s.uses) (sym remembered)
     (left_remembered g.T.Words.of_parts g.U.Words.of_parts c.args.table.now c.args.first c.args.sender.now.uses c.args.slot c.requires.left)

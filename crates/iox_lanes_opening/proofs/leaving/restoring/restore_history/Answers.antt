@@ -17,11 +17,14 @@ remember_own-requires g c = record {
 
 pub loop-at-preserved : goal.loop-at-preserved
 loop-at-preserved g c = (
-  one_remembered g.T.Words.of_parts g.U.Words.of_parts c.args.table.now c.args.history.now c.args.first c.args.sender.now c.loop-at.sender c.remember_own.new.sender c.loop-at.at (get_or c.args.history.now c.loop-at.at 0)
-      c.loop-at.invariant.0 c.loop-at-test.true refl c.remember_own.ensures.remembered c.remember_own.ensures.rest c.remember_own.ensures.left,
+  one_remembered g.T.Words.of_parts g.U.Words.of_parts c.args.table.now c.args.history.now c.args.first c.args.sender.now
+      c.loop-at.sender c.remember_own.new.sender c.loop-at.at (get_or c.args.history.now c.loop-at.at 0)
+      c.loop-at.invariant.0 c.loop-at-test.true refl c.remember_own.ensures.remembered c.remember_own.ensures.rest
+      c.remember_own.ensures.left,
   c.remember_own.ensures.room ∙ c.loop-at.invariant.1,
 )
 
 pub returns-clause-remembers : goal.returns-clause-remembers
 returns-clause-remembers g c = λ may. c.loop-at.invariant.0.remembers may
-    ∙ ap (messages_in g.T.Words.of_parts g.U.Words.of_parts c.args.table.now c.args.first) (take_all c.loop-at.at c.args.history.now (omega (arith, c.loop-at-test.false)))
+    ∙ ap (messages_in g.T.Words.of_parts g.U.Words.of_parts c.args.table.now c.args.first)
+    (take_all c.loop-at.at c.args.history.now (omega (arith, c.loop-at-test.false)))

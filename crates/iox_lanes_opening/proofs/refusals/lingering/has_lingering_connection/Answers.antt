@@ -5,10 +5,14 @@ use Rattle.iox_lanes_opening.proofs.Going.{some_is, none_is, none_more, none_rea
 use Rattle.iox_lanes_opening.proofs.refusals.lingering.has_lingering_connection.Goals as goal
 
 pub returns-then-connection_lingers : goal.returns-then-connection_lingers
-returns-then-connection_lingers g c = sym (some_is connection_lingers nobody c.args.port.now.sender.uses.connections c.loop-index.index refl (sym c.connection_lingers.ensures ∙ c.if-connection_lingers.true))
+returns-then-connection_lingers g c
+    = sym (some_is connection_lingers nobody c.args.port.now.sender.uses.connections c.loop-index.index refl
+    (sym c.connection_lingers.ensures ∙ c.if-connection_lingers.true))
 
 pub loop-index-preserved : goal.loop-index-preserved
-loop-index-preserved g c = none_more connection_lingers nobody c.args.port.now.sender.uses.connections c.loop-index.index c.loop-index.invariant (sym c.connection_lingers.ensures ∙ c.if-connection_lingers.false)
+loop-index-preserved g c = none_more connection_lingers nobody c.args.port.now.sender.uses.connections c.loop-index.index
+    c.loop-index.invariant (sym c.connection_lingers.ensures ∙ c.if-connection_lingers.false)
 
 pub returns : goal.returns
-returns g c = sym (none_is connection_lingers nobody c.args.port.now.sender.uses.connections c.loop-index.index (omega (arith, c.loop-index-test.false, c.indices-index-end.ensures.value)) c.loop-index.invariant)
+returns g c = sym (none_is connection_lingers nobody c.args.port.now.sender.uses.connections c.loop-index.index
+    (omega (arith, c.loop-index-test.false, c.indices-index-end.ensures.value)) c.loop-index.invariant)

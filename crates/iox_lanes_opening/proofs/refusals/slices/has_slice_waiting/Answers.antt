@@ -5,10 +5,14 @@ use Rattle.iox_lanes_opening.proofs.Going.{some_is, none_is, none_more, none_rea
 use Rattle.iox_lanes_opening.proofs.refusals.slices.has_slice_waiting.Goals as goal
 
 pub returns-then-slice_waits_at : goal.returns-then-slice_waits_at
-returns-then-slice_waits_at g c = sym (some_is slice_waits nobody c.args.port.now.sender.uses.connections c.loop-index.index refl (sym c.slice_waits_at.ensures ∙ c.if-slice_waits_at.true))
+returns-then-slice_waits_at g c = sym
+    (some_is slice_waits nobody c.args.port.now.sender.uses.connections c.loop-index.index refl
+    (sym c.slice_waits_at.ensures ∙ c.if-slice_waits_at.true))
 
 pub loop-index-preserved : goal.loop-index-preserved
-loop-index-preserved g c = none_more slice_waits nobody c.args.port.now.sender.uses.connections c.loop-index.index c.loop-index.invariant (sym c.slice_waits_at.ensures ∙ c.if-slice_waits_at.false)
+loop-index-preserved g c = none_more slice_waits nobody c.args.port.now.sender.uses.connections c.loop-index.index
+    c.loop-index.invariant (sym c.slice_waits_at.ensures ∙ c.if-slice_waits_at.false)
 
 pub returns : goal.returns
-returns g c = sym (none_is slice_waits nobody c.args.port.now.sender.uses.connections c.loop-index.index (omega (arith, c.loop-index-test.false, c.indices-index-end.ensures.value)) c.loop-index.invariant)
+returns g c = sym (none_is slice_waits nobody c.args.port.now.sender.uses.connections c.loop-index.index
+    (omega (arith, c.loop-index-test.false, c.indices-index-end.ensures.value)) c.loop-index.invariant)

@@ -5,8 +5,10 @@ use Rattle.iox_lanes_threads.proofs.subscriber.LaneSubscriber.release.Goals as g
 
 pub returns-clause-put : goal.returns-clause-put
 returns-clause-put c =
-    subst (λ (v : BoardSubscriber). c.release.result ≡ Some true → KnowsGivenBack v.own.port c.release.new.self.port v.own.lane c.args.sample) c.self.view_is c.release.ensures.put
+    subst (λ (v : BoardSubscriber). c.release.result ≡ Some true
+    → KnowsGivenBack v.own.port c.release.new.self.port v.own.lane c.args.sample) c.self.view_is c.release.ensures.put
 
 pub returns-clause-kept : goal.returns-clause-kept
 returns-clause-kept c =
-    subst (λ (v : BoardSubscriber). c.release.result ≡ Some false → KeepsGivenBack v.own.port c.release.new.self.port v.own.lane c.args.sample) c.self.view_is c.release.ensures.kept
+    subst (λ (v : BoardSubscriber). c.release.result ≡ Some false
+    → KeepsGivenBack v.own.port c.release.new.self.port v.own.lane c.args.sample) c.self.view_is c.release.ensures.kept

@@ -9,8 +9,12 @@ use Rattle.iox_lanes_threads_ports.proofs.publisher.ThreadedPublisher.loan_unini
 
 pub returns-clause-call : goal.returns-clause-call
 returns-clause-call g c =
-    let was : PublisherPort = record { table = c.self.inside.seat.table_id; port = port_of c.self.inside.seat.me; lane = c.self.inside.lane } in
-    let now : PublisherPort = record { table = c.does-answer.new.seat.table_id; port = port_of c.does-answer.new.seat.me; lane = c.does-answer.new.lane } in
-    let done = subst (λ (most : ℕ). PublisherDoes most was.port was.lane (Begin call.LoanUninit) now.port now.lane c.does-answer.result) (c.loan_steps-most.ensures ∙ ap loan_steps (sym c.self.invariant.0.sizes_are)) c.does-answer.ensures.does in
+    let was : PublisherPort
+    = record { table = c.self.inside.seat.table_id; port = port_of c.self.inside.seat.me; lane = c.self.inside.lane } in
+    let now : PublisherPort
+    = record { table = c.does-answer.new.seat.table_id; port = port_of c.does-answer.new.seat.me; lane = c.does-answer.new.lane } in
+    let done = subst (λ (most : ℕ). PublisherDoes most was.port was.lane (Begin call.LoanUninit) now.port now.lane c.does-answer.result)
+    (c.loan_steps-most.ensures ∙ ap loan_steps (sym c.self.invariant.0.sizes_are)) c.does-answer.ensures.does in
     subst (λ (v : PublisherPort). Loans v now c.lent.result) c.self.view_is
-    (subst (Loans was now) (sym c.lent.ensures) (loan_called was now c.does-answer.result c.self.invariant.1 c.does-answer.ensures.table done))
+    (subst (Loans was now) (sym c.lent.ensures)
+    (loan_called was now c.does-answer.result c.self.invariant.1 c.does-answer.ensures.table done))

@@ -14,21 +14,29 @@ use Rattle.iox_lanes_threads_ports.proofs.publisher.ThreadedPublisher.send.Goals
 
 pub returns-clause-call : goal.returns-clause-call
 returns-clause-call g c =
-    let was : PublisherPort = record { table = c.self.inside.seat.table_id; port = port_of c.self.inside.seat.me; lane = c.self.inside.lane } in
-    let now : PublisherPort = record { table = c.does-answer.new.seat.table_id; port = port_of c.does-answer.new.seat.me; lane = c.does-answer.new.lane } in
-    let done = subst (λ (most : ℕ). PublisherDoes most was.port was.lane (Begin (call.Send c.args.loan)) now.port now.lane c.does-answer.result) (c.send_steps-most.ensures ∙ ap send_steps (sym c.self.invariant.0.sizes_are)) c.does-answer.ensures.does in
+    let was : PublisherPort
+    = record { table = c.self.inside.seat.table_id; port = port_of c.self.inside.seat.me; lane = c.self.inside.lane } in
+    let now : PublisherPort
+    = record { table = c.does-answer.new.seat.table_id; port = port_of c.does-answer.new.seat.me; lane = c.does-answer.new.lane } in
+    let done = subst (λ (most : ℕ). PublisherDoes most was.port was.lane (Begin (call.Send c.args.loan)) now.port now.lane
+    c.does-answer.result) (c.send_steps-most.ensures ∙ ap send_steps (sym c.self.invariant.0.sizes_are)) c.does-answer.ensures.does in
     subst (λ (v : PublisherPort). Sends v c.args.loan now c.sent.result) c.self.view_is
-    (subst (Sends was c.args.loan now) (sym c.sent.ensures) (send_called was now c.args.loan c.does-answer.result c.self.invariant.1 c.does-answer.ensures.table done))
+    (subst (Sends was c.args.loan now) (sym c.sent.ensures)
+    (send_called was now c.args.loan c.does-answer.result c.self.invariant.1 c.does-answer.ensures.table done))
 
 pub returns-clause-slot : goal.returns-clause-slot
 returns-clause-slot g c = λ e.
-    subst (λ (v : PublisherPort). KnowsHead (port_of c.does-answer.new.seat.me) c.args.loan (head_of c.args.loan v.lane) × KeepsPayload v.port (port_of c.does-answer.new.seat.me) c.args.loan) c.self.view_is
-    (send_known c.send_steps-most.result (port_of c.self.inside.seat.me) c.self.inside.lane c.args.loan (port_of c.does-answer.new.seat.me) c.does-answer.new.lane c.does-answer.result c.self.invariant.1 c.does-answer.ensures.does
+    subst (λ (v : PublisherPort). KnowsHead (port_of c.does-answer.new.seat.me) c.args.loan (head_of c.args.loan v.lane)
+    × KeepsPayload v.port (port_of c.does-answer.new.seat.me) c.args.loan) c.self.view_is
+    (send_known c.send_steps-most.result (port_of c.self.inside.seat.me) c.self.inside.lane c.args.loan
+    (port_of c.does-answer.new.seat.me) c.does-answer.new.lane c.does-answer.result c.self.invariant.1 c.does-answer.ensures.does
     (sym (ap is_some c.sent.ensures) ∙ e))
 
 pub returns-clause-sent : goal.returns-clause-sent
 returns-clause-sent g c =
-    let now : PublisherPort = record { table = c.does-answer.new.seat.table_id; port = port_of c.does-answer.new.seat.me; lane = c.does-answer.new.lane } in
+    let now : PublisherPort
+    = record { table = c.does-answer.new.seat.table_id; port = port_of c.does-answer.new.seat.me; lane = c.does-answer.new.lane } in
     send_sent c.args.self.now now c.args.loan c.sent.result
-    (subst (λ (v : PublisherPort). IsSmall v.port.service.sizes) c.self.view_is (subst IsSmall (sym c.self.invariant.0.sizes_are) c.self.invariant.0.small))
+    (subst (λ (v : PublisherPort). IsSmall v.port.service.sizes) c.self.view_is
+    (subst IsSmall (sym c.self.invariant.0.sizes_are) c.self.invariant.0.small))
     (subst (λ (v : PublisherPort). PublisherStands v.port v.lane) c.self.view_is c.self.invariant.1) (returns-clause-call g c)

@@ -11,13 +11,15 @@ use Rattle.iox_lanes_threads_ports.proofs.subscriber.ThreadedSubscriber.read.Goa
 pub invariant_of-self : goal.invariant_of-self
 invariant_of-self g c = (
   c.self.invariant.0,
-  subst (SubscriberStands (port_of c.self.inside.seat.me)) (sym c.settle.ensures.lane) (lemmas.settled_stands (port_of c.self.inside.seat.me) c.self.inside.lane c.self.invariant.1),
+  subst (SubscriberStands (port_of c.self.inside.seat.me)) (sym c.settle.ensures.lane)
+      (lemmas.settled_stands (port_of c.self.inside.seat.me) c.self.inside.lane c.self.invariant.1),
   lemmas.between_idle c.settle.new.lane.port.call c.settle.ensures.idle,
 )
 
 pub finish-requires-clause-stands : goal.finish-requires-clause-stands
 finish-requires-clause-stands g c =
-    lemmas.begun_stands (port_of c.self.inside.seat.me) c.self.inside.lane c.settle.new.lane c.begin.new.self (call.Read c.args.sample) c.self.invariant.1 c.settle.ensures.lane c.begin.ensures (sym c.fits.ensures ∙ c.if-not-fits.false)
+    lemmas.begun_stands (port_of c.self.inside.seat.me) c.self.inside.lane c.settle.new.lane c.begin.new.self (call.Read c.args.sample)
+    c.self.invariant.1 c.settle.ensures.lane c.begin.ensures (sym c.fits.ensures ∙ c.if-not-fits.false)
 
 pub returns-clause-call : goal.returns-clause-call
 returns-clause-call g c =
@@ -28,17 +30,26 @@ returns-clause-call g c =
       words = words_read c.finish.new.lane.port.call c.finish.new.lane.port.words;
     } in
     lemmas.read_done c.args.self.now new (port_of c.self.inside.seat.me) c.args.sample c.settle.new.lane c.begin.new.self c.finish.new.lane
-    (ap (λ (v : SubscriberPort). v.port) (sym c.self.view_is)) (ap (λ (v : SubscriberPort). v.lane) (sym c.self.view_is) ∙ sym c.settle.ensures.lane) (sym c.fits.ensures ∙ c.if-not-fits.false) c.begin.ensures
+    (ap (λ (v : SubscriberPort). v.port) (sym c.self.view_is))
+    (ap (λ (v : SubscriberPort). v.lane) (sym c.self.view_is) ∙ sym c.settle.ensures.lane)
+    (sym c.fits.ensures ∙ c.if-not-fits.false) c.begin.ensures
     c.finish.ensures.goes c.finish.ensures.over refl refl
 
 pub returns-clause-words : goal.returns-clause-words
 returns-clause-words g c = λ e.
-    let begun = lemmas.begun_stands (port_of c.self.inside.seat.me) c.self.inside.lane c.settle.new.lane c.begin.new.self (call.Read c.args.sample) c.self.invariant.1 c.settle.ensures.lane c.begin.ensures (sym c.fits.ensures ∙ c.if-not-fits.false) in
-    read_words_known (port_of c.self.inside.seat.me) (port_of c.finish.new.seat.me) c.args.self.now.lane c.settle.new.lane c.begin.new.self c.finish.new.lane c.args.sample (words_read c.finish.new.lane.port.call c.finish.new.lane.port.words) begun
-    (ap (λ (v : SubscriberPort). v.lane) (sym c.self.view_is) ∙ sym c.settle.ensures.lane) c.begin.ensures c.finish.ensures.goes c.finish.ensures.over refl
+    let begun = lemmas.begun_stands (port_of c.self.inside.seat.me) c.self.inside.lane c.settle.new.lane c.begin.new.self
+    (call.Read c.args.sample) c.self.invariant.1 c.settle.ensures.lane c.begin.ensures (sym c.fits.ensures ∙ c.if-not-fits.false) in
+    read_words_known (port_of c.self.inside.seat.me) (port_of c.finish.new.seat.me) c.args.self.now.lane c.settle.new.lane
+    c.begin.new.self c.finish.new.lane c.args.sample (words_read c.finish.new.lane.port.call c.finish.new.lane.port.words) begun
+    (ap (λ (v : SubscriberPort). v.lane) (sym c.self.view_is) ∙ sym c.settle.ensures.lane) c.begin.ensures c.finish.ensures.goes
+    c.finish.ensures.over refl
 
 pub returns-clause-whole : goal.returns-clause-whole
 returns-clause-whole g c = λ e.
-    let begun = lemmas.begun_stands (port_of c.self.inside.seat.me) c.self.inside.lane c.settle.new.lane c.begin.new.self (call.Read c.args.sample) c.self.invariant.1 c.settle.ensures.lane c.begin.ensures (sym c.fits.ensures ∙ c.if-not-fits.false) in
-    read_whole (port_of c.self.inside.seat.me) (port_of c.finish.new.seat.me) c.args.self.now.lane c.settle.new.lane c.begin.new.self c.finish.new.lane c.args.sample (words_read c.finish.new.lane.port.call c.finish.new.lane.port.words) begun
-    c.finish.ensures.stands c.finish.ensures.seat.1 (ap (λ (v : SubscriberPort). v.lane) (sym c.self.view_is) ∙ sym c.settle.ensures.lane) c.begin.ensures c.finish.ensures.goes c.finish.ensures.over refl
+    let begun = lemmas.begun_stands (port_of c.self.inside.seat.me) c.self.inside.lane c.settle.new.lane c.begin.new.self
+    (call.Read c.args.sample) c.self.invariant.1 c.settle.ensures.lane c.begin.ensures (sym c.fits.ensures ∙ c.if-not-fits.false) in
+    read_whole (port_of c.self.inside.seat.me) (port_of c.finish.new.seat.me) c.args.self.now.lane c.settle.new.lane c.begin.new.self
+    c.finish.new.lane c.args.sample (words_read c.finish.new.lane.port.call c.finish.new.lane.port.words) begun
+    c.finish.ensures.stands c.finish.ensures.seat.1
+    (ap (λ (v : SubscriberPort). v.lane) (sym c.self.view_is) ∙ sym c.settle.ensures.lane) c.begin.ensures c.finish.ensures.goes
+    c.finish.ensures.over refl

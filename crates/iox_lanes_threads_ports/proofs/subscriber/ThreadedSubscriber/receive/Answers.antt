@@ -11,18 +11,24 @@ use Rattle.iox_lanes_threads_ports.proofs.subscriber.ThreadedSubscriber.receive.
 
 pub run_on-requires-clause-stands : goal.run_on-requires-clause-stands
 run_on-requires-clause-stands g c =
-    lemmas.begun_stands (port_of c.self.inside.seat.me) c.self.inside.lane c.settle.new.lane c.begin.new.self call.Receive c.self.invariant.1 c.settle.ensures.lane c.begin.ensures (lemmas.receive_fits c.settle.new.lane c.settle.ensures.idle)
+    lemmas.begun_stands (port_of c.self.inside.seat.me) c.self.inside.lane c.settle.new.lane c.begin.new.self call.Receive
+    c.self.invariant.1 c.settle.ensures.lane c.begin.ensures (lemmas.receive_fits c.settle.new.lane c.settle.ensures.idle)
 
 pub invariant_of-self : goal.invariant_of-self
 invariant_of-self g c = (
-  lemmas.seated_on c.self.inside.seat.table_id c.run_on.new.seat.table_id c.self.inside.seat.me c.run_on.new.seat.me c.self.inside.sizes c.self.invariant.0 c.run_on.ensures.table.0 c.run_on.ensures.seat.0 c.run_on.ensures.seat.1,
-  lemmas.last_stands (port_of c.run_on.new.seat.me) c.run_on.new.lane c.go_on.new.self c.run_on.ensures.stands c.run_on.ensures.over c.go_on.ensures.lane,
+  lemmas.seated_on c.self.inside.seat.table_id c.run_on.new.seat.table_id c.self.inside.seat.me c.run_on.new.seat.me c.self.inside.sizes
+      c.self.invariant.0 c.run_on.ensures.table.0 c.run_on.ensures.seat.0 c.run_on.ensures.seat.1,
+  lemmas.last_stands (port_of c.run_on.new.seat.me) c.run_on.new.lane c.go_on.new.self c.run_on.ensures.stands c.run_on.ensures.over
+      c.go_on.ensures.lane,
   lemmas.last_between c.run_on.new.lane c.go_on.new.self c.run_on.ensures.over c.go_on.ensures.lane,
 )
 
 pub returns-clause-call : goal.returns-clause-call
 returns-clause-call g c =
-    subst (λ (r : Receipt). SubscriberEnds c.args.self.now.port (subscriber_begun 0 call.Receive c.args.self.now.lane) (port_of c.run_on.new.seat.me) (settled c.go_on.new.self) (answer.Received r)) (sym c.received.ensures)
-    (lemmas.receive_done c.args.self.now (port_of c.self.inside.seat.me) (port_of c.run_on.new.seat.me) (settled c.self.inside.lane) c.begin.new.self c.run_on.new.lane c.go_on.new.self c.go_on.result
-    (ap (λ (v : SubscriberPort). v.port) (sym c.self.view_is)) (ap (λ (v : SubscriberPort). v.lane) (sym c.self.view_is)) (c.begin.ensures ∙ ap (subscriber_begun 0 call.Receive) c.settle.ensures.lane)
+    subst (λ (r : Receipt). SubscriberEnds c.args.self.now.port (subscriber_begun 0 call.Receive c.args.self.now.lane)
+    (port_of c.run_on.new.seat.me) (settled c.go_on.new.self) (answer.Received r)) (sym c.received.ensures)
+    (lemmas.receive_done c.args.self.now (port_of c.self.inside.seat.me) (port_of c.run_on.new.seat.me) (settled c.self.inside.lane)
+    c.begin.new.self c.run_on.new.lane c.go_on.new.self c.go_on.result
+    (ap (λ (v : SubscriberPort). v.port) (sym c.self.view_is)) (ap (λ (v : SubscriberPort). v.lane) (sym c.self.view_is))
+    (c.begin.ensures ∙ ap (subscriber_begun 0 call.Receive) c.settle.ensures.lane)
     c.run_on.ensures.goes c.run_on.ensures.over c.go_on.ensures.lane c.go_on.ensures.answer)

@@ -6,7 +6,8 @@ use Rattle.iox_line.specs.AttributesReading.{pairs_of}
 use Rattle.iox_line.proofs.attributes.specifier.defined_attributes.Given as goal
 
 abbrev pub invariant-loop-word : goal.invariant-loop-word
-invariant-loop-word l = (done : List Attribute) × (pairs_of l.fn.words ≡ onto done (pairs_of l.words)) × (length done ≡ l.count) × (l.count ≤ 8)
+invariant-loop-word l = (done : List Attribute) × (pairs_of l.fn.words ≡ onto done (pairs_of l.words)) × (length done ≡ l.count)
+    × (l.count ≤ 8)
     × Gathers some done l.lacking l.attributes
 
 abbrev pub decreases-loop-word : goal.decreases-loop-word

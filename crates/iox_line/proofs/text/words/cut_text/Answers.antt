@@ -19,16 +19,20 @@ returns-then-begins-clause-back c =
 
 pub returns-in-Some-clause-front : goal.returns-in-Some-clause-front
 returns-in-Some-clause-front c =
-    (cut_found c.args.mark c.args.separator c.in-Some.place c.args.text.now c.if-separator-mark.false (sym c.begins.ensures ∙ c.if-begins.false) (sym c.marked_place.ensures.place ∙ c.in-Some.is)).1
+    (cut_found c.args.mark c.args.separator c.in-Some.place c.args.text.now c.if-separator-mark.false
+    (sym c.begins.ensures ∙ c.if-begins.false) (sym c.marked_place.ensures.place ∙ c.in-Some.is)).1
 
 pub returns-in-Some-clause-back : goal.returns-in-Some-clause-back
 returns-in-Some-clause-back c =
-    rw (take-rest c.args.text.now) (cut_found c.args.mark c.args.separator c.in-Some.place c.args.text.now c.if-separator-mark.false (sym c.begins.ensures ∙ c.if-begins.false) (sym c.marked_place.ensures.place ∙ c.in-Some.is)).2
+    rw (take-rest c.args.text.now) (cut_found c.args.mark c.args.separator c.in-Some.place c.args.text.now c.if-separator-mark.false
+    (sym c.begins.ensures ∙ c.if-begins.false) (sym c.marked_place.ensures.place ∙ c.in-Some.is)).2
 
 pub returns-in-None-clause-front : goal.returns-in-None-clause-front
 returns-in-None-clause-front c =
-    (cut_none c.args.mark c.args.separator c.args.text.now c.if-separator-mark.false (sym c.begins.ensures ∙ c.if-begins.false) (sym c.marked_place.ensures.place ∙ c.in-None.is)).0
+    (cut_none c.args.mark c.args.separator c.args.text.now c.if-separator-mark.false (sym c.begins.ensures ∙ c.if-begins.false)
+    (sym c.marked_place.ensures.place ∙ c.in-None.is)).0
 
 pub returns-in-None-clause-back : goal.returns-in-None-clause-back
 returns-in-None-clause-back c =
-    (cut_none c.args.mark c.args.separator c.args.text.now c.if-separator-mark.false (sym c.begins.ensures ∙ c.if-begins.false) (sym c.marked_place.ensures.place ∙ c.in-None.is)).1
+    (cut_none c.args.mark c.args.separator c.args.text.now c.if-separator-mark.false (sym c.begins.ensures ∙ c.if-begins.false)
+    (sym c.marked_place.ensures.place ∙ c.in-None.is)).1

@@ -9,17 +9,22 @@ returns-then-text-end-clause-first c =
 
 pub returns-then-text-end-clause-rest : goal.returns-then-text-end-clause-rest
 returns-then-text-end-clause-rest c =
-    rw (take-rest c.args.text.now) (cut_there c.args.separator c.args.text.now c.loop-end.end c.loop-end-test.true c.if-text-end.true c.loop-end.invariant).1
+    rw (take-rest c.args.text.now) (cut_there c.args.separator c.args.text.now c.loop-end.end c.loop-end-test.true c.if-text-end.true
+    c.loop-end.invariant).1
 
 pub returns-then-text-end-clause-pieces : goal.returns-then-text-end-clause-pieces
 returns-then-text-end-clause-pieces c =
-    rw (take-rest c.args.text.now) (pieces_cut c.args.separator c.args.text.now c.loop-end.end c.loop-end-test.true c.if-text-end.true c.loop-end.invariant)
+    rw (take-rest c.args.text.now) (pieces_cut c.args.separator c.args.text.now c.loop-end.end c.loop-end-test.true c.if-text-end.true
+    c.loop-end.invariant)
 
 pub returns-clause-first : goal.returns-clause-first
-returns-clause-first c = sym (before-alone c.args.separator c.args.text.now (rw (take_all c.loop-end.end c.args.text.now c.loop-end-test.false) at c.loop-end.invariant))
+returns-clause-first c = sym (before-alone c.args.separator c.args.text.now
+    (rw (take_all c.loop-end.end c.args.text.now c.loop-end-test.false) at c.loop-end.invariant))
 
 pub returns-clause-rest : goal.returns-clause-rest
-returns-clause-rest c = sym (beyond-alone c.args.separator c.args.text.now (rw (take_all c.loop-end.end c.args.text.now c.loop-end-test.false) at c.loop-end.invariant))
+returns-clause-rest c = sym (beyond-alone c.args.separator c.args.text.now
+    (rw (take_all c.loop-end.end c.args.text.now c.loop-end-test.false) at c.loop-end.invariant))
 
 pub returns-clause-pieces : goal.returns-clause-pieces
-returns-clause-pieces c = pieces_of-alone c.args.separator c.args.text.now (rw (take_all c.loop-end.end c.args.text.now c.loop-end-test.false) at c.loop-end.invariant)
+returns-clause-pieces c = pieces_of-alone c.args.separator c.args.text.now
+    (rw (take_all c.loop-end.end c.args.text.now c.loop-end-test.false) at c.loop-end.invariant)

@@ -7,5 +7,9 @@ use Rattle.iox_script.proofs.script.ScriptAnswersLines.answer_line.Goals as goal
 pub returns-in-Some-clause-answers : goal.returns-in-Some-clause-answers
 returns-in-Some-clause-answers c =
     OnOk-follows c.print_reply.result
-    (λ printed. (reply_text c.in_ok-reply.reply, printed, (Ok (command_of c.in-Some.command), c.in-Some.ensures.some, (c.in_ok-reply.reply, c.in_ok-reply.ensures.steps, refl))))
+    (λ printed. (
+      reply_text c.in_ok-reply.reply,
+      printed,
+      (Ok (command_of c.in-Some.command), c.in-Some.ensures.some, (c.in_ok-reply.reply, c.in_ok-reply.ensures.steps, refl)),
+    ))
     c.print_reply.ensures.ok

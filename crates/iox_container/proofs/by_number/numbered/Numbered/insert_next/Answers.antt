@@ -10,7 +10,8 @@ invariant_of-self g c =
     let t = c.self.inside in
     let entries = t.aged.items ++ present t.first t.places.items in
     let more = ap length c.push_back_reserved.ensures.items ∙ length_push c.make_place.new.places.items _ in
-    let longer = ap length (pushed c.make_place.new.first _ c.make_place.new.aged.items entries c.make_place.new.places.items _ c.args.value c.make_place.ensures.entries c.push_back_reserved.ensures.items refl) ∙ length_push entries _ in
+    let longer = ap length (pushed c.make_place.new.first _ c.make_place.new.aged.items entries c.make_place.new.places.items _
+    c.args.value c.make_place.ensures.entries c.push_back_reserved.ensures.items refl) ∙ length_push entries _ in
     let number = rw (← c.self.view_is) at c.requires.number in
     let room = rw (← c.self.view_is) at c.requires.room in (
       c.make_place.ensures.rises,
@@ -27,7 +28,8 @@ returns-clause-table g c =
     let entries = t.aged.items ++ present t.first t.places.items in
     let more = ap length c.push_back_reserved.ensures.items ∙ length_push c.make_place.new.places.items _ in
     rw (← c.self.view_is) (same_table _ _ _ _ _ _
-    (pushed c.make_place.new.first _ c.make_place.new.aged.items entries c.make_place.new.places.items _ c.args.value c.make_place.ensures.entries c.push_back_reserved.ensures.items (sym c.make_place.ensures.next))
+    (pushed c.make_place.new.first _ c.make_place.new.aged.items entries c.make_place.new.places.items _ c.args.value
+    c.make_place.ensures.entries c.push_back_reserved.ensures.items (sym c.make_place.ensures.next))
     (omega (arith, more, c.make_place.ensures.next))
     refl)
 
@@ -35,4 +37,5 @@ pub returns-clause-len : goal.returns-clause-len
 returns-clause-len g c =
     let t = c.self.inside in
     let entries = t.aged.items ++ present t.first t.places.items in
-    rw (← c.self.view_is) (ap length (pushed c.make_place.new.first _ c.make_place.new.aged.items entries c.make_place.new.places.items _ c.args.value c.make_place.ensures.entries c.push_back_reserved.ensures.items refl) ∙ length_push entries _)
+    rw (← c.self.view_is) (ap length (pushed c.make_place.new.first _ c.make_place.new.aged.items entries c.make_place.new.places.items
+    _ c.args.value c.make_place.ensures.entries c.push_back_reserved.ensures.items refl) ∙ length_push entries _)

@@ -1,4 +1,5 @@
-use Rattle.std.proofs.Common.{◌≡◌, ◌+◌, ◌-◌, ◌<◌, ◌++◌, length, None, Some, IsSome, is_some, nat_eq, set, refl, sym, ap, ◌∙◌, length-append, arith}
+use Rattle.std.proofs.Common.{◌≡◌, ◌+◌, ◌-◌, ◌<◌, ◌++◌, length, None, Some, IsSome, is_some, nat_eq, set, refl, sym, ap, ◌∙◌}
+use Rattle.std.proofs.Common.{length-append, arith}
 use Rattle.std.specs.Map.{lookup}
 use Rattle.std.specs.Option.{option_copied_mut}
 use Rattle.std.proofs.lemmas.List.{get_or_read, length-set}
@@ -13,7 +14,8 @@ use Rattle.iox_container.proofs.by_number.numbered.Numbered.value_mut.Goals as g
 pub unreachable-requires : goal.unreachable-requires
 unreachable-requires g c =
     let t = c.self.inside in
-    let none = lookup-aged t.first c.args.number t.aged.items t.places.items c.self.invariant.0 c.if-number-self.true ∙ c.in_default.ensures.none in
+    let none = lookup-aged t.first c.args.number t.aged.items t.places.items c.self.invariant.0 c.if-number-self.true ∙
+    c.in_default.ensures.none in
     let found = rw (← c.self.view_is) at c.requires in
     grind arith
 
@@ -23,7 +25,8 @@ index_mut-requires-else-number-self g c =
     let place = c.args.number - t.first in
     let here : c.args.number ≡ t.first + place = omega arith in
     let found = rw (← c.self.view_is) at c.requires in
-    let held : IsSome (lookup (nat_eq c.args.number) (present t.first t.places.items)) = rw (← lookup-ring t.first c.args.number t.aged.items t.places.items c.self.invariant.0 c.if-number-self.false) found in
+    let held : IsSome (lookup (nat_eq c.args.number) (present t.first t.places.items))
+    = rw (← lookup-ring t.first c.args.number t.aged.items t.places.items c.self.invariant.0 c.if-number-self.false) found in
     omega (arith, has_place c.args.number t.first place t.places.items here held, t.places.ok.0)
 
 pub unwrap-requires : goal.unwrap-requires
@@ -32,9 +35,11 @@ unwrap-requires g c =
     let place = c.args.number - t.first in
     let here : c.args.number ≡ t.first + place = omega arith in
     let found = rw (← c.self.view_is) at c.requires in
-    let held : IsSome (lookup (nat_eq c.args.number) (present t.first t.places.items)) = rw (← lookup-ring t.first c.args.number t.aged.items t.places.items c.self.invariant.0 c.if-number-self.false) found in
+    let held : IsSome (lookup (nat_eq c.args.number) (present t.first t.places.items))
+    = rw (← lookup-ring t.first c.args.number t.aged.items t.places.items c.self.invariant.0 c.if-number-self.false) found in
     let within : place < length t.places.items = has_place c.args.number t.first place t.places.items here held in
-    let read = get_or_read t.places.items place c.index_mut-else-number-self.result.now within c.index_mut-else-number-self.ensures.value None in
+    let read = get_or_read t.places.items place c.index_mut-else-number-self.result.now within
+    c.index_mut-else-number-self.ensures.value None in
     c.as_mut.ensures.variant ∙ ap is_some (read ∙ sym (lookup-present c.args.number t.first place t.places.items here)) ∙ held
 
 pub invariant_of-self-lent : goal.invariant_of-self-lent
@@ -42,12 +47,20 @@ invariant_of-self-lent g c w =
     let t = c.self.inside in
     let entry = c.index_mut.result.now in
     let place = c.in-Some.place in
-    let changed = set-place c.args.number entry (ap (λ e. e.0) c.index_mut.ensures.value ∙ c.in-Some.ensures.found _) 1 t.first place w t.aged.items c.self.invariant.0 c.in-Some.ensures.within c.index_mut.ensures.value in (
+    let changed = set-place c.args.number entry (ap (λ e. e.0) c.index_mut.ensures.value ∙ c.in-Some.ensures.found _) 1 t.first place w
+    t.aged.items c.self.invariant.0 c.in-Some.ensures.within c.index_mut.ensures.value in (
       rw changed (Rises-set_value c.args.number 1 t.first w t.aged.items c.self.invariant.0),
       c.self.invariant.1,
       c.self.invariant.2,
       c.self.invariant.3,
-      omega (arith, c.self.invariant.4, length-append t.aged.items (present t.first t.places.items), length-append (set t.aged.items place (entry.0, w)) (present t.first t.places.items), length-set t.aged.items place (entry.0, w)),
+      omega (
+        arith,
+        c.self.invariant.4,
+        length-append t.aged.items (present t.first t.places.items),
+        length-append
+            (set t.aged.items place (entry.0, w)) (present t.first t.places.items),
+        length-set t.aged.items place (entry.0, w),
+      ),
       c.self.invariant.5,
     )
 
@@ -57,15 +70,24 @@ invariant_of-self-lent-else-number-self g c w =
     let place = c.args.number - t.first in
     let here : c.args.number ≡ t.first + place = omega arith in
     let found = rw (← c.self.view_is) at c.requires in
-    let held : IsSome (lookup (nat_eq c.args.number) (present t.first t.places.items)) = rw (← lookup-ring t.first c.args.number t.aged.items t.places.items c.self.invariant.0 c.if-number-self.false) found in
+    let held : IsSome (lookup (nat_eq c.args.number) (present t.first t.places.items))
+    = rw (← lookup-ring t.first c.args.number t.aged.items t.places.items c.self.invariant.0 c.if-number-self.false) found in
     let within : place < length t.places.items = has_place c.args.number t.first place t.places.items here held in
-    let read = get_or_read t.places.items place c.index_mut-else-number-self.result.now within c.index_mut-else-number-self.ensures.value None in
+    let read = get_or_read t.places.items place c.index_mut-else-number-self.result.now within
+    c.index_mut-else-number-self.ensures.value None in
     let some = sym c.as_mut.ensures.value ∙ ap option_copied_mut c.unwrap.ensures in
     let changed = set-present c.args.number t.first place c.unwrap.result.now w t.places.items here (sym read ∙ some) in
     let places = set t.places.items place (Some w) in
     let as_many = length-set t.places.items place (Some w) in
     let as_long : length (t.aged.items ++ present t.first places) ≡ length (t.aged.items ++ present t.first t.places.items) =
-    omega (arith, length-append t.aged.items (present t.first t.places.items), length-append t.aged.items (present t.first places), ap length changed, length-set_value (nat_eq c.args.number) (present t.first t.places.items) w) in (
+    omega (
+      arith,
+      length-append t.aged.items (present t.first t.places.items),
+      length-append t.aged.items (present t.first places),
+      ap
+          length changed,
+      length-set_value (nat_eq c.args.number) (present t.first t.places.items) w,
+    ) in (
       c.self.invariant.0,
       omega (arith, c.self.invariant.1, as_many),
       c.self.invariant.2,
@@ -81,14 +103,21 @@ returns-in-Some g c =
     let entry = c.index_mut.result.now in
     let place = c.in-Some.place in
     let same = ap (λ e. e.0) c.index_mut.ensures.value ∙ c.in-Some.ensures.found _ in
-    let found = lookup-place c.args.number entry same 1 t.first place t.aged.items c.self.invariant.0 c.in-Some.ensures.within c.index_mut.ensures.value in (
+    let found = lookup-place c.args.number entry same 1 t.first place t.aged.items c.self.invariant.0 c.in-Some.ensures.within
+    c.index_mut.ensures.value in (
       (
         refl,
         λ w. rw (← c.self.view_is) (same_table _ _ _ _ _ _
-            (ap (λ es. es ++ ring) (set-place c.args.number entry same 1 t.first place w t.aged.items c.self.invariant.0 c.in-Some.ensures.within c.index_mut.ensures.value)
+            (ap (λ es. es ++ ring) (set-place c.args.number entry same 1 t.first place w t.aged.items c.self.invariant.0
+            c.in-Some.ensures.within c.index_mut.ensures.value)
             ∙ sym (set_value-aged t.first c.args.number t.aged.items t.places.items c.self.invariant.0 c.if-number-self.true w)) refl refl),
       ),
-      record { writes_back = tt; value = rw (← c.self.view_is) (lookup-aged t.first c.args.number t.aged.items t.places.items c.self.invariant.0 c.if-number-self.true ∙ found) },
+      record {
+        writes_back = tt;
+        value
+            = rw (← c.self.view_is)
+            (lookup-aged t.first c.args.number t.aged.items t.places.items c.self.invariant.0 c.if-number-self.true ∙ found);
+      },
     )
 
 pub returns-else-number-self : goal.returns-else-number-self
@@ -100,7 +129,8 @@ returns-else-number-self g c =
     let ringed = lookup-ring t.first c.args.number t.aged.items t.places.items c.self.invariant.0 c.if-number-self.false in
     let held : IsSome (lookup (nat_eq c.args.number) (present t.first t.places.items)) = rw (← ringed) asked in
     let within : place < length t.places.items = has_place c.args.number t.first place t.places.items here held in
-    let read = get_or_read t.places.items place c.index_mut-else-number-self.result.now within c.index_mut-else-number-self.ensures.value None in
+    let read = get_or_read t.places.items place c.index_mut-else-number-self.result.now within
+    c.index_mut-else-number-self.ensures.value None in
     let some = sym read ∙ sym c.as_mut.ensures.value ∙ ap option_copied_mut c.unwrap.ensures in (
       (
         refl,
@@ -109,5 +139,9 @@ returns-else-number-self g c =
             ∙ sym (set_value-ring t.first c.args.number t.aged.items t.places.items c.self.invariant.0 c.if-number-self.false w))
             (ap (λ many. t.first + many) (length-set t.places.items place (Some w))) refl),
       ),
-      record { writes_back = tt; value = rw (← c.self.view_is) (ringed ∙ lookup-present c.args.number t.first place t.places.items here ∙ some) },
+      record {
+        writes_back = tt;
+        value
+            = rw (← c.self.view_is) (ringed ∙ lookup-present c.args.number t.first place t.places.items here ∙ some);
+      },
     )

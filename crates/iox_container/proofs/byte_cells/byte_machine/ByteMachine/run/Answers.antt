@@ -14,7 +14,8 @@ loop-step-preserved g c =
     let held = c.loop-step.invariant.0 in
     let is : step ≡ get_or steps i step = get_or_default steps i (Store 0 0) step inside in (
       HoldsAfter-more c.args.self.now c.loop-step.self c.step.new.self steps i step inside is held c.step.ensures.bytes,
-      AnswersSoFar-more c.args.self.now c.loop-step.self steps i step c.loop-step.answers.items c.push_reserved.new.self.items c.step.result inside is held
+      AnswersSoFar-more c.args.self.now c.loop-step.self steps i step c.loop-step.answers.items c.push_reserved.new.self.items
+          c.step.result inside is held
           c.step.ensures.answer c.push_reserved.ensures.items c.loop-step.invariant.1,
       omega (arith, c.loop-step.invariant.2, c.push_reserved.ensures.capacity),
     )

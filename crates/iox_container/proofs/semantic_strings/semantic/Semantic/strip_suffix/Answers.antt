@@ -7,7 +7,8 @@ pub returns-in_err-adopt-clause-stripped : goal.returns-in_err-adopt-clause-stri
 returns-in_err-adopt-clause-stripped g c rest e =
     let kept : c.args.self.now ≡ c.strip_suffix.new.self ++ c.args.bytes.now = search rules in
     let same = append_cancel_right c.strip_suffix.new.self rest c.args.bytes.now (sym kept ∙ e) in
-    AnswersContent-err _ g.R.Rules.refuses_content g.R.Rules.refuses_characters _ rest _ c.from_residual.result same c.in_err-adopt.ensures.answer c.from_residual.ensures.1
+    AnswersContent-err _ g.R.Rules.refuses_content g.R.Rules.refuses_characters _ rest _ c.from_residual.result same
+    c.in_err-adopt.ensures.answer c.from_residual.ensures.1
 
 pub returns-clause-stripped : goal.returns-clause-stripped
 returns-clause-stripped g c rest e =

@@ -28,7 +28,8 @@ overflow_add-kept g c = omega (arith, c.loop-at.invariant.2.behind, c.loop-at-te
 
 pub loop-at-preserved : goal.loop-at-preserved
 loop-at-preserved g c =
-    let more : c.loop-at.at < length (g.Self.String.text c.args.self.now) = omega (arith, c.loop-at-test.true, c.len-at-end.ensures.value) in
+    let more : c.loop-at.at < length (g.Self.String.text c.args.self.now)
+    = omega (arith, c.loop-at-test.true, c.len-at-end.ensures.value) in
     let read : get_or c.as_bytes.result.now c.loop-at.at 0 ≡ get_or (g.Self.String.text c.loop-at.self) c.loop-at.at 0 =
     ap (λ xs. get_or xs c.loop-at.at 0) c.as_bytes.ensures.value in
     elim c.if-keeps.branch [
@@ -48,11 +49,13 @@ loop-at-preserved g c =
 
 pub returns-clause-filtered : goal.returns-clause-filtered
 returns-clause-filtered g c =
-    rw c.truncate.ensures.kept (RetainedSoFar-all _ _ _ _ _ _ _ c.loop-at.invariant.2 (omega (arith, c.loop-at-test.false, c.len-at-end.ensures.value)))
+    rw c.truncate.ensures.kept (RetainedSoFar-all _ _ _ _ _ _ _ c.loop-at.invariant.2
+    (omega (arith, c.loop-at-test.false, c.len-at-end.ensures.value)))
 
 pub returns-clause-asked : goal.returns-clause-asked
 returns-clause-asked g c =
-    rw c.truncate.ensures.kept (RetainedSoFar-asked _ _ _ _ _ _ _ c.loop-at.invariant.2 (omega (arith, c.loop-at-test.false, c.len-at-end.ensures.value)))
+    rw c.truncate.ensures.kept (RetainedSoFar-asked _ _ _ _ _ _ _ c.loop-at.invariant.2
+    (omega (arith, c.loop-at-test.false, c.len-at-end.ensures.value)))
 
 pub returns-clause-capacity : goal.returns-clause-capacity
 returns-clause-capacity g c = c.truncate.ensures.capacity ∙ c.loop-at.invariant.1

@@ -9,4 +9,5 @@ abbrev pub invariant-loop-at : goal.invariant-loop-at
 invariant-loop-at g l =
     always_mut g.F.FnMut l.keeps
     × (g.Self.String.room l.self ≡ g.Self.String.room l.initial.self)
-    × RetainedSoFar (λ p byte answer q. Called g.F.FnMut p (byte, tt) answer q) l.initial.keeps (g.Self.String.text l.initial.self) (g.Self.String.text l.self) l.keeps l.kept l.at
+    × RetainedSoFar (λ p byte answer q. Called g.F.FnMut p (byte, tt) answer q) l.initial.keeps (g.Self.String.text l.initial.self)
+    (g.Self.String.text l.self) l.keeps l.kept l.at

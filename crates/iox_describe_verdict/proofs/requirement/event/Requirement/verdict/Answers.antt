@@ -11,4 +11,5 @@ unfolding unmet_clause
 returns-in-Event c =
     c.judge.ensures
     ∙ ap (λ (attributes : List Attribute). first_unmet (clauses_on c.args.self.now attributes c.in-Event.given)) c.attributes.ensures
-    ∙ ap (λ (settings : Settings). first_unmet (clauses_of c.args.self.now c.args.description.now.attributes settings)) (sym c.in-Event.is ∙ c.settings.ensures)
+    ∙ ap (λ (settings : Settings). first_unmet (clauses_of c.args.self.now c.args.description.now.attributes settings))
+    (sym c.in-Event.is ∙ c.settings.ensures)

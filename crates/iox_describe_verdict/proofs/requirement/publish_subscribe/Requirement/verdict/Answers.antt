@@ -10,5 +10,7 @@ pub returns-in-PublishSubscribe : goal.returns-in-PublishSubscribe
 unfolding unmet_clause
 returns-in-PublishSubscribe c =
     c.judge.ensures
-    ∙ ap (λ (attributes : List Attribute). first_unmet (clauses_on c.args.self.now attributes c.in-PublishSubscribe.given)) c.attributes.ensures
-    ∙ ap (λ (settings : Settings). first_unmet (clauses_of c.args.self.now c.args.description.now.attributes settings)) (sym c.in-PublishSubscribe.is ∙ c.settings.ensures)
+    ∙ ap (λ (attributes : List Attribute). first_unmet (clauses_on c.args.self.now attributes c.in-PublishSubscribe.given))
+    c.attributes.ensures
+    ∙ ap (λ (settings : Settings). first_unmet (clauses_of c.args.self.now c.args.description.now.attributes settings))
+    (sym c.in-PublishSubscribe.is ∙ c.settings.ensures)

@@ -10,5 +10,7 @@ pub returns-in-RequestResponse : goal.returns-in-RequestResponse
 unfolding unmet_clause
 returns-in-RequestResponse c =
     c.judge.ensures
-    ∙ ap (λ (attributes : List Attribute). first_unmet (clauses_on c.args.self.now attributes c.in-RequestResponse.given)) c.attributes.ensures
-    ∙ ap (λ (settings : Settings). first_unmet (clauses_of c.args.self.now c.args.description.now.attributes settings)) (sym c.in-RequestResponse.is ∙ c.settings.ensures)
+    ∙ ap (λ (attributes : List Attribute). first_unmet (clauses_on c.args.self.now attributes c.in-RequestResponse.given))
+    c.attributes.ensures
+    ∙ ap (λ (settings : Settings). first_unmet (clauses_of c.args.self.now c.args.description.now.attributes settings))
+    (sym c.in-RequestResponse.is ∙ c.settings.ensures)

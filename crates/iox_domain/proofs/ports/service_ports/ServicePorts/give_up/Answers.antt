@@ -6,12 +6,15 @@ use Rattle.iox_domain.proofs.ports.service_ports.ServicePorts.give_up.Goals as g
 
 pub returns-in_err-delivered : goal.returns-in_err-delivered
 returns-in_err-delivered g c =
-    let there : port_of c.args.number c.args.self.now.publishers ≡ Some c.in_ok-port.port.now = search (rules, c.in_ok-port.ensures.value) in
+    let there : port_of c.args.number c.args.self.now.publishers ≡ Some c.in_ok-port.port.now
+    = search (rules, c.in_ok-port.ensures.value) in
     rw c.from_residual-in_err-delivered.ensures
-    (at_publisher-none c.args.number GivesUpOne c.args.self.now _ c.in_ok-port.port.now c.give_up_one.new.port there c.in_err-delivered.ensures.gives_up (c.in_err-delivered.ensures.none refl) refl)
+    (at_publisher-none c.args.number GivesUpOne c.args.self.now _ c.in_ok-port.port.now c.give_up_one.new.port there
+    c.in_err-delivered.ensures.gives_up (c.in_err-delivered.ensures.none refl) refl)
 
 pub returns : goal.returns
 returns g c =
-    let there : port_of c.args.number c.args.self.now.publishers ≡ Some c.in_ok-port.port.now = search (rules, c.in_ok-port.ensures.value) in
+    let there : port_of c.args.number c.args.self.now.publishers ≡ Some c.in_ok-port.port.now
+    = search (rules, c.in_ok-port.ensures.value) in
     at_publisher c.args.number GivesUpOne c.args.self.now _ c.in_ok-port.port.now c.give_up_one.new.port c.in_ok-delivered.delivered there
     c.in_ok-delivered.ensures.gives_up (ap (λ publishers. record c.args.self.now { publishers = publishers }) c.settle.ensures)

@@ -7,6 +7,9 @@ use Rattle.iox_domain.proofs.ports.service_ports.ServicePorts.has_samples.Goals 
 
 pub returns : goal.returns
 returns g c =
-    let there : subscriber_of c.args.number c.args.self.now.subscribers ≡ Some c.in_ok-port.port.now = search (rules, c.in_ok-port.ensures.value) in
-    at_subscriber c.args.number (HasSamplesOne (g.D.Degrades.degrades c.args.handler.now cause.FailedToEstablishConnection) c.args.self.now.publisher_list) c.args.self.now _ c.in_ok-port.port.now c.has_samples_one.new.port c.has_samples_one.new.publishers c.has_samples_one.result there
+    let there : subscriber_of c.args.number c.args.self.now.subscribers ≡ Some c.in_ok-port.port.now
+    = search (rules, c.in_ok-port.ensures.value) in
+    at_subscriber c.args.number (HasSamplesOne (g.D.Degrades.degrades c.args.handler.now cause.FailedToEstablishConnection)
+    c.args.self.now.publisher_list) c.args.self.now _ c.in_ok-port.port.now c.has_samples_one.new.port
+    c.has_samples_one.new.publishers c.has_samples_one.result there
     c.has_samples_one.ensures.has c.has_samples_one.ensures.port_stays c.has_samples_one.ensures.publishers_stay refl

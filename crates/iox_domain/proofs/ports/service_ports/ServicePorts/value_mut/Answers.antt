@@ -8,5 +8,6 @@ use Rattle.iox_domain.proofs.ports.service_ports.ServicePorts.value_mut.Goals as
 pub returns-in-Some : goal.returns-in-Some
 returns-in-Some g c =
     let there : port_of c.args.number c.args.self.now.publishers ≡ Some c.in-Some.port.now = search (rules, c.in-Some.ensures.value) in
-    let same : with_port c.args.number c.args.self.now.publishers c.in-Some.port.now ≡ c.args.self.now.publishers = set_value_same (is_at (nat_cmp c.args.number)) c.args.self.now.publishers c.in-Some.port.now there in
+    let same : with_port c.args.number c.args.self.now.publishers c.in-Some.port.now ≡ c.args.self.now.publishers
+    = set_value_same (is_at (nat_cmp c.args.number)) c.args.self.now.publishers c.in-Some.port.now there in
     (rw there (rw same refl), record { writes_back = tt; value = rw there c.value_mut.ensures.value })

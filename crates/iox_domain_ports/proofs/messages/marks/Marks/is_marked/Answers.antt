@@ -5,26 +5,39 @@ use Rattle.iox_domain_ports.proofs.messages.marks.Marks.is_marked.Goals as goal
 
 pub index-requires : goal.index-requires
 index-requires c =
-    let below : c.args.slot < length c.self.inside.markings.items = marking_there c.self.inside.markings.items c.self.inside.rows c.args.self.now c.args.slot ((c.self.inside.rows.most_segments - c.self.inside.rows.segments) * c.self.inside.rows.size) c.self.view_is c.self.invariant.0 c.requires in
+    let below : c.args.slot < length c.self.inside.markings.items
+    = marking_there c.self.inside.markings.items c.self.inside.rows c.args.self.now c.args.slot
+    ((c.self.inside.rows.most_segments - c.self.inside.rows.segments) * c.self.inside.rows.size) c.self.view_is c.self.invariant.0
+    c.requires in
     search (rules, below)
 
 pub values-requires : goal.values-requires
 values-requires c = slot_there c.self.inside.markings.items c.self.inside.rows c.args.self.now c.args.slot c.self.view_is c.requires
 
 pub values-requires-in-EachMarked : goal.values-requires-in-EachMarked
-values-requires-in-EachMarked c = slot_there c.self.inside.markings.items c.self.inside.rows c.args.self.now c.args.slot c.self.view_is c.requires
+values-requires-in-EachMarked c = slot_there c.self.inside.markings.items c.self.inside.rows c.args.self.now c.args.slot c.self.view_is
+    c.requires
 
 pub returns-in-Unwritten : goal.returns-in-Unwritten
 returns-in-Unwritten c =
-    let marks = rw c.in-Unwritten.is at (marks_by c.self.inside.markings.items c.self.inside.rows c.args.self.now c.args.slot ((c.self.inside.rows.most_segments - c.self.inside.rows.segments) * c.self.inside.rows.size) c.index.result.now c.self.view_is c.self.invariant.0 c.requires c.index.ensures) in
+    let marks = rw c.in-Unwritten.is at
+    (marks_by c.self.inside.markings.items c.self.inside.rows c.args.self.now c.args.slot
+    ((c.self.inside.rows.most_segments - c.self.inside.rows.segments) * c.self.inside.rows.size) c.index.result.now c.self.view_is
+    c.self.invariant.0 c.requires c.index.ensures) in
     sym (ap (λ marks. get_or marks c.args.place false) marks ∙ none_true (length (payload_at c.args.slot c.self.inside.rows)) c.args.place)
 
 pub returns-in-Written : goal.returns-in-Written
 returns-in-Written c =
-    let marks = rw c.in-Written.is at (marks_by c.self.inside.markings.items c.self.inside.rows c.args.self.now c.args.slot ((c.self.inside.rows.most_segments - c.self.inside.rows.segments) * c.self.inside.rows.size) c.index.result.now c.self.view_is c.self.invariant.0 c.requires c.index.ensures) in
-    ap (λ row. nat_lt c.args.place (length row)) c.values.ensures ∙ true_within (length (payload_at c.args.slot c.self.inside.rows)) c.args.place ∙ sym (ap (λ marks. get_or marks c.args.place false) marks)
+    let marks = rw c.in-Written.is at (marks_by c.self.inside.markings.items c.self.inside.rows c.args.self.now c.args.slot
+    ((c.self.inside.rows.most_segments - c.self.inside.rows.segments) * c.self.inside.rows.size) c.index.result.now c.self.view_is
+    c.self.invariant.0 c.requires c.index.ensures) in
+    ap (λ row. nat_lt c.args.place (length row)) c.values.ensures ∙ true_within (length (payload_at c.args.slot c.self.inside.rows))
+    c.args.place ∙ sym (ap (λ marks. get_or marks c.args.place false) marks)
 
 pub returns-in-EachMarked : goal.returns-in-EachMarked
 returns-in-EachMarked c =
-    let marks = rw c.in-EachMarked.is at (marks_by c.self.inside.markings.items c.self.inside.rows c.args.self.now c.args.slot ((c.self.inside.rows.most_segments - c.self.inside.rows.segments) * c.self.inside.rows.size) c.index.result.now c.self.view_is c.self.invariant.0 c.requires c.index.ensures) in
+    let marks = rw c.in-EachMarked.is at
+    (marks_by c.self.inside.markings.items c.self.inside.rows c.args.self.now c.args.slot
+    ((c.self.inside.rows.most_segments - c.self.inside.rows.segments) * c.self.inside.rows.size) c.index.result.now c.self.view_is
+    c.self.invariant.0 c.requires c.index.ensures) in
     c.is_marked.ensures ∙ ap (λ marks. get_or marks c.args.place false) (c.values-in-EachMarked.ensures ∙ sym marks)

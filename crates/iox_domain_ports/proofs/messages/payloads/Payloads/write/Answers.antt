@@ -5,23 +5,34 @@ use Rattle.iox_domain_ports.proofs.Segments.{some_size, is_within, found, slot_w
 use Rattle.iox_domain_ports.proofs.messages.payloads.Payloads.write.Goals as goal
 
 pub row_of-row-requires : goal.row_of-row-requires
-row_of-row-requires g c = some_size c.args.self.now c.self.inside.size c.self.inside.most_segments c.self.inside.segments.items c.args.slot c.self.view_is c.self.invariant.0 (slot_within c.args.self.now.payloads c.args.slot c.args.place c.requires)
+row_of-row-requires g c = some_size c.args.self.now c.self.inside.size c.self.inside.most_segments c.self.inside.segments.items
+    c.args.slot c.self.view_is c.self.invariant.0 (slot_within c.args.self.now.payloads c.args.slot c.args.place c.requires)
 
 pub segment_of-requires : goal.segment_of-requires
-segment_of-requires g c = some_size c.args.self.now c.self.inside.size c.self.inside.most_segments c.self.inside.segments.items c.args.slot c.self.view_is c.self.invariant.0 (slot_within c.args.self.now.payloads c.args.slot c.args.place c.requires)
+segment_of-requires g c = some_size c.args.self.now c.self.inside.size c.self.inside.most_segments c.self.inside.segments.items
+    c.args.slot c.self.view_is c.self.invariant.0 (slot_within c.args.self.now.payloads c.args.slot c.args.place c.requires)
 
 pub index_mut-segment-requires : goal.index_mut-segment-requires
 index_mut-segment-requires g c =
-    let within = is_within c.args.self.now c.self.inside.size c.self.inside.most_segments c.self.inside.segments.items c.args.slot c.segment_of.result c.self.view_is c.self.invariant.0 (slot_within c.args.self.now.payloads c.args.slot c.args.place c.requires) c.segment_of.ensures in
+    let within = is_within c.args.self.now c.self.inside.size c.self.inside.most_segments c.self.inside.segments.items c.args.slot
+    c.segment_of.result c.self.view_is c.self.invariant.0 (slot_within c.args.self.now.payloads c.args.slot c.args.place c.requires)
+    c.segment_of.ensures in
     search (rules, within)
 
 pub write-requires : goal.write-requires
 write-requires g c =
-    let it = found c.args.self.now c.self.inside.size c.self.inside.most_segments c.self.inside.segments.items c.args.slot c.segment_of.result c.row_of-row.result c.index_mut-segment.result.now c.self.view_is c.self.invariant.0 (slot_within c.args.self.now.payloads c.args.slot c.args.place c.requires) c.segment_of.ensures c.row_of-row.ensures c.index_mut-segment.ensures.value in
+    let it = found c.args.self.now c.self.inside.size c.self.inside.most_segments c.self.inside.segments.items c.args.slot
+    c.segment_of.result c.row_of-row.result c.index_mut-segment.result.now c.self.view_is c.self.invariant.0
+    (slot_within c.args.self.now.payloads c.args.slot c.args.place c.requires) c.segment_of.ensures c.row_of-row.ensures
+    c.index_mut-segment.ensures.value in
     omega (arith, c.requires, ap length it.holds)
 
 pub returns : goal.returns
 returns g c =
-    let it = found c.args.self.now c.self.inside.size c.self.inside.most_segments c.self.inside.segments.items c.args.slot c.segment_of.result c.row_of-row.result c.index_mut-segment.result.now c.self.view_is c.self.invariant.0 (slot_within c.args.self.now.payloads c.args.slot c.args.place c.requires) c.segment_of.ensures c.row_of-row.ensures c.index_mut-segment.ensures.value in
+    let it = found c.args.self.now c.self.inside.size c.self.inside.most_segments c.self.inside.segments.items c.args.slot
+    c.segment_of.result c.row_of-row.result c.index_mut-segment.result.now c.self.view_is c.self.invariant.0
+    (slot_within c.args.self.now.payloads c.args.slot c.args.place c.requires) c.segment_of.ensures c.row_of-row.ensures
+    c.index_mut-segment.ensures.value in
     it.changed (set (payload_at c.args.slot c.args.self.now) c.args.place c.args.value) c.write.new.self
-    (c.write.ensures ∙ ap (λ values. with_row c.row_of-row.result (set values c.args.place c.args.value) c.index_mut-segment.result.now) it.holds)
+    (c.write.ensures ∙ ap (λ values. with_row c.row_of-row.result (set values c.args.place c.args.value) c.index_mut-segment.result.now)
+    it.holds)

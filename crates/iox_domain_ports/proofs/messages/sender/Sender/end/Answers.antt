@@ -8,9 +8,53 @@ use Rattle.iox_domain_ports.proofs.Seen.{seen_connection}
 use Rattle.iox_domain_ports.proofs.messages.sender.Sender.end.Goals as goal
 
 pub invariant_of-self : goal.invariant_of-self
-invariant_of-self g c = subst (λ uses. IsSender (record { values = c.self.inside.values; written = c.self.inside.written; headers = c.self.inside.headers.items; blank = c.self.inside.blank }) uses) (sym c.end.ensures) (connection_kept (record { values = c.self.inside.values; written = c.self.inside.written; headers = c.self.inside.headers.items; blank = c.self.inside.blank }) c.self.inside.uses c.args.index (ended (connection_at c.args.index c.self.inside.uses)) c.self.invariant
+invariant_of-self g c
+    = subst (λ uses. IsSender
+    (record {
+      values = c.self.inside.values;
+      written = c.self.inside.written;
+      headers = c.self.inside.headers.items;
+      blank
+          = c.self.inside.blank;
+    }) uses) (sym c.end.ensures)
+    (connection_kept (record {
+      values = c.self.inside.values;
+      written = c.self.inside.written;
+      headers = c.self.inside.headers.items;
+      blank
+          = c.self.inside.blank;
+    }) c.self.inside.uses c.args.index (ended (connection_at c.args.index c.self.inside.uses)) c.self.invariant
     (λ k. omega (arith, end_holds (connection_at c.args.index c.self.inside.uses) k)))
 
 pub returns : goal.returns
-returns g c = seen_connection (record { values = c.self.inside.values; written = c.self.inside.written; headers = c.self.inside.headers.items; blank = c.self.inside.blank }) c.self.inside.uses c.end.new.self c.args.self.now c.args.index (ended (connection_at c.args.index c.self.inside.uses)) (λ uses. ended (connection_at c.args.index uses)) c.self.view_is c.end.ensures
-    (ended_by (message_in (record { values = c.self.inside.values; written = c.self.inside.written; headers = c.self.inside.headers.items; blank = c.self.inside.blank })) (connection_at c.args.index c.self.inside.uses) ∙ ap (λ it. ended it) (sym (connection_at_by (loan_in (record { values = c.self.inside.values; written = c.self.inside.written; headers = c.self.inside.headers.items; blank = c.self.inside.blank })) (message_in (record { values = c.self.inside.values; written = c.self.inside.written; headers = c.self.inside.headers.items; blank = c.self.inside.blank })) c.args.index c.self.inside.uses)))
+returns g c = seen_connection
+    (record {
+      values = c.self.inside.values;
+      written = c.self.inside.written;
+      headers = c.self.inside.headers.items;
+      blank
+          = c.self.inside.blank;
+    }) c.self.inside.uses c.end.new.self c.args.self.now c.args.index (ended (connection_at c.args.index c.self.inside.uses))
+    (λ uses. ended (connection_at c.args.index uses)) c.self.view_is c.end.ensures
+    (ended_by (message_in
+    (record {
+      values = c.self.inside.values;
+      written = c.self.inside.written;
+      headers = c.self.inside.headers.items;
+      blank
+          = c.self.inside.blank;
+    })) (connection_at c.args.index c.self.inside.uses) ∙ ap (λ it. ended it)
+    (sym (connection_at_by
+    (loan_in (record {
+      values = c.self.inside.values;
+      written = c.self.inside.written;
+      headers = c.self.inside.headers.items;
+      blank
+          = c.self.inside.blank;
+    })) (message_in (record {
+      values = c.self.inside.values;
+      written = c.self.inside.written;
+      headers = c.self.inside.headers.items;
+      blank
+          = c.self.inside.blank;
+    })) c.args.index c.self.inside.uses)))

@@ -6,11 +6,40 @@ use Rattle.iox_domain_ports.proofs.Inside.{borrowed_inside}
 use Rattle.iox_domain_ports.proofs.messages.sender.Sender.place_of_borrowed.Goals as goal
 
 pub returns-clause-place : goal.returns-clause-place
-returns-clause-place g c = c.place_of_borrowed.ensures ∙ sym (position_by (message_in (record { values = c.self.inside.values; written = c.self.inside.written; headers = c.self.inside.headers.items; blank = c.self.inside.blank })) (λ message. message.slot == c.args.slot) (connection_at c.args.index c.self.inside.uses).borrowed)
-    ∙ ap (λ connection. position (λ message. message.slot == c.args.slot) connection.borrowed) (sym (connection_at_by (loan_in (record { values = c.self.inside.values; written = c.self.inside.written; headers = c.self.inside.headers.items; blank = c.self.inside.blank })) (message_in (record { values = c.self.inside.values; written = c.self.inside.written; headers = c.self.inside.headers.items; blank = c.self.inside.blank })) c.args.index c.self.inside.uses))
+returns-clause-place g c
+    = c.place_of_borrowed.ensures ∙ sym
+    (position_by (message_in
+    (record {
+      values = c.self.inside.values;
+      written = c.self.inside.written;
+      headers = c.self.inside.headers.items;
+      blank
+          = c.self.inside.blank;
+    })) (λ message. message.slot == c.args.slot) (connection_at c.args.index c.self.inside.uses).borrowed)
+    ∙ ap (λ connection. position (λ message. message.slot == c.args.slot) connection.borrowed)
+    (sym (connection_at_by
+    (loan_in (record {
+      values = c.self.inside.values;
+      written = c.self.inside.written;
+      headers = c.self.inside.headers.items;
+      blank
+          = c.self.inside.blank;
+    })) (message_in (record {
+      values = c.self.inside.values;
+      written = c.self.inside.written;
+      headers = c.self.inside.headers.items;
+      blank
+          = c.self.inside.blank;
+    })) c.args.index c.self.inside.uses))
     ∙ ap (λ s. position (λ message. message.slot == c.args.slot) (connection_at c.args.index s.uses).borrowed) c.self.view_is
 
 pub returns-clause-inside : goal.returns-clause-inside
 returns-clause-inside g c =
     rw (← c.self.view_is)
-    (borrowed_inside (record { values = c.self.inside.values; written = c.self.inside.written; headers = c.self.inside.headers.items; blank = c.self.inside.blank }) c.self.inside.uses c.args.slot c.args.index c.place_of_borrowed.result c.self.invariant c.place_of_borrowed.ensures)
+    (borrowed_inside (record {
+      values = c.self.inside.values;
+      written = c.self.inside.written;
+      headers = c.self.inside.headers.items;
+      blank
+          = c.self.inside.blank;
+    }) c.self.inside.uses c.args.slot c.args.index c.place_of_borrowed.result c.self.invariant c.place_of_borrowed.ensures)

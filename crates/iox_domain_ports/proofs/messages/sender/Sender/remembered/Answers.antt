@@ -6,13 +6,37 @@ use Rattle.iox_domain_ports.proofs.messages.sender.Sender.remembered.Goals as go
 pub returns-clause-slot : goal.returns-clause-slot
 returns-clause-slot g c =
     ap (λ s. slice_get (map (λ message. message.slot) s.uses.history) c.args.place) (sym c.self.view_is)
-    ∙ slot_named (record { values = c.self.inside.values; written = c.self.inside.written; headers = c.self.inside.headers.items; blank = c.self.inside.blank }) c.self.inside.uses.history c.args.place c.remembered.result
+    ∙ slot_named (record {
+      values = c.self.inside.values;
+      written = c.self.inside.written;
+      headers = c.self.inside.headers.items;
+      blank
+          = c.self.inside.blank;
+    }) c.self.inside.uses.history c.args.place c.remembered.result
     (stands_at c.self.inside.uses.history c.args.place c.remembered.result
-    (remembered_below (record { values = c.self.inside.values; written = c.self.inside.written; headers = c.self.inside.headers.items; blank = c.self.inside.blank }) c.self.inside.uses c.args.self.now c.args.place c.self.view_is c.requires) c.remembered.ensures)
+    (remembered_below (record {
+      values = c.self.inside.values;
+      written = c.self.inside.written;
+      headers = c.self.inside.headers.items;
+      blank
+          = c.self.inside.blank;
+    }) c.self.inside.uses c.args.self.now c.args.place c.self.view_is c.requires) c.remembered.ensures)
 
 pub returns-clause-inside : goal.returns-clause-inside
 returns-clause-inside g c =
     rw (← c.self.view_is)
-    (remembered_inside (record { values = c.self.inside.values; written = c.self.inside.written; headers = c.self.inside.headers.items; blank = c.self.inside.blank }) c.self.inside.uses c.args.place c.remembered.result c.self.invariant
+    (remembered_inside (record {
+      values = c.self.inside.values;
+      written = c.self.inside.written;
+      headers = c.self.inside.headers.items;
+      blank
+          = c.self.inside.blank;
+    }) c.self.inside.uses c.args.place c.remembered.result c.self.invariant
     (stands_at c.self.inside.uses.history c.args.place c.remembered.result
-    (remembered_below (record { values = c.self.inside.values; written = c.self.inside.written; headers = c.self.inside.headers.items; blank = c.self.inside.blank }) c.self.inside.uses c.args.self.now c.args.place c.self.view_is c.requires) c.remembered.ensures))
+    (remembered_below (record {
+      values = c.self.inside.values;
+      written = c.self.inside.written;
+      headers = c.self.inside.headers.items;
+      blank
+          = c.self.inside.blank;
+    }) c.self.inside.uses c.args.self.now c.args.place c.self.view_is c.requires) c.remembered.ensures))

@@ -6,15 +6,46 @@ use Rattle.iox_domain_ports.proofs.messages.sender.Sender.user_header.Goals as g
 
 pub returns : goal.returns
 returns g c =
-    let below = slot_below (record { values = c.self.inside.values; written = c.self.inside.written; headers = c.self.inside.headers.items; blank = c.self.inside.blank }) c.self.inside.uses c.args.self.now c.args.slot c.self.view_is c.self.invariant c.requires in
+    let below = slot_below
+    (record {
+      values = c.self.inside.values;
+      written = c.self.inside.written;
+      headers = c.self.inside.headers.items;
+      blank
+          = c.self.inside.blank;
+    }) c.self.inside.uses c.args.self.now c.args.slot c.self.view_is c.self.invariant c.requires in
     record {
       borrowed = λ index at message there stands.
-          ap (λ h. h.user_header) (c.index.ensures ∙ get_or_default c.self.inside.headers.items c.args.slot c.index.result.now c.self.inside.blank below)
-          ∙ ap (λ m. m.user_header) (borrowed_is (record { values = c.self.inside.values; written = c.self.inside.written; headers = c.self.inside.headers.items; blank = c.self.inside.blank }) c.self.inside.uses c.args.self.now c.args.slot index at message c.self.view_is there stands);
+          ap (λ h. h.user_header) (c.index.ensures ∙ get_or_default c.self.inside.headers.items c.args.slot c.index.result.now
+          c.self.inside.blank below)
+          ∙ ap (λ m. m.user_header)
+          (borrowed_is (record {
+            values = c.self.inside.values;
+            written = c.self.inside.written;
+            headers
+                = c.self.inside.headers.items;
+            blank = c.self.inside.blank;
+          }) c.self.inside.uses c.args.self.now c.args.slot index at message c.self.view_is there stands);
       waiting = λ index at message there stands.
-          ap (λ h. h.user_header) (c.index.ensures ∙ get_or_default c.self.inside.headers.items c.args.slot c.index.result.now c.self.inside.blank below)
-          ∙ ap (λ m. m.user_header) (waiting_is (record { values = c.self.inside.values; written = c.self.inside.written; headers = c.self.inside.headers.items; blank = c.self.inside.blank }) c.self.inside.uses c.args.self.now c.args.slot index at message c.self.view_is there stands);
+          ap (λ h. h.user_header) (c.index.ensures ∙ get_or_default c.self.inside.headers.items c.args.slot c.index.result.now
+          c.self.inside.blank below)
+          ∙ ap (λ m. m.user_header)
+          (waiting_is (record {
+            values = c.self.inside.values;
+            written = c.self.inside.written;
+            headers
+                = c.self.inside.headers.items;
+            blank = c.self.inside.blank;
+          }) c.self.inside.uses c.args.self.now c.args.slot index at message c.self.view_is there stands);
       remembered = λ at message there stands.
-          ap (λ h. h.user_header) (c.index.ensures ∙ get_or_default c.self.inside.headers.items c.args.slot c.index.result.now c.self.inside.blank below)
-          ∙ ap (λ m. m.user_header) (remembered_is (record { values = c.self.inside.values; written = c.self.inside.written; headers = c.self.inside.headers.items; blank = c.self.inside.blank }) c.self.inside.uses c.args.self.now c.args.slot at message c.self.view_is there stands);
+          ap (λ h. h.user_header) (c.index.ensures ∙ get_or_default c.self.inside.headers.items c.args.slot c.index.result.now
+          c.self.inside.blank below)
+          ∙ ap (λ m. m.user_header)
+          (remembered_is (record {
+            values = c.self.inside.values;
+            written = c.self.inside.written;
+            headers = c.self.inside.headers.items;
+            blank
+                = c.self.inside.blank;
+          }) c.self.inside.uses c.args.self.now c.args.slot at message c.self.view_is there stands);
     }

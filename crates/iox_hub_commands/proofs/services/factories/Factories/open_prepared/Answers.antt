@@ -5,30 +5,53 @@ use Rattle.iox_hub_commands.proofs.services.factories.Factories.open_prepared.Go
 
 pub returns-in-Ok : goal.returns-in-Ok
 returns-in-Ok g c =
-    let (answer, opened, told) = rw (c.with_requirement-builder.ensures, c.publish_subscribe.ensures, c.of_hub-builder.ensures) at c.in-Ok.ensures in
-    rw c.in-PublishSubscribe.is (answer, opened, numbers _ _ answer _ _ (made.PublishSubscribe c.in-Ok.factory) _ refl told c.number.ensures.table c.number.ensures.number c.number.ensures.form)
+    let (answer, opened, told) = rw (c.with_requirement-builder.ensures, c.publish_subscribe.ensures, c.of_hub-builder.ensures) at
+    c.in-Ok.ensures in
+    rw c.in-PublishSubscribe.is (
+      answer,
+      opened,
+      numbers _ _ answer _ _ (made.PublishSubscribe c.in-Ok.factory) _ refl told c.number.ensures.table
+          c.number.ensures.number c.number.ensures.form,
+    )
 
 pub returns-in-Err : goal.returns-in-Err
 returns-in-Err g c =
-    let (answer, opened, told) = rw (c.with_requirement-builder.ensures, c.publish_subscribe.ensures, c.of_hub-builder.ensures) at c.in-Err.ensures in
+    let (answer, opened, told) = rw (c.with_requirement-builder.ensures, c.publish_subscribe.ensures, c.of_hub-builder.ensures) at
+    c.in-Err.ensures in
     rw c.in-PublishSubscribe.is (answer, opened, refuses _ _ answer _ _ told)
 
 pub returns-in-Ok-opened : goal.returns-in-Ok-opened
 returns-in-Ok-opened g c =
-    let (answer, opened, told) = rw (c.with_requirement-builder-in-Event.ensures, c.event.ensures, c.of_hub-builder.ensures) at c.in-Ok-opened.ensures in
-    rw c.in-Event.is (answer, opened, numbers _ _ answer _ _ (made.Event c.in-Ok-opened.factory) _ refl told c.number-in-Ok-opened.ensures.table c.number-in-Ok-opened.ensures.number c.number-in-Ok-opened.ensures.form)
+    let (answer, opened, told) = rw (c.with_requirement-builder-in-Event.ensures, c.event.ensures, c.of_hub-builder.ensures) at
+    c.in-Ok-opened.ensures in
+    rw c.in-Event.is (
+      answer,
+      opened,
+      numbers _ _ answer _ _ (made.Event c.in-Ok-opened.factory) _ refl told
+          c.number-in-Ok-opened.ensures.table c.number-in-Ok-opened.ensures.number c.number-in-Ok-opened.ensures.form,
+    )
 
 pub returns-in-Err-opened : goal.returns-in-Err-opened
 returns-in-Err-opened g c =
-    let (answer, opened, told) = rw (c.with_requirement-builder-in-Event.ensures, c.event.ensures, c.of_hub-builder.ensures) at c.in-Err-opened.ensures in
+    let (answer, opened, told) = rw (c.with_requirement-builder-in-Event.ensures, c.event.ensures, c.of_hub-builder.ensures) at
+    c.in-Err-opened.ensures in
     rw c.in-Event.is (answer, opened, refuses _ _ answer _ _ told)
 
 pub returns-in-Ok-opened-2 : goal.returns-in-Ok-opened-2
 returns-in-Ok-opened-2 g c =
-    let (answer, opened, told) = rw (c.with_requirement-builder-in-RequestResponse.ensures, c.request_response.ensures, c.of_hub-builder.ensures) at c.in-Ok-opened-2.ensures in
-    rw c.in-RequestResponse.is (answer, opened, numbers _ _ answer _ _ (made.RequestResponse c.in-Ok-opened-2.factory) _ refl told c.number-in-Ok-opened-2.ensures.table c.number-in-Ok-opened-2.ensures.number c.number-in-Ok-opened-2.ensures.form)
+    let (answer, opened, told)
+    = rw (c.with_requirement-builder-in-RequestResponse.ensures, c.request_response.ensures, c.of_hub-builder.ensures) at
+    c.in-Ok-opened-2.ensures in
+    rw c.in-RequestResponse.is (
+      answer,
+      opened,
+      numbers _ _ answer _ _ (made.RequestResponse c.in-Ok-opened-2.factory) _ refl told
+          c.number-in-Ok-opened-2.ensures.table c.number-in-Ok-opened-2.ensures.number c.number-in-Ok-opened-2.ensures.form,
+    )
 
 pub returns-in-Err-opened-2 : goal.returns-in-Err-opened-2
 returns-in-Err-opened-2 g c =
-    let (answer, opened, told) = rw (c.with_requirement-builder-in-RequestResponse.ensures, c.request_response.ensures, c.of_hub-builder.ensures) at c.in-Err-opened-2.ensures in
+    let (answer, opened, told)
+    = rw (c.with_requirement-builder-in-RequestResponse.ensures, c.request_response.ensures, c.of_hub-builder.ensures) at
+    c.in-Err-opened-2.ensures in
     rw c.in-RequestResponse.is (answer, opened, refuses _ _ answer _ _ told)

@@ -9,4 +9,6 @@ pub new-requires : goal.new-requires
 new-requires c =
     let is : c.args.self.now.lanes ≡ c.self.inside.lanes = sym (ap (λ (r : RecordState). r.lanes) c.self.view_is) in
     subst (λ (t : TableWords). c.args.loan < t.sizes.slots) (sym c.table.ensures)
-    (loan_there c.self.inside.lanes c.args.place c.args.loan c.args.lane.now (subst (λ (m : World). slice_get m.publishers c.args.place ≡ Some c.args.lane.now) is c.requires.lane) c.requires.out c.are_of_one_service.ensures.within)
+    (loan_there c.self.inside.lanes c.args.place c.args.loan c.args.lane.now
+    (subst (λ (m : World). slice_get m.publishers c.args.place ≡ Some c.args.lane.now) is c.requires.lane) c.requires.out
+    c.are_of_one_service.ensures.within)

@@ -11,7 +11,8 @@ returns-then-is_stopped-clause-runs c =
     subst (λ (i : ℕ). RunsTo c.args.self.now c.args.schedule.now i c.step-stepped.new.self) e
     ((c.loop-step.invariant.0) c.step-stepped.new.self 0
     (subst (λ (xs : List Move). RunsTo c.loop-step.self xs 0 c.step-stepped.new.self) (sym is)
-    (run_stops c.loop-step.self c.in-Some.step.now c.in-Some.tail.now c.step-stepped.result c.step-stepped.new.self c.step-stepped.ensures.steps (sym c.is_stopped.ensures ∙ c.if-is_stopped.true))))
+    (run_stops c.loop-step.self c.in-Some.step.now c.in-Some.tail.now c.step-stepped.result c.step-stepped.new.self
+    c.step-stepped.ensures.steps (sym c.is_stopped.ensures ∙ c.if-is_stopped.true))))
 
 pub loop-step-preserved : goal.loop-step-preserved
 loop-step-preserved c =
@@ -21,10 +22,16 @@ loop-step-preserved c =
       λ n k runs. subst (λ (i : ℕ). RunsTo c.args.self.now c.args.schedule.now i n) (omega arith)
           ((c.loop-step.invariant.0) n (c.count-made.result + k)
           (subst (λ (xs : List Move). RunsTo c.loop-step.self xs (c.count-made.result + k) n) (sym is)
-          (run_more c.loop-step.self c.in-Some.step.now c.in-Some.tail.now c.step-stepped.result c.step-stepped.new.self n k (c.count-made.result + k) c.step-stepped.ensures.steps (sym c.is_stopped.ensures ∙ c.if-is_stopped.false) (ap (λ (x : ℕ). x + k) c.count-made.ensures) runs))),
+          (run_more c.loop-step.self c.in-Some.step.now c.in-Some.tail.now c.step-stepped.result c.step-stepped.new.self n k
+          (c.count-made.result + k) c.step-stepped.ensures.steps (sym c.is_stopped.ensures ∙ c.if-is_stopped.false)
+          (ap (λ (x : ℕ). x + k) c.count-made.ensures) runs))),
       omega (arith, c.loop-step.invariant.1),
       c.step-stepped.ensures.balanced,
       c.step-stepped.ensures.told,
+      c.step-stepped.ensures.recorded,
+      c.step-stepped.ensures.counted,
+      c.step-stepped.ensures.acts,
+      c.step-stepped.ensures.moments,
     )
 
 pub returns-clause-runs : goal.returns-clause-runs

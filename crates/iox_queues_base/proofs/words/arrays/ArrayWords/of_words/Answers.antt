@@ -10,6 +10,7 @@ loop-i-preserved g c =
     let within : c.loop-i.i < length c.args.words.now = omega (arith, c.loop-i-test.true, c.requires) in
     let there : c.loop-i.i < length c.loop-i.items = omega (arith, c.loop-i-test.true, before.0) in (
       length-set c.loop-i.items c.loop-i.i c.of_words.result ∙ before.0,
-      each_more g.T.Words.of_parts c.args.words.now c.loop-i.items c.loop-i.i c.of_words.result within there before.1 c.of_words.ensures.same,
+      each_more g.T.Words.of_parts c.args.words.now c.loop-i.items c.loop-i.i c.of_words.result within there before.1
+          c.of_words.ensures.same,
       AllWithin-more_set c.loop-i.items c.loop-i.i c.of_words.result there g.T.Words.is_value before.2 c.of_words.ensures.value,
     )

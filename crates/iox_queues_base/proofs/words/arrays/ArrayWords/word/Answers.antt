@@ -13,4 +13,5 @@ pub returns-in-None : goal.returns-in-None
 returns-in-None g c =
     let long : length c.args.self.now ≡ g.row.N = search rules in
     let past : length c.args.self.now ≤ c.args.i = search rules in
-    sym (get_or_past (first_words g.T.Words.parts g.row.N c.args.self.now) c.args.i 0 (omega (arith, past, long, many_first g.T.Words.parts g.row.N c.args.self.now)))
+    sym (get_or_past (first_words g.T.Words.parts g.row.N c.args.self.now) c.args.i 0
+    (omega (arith, past, long, many_first g.T.Words.parts g.row.N c.args.self.now)))

@@ -11,18 +11,22 @@ returns-then-is_stopped-clause-runs c =
     subst (λ (i : ℕ). RunsTo c.args.self.now c.args.schedule.now i c.step-stepped.new.self) e
     ((c.loop-step.invariant.0) c.step-stepped.new.self 0
     (subst (λ (xs : List Move). RunsTo c.loop-step.self xs 0 c.step-stepped.new.self) (sym is)
-    (run_stops c.loop-step.self c.in-Some.step.now c.in-Some.tail.now c.step-stepped.result c.step-stepped.new.self c.step-stepped.ensures.steps (sym c.is_stopped.ensures ∙ c.if-is_stopped.true))))
+    (run_stops c.loop-step.self c.in-Some.step.now c.in-Some.tail.now c.step-stepped.result c.step-stepped.new.self
+    c.step-stepped.ensures.steps (sym c.is_stopped.ensures ∙ c.if-is_stopped.true))))
 
 pub loop-step-preserved : goal.loop-step-preserved
 loop-step-preserved c =
     let is : c.loop-step.rest.now ≡ c.in-Some.step.now ∷ c.in-Some.tail.now = search rules in
     let longer : length c.loop-step.rest.now ≡ length c.in-Some.tail.now + 1 = ap (λ (xs : List Move). length xs) is ∙ omega arith in
-    let moments : c.step-stepped.new.self.log.moments ≤ c.loop-step.self.log.moments + 1 = steps_moments c.loop-step.self c.in-Some.step.now c.step-stepped.result c.step-stepped.new.self c.step-stepped.ensures.steps in
+    let moments : c.step-stepped.new.self.log.moments ≤ c.loop-step.self.log.moments + 1
+    = steps_moments c.loop-step.self c.in-Some.step.now c.step-stepped.result c.step-stepped.new.self c.step-stepped.ensures.steps in
     let one : c.count-made.result ≤ 1 = counts_one c.step-stepped.result c.count-made.result c.count-made.ensures in (
       λ n k runs. subst (λ (i : ℕ). RunsTo c.args.self.now c.args.schedule.now i n) (omega arith)
           ((c.loop-step.invariant.0) n (c.count-made.result + k)
           (subst (λ (xs : List Move). RunsTo c.loop-step.self xs (c.count-made.result + k) n) (sym is)
-          (run_more c.loop-step.self c.in-Some.step.now c.in-Some.tail.now c.step-stepped.result c.step-stepped.new.self n k (c.count-made.result + k) c.step-stepped.ensures.steps (sym c.is_stopped.ensures ∙ c.if-is_stopped.false) (ap (λ (x : ℕ). x + k) c.count-made.ensures) runs))),
+          (run_more c.loop-step.self c.in-Some.step.now c.in-Some.tail.now c.step-stepped.result c.step-stepped.new.self n k
+          (c.count-made.result + k) c.step-stepped.ensures.steps (sym c.is_stopped.ensures ∙ c.if-is_stopped.false)
+          (ap (λ (x : ℕ). x + k) c.count-made.ensures) runs))),
       omega (arith, c.loop-step.invariant.1),
       omega (arith, c.loop-step.invariant.2),
       c.step-stepped.ensures.order,

@@ -16,10 +16,12 @@ returns-clause-tells c =
 
 pub returns-clause-order : goal.returns-clause-order
 returns-clause-order c =
-    let kept : IsKept (machine_of c.step.new.self) = steps_keep (machine_of c.self.inside.state) c.args.step c.step.result (machine_of c.step.new.self) c.step.ensures
+    let kept : IsKept (machine_of c.step.new.self)
+    = steps_keep (machine_of c.self.inside.state) c.args.step c.step.result (machine_of c.step.new.self) c.step.ensures
     (subst (λ (m : RingState). m.log.moments < 2 ^ 63) (sym c.self.view_is) c.requires) c.self.invariant in kept.order
 
 pub returns-clause-told : goal.returns-clause-told
 returns-clause-told c =
-    let kept : IsKept (machine_of c.step.new.self) = steps_keep (machine_of c.self.inside.state) c.args.step c.step.result (machine_of c.step.new.self) c.step.ensures
+    let kept : IsKept (machine_of c.step.new.self)
+    = steps_keep (machine_of c.self.inside.state) c.args.step c.step.result (machine_of c.step.new.self) c.step.ensures
     (subst (λ (m : RingState). m.log.moments < 2 ^ 63) (sym c.self.view_is) c.requires) c.self.invariant in kept.told

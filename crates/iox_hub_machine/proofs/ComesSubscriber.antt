@@ -1,0 +1,544 @@
+-- A subscriber came in a hub, and what it stands for then.
+use Rattle.std.proofs.Common.{◌≡◌, ◌≢◌, ◌≤◌, ◌+◌, ◌⊎◌, ℕ, true, false, List, [], ◌∷◌, ◌++◌, Option, None, Some, Result, Ok, Err, refl}
+use Rattle.std.proofs.Common.{sym, ap}
+use Rattle.std.proofs.Common.{subst, ◌∙◌, arith, inl, inr}
+use Rattle.std.proofs.Math.Logic.{⊎_elim}
+use Rattle.std.specs.Map.{lookup}
+use Rattle.std.specs.Option.{option_map_or, unwrap_or}
+use Rattle.std.specs.Prelude.{nat_eq}
+use Rattle.iox_command.specs.DomainValues.declared.backpressure.BackpressureDecision.{BackpressureDecision}
+use Rattle.iox_command.specs.DomainValues.declared.backpressure.BackpressureInfo.{BackpressureInfo}
+use Rattle.iox_command.specs.DomainValues.declared.create_error.SubscriberCreateError.{SubscriberCreateError}
+use Rattle.iox_command.specs.DomainValues.declared.degradation.DegradationAction.{DegradationAction}
+use Rattle.iox_command.specs.DomainValues.declared.degradation.DegradationAction.TheVariants.{Warn}
+use Rattle.iox_command.specs.DomainValues.declared.degradation.DegradationCause.{DegradationCause}
+use Rattle.iox_command.specs.DomainValues.declared.degradation.DegradationCause.TheVariants.{FailedToEstablishConnection}
+use Rattle.iox_command.specs.DomainValues.declared.degradation.DegradationInfo.{DegradationInfo}
+use Rattle.iox_command.specs.NegotiateBase.DescribeBase.declared.message_type.MessageTypeDetails.{MessageTypeDetails}
+use Rattle.iox_command.specs.NegotiateBase.DescribeBase.declared.pattern.MessagingPattern.{MessagingPattern}
+use Rattle.iox_command.specs.NegotiateBase.DescribeBase.declared.pattern.MessagingPattern.TheVariants.{PublishSubscribe}
+use Rattle.iox_command.specs.declared.command.Command.{Command}
+use Rattle.iox_command.specs.declared.command.Command.TheVariants as command
+use Rattle.iox_command.specs.declared.port.SubscriberOptions.{SubscriberOptions}
+use Rattle.iox_command.specs.declared.refusal.Refusal.TheVariants as refusal
+use Rattle.iox_command.specs.declared.reply.Reply.{Reply}
+use Rattle.iox_command.specs.declared.reply.Reply.TheVariants as reply
+use Rattle.iox_container.specs.NumberTable.{value_at}
+use Rattle.iox_delivery.specs.Holding.{publisher_stands, subscriber_stands}
+use Rattle.iox_delivery.specs.declared.port_id.PortId.{PortId}
+use Rattle.iox_domain.proofs.Keeping.{kept_is_there}
+use Rattle.iox_domain.specs.DomainPorts.declared.attached.Taken.{Taken}
+use Rattle.iox_domain.specs.DomainValues.Sizes.{buffer_of}
+use Rattle.iox_domain.specs.Domains.{in_state}
+use Rattle.iox_domain.specs.Handling.{kept_decides, kept_degrades}
+use Rattle.iox_domain.specs.Kept.{kept_under, kept}
+use Rattle.iox_domain.specs.Making.{CreatesSubscriber, subscriber_place}
+use Rattle.iox_domain.specs.States.{subscriber_kept, with_ports}
+use Rattle.iox_domain.specs.Tries.{how_often}
+use Rattle.iox_domain.specs.declared.domain.Domain.{Domain}
+use Rattle.iox_domain.specs.declared.domain_id.DomainId.{DomainId}
+use Rattle.iox_domain.specs.declared.ports.making.SubscriberConfig.{SubscriberConfig}
+use Rattle.iox_domain.specs.declared.ports.service_ports.ServicePorts.{ServicePorts}
+use Rattle.iox_domain.specs.declared.state.DomainState.{DomainState}
+use Rattle.iox_domain_machine.specs.ComingLaws.{came_or_refused, with_came}
+use Rattle.iox_domain_machine.specs.Laws.{Matches, with_alone}
+use Rattle.iox_domain_machine.specs.Naming.{Naming, with_name}
+use Rattle.iox_domain_machine.specs.Services.{those_of, DomainsStandFor}
+use Rattle.iox_domain_machine.specs.Standing.{StandsFor}
+use Rattle.iox_domain_machine.specs.Tables.{LentSlot}
+use Rattle.iox_domain_machine.proofs.Comes.{subscriber_comes_matches}
+use Rattle.iox_domain_machine.proofs.Found.{same_some}
+use Rattle.iox_hub_base.specs.AsHome.{hub_changed, hub_ports}
+use Rattle.iox_hub_base.specs.Numbered.{others_beside}
+use Rattle.iox_hub_base.specs.Open.{OpenServices, presence_of, with_domain}
+use Rattle.iox_hub_base.specs.ServicesAsHome.{domain_at, ports_if, publisher_handlers_in, subscriber_handler_in}
+use Rattle.iox_hub_base.specs.declared.hub.Hub.{Hub}
+use Rattle.iox_hub_base.specs.declared.presence.Presence.TheVariants.{Here}
+use Rattle.iox_hub_commands.proofs.OneAgreement.{agreement_is_one}
+use Rattle.iox_hub_commands.specs.AgreementLaws.{service_of, FactoriesAgree}
+use Rattle.iox_hub_commands.specs.Making.{with_subscriber}
+use Rattle.iox_hub_commands.specs.Naming.{subscriber_config, subscriber_handler}
+use Rattle.iox_hub_commands.specs.ServicesTables.{parts_of, pattern_in}
+use Rattle.iox_hub_commands.specs.Tables.{port_under}
+use Rattle.iox_hub_commands.specs.declared.numbered_hub.NumberedHub.{NumberedHub}
+use Rattle.iox_hub_commands.specs.declared.services.made.MadeFactory.{MadeFactory}
+use Rattle.iox_hub_machine.proofs.Amidst.{is_none}
+use Rattle.iox_hub_machine.proofs.ComesAmong.{all_do, all_stand, no_subscriber_so}
+use Rattle.iox_hub_machine.proofs.ComesHouse.{aside, everywhere, everywhere_else, found_there, or_there, put_there}
+use Rattle.iox_hub_machine.proofs.ComesHouse.{served_still, still_here, still_open, up_aside, up_same, up_there}
+use Rattle.iox_hub_machine.proofs.ComesNamed.{IsAside, NamedThen, apart_still, apart_then, go_then, named_aside}
+use Rattle.iox_hub_machine.proofs.ComesNamed.{named_still, named_then, named_there, within_then}
+use Rattle.iox_hub_machine.proofs.ComesPlace.{IsPlacedAmong, placed_among}
+use Rattle.iox_hub_machine.proofs.ComesServed.{domain_there, is_its_own, machine_has, presence, served_joined, served_later, some_room}
+use Rattle.iox_hub_machine.proofs.ComesService.{SubscriberIsNew, among_alike, among_first, at_factory_did, subscriber_came}
+use Rattle.iox_hub_machine.proofs.ComesService.{subscriber_refused}
+use Rattle.iox_hub_machine.proofs.Parting.{OrderChanges, order_changes, stay_here}
+use Rattle.iox_hub_machine.proofs.Placed.{publisher_as, publisher_up, subscriber_as, subscriber_up}
+use Rattle.iox_hub_machine.proofs.Rooming.{roomy_there}
+use Rattle.iox_hub_machine.proofs.TableMore.{new_goes, still_goes, went_or_new}
+use Rattle.iox_hub_machine.specs.ArrivalLaws.{AnswersAsFixed, CanBeCounted, MayCome}
+use Rattle.iox_hub_machine.specs.Ports.{AreHere, among, ports_here}
+use Rattle.iox_hub_machine.specs.Services.{HubStandsFor, IsServedBy, factory_as}
+use Rattle.iox_hub_machine.specs.Standing.{GoByNames, PortsStandFor, PublisherIsHandled, SubscriberIsHandled, held_in, lent_in}
+use Rattle.iox_hub_machine.specs.Standing.{publisher_is_up, subscriber_is_up}
+use Rattle.iox_machine.specs.Arriving.{SubscriberArrives, new_subscriber}
+use Rattle.iox_machine.specs.Named.{has_named}
+use Rattle.iox_machine.specs.Run.{Step}
+use Rattle.iox_machine.specs.Service.{Service, Publisher, Subscriber}
+use Rattle.iox_machine.specs.State.{Factory, State, counted, is_service_of}
+use Rattle.iox_machine.specs.Table.{at}
+
+module _ {T U B D : Type 0} (degrades : B → DegradationCause → DegradationInfo → DegradationAction → Type 0)
+    (decides : B → BackpressureInfo → BackpressureDecision → Type 0)
+    (reader_degrades : D → DegradationCause → DegradationInfo → DegradationAction → Type 0)
+    (names : List (List ℕ)) (taken : MessagingPattern → List ℕ → List ℕ) (naming : ℕ → Naming) (order : List (ℕ × ServicePorts T U))
+    (old : NumberedHub T U B D) (state : State T)
+    (stands : HubStandsFor degrades decides reader_degrades names taken naming order old state) (may_come : MayCome old)
+    (factory : ℕ) (made : MadeFactory) (there : value_at old.factories.made factory ≡ Some made)
+    (kind : pattern_in made ≡ PublishSubscribe) (is_default : T → Type 0) (types : MessageTypeDetails) (options : SubscriberOptions)
+    (fixed_reader : DegradationAction → D) (answers : AnswersAsFixed fixed_reader reader_degrades) where
+  abbrev pub id : DomainId
+  id = record { hub = (parts_of made).0.storage; service = service_of made }
+
+  abbrev asked : Command T
+  asked = command.Subscriber factory options
+
+  abbrev buffer : ℕ
+  buffer = old.hub.expired_connection_buffer
+
+  agree : FactoriesAgree old.factories.made
+  agree = (agreement_is_one old.factories.made old.hub may_come.agreed).0
+
+  -- the domain of the factory's service
+  pub home : (domain : Domain T U B D) × (domain_at id old.hub.services ≡ Some domain)
+      × (presence_of id.service old.hub.services.domains ≡ Some (Here domain))
+  home =
+      let found = presence degrades decides reader_degrades names taken naming order old state stands agree factory made there kind in (
+        found.0,
+        domain_there degrades decides reader_degrades names taken naming order old state stands agree factory made there kind,
+        found.1,
+      )
+
+  abbrev pub domain : Domain T U B D
+  domain = home.0
+
+  abbrev pub ports : ServicePorts T U
+  ports = domain.state.ports
+
+  pub found : hub_ports id old.hub ≡ Some ports
+  found = ap ports_if home.1
+
+  abbrev config : SubscriberConfig
+  config = subscriber_config (record { number = (parts_of made).1; node_id = (parts_of made).0.node }) options
+
+  abbrev handler : D
+  handler = subscriber_handler fixed_reader options
+
+  -- what is done where a connection of it fails
+  abbrev named_action : DegradationAction
+  named_action = unwrap_or options.degradation_handler Warn
+
+  abbrev lent : List (ℕ × (ℕ × LentSlot))
+  lent = lent_in old.made
+
+  abbrev held : List (ℕ × (ℕ × Taken))
+  held = held_in old.made
+
+  -- the number that it gets
+  abbrev name : ℕ
+  name = state.made.subscribers + 1
+
+  has : (service : Service T) → has_named state.factories asked service ≡ is_service_of (factory_as made) service
+  has service = ap (λ (one : Option Factory). option_map_or (λ it. is_service_of it service) one false)
+      (machine_has degrades decides reader_degrades names taken naming order old state stands agree factory made there kind)
+
+  counted_there : CanBeCounted ports
+  counted_there = may_come.counted id ports found
+
+  -- nobody has this number for a name
+  new : (one other : ℕ) → (naming one).subscriber other ≢ name
+  new one other same = omega (arith, same, stands.ports.named.subscribers one other)
+
+  module _ (before behind : List (ℕ × ServicePorts T U)) (ordered : order ≡ before ++ (id.service, ports) ∷ behind) where
+    place : IsPlacedAmong naming lent held buffer old.factories.made old.hub.services before behind state asked id.service ports
+    place = placed_among degrades decides reader_degrades names taken naming order old state stands agree factory made there kind asked has
+        ports before behind ordered
+
+    fresh : at name place.service.subscribers ≡ None
+    fresh = is_none (at name place.service.subscribers)
+        (λ is. let it = place.stands.named_subscribers.each name is in new id.service it.0 it.1)
+
+    its_own : is_service_of (factory_as made) place.service ≡ true
+    its_own = is_its_own degrades decides reader_degrades names taken naming order old state stands agree factory made there kind
+        place.service place.served
+
+    -- what one domain alone does the machine does alone
+    alone : (after : ServicePorts T U) (answer : Result ℕ SubscriberCreateError)
+        → CreatesSubscriber (reader_degrades handler FailedToEstablishConnection) config.owner
+        (buffer_of config.buffer_size ports.sizes) (subscriber_place ports) ports answer after
+        → (reader : ℕ → ℕ → ℕ) × Matches T U is_default types buffer asked (came_or_refused name answer) state place.service
+        (record (with_came ports.next_port name answer (naming id.service)) { reader = reader }) (those_of id.service lent)
+        (those_of id.service held) after
+    alone after answer creates =
+        subscriber_comes_matches T U is_default (reader_degrades handler FailedToEstablishConnection) types buffer (naming id.service)
+        (those_of id.service lent) (those_of id.service held) ports after place.service state factory (factory_as made) options config
+        answer place.stands (roomy_there id ports old.hub may_come.grown found)
+        (machine_has degrades decides reader_degrades names taken naming order old state stands agree factory made there kind) its_own
+        (record {
+          owner = (stands.factories.each factory made there).owner;
+          buffer_size = refl;
+          acts = λ info action may. answers named_action action info may;
+        })
+        (some_room degrades decides reader_degrades names taken naming order old state stands agree factory made there kind place.service
+        place.served)
+        fresh counted_there.0 counted_there.2 creates
+
+    arrives : (after : Service T) (answer : Reply T)
+        → Step types is_default buffer asked (with_alone place.service state) answer
+        (record (with_alone after state) { made = counted answer state.made })
+        → SubscriberArrives buffer name (new_subscriber factory options place.service.settings) place.service answer after
+    arrives after answer did = at_factory_did types is_default buffer factory
+        (λ service. SubscriberArrives buffer name (new_subscriber factory options service.settings) service) state (factory_as made)
+        place.service after answer
+        (machine_has degrades decides reader_degrades names taken naming order old state stands agree factory made there kind) its_own did
+
+  -- ---- it came
+
+  module _ (after : ServicePorts T U)
+      (creates : CreatesSubscriber (reader_degrades handler FailedToEstablishConnection) config.owner
+      (buffer_of config.buffer_size ports.sizes) (subscriber_place ports) ports (Ok ports.next_port) after) where
+    abbrev next : ℕ
+    next = ports.next_port
+
+    abbrev step : DomainState T U B D → DomainState T U B D
+    step it = subscriber_kept next handler (with_ports after it)
+
+    abbrev hub_then : Hub T U B D
+    hub_then = hub_changed id step old.hub
+
+    abbrev domain_then : Domain T U B D
+    domain_then = in_state step domain
+
+    abbrev pub later : NumberedHub T U B D
+    later = record old { hub = hub_then; made = with_subscriber id next old.made }
+
+    changes : OrderChanges order id.service ports after (with_domain id.service old.hub.services.domains domain_then)
+    changes = order_changes order old.hub.services.domains stands.ports.here stands.ports.same id.service domain home.2 domain_then
+
+    abbrev order_then : List (ℕ × ServicePorts T U)
+    order_then = changes.before ++ (id.service, after) ∷ changes.behind
+
+    abbrev at_place : IsPlacedAmong naming lent held buffer old.factories.made old.hub.services changes.before changes.behind state asked
+        id.service ports
+    at_place = place changes.before changes.behind changes.now
+
+    abbrev service : Service T
+    service = at_place.service
+
+    matched : (reader : ℕ → ℕ → ℕ) × Matches T U is_default types buffer asked (reply.SubscriberMade name) state service
+        (record (naming id.service) { subscriber = with_name next name (naming id.service).subscriber; reader = reader })
+        (those_of id.service lent) (those_of id.service held) after
+    matched = alone changes.before changes.behind changes.now after (Ok next) creates
+
+    abbrev names_then : Naming
+    names_then = record (naming id.service) {
+      subscriber = with_name next name (naming id.service).subscriber;
+      reader = matched.0;
+    }
+
+    abbrev naming_then : ℕ → Naming
+    naming_then = with_name id.service names_then naming
+
+    abbrev service_then : Service T
+    service_then = matched.1.0
+
+    stands_then : StandsFor names_then (those_of id.service lent) (those_of id.service held) buffer after service_then
+    stands_then = matched.1.2
+
+    is_new : SubscriberIsNew name named_action service service_then
+    is_new = subscriber_came buffer name (new_subscriber factory options service.settings) service service_then name
+        (fresh changes.before changes.behind changes.now) refl
+        (arrives changes.before changes.behind changes.now service_then (reply.SubscriberMade name) matched.1.1)
+
+    abbrev services_then : List (Service T)
+    services_then = at_place.first ++ service_then ∷ at_place.last
+
+    abbrev state_then : State T
+    state_then = record state { made = counted {T = T} (reply.SubscriberMade name) state.made; services = services_then }
+
+    does : Step types is_default buffer asked state (reply.SubscriberMade name) state_then
+    does = all_do is_default types buffer state asked (reply.SubscriberMade name)
+        at_place.first service service_then at_place.last at_place.are refl at_place.none_before at_place.none_behind matched.1.1
+
+    -- ---- names
+
+    named : NamedThen (λ one. (naming one).subscriber) (λ one. (naming_then one).subscriber) id.service next name
+    named = named_then (λ (it : Naming). it.subscriber) naming names_then id.service next name refl
+
+    same_name : (one : ℕ) → (naming_then one).publisher ≡ (naming one).publisher
+    same_name = named_still (λ (it : Naming). it.publisher) naming names_then id.service refl
+
+    domains_then : DomainsStandFor naming_then lent held buffer order_then services_then
+    domains_then = record {
+      each = all_stand buffer naming lent held changes.before changes.behind id.service at_place.first at_place.last service_then after
+          names_then at_place.alone_before at_place.alone_behind at_place.stand_before at_place.stand_behind stands_then;
+      once = λ number. subst (λ (keys : List ℕ). how_often number keys ≤ 1) (sym changes.keys) (stands.ports.domains.once number);
+      loans = stands.ports.domains.loans;
+      samples = stands.ports.domains.samples;
+      publishers = apart_still (λ one. (naming one).publisher) (λ one. (naming_then one).publisher) same_name
+          stands.ports.domains.publishers;
+      subscribers = apart_then (λ one. (naming one).subscriber) (λ one. (naming_then one).subscriber) id.service next name named new
+          stands.ports.domains.subscribers;
+    }
+
+    -- ---- who stands
+
+    its_readers : (number : ℕ) → number ≢ next → subscriber_stands number (Some after) ≡ subscriber_stands number (Some ports)
+    its_readers number off =
+        subscriber_as names_then (those_of id.service lent) (those_of id.service held) buffer after service_then stands_then number
+        ∙ ap (λ (it : ℕ). subscriber_up (at it service_then.subscribers)) (named_aside next number name (naming id.service).subscriber off)
+        ∙ ap subscriber_up (is_new.others ((naming id.service).subscriber number) (new id.service number))
+        ∙ sym (subscriber_as (naming id.service) (those_of id.service lent) (those_of id.service held) buffer ports service at_place.stands
+        number)
+
+    reader_comes : subscriber_stands next (Some after) ≡ true
+    reader_comes =
+        subscriber_as names_then (those_of id.service lent) (those_of id.service held) buffer after service_then stands_then next
+        ∙ ap (λ (it : ℕ). subscriber_up (at it service_then.subscribers)) (named_there next name (naming id.service).subscriber)
+        ∙ ap subscriber_up is_new.there ∙ is_new.up
+
+    none_before : subscriber_stands next (Some ports) ≡ false
+    none_before =
+        subscriber_as (naming id.service) (those_of id.service lent) (those_of id.service held) buffer ports service at_place.stands next
+        ∙ ap subscriber_up (is_none (at ((naming id.service).subscriber next) service.subscribers)
+        (λ is.
+        let it = at_place.stands.named_subscribers.each ((naming id.service).subscriber next) is in
+        it.2 (at_place.stands.unnamed next (omega arith)).1))
+
+    its_publishers : (number : ℕ) → publisher_stands number (Some after) ≡ publisher_stands number (Some ports)
+    its_publishers number =
+        publisher_as names_then (those_of id.service lent) (those_of id.service held) buffer after service_then stands_then number
+        ∙ ap (λ (table : List (ℕ × Publisher T)). publisher_up (at ((naming id.service).publisher number) table)) is_new.publishers
+        ∙ sym (publisher_as (naming id.service) (those_of id.service lent) (those_of id.service held) buffer ports service at_place.stands
+        number)
+
+    publishers_up : (other : DomainId) (number : ℕ) → publisher_is_up hub_then other number ≡ publisher_is_up old.hub other number
+    publishers_up = up_same id step old.hub domain home.1 publisher_stands (λ number. refl) its_publishers
+
+    readers_up : (other : DomainId) (number : ℕ) → IsAside id.service next other.service number
+        → subscriber_is_up hub_then other number ≡ subscriber_is_up old.hub other number
+    readers_up = up_aside id step old.hub domain home.1 subscriber_stands (λ number. refl) next its_readers none_before reader_comes
+
+    reader_or : (other : DomainId) (number : ℕ) → subscriber_is_up hub_then other number ≡ true
+        → ((other ≡ id) × (number ≡ next)) ⊎ IsAside id.service next other.service number
+    reader_or = or_there id step old.hub domain home.1 subscriber_stands (λ number. refl) next its_readers none_before reader_comes
+
+    -- ---- numbers
+
+    number_is : old.made.subscribers.next ≡ name
+    number_is = stands.ports.numbers.subscribers
+
+    abbrev came_port : PortId
+    came_port = record { domain = id; number = next }
+
+    abbrev longer : List (ℕ × PortId)
+    longer = old.made.subscribers.entries ++ (old.made.subscribers.next, came_port) ∷ []
+
+    nothing_yet : (found : Option PortId) → lookup (nat_eq old.made.subscribers.next) old.made.subscribers.entries ≡ found
+        → lookup (nat_eq old.made.subscribers.next) old.made.subscribers.entries ≡ None
+    nothing_yet None is = is
+    nothing_yet (Some port) is =
+        absurd (new port.domain.service port.number
+        ((stands.ports.subscribers.known old.made.subscribers.next port is).0 ∙ number_is))
+
+    comes_by : lookup (nat_eq name) longer ≡ Some came_port
+    comes_by =
+        ap (λ (it : ℕ). lookup (nat_eq it) longer) (sym number_is)
+        ∙ new_goes old.made.subscribers.next came_port old.made.subscribers.entries
+        (nothing_yet (lookup (nat_eq old.made.subscribers.next) old.made.subscribers.entries) refl)
+
+    only_so : (other : ℕ) (port : PortId) → lookup (nat_eq other) longer ≡ Some port
+        → (lookup (nat_eq other) old.made.subscribers.entries ≡ Some port) ⊎ ((other ≡ name) × (port ≡ came_port))
+    only_so other port is = ⊎_elim
+        (λ was. inl was) (λ came. inr (came.0 ∙ number_is, sym came.1))
+        (went_or_new old.made.subscribers.next came_port other port old.made.subscribers.entries is)
+
+    readers_go : GoByNames (λ one. (naming_then one).subscriber) (subscriber_is_up hub_then) (value_at later.made.subscribers)
+    readers_go = go_then (λ one. (naming one).subscriber) (λ one. (naming_then one).subscriber) id next name named
+        (subscriber_is_up old.hub) (subscriber_is_up hub_then) (value_at old.made.subscribers) (value_at later.made.subscribers)
+        (up_there id step old.hub domain home.1 subscriber_stands (λ number. refl) next its_readers none_before reader_comes)
+        readers_up
+        (aside id step old.hub domain home.1 subscriber_stands (λ number. refl) next its_readers none_before reader_comes)
+        reader_or
+        (λ other port is. still_goes old.made.subscribers.next came_port other port old.made.subscribers.entries is)
+        comes_by only_so stands.ports.subscribers
+
+    -- ---- who decides
+
+    handled : (other : DomainId) (number : ℕ) (publisher : Publisher T) → publisher_is_up hub_then other number ≡ true
+        → among (λ (it : Service T). it.publishers) ((naming_then other.service).publisher number) services_then ≡ Some publisher
+        → PublisherIsHandled degrades decides hub_then other number publisher
+    handled other number publisher up is =
+        let was = stands.ports.publishers_handled other number publisher (sym (publishers_up other number) ∙ up)
+        (ap (among (λ (it : Service T). it.publishers) ((naming other.service).publisher number)) at_place.are
+        ∙ sym (among_alike (λ (it : Service T). it.publishers) ((naming other.service).publisher number) at_place.first service_then service
+        at_place.last (ap (at ((naming other.service).publisher number)) is_new.publishers))
+        ∙ ap (λ (it : ℕ → ℕ). among (λ (one : Service T). one.publishers) (it number) services_then) (sym (same_name other.service)) ∙ is)
+        in
+        let same = everywhere id step old.hub domain home.1 (publisher_handlers_in number) refl other in record {
+          full = λ info decision may. was.full info decision (subst (λ (it : Option B). kept_decides decides it info decision) same may);
+          failed = λ info action may. was.failed info action (subst (λ (it : Option B). kept_degrades degrades it info action) same may);
+        }
+
+    kept_beside : (number : ℕ) → number ≢ next
+        → kept_under number (kept next handler domain.state.subscriber_handlers) ≡ kept_under number domain.state.subscriber_handlers
+    kept_beside number off = others_beside next number domain.state.subscriber_handlers handler (λ same. off (sym same))
+
+    came_handled : (other : DomainId) (number : ℕ) (subscriber : Subscriber) → other ≡ id → number ≡ next
+        → among (λ (it : Service T). it.subscribers) ((naming_then other.service).subscriber number) services_then ≡ Some subscriber
+        → SubscriberIsHandled reader_degrades hub_then other number subscriber
+    came_handled other number subscriber same also is info action may =
+        let its_name : (naming_then other.service).subscriber number ≡ name =
+        ap (λ (it : DomainId). (naming_then it.service).subscriber number) same
+        ∙ ap (λ (it : ℕ). (naming_then id.service).subscriber it) also ∙ named.there in
+        let one_is : is_new.one ≡ subscriber =
+        same_some is_new.one subscriber
+        (sym (among_first (λ (it : Service T). it.subscribers) name at_place.first service_then at_place.last is_new.one
+        (no_subscriber_so naming lent held buffer name new changes.before at_place.first at_place.stand_before) is_new.there)
+        ∙ ap (λ (it : ℕ). among (λ (one : Service T). one.subscribers) it services_then) (sym its_name) ∙ is) in
+        let kept_there : subscriber_handler_in number (domain_at other hub_then.services) ≡ Some handler =
+        ap (λ (it : DomainId). subscriber_handler_in number (domain_at it hub_then.services)) same
+        ∙ ap (λ (it : ℕ). subscriber_handler_in it (domain_at id hub_then.services)) also
+        ∙ ap (subscriber_handler_in next) (found_there id step old.hub domain home.1)
+        ∙ kept_is_there next handler domain.state.subscriber_handlers in
+        answers named_action action info (subst (λ (it : Option D). kept_degrades reader_degrades it info action) kept_there may)
+        ∙ sym is_new.acts ∙ ap (λ (it : Subscriber). it.degradation) one_is
+
+    other_handled : (other : DomainId) (number : ℕ) (subscriber : Subscriber) → IsAside id.service next other.service number
+        → subscriber_is_up hub_then other number ≡ true
+        → among (λ (it : Service T). it.subscribers) ((naming_then other.service).subscriber number) services_then ≡ Some subscriber
+        → SubscriberIsHandled reader_degrades hub_then other number subscriber
+    other_handled other number subscriber off up is info action may =
+        let old_name = (naming other.service).subscriber number in
+        stands.ports.subscribers_handled other number subscriber (sym (readers_up other number off) ∙ up)
+        (ap (among (λ (it : Service T). it.subscribers) old_name) at_place.are
+        ∙ sym (among_alike (λ (it : Service T). it.subscribers) old_name at_place.first service_then service at_place.last
+        (is_new.others old_name (new other.service number)))
+        ∙ ap (λ (it : ℕ). among (λ (one : Service T). one.subscribers) it services_then) (sym (named.aside other.service number off)) ∙ is)
+        info action
+        (subst (λ (it : Option D). kept_degrades reader_degrades it info action)
+        (everywhere_else id step old.hub domain home.1 subscriber_handler_in next kept_beside other number off) may)
+
+    ports_then : PortsStandFor degrades decides reader_degrades naming_then order_then later state_then
+    ports_then = record {
+      here = subst (λ (these : OpenServices T U B D). AreHere these.domains) (sym (put_there id step old.hub domain home.1))
+          (stay_here id.service old.hub.services.domains domain_then stands.ports.here);
+      same = λ number. changes.same number
+          ∙ ap (λ (these : OpenServices T U B D). at number (ports_here these.domains)) (sym (put_there id step old.hub domain home.1));
+      domains = domains_then;
+      numbers = record {
+        publishers = stands.ports.numbers.publishers;
+        subscribers = ap (λ (it : ℕ). it + 1) number_is;
+        loans = stands.ports.numbers.loans;
+        samples = stands.ports.numbers.samples;
+      };
+      named = record {
+        publishers = λ one number. subst (λ (it : ℕ → ℕ). it number ≤ state.made.publishers) (sym (same_name one))
+            (stands.ports.named.publishers one number);
+        subscribers = within_then (λ one. (naming one).subscriber) (λ one. (naming_then one).subscriber) id.service next name named
+            state.made.subscribers (omega arith) stands.ports.named.subscribers;
+      };
+      loans = λ number it found. still_here id step old.hub domain home.1 it.port.domain (stands.ports.loans number it found);
+      samples = λ number it found. (
+        still_here id step old.hub domain home.1 it.port.domain (stands.ports.samples number it found).0,
+        (stands.ports.samples number it found).1,
+      );
+      publishers = record {
+        known = λ number port found.
+            let was = stands.ports.publishers.known number port found in (
+              ap (λ (it : ℕ → ℕ). it port.number) (same_name port.domain.service) ∙ was.0,
+              publishers_up port.domain port.number ∙ was.1,
+            );
+        each = λ other number up.
+            ap (λ (it : ℕ → ℕ). port_under (value_at old.made.publishers (it number))) (same_name other.service)
+            ∙ stands.ports.publishers.each other number (sym (publishers_up other number) ∙ up);
+      };
+      subscribers = readers_go;
+      slices = stands.ports.slices;
+      publishers_handled = handled;
+      subscribers_handled = λ other number subscriber up is. ⊎_elim
+          (λ came. came_handled other number subscriber came.0 came.1 is)
+          (λ off. other_handled other number subscriber off up is) (reader_or other number up);
+    }
+
+    -- the hub stands for what the machine is then
+    stands_so : HubStandsFor degrades decides reader_degrades names taken naming_then order_then later state_then
+    stands_so = record {
+      nodes = stands.nodes;
+      table = record { reached = stands.table.reached; phases = stands.table.phases };
+      id = ap (λ (these : OpenServices T U B D). these.hub) (put_there id step old.hub domain home.1) ∙ stands.id;
+      factories = record {
+        numbers = stands.factories.numbers;
+        owners = stands.factories.owners;
+        same = stands.factories.same;
+        each = λ number one is.
+            let it = stands.factories.each number one is in
+            record { asked = it.asked; owner = it.owner; storage = it.storage; serves = it.serves };
+        seats = stands.factories.seats;
+        counts = stands.factories.counts;
+        opened = λ number one is of_kind. still_open id step old.hub domain home.1 (service_of one)
+            (stands.factories.opened number one is of_kind);
+      };
+      served = served_joined old.factories.made hub_then.services changes.before changes.behind (id.service, after) at_place.first
+          service_then at_place.last
+          (served_later old.factories.made old.hub.services hub_then.services still changes.before at_place.first at_place.served_before)
+          (served_still id step old.hub domain home.1 old.factories.made id.service service service_then is_new.name is_new.settings
+          at_place.served)
+          (served_later old.factories.made old.hub.services hub_then.services still changes.behind at_place.last at_place.served_behind);
+      ports = ports_then;
+    }
+      where
+        still : (number : ℕ) (one : Service T) → IsServedBy old.factories.made old.hub.services number one
+            → IsServedBy old.factories.made hub_then.services number one
+        still number one = served_still id step old.hub domain home.1 old.factories.made number one one refl refl
+
+    -- so the machine follows
+    pub follows_so : (naming_then : ℕ → Naming) × (order_then : List (ℕ × ServicePorts T U)) × (after : State T)
+        × Step types is_default buffer asked state (reply.SubscriberMade name) after
+        × HubStandsFor degrades decides reader_degrades names taken naming_then order_then later after
+    follows_so = (naming_then, order_then, state_then, does, stands_so)
+
+  -- ---- it is refused
+
+  rests : OrderChanges order id.service ports ports (with_domain id.service old.hub.services.domains domain)
+  rests = order_changes order old.hub.services.domains stands.ports.here stands.ports.same id.service domain home.2 domain
+
+  abbrev at_rest : IsPlacedAmong naming lent held buffer old.factories.made old.hub.services rests.before rests.behind state asked
+      id.service
+      ports
+  at_rest = place rests.before rests.behind rests.now
+
+  module _ (why : SubscriberCreateError)
+      (creates : CreatesSubscriber (reader_degrades handler FailedToEstablishConnection) config.owner
+      (buffer_of config.buffer_size ports.sizes) (subscriber_place ports) ports (Err why) ports) where
+    abbrev told : Reply T
+    told = reply.Refused (refusal.Subscriber why)
+
+    refused : (reader : ℕ → ℕ → ℕ) × Matches T U is_default types buffer asked told state at_rest.service
+        (record (naming id.service) { reader = reader }) (those_of id.service lent) (those_of id.service held) ports
+    refused = alone rests.before rests.behind rests.now ports (Err why) creates
+
+    nothing_comes : refused.1.0 ≡ at_rest.service
+    nothing_comes = subscriber_refused buffer name (new_subscriber factory options at_rest.service.settings) at_rest.service refused.1.0
+        (refusal.Subscriber why) (arrives rests.before rests.behind rests.now refused.1.0 told refused.1.1)
+
+    same_services : at_rest.first ++ refused.1.0 ∷ at_rest.last ≡ state.services
+    same_services = ap (λ (it : Service T). at_rest.first ++ it ∷ at_rest.last) nothing_comes ∙ sym at_rest.are
+
+    -- so the machine refuses it
+    pub refused_so : Step types is_default buffer asked state told state
+    refused_so =
+        subst (λ (services : List (Service T)). Step types is_default buffer asked state told (record state { services = services }))
+        same_services
+        (all_do is_default types buffer state asked told at_rest.first
+        at_rest.service refused.1.0 at_rest.last at_rest.are refl at_rest.none_before at_rest.none_behind refused.1.1)

@@ -1,0 +1,308 @@
+-- A node opens a service: what a hub does is what a machine does.
+use Rattle.std.proofs.Common.{◌≡◌, ℕ, ◌+◌, ◌&&◌, Bool, true, false, List, length, Option, Some, Result, Ok, Err}
+use Rattle.std.proofs.Common.{refl, sym, ap, subst, ◌∙◌, inl, inr}
+use Rattle.std.specs.List.{IsAmong}
+use Rattle.std.specs.Prelude.{nat_le, MatchBool}
+use Rattle.std.specs.declared.alloc.AllocError.{AllocError}
+use Rattle.iox_command.specs.DomainValues.declared.backpressure.BackpressureAction.{BackpressureAction}
+use Rattle.iox_command.specs.DomainValues.declared.backpressure.BackpressureDecision.{BackpressureDecision}
+use Rattle.iox_command.specs.DomainValues.declared.backpressure.BackpressureInfo.{BackpressureInfo}
+use Rattle.iox_command.specs.DomainValues.declared.backpressure_strategy.BackpressureStrategy.{BackpressureStrategy}
+use Rattle.iox_command.specs.DomainValues.declared.degradation.DegradationAction.{DegradationAction}
+use Rattle.iox_command.specs.DomainValues.declared.degradation.DegradationCause.{DegradationCause}
+use Rattle.iox_command.specs.DomainValues.declared.degradation.DegradationInfo.{DegradationInfo}
+use Rattle.iox_command.specs.NegotiateBase.DescribeBase.Attributes.{Required}
+use Rattle.iox_command.specs.NegotiateBase.DescribeBase.Detail.{Detail}
+use Rattle.iox_command.specs.NegotiateBase.DescribeBase.Hash.{service_hash_of}
+use Rattle.iox_command.specs.NegotiateBase.DescribeBase.declared.message_type.MessageTypeDetails.{MessageTypeDetails}
+use Rattle.iox_command.specs.NegotiateBase.DescribeBase.declared.pattern.MessagingPattern.{MessagingPattern}
+use Rattle.iox_command.specs.NegotiateBase.DescribeBase.declared.pattern.MessagingPattern.TheVariants as pattern
+use Rattle.iox_command.specs.NegotiateBase.DescribeSettings.Agreement.{Agreement as Description}
+use Rattle.iox_command.specs.NegotiateBase.DescribeVerdict.EventClauses as event_clauses
+use Rattle.iox_command.specs.NegotiateBase.DescribeVerdict.PublishSubscribeClauses as publish_subscribe_clauses
+use Rattle.iox_command.specs.NegotiateBase.DescribeVerdict.RequestResponseClauses as request_response_clauses
+use Rattle.iox_command.specs.NegotiateBase.DescribeVerdict.Verdict.{first_unmet}
+use Rattle.iox_command.specs.NegotiateBase.EventErrors as event
+use Rattle.iox_command.specs.NegotiateBase.PublishSubscribeErrors as publish_subscribe
+use Rattle.iox_command.specs.NegotiateBase.RequestResponseErrors as request_response
+use Rattle.iox_command.specs.NegotiateBase.declared.failure.OpenFailure.{OpenFailure}
+use Rattle.iox_command.specs.NegotiateBase.declared.failure.OpenFailure.TheVariants as unopened
+use Rattle.iox_command.specs.declared.command.Command.TheVariants as command
+use Rattle.iox_command.specs.declared.refusal.Refusal.{Refusal}
+use Rattle.iox_command.specs.declared.refusal.Refusal.TheVariants as refusal
+use Rattle.iox_command.specs.declared.reply.Reply.{Reply}
+use Rattle.iox_command.specs.declared.reply.Reply.TheVariants as reply
+use Rattle.iox_command.specs.declared.service.PublishSubscribeOptions.{PublishSubscribeOptions}
+use Rattle.iox_command.specs.declared.service.ServiceOptions.{ServiceOptions}
+use Rattle.iox_command.specs.declared.service.ServiceOptions.TheVariants as options
+use Rattle.iox_command.specs.declared.step.StepBefore.{StepBefore}
+use Rattle.iox_domain.specs.declared.ports.service_ports.ServicePorts.{ServicePorts}
+use Rattle.iox_domain_machine.proofs.Found.{same_some}
+use Rattle.iox_domain_machine.specs.Naming.{Naming}
+use Rattle.iox_hub_base.proofs.SameTable.{went-keeps}
+use Rattle.iox_hub_base.specs.Hubs.{is_node}
+use Rattle.iox_hub_base.specs.Opening.{Made, OpensInHub}
+use Rattle.iox_hub_commands.specs.Asking.{required_event, required_publish_subscribe, required_request_response}
+use Rattle.iox_hub_commands.specs.Opening.{OpensAs, OpensNumbered, OpensPrepared, open_lacking}
+use Rattle.iox_hub_commands.specs.Replies.{factory_reply}
+use Rattle.iox_hub_commands.specs.ServicesNumbering.{IsRefusedWith, Numbers, Prepares}
+use Rattle.iox_hub_commands.specs.ServicesTables.{FactoryTable, SameNumbers}
+use Rattle.iox_hub_commands.specs.declared.numbered_hub.NumberedHub.{NumberedHub}
+use Rattle.iox_hub_machine.proofs.Answered.{Came, IsAnswered, StandsEntered, answered, lacking_answered, with_factory_in}
+use Rattle.iox_hub_machine.proofs.EnteredStands.{stands_entered}
+use Rattle.iox_hub_machine.proofs.Entering.{opened_enters, unopened_keeps}
+use Rattle.iox_hub_machine.proofs.FewHeld.{few_held}
+use Rattle.iox_hub_machine.proofs.FittingThen.{FitsHere, met_fits}
+use Rattle.iox_hub_machine.proofs.Formed.{AreMade, formed_so, listed_so}
+use Rattle.iox_hub_machine.proofs.Skipping.{skipped_matches}
+use Rattle.iox_hub_machine.proofs.Verdicts.{same_event_verdict, same_publish_subscribe_verdict, same_request_response_verdict}
+use Rattle.iox_hub_machine.specs.OpenLaws.{HasNumbersFor, OpeningMatches, slice_types}
+use Rattle.iox_hub_machine.specs.ServiceLaws.{IsFollowed}
+use Rattle.iox_hub_machine.specs.Services.{HubStandsFor, factory_as}
+use Rattle.iox_machine.proofs.Names.{phase-there}
+use Rattle.iox_machine.proofs.Opened.{opened-meets-asked}
+use Rattle.iox_machine.specs.Agreement.{Agreement, event_verdict, publish_subscribe_verdict, request_response_verdict}
+use Rattle.iox_machine.specs.AgreementLaws.{agreed_in}
+use Rattle.iox_machine.specs.Negotiation.{Call, Opens}
+use Rattle.iox_machine.specs.OpeningLaws.{IsAgreedOn}
+use Rattle.iox_machine.specs.Phase.{Node, Own, Phase, Published}
+use Rattle.iox_machine.specs.Run as machine
+use Rattle.iox_machine.specs.State.{State}
+use Rattle.iox_negotiate.specs.Negotiation as built
+use Rattle.iox_negotiate_machine.proofs.OpenCalls.{open-matches}
+use Rattle.iox_negotiate_machine.specs.Laws.{HaveOwnHashes}
+use Rattle.iox_negotiate_machine.specs.Standing.{description_of}
+use Rattle.iox_negotiate_table.specs.NegotiateBase.Opening as rounds
+use Rattle.iox_negotiate_table.specs.Stepped.{SteppedSight}
+use Rattle.iox_negotiate_table.specs.declared.step.ForeignStep.{ForeignStep as TableStep}
+
+-- what is done where a test is passed
+pub by_true : (P Q : Type 0) (b : Bool) → b ≡ true → P → MatchBool b P Q
+by_true P Q true is p = p
+by_true P Q false is p = absurd (differ is)
+  where
+    differ : false ≡ true → ⊥
+    differ e = cc
+
+-- what is agreed on in a phase of which it is known
+pub agreed_there : (So : Agreement → Type 0) (phase : Phase) (life : ℕ) (agreed : Agreement) (nodes : List (Node × ℕ))
+    → phase ≡ Published life agreed nodes → IsAgreedOn So phase → So agreed
+agreed_there So phase life agreed nodes is (one, known, so) =
+    subst So (same_some one agreed (sym known ∙ ap agreed_in is)) so
+
+pub is_event : pattern.Event ≡ pattern.PublishSubscribe → ⊥
+is_event e = cc
+
+pub is_request_response : pattern.RequestResponse ≡ pattern.PublishSubscribe → ⊥
+is_request_response e = cc
+
+module _ {T U B D : Type 0} (payload user_header : Detail) (is_default : T → Type 0) (is_default_header : U → Type 0)
+    (fixed : BackpressureStrategy → Option BackpressureAction → DegradationAction → B)
+    (degrades : B → DegradationCause → DegradationInfo → DegradationAction → Type 0)
+    (decides : B → BackpressureInfo → BackpressureDecision → Type 0) (fixed_reader : DegradationAction → D)
+    (reader_degrades : D → DegradationCause → DegradationInfo → DegradationAction → Type 0) where
+  abbrev types : MessageTypeDetails
+  types = slice_types {T = T} {U = U} {B = B} {D = D} payload user_header is_default is_default_header fixed degrades decides fixed_reader
+      reader_degrades
+
+  module _ (names : List (List ℕ)) (node : ℕ) (name : List ℕ) (required : Required) (steps : List StepBefore)
+      (asked : IsAmong names name)
+      (taken : MessagingPattern → List ℕ → List ℕ) (naming : ℕ → Naming) (order : List (ℕ × ServicePorts T U))
+      (old new : NumberedHub T U B D) (state : State T) (own : HaveOwnHashes names) (fit : HasNumbersFor (length steps) old)
+      (stands : HubStandsFor degrades decides reader_degrades names taken naming order old state)
+      (there : is_node node old.hub.nodes ≡ true) where
+    made_node : (nat_le 1 node && nat_le node state.made.nodes) ≡ true
+    made_node = ap (λ (n : ℕ). nat_le 1 node && nat_le node n) (sym stands.nodes) ∙ there
+
+    entering : (kind : MessagingPattern) → StandsEntered payload user_header degrades decides reader_degrades names own kind name asked
+        taken naming order node old new state stands
+    entering kind = stands_entered payload user_header degrades decides reader_degrades names own kind name asked taken naming order node
+        old new state stands fit.rise fit.factories
+
+    module _ (kind : MessagingPattern) {V E : Type 0} (judge : Description → Result (Unit {0}) V)
+        (verdict : Agreement → Result (Unit {0}) V)
+        (judged : (agreed : Agreement) → judge (description_of kind name agreed) ≡ verdict agreed) (error : OpenFailure V → E)
+        (refused : E → Refusal) where
+      -- the call of the machine
+      abbrev Goes : Call → Option (Result Bool (OpenFailure V)) → Call → Type 0
+      Goes = Opens types kind steps (Own node) verdict
+
+      -- what is told of a failure
+      abbrev tell : OpenFailure V → Refusal
+      tell why = refused (error why)
+
+      abbrev Is : Reply T → Type 0
+      Is = IsAnswered payload user_header degrades decides reader_degrades names own kind name asked taken naming order node old new state
+          stands Goes tell (λ is_new. unopened.OutOfMemory)
+
+      opened_so : (fits : (fresh : Bool) (last : Call)
+          → Goes (record { phase = state.phases kind name; accesses = 0 }) (Some (Ok fresh)) last
+          → kind ≡ pattern.PublishSubscribe → (life : ℕ) (agreed : Agreement) (nodes : List (Node × ℕ))
+          → last.phase ≡ Published life agreed nodes → FitsHere payload user_header agreed.settings)
+          → (lists : List (List TableStep)) → AreMade types name steps lists
+          → (roomier : FactoryTable) → SameNumbers old.factories.made roomier → new.made ≡ old.made → (result : Result ℕ Refusal)
+          → (opened : Result Made E)
+          → OpensInHub payload user_header (λ was_new. error unopened.OutOfMemory)
+          (λ before came after. built.Negotiates SteppedSight before.table.id node error
+          (λ made answer. rounds.Opens (service_hash_of kind name) node judge made answer) before came after) lists old.hub opened new.hub
+          → Numbers kind refused opened roomier result new.factories.made
+          → Is (factory_reply (Some result))
+      opened_so fits lists listed roomier same same_made result opened does numbers =
+          answered payload user_header degrades decides reader_degrades names own kind name asked taken naming order node old new state
+          stands Goes tell (λ is_new. unopened.OutOfMemory) error refused (λ why. refl) (λ was_new. error unopened.OutOfMemory)
+          (λ fresh. refl)
+          (λ why last goes. unopened_keeps kind name (taken kind name) (state.phases kind name) types steps node verdict last why goes)
+          (λ fresh last goes. opened_enters kind name (taken kind name) (state.phases kind name) types steps node verdict last fresh goes)
+          fits stands.factories.numbers (entering kind) roomier same same_made does.mid.table
+          (went-keeps does.negotiated.done.made (record { table = old.hub.table; lists = lists }) does.mid does.negotiated.done.went)
+          result does.answer opened
+          (open-matches T V E names types kind name node old.hub.table.id judge verdict steps lists taken old.hub.table does.mid error
+          does.answer state own asked (formed_so types name steps lists listed) fit.locks
+          (listed_so types name steps lists listed) stands.table
+          (few_held kind name node (state.phases kind name) old.factories.made.entries old.factories.made.next factory_as state.factories
+          fit.rise fit.factories stands.factories.same (stands.factories.seats kind name node asked))
+          judged does.negotiated)
+          does.settled numbers
+
+    -- ---- by pattern
+
+    abbrev Followed : ServiceOptions → Reply T → Type 0
+    Followed named answer = IsFollowed payload user_header types is_default is_default_header fixed degrades decides fixed_reader
+        reader_degrades names (command.Open node name named required steps) old new state answer
+
+    module _ (named : ServiceOptions) (kind : MessagingPattern) {F : Type 0} (Calls : Call → Option (Result Bool F) → Call → Type 0)
+        (told : F → Refusal) (lacks : Bool → F) (answer : Reply T)
+        (steps_so : (after : State T)
+        → Came payload user_header degrades decides reader_degrades names own kind name asked taken naming order node old new state stands
+        Calls told lacks answer after
+        → machine.Step types is_default old.hub.expired_connection_buffer (command.Open node name named required steps) state answer after)
+      where
+        followed_by : IsAnswered payload user_header degrades decides reader_degrades names own kind name asked taken naming order node
+            old new
+            state stands Calls told lacks answer
+            → Followed named answer
+        followed_by it = record {
+          taken = it.taken_then;
+          naming = it.naming_then;
+          order = it.order_then;
+          after = it.after;
+          step = steps_so it.after it.came;
+          stands = it.stands_then;
+        }
+
+    -- what is opened is as it was asked for
+    opened_fits : (named : PublishSubscribeOptions) (fresh : Bool) (last : Call)
+        → Opens types pattern.PublishSubscribe steps (Own node) (publish_subscribe_verdict types required named)
+        (record { phase = state.phases pattern.PublishSubscribe name; accesses = 0 }) (Some (Ok fresh)) last
+        → pattern.PublishSubscribe ≡ pattern.PublishSubscribe → (life : ℕ) (agreed : Agreement) (nodes : List (Node × ℕ))
+        → last.phase ≡ Published life agreed nodes → FitsHere payload user_header agreed.settings
+    opened_fits named fresh last goes is life agreed nodes phase_is =
+        met_fits payload user_header required named agreed
+        (agreed_there (λ one. publish_subscribe_verdict types required named one ≡ Ok tt) last.phase life agreed nodes phase_is
+        (subst (IsAgreedOn (λ one. publish_subscribe_verdict types required named one ≡ Ok tt))
+        (phase-there pattern.PublishSubscribe name last.phase state)
+        ((opened-meets-asked is_default types old.hub.expired_connection_buffer node name (options.PublishSubscribe named) required steps
+        state (reply.FactoryMade (state.made.factories + 1)) then
+        (by_true _ _ _ made_node (inr (Ok fresh, last, goes, inl (refl, refl))))).0 (state.made.factories + 1) refl)))
+      where
+        then : State T
+        then = with_factory_in payload user_header degrades decides reader_degrades names own pattern.PublishSubscribe name asked taken
+            naming order node old new state stands last.phase
+
+    opens_as : (named : ServiceOptions) (lists : List (List TableStep)) → AreMade types name steps lists
+        → (roomier : FactoryTable) → SameNumbers old.factories.made roomier → new.made ≡ old.made → (result : Result ℕ Refusal)
+        → OpensAs named payload user_header types node name required lists roomier old.hub result new.factories.made new.hub
+        → Followed named (factory_reply (Some result))
+    opens_as (options.PublishSubscribe named) lists listed roomier same same_made result (opened, does, numbers) =
+        followed_by (options.PublishSubscribe named) pattern.PublishSubscribe _ _ _ _ (λ after came. by_true _ _ _ made_node came)
+        (opened_so pattern.PublishSubscribe
+        (λ given. first_unmet (publish_subscribe_clauses.clauses (required_publish_subscribe named types required) given))
+        (publish_subscribe_verdict types required named)
+        (λ agreed. same_publish_subscribe_verdict types required name named agreed)
+        publish_subscribe.open_error refusal.PublishSubscribeOpen (opened_fits named) lists listed roomier same same_made result opened does
+        numbers)
+    opens_as (options.Event named) lists listed roomier same same_made result (opened, does, numbers) =
+        followed_by (options.Event named) pattern.Event _ _ _ _ (λ after came. by_true _ _ _ made_node came)
+        (opened_so pattern.Event
+        (λ given. first_unmet (event_clauses.clauses (required_event named required) given))
+        (event_verdict required named)
+        (λ agreed. same_event_verdict types required name named agreed)
+        event.open_error refusal.EventOpen (λ fresh last goes is. absurd (is_event is)) lists listed roomier same same_made result opened
+        does numbers)
+    opens_as (options.RequestResponse named) lists listed roomier same same_made result (opened, does, numbers) =
+        followed_by (options.RequestResponse named) pattern.RequestResponse _ _ _ _ (λ after came. by_true _ _ _ made_node came)
+        (opened_so pattern.RequestResponse
+        (λ given. first_unmet (request_response_clauses.clauses (required_request_response named types required) given))
+        (request_response_verdict types required named)
+        (λ agreed. same_request_response_verdict types required name named agreed)
+        request_response.open_error refusal.RequestResponseOpen (λ fresh last goes is. absurd (is_request_response is)) lists listed roomier
+        same same_made result opened does numbers)
+
+    lacks_as : (named : ServiceOptions) (lacking : AllocError) (roomier : FactoryTable) → SameNumbers old.factories.made roomier
+        → new.made ≡ old.made → (result : Result ℕ Refusal)
+        → IsRefusedWith (open_lacking named) roomier old.hub result new.factories.made new.hub
+        → Followed named (factory_reply (Some result))
+    lacks_as (options.PublishSubscribe named) lacking roomier same same_made result does =
+        followed_by (options.PublishSubscribe named) pattern.PublishSubscribe
+        (Opens types pattern.PublishSubscribe steps (Own node) (publish_subscribe_verdict types required named))
+        (λ why. refusal.PublishSubscribeOpen (publish_subscribe.open_error why)) (λ is_new. unopened.OutOfMemory) _
+        (λ after came. by_true _ _ _ made_node came)
+        (lacking_answered payload user_header degrades decides reader_degrades names own pattern.PublishSubscribe name asked taken naming
+        order node old new state stands
+        (Opens types pattern.PublishSubscribe steps (Own node) (publish_subscribe_verdict types required named))
+        (λ why. refusal.PublishSubscribeOpen (publish_subscribe.open_error why)) (λ is_new. unopened.OutOfMemory) roomier result same
+        same_made does)
+    lacks_as (options.Event named) lacking roomier same same_made result does =
+        followed_by (options.Event named) pattern.Event (Opens types pattern.Event steps (Own node) (event_verdict required named))
+        (λ why. refusal.EventOpen (event.open_error why)) (λ is_new. unopened.OutOfMemory) _
+        (λ after came. by_true _ _ _ made_node came)
+        (lacking_answered payload user_header degrades decides reader_degrades names own pattern.Event name asked taken naming order node
+        old new state stands (Opens types pattern.Event steps (Own node) (event_verdict required named))
+        (λ why. refusal.EventOpen (event.open_error why)) (λ is_new. unopened.OutOfMemory) roomier result same same_made does)
+    lacks_as (options.RequestResponse named) lacking roomier same same_made result does =
+        followed_by (options.RequestResponse named) pattern.RequestResponse
+        (Opens types pattern.RequestResponse steps (Own node) (request_response_verdict types required named))
+        (λ why. refusal.RequestResponseOpen (request_response.open_error why)) (λ is_new. unopened.OutOfMemory) _
+        (λ after came. by_true _ _ _ made_node came)
+        (lacking_answered payload user_header degrades decides reader_degrades names own pattern.RequestResponse name asked taken naming
+        order node old new state stands
+        (Opens types pattern.RequestResponse steps (Own node) (request_response_verdict types required named))
+        (λ why. refusal.RequestResponseOpen (request_response.open_error why)) (λ is_new. unopened.OutOfMemory) roomier result same
+        same_made does)
+
+    prepared_so : (named : ServiceOptions) (prepared : Result (List (List TableStep)) AllocError) (roomier : FactoryTable)
+        → new.made ≡ old.made → (result : Result ℕ Refusal)
+        → Prepares name types steps old.factories.made prepared roomier
+        → OpensPrepared prepared payload user_header types (record { node = node; name = name; options = named }) required roomier old.hub
+        result new.factories.made new.hub
+        → Followed named (factory_reply (Some result))
+    prepared_so named (Ok lists) roomier same_made result prepares does =
+        opens_as named lists (prepares.1, prepares.3) roomier prepares.0 same_made result does
+    prepared_so named (Err lacking) roomier same_made result prepares does =
+        lacks_as named lacking roomier prepares.0 same_made result does
+
+  pub openings_match : OpeningMatches payload user_header is_default is_default_header fixed degrades decides fixed_reader reader_degrades
+  openings_match names node name named required steps asked own taken naming order old new state answer fit stands
+      (made, does, same_made, told) =
+      by_node (is_node node old.hub.nodes) refl does
+    where
+      Now : Reply T → Type 0
+      Now given = IsFollowed payload user_header types is_default is_default_header fixed degrades decides fixed_reader reader_degrades
+          names
+          (command.Open node name named required steps) old new state given
+
+      by_node : (b : Bool) → is_node node old.hub.nodes ≡ b
+          → OpensNumbered b payload user_header types (record { node = node; name = name; options = named }) required steps
+          old.factories.made old.hub made new.factories.made new.hub
+          → Now answer
+      by_node true is (prepared, roomier, result, prepares, opens, made_is) =
+          subst Now (sym (told ∙ ap factory_reply made_is))
+          (prepared_so names node name required steps asked taken naming order old new state own fit stands is named prepared roomier
+          same_made result prepares opens)
+      by_node false is (none, table_is, hub_is) =
+          let replied : answer ≡ reply.Skipped = told ∙ ap factory_reply none in
+          let so = skipped_matches payload user_header types is_default is_default_header fixed degrades decides fixed_reader
+          reader_degrades names (command.Open node name named required steps) taken naming order old new state tt stands
+          (made, does, same_made, sym replied ∙ told) in
+          subst Now (sym replied)
+          (record { taken = taken; naming = naming; order = order; after = state; step = so.0; stands = so.1 })

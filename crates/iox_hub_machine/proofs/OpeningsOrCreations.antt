@@ -1,0 +1,354 @@
+-- A node opens a service, or creates it where none stands: what a hub does is what a machine does.
+use Rattle.std.proofs.Common.{◌≡◌, ℕ, ◌+◌, ◌^◌, ◌<◌, ◌&&◌, Bool, true, false, List, length, Option, Some, Result, Ok, Err}
+use Rattle.std.proofs.Common.{refl, sym, ap, subst, ◌∙◌, inl, inr, arith}
+use Rattle.std.proofs.Math.Logic.{⊎_elim}
+use Rattle.std.specs.List.{IsAmong}
+use Rattle.std.specs.Prelude.{nat_le}
+use Rattle.std.specs.declared.alloc.AllocError.{AllocError}
+use Rattle.iox_command.specs.DomainValues.declared.backpressure.BackpressureAction.{BackpressureAction}
+use Rattle.iox_command.specs.DomainValues.declared.backpressure.BackpressureDecision.{BackpressureDecision}
+use Rattle.iox_command.specs.DomainValues.declared.backpressure.BackpressureInfo.{BackpressureInfo}
+use Rattle.iox_command.specs.DomainValues.declared.backpressure_strategy.BackpressureStrategy.{BackpressureStrategy}
+use Rattle.iox_command.specs.DomainValues.declared.degradation.DegradationAction.{DegradationAction}
+use Rattle.iox_command.specs.DomainValues.declared.degradation.DegradationCause.{DegradationCause}
+use Rattle.iox_command.specs.DomainValues.declared.degradation.DegradationInfo.{DegradationInfo}
+use Rattle.iox_command.specs.NegotiateBase.DescribeBase.Attributes.{Required}
+use Rattle.iox_command.specs.NegotiateBase.DescribeBase.Detail.{Detail}
+use Rattle.iox_command.specs.NegotiateBase.DescribeBase.Hash.{service_hash_of}
+use Rattle.iox_command.specs.NegotiateBase.DescribeBase.declared.message_type.MessageTypeDetails.{MessageTypeDetails}
+use Rattle.iox_command.specs.NegotiateBase.DescribeBase.declared.pattern.MessagingPattern.{MessagingPattern}
+use Rattle.iox_command.specs.NegotiateBase.DescribeBase.declared.pattern.MessagingPattern.TheVariants as pattern
+use Rattle.iox_command.specs.NegotiateBase.DescribeSettings.Agreement.{Agreement as Description, AreWithinLimits}
+use Rattle.iox_command.specs.NegotiateBase.DescribeVerdict.EventClauses as event_clauses
+use Rattle.iox_command.specs.NegotiateBase.DescribeVerdict.PublishSubscribeClauses as publish_subscribe_clauses
+use Rattle.iox_command.specs.NegotiateBase.DescribeVerdict.RequestResponseClauses as request_response_clauses
+use Rattle.iox_command.specs.NegotiateBase.DescribeVerdict.Verdict.{first_unmet}
+use Rattle.iox_command.specs.NegotiateBase.EventErrors as event
+use Rattle.iox_command.specs.NegotiateBase.PublishSubscribeErrors as publish_subscribe
+use Rattle.iox_command.specs.NegotiateBase.RequestResponseErrors as request_response
+use Rattle.iox_command.specs.NegotiateBase.declared.failure.OpenOrCreateFailure.{OpenOrCreateFailure}
+use Rattle.iox_command.specs.Patterns.{pattern_of}
+use Rattle.iox_command.specs.declared.command.Command.TheVariants as command
+use Rattle.iox_command.specs.declared.refusal.Refusal.{Refusal}
+use Rattle.iox_command.specs.declared.refusal.Refusal.TheVariants as refusal
+use Rattle.iox_command.specs.declared.reply.Reply.{Reply}
+use Rattle.iox_command.specs.declared.reply.Reply.TheVariants as reply
+use Rattle.iox_command.specs.declared.service.PublishSubscribeOptions.{PublishSubscribeOptions}
+use Rattle.iox_command.specs.declared.service.ServiceOptions.{ServiceOptions}
+use Rattle.iox_command.specs.declared.service.ServiceOptions.TheVariants as options
+use Rattle.iox_command.specs.declared.step.StepBefore.{StepBefore}
+use Rattle.iox_domain.specs.declared.ports.service_ports.ServicePorts.{ServicePorts}
+use Rattle.iox_domain_machine.specs.Naming.{Naming}
+use Rattle.iox_hub_base.proofs.SameTable.{went-keeps}
+use Rattle.iox_hub_base.specs.Hubs.{is_node}
+use Rattle.iox_hub_base.specs.Opening.{Made, OpensInHub, lacking_either}
+use Rattle.iox_hub_commands.specs.Asking.{IsHistoryTooLong, required_agreement, required_event, required_publish_subscribe}
+use Rattle.iox_hub_commands.specs.Asking.{required_request_response}
+use Rattle.iox_hub_commands.specs.Either.{EitherAs, EitherNumbered, EitherPrepared, either_lacking}
+use Rattle.iox_hub_commands.specs.Replies.{factory_reply}
+use Rattle.iox_hub_commands.specs.ServicesNumbering.{IsRefusedWith, Numbers, Prepares}
+use Rattle.iox_hub_commands.specs.ServicesTables.{FactoryTable, SameNumbers}
+use Rattle.iox_hub_commands.specs.declared.numbered_hub.NumberedHub.{NumberedHub}
+use Rattle.iox_hub_machine.proofs.Answered.{Came, IsAnswered, StandsEntered, answered, lacking_answered, with_factory_in}
+use Rattle.iox_hub_machine.proofs.EnteredStands.{stands_entered}
+use Rattle.iox_hub_machine.proofs.Entering.{either_enters, neither_keeps}
+use Rattle.iox_hub_machine.proofs.FewHeld.{few_held}
+use Rattle.iox_hub_machine.proofs.FittingThen.{FitsHere, met_fits, new_fits}
+use Rattle.iox_hub_machine.proofs.Formed.{AreMade, formed_so, listed_so}
+use Rattle.iox_hub_machine.proofs.Openings.{agreed_there, by_true, is_event, is_request_response}
+use Rattle.iox_hub_machine.proofs.Skipping.{skipped_matches}
+use Rattle.iox_hub_machine.proofs.Verdicts.{new_agreement, same_event_verdict, same_history, same_publish_subscribe_verdict}
+use Rattle.iox_hub_machine.proofs.Verdicts.{same_request_response_verdict, same_required_agreement}
+use Rattle.iox_hub_machine.specs.OpenLaws.{HasNumbersFor, OpeningOrCreatingMatches, slice_types}
+use Rattle.iox_hub_machine.specs.ServiceLaws.{IsFollowed}
+use Rattle.iox_hub_machine.specs.Services.{HubStandsFor, factory_as}
+use Rattle.iox_machine.proofs.Names.{phase-there}
+use Rattle.iox_machine.proofs.Opened.{either-meets-asked}
+use Rattle.iox_machine.specs.Agreement.{Agreement, event_verdict, publish_subscribe_verdict, request_response_verdict}
+use Rattle.iox_machine.specs.Asked.{settings_of}
+use Rattle.iox_machine.specs.Factories as told_of
+use Rattle.iox_machine.specs.Negotiation.{Call, OpensOrCreates}
+use Rattle.iox_machine.specs.OpeningLaws.{IsAgreedOn}
+use Rattle.iox_machine.specs.Phase.{Node, Own, Published}
+use Rattle.iox_machine.specs.Run as machine
+use Rattle.iox_machine.specs.State.{State}
+use Rattle.iox_negotiate.specs.Negotiation as built
+use Rattle.iox_negotiate.specs.declared.factory.Membership.{Membership}
+use Rattle.iox_negotiate_machine.proofs.OpenCalls.{open-or-create-matches}
+use Rattle.iox_negotiate_machine.specs.CallLaws.{HasNoRoomForHistory}
+use Rattle.iox_negotiate_machine.specs.Laws.{HaveOwnHashes}
+use Rattle.iox_negotiate_machine.specs.Standing.{description_of}
+use Rattle.iox_negotiate_table.specs.Stepped.{Steps, SteppedSight}
+use Rattle.iox_negotiate_table.specs.declared.step.ForeignStep.{ForeignStep as TableStep}
+
+module _ {T U B D : Type 0} (payload user_header : Detail) (is_default : T → Type 0) (is_default_header : U → Type 0)
+    (fixed : BackpressureStrategy → Option BackpressureAction → DegradationAction → B)
+    (degrades : B → DegradationCause → DegradationInfo → DegradationAction → Type 0)
+    (decides : B → BackpressureInfo → BackpressureDecision → Type 0) (fixed_reader : DegradationAction → D)
+    (reader_degrades : D → DegradationCause → DegradationInfo → DegradationAction → Type 0) where
+  abbrev types : MessageTypeDetails
+  types = slice_types {T = T} {U = U} {B = B} {D = D} payload user_header is_default is_default_header fixed degrades decides fixed_reader
+      reader_degrades
+
+  module _ (names : List (List ℕ)) (node : ℕ) (name : List ℕ) (required : Required) (steps : List StepBefore)
+      (asked : IsAmong names name)
+      (taken : MessagingPattern → List ℕ → List ℕ) (naming : ℕ → Naming) (order : List (ℕ × ServicePorts T U))
+      (old new : NumberedHub T U B D) (state : State T) (own : HaveOwnHashes names) (fit : HasNumbersFor (length steps + 1) old)
+      (stands : HubStandsFor degrades decides reader_degrades names taken naming order old state)
+      (there : is_node node old.hub.nodes ≡ true) where
+    made_node : (nat_le 1 node && nat_le node state.made.nodes) ≡ true
+    made_node = ap (λ (n : ℕ). nat_le 1 node && nat_le node n) (sym stands.nodes) ∙ there
+
+    entering : (kind : MessagingPattern) → StandsEntered payload user_header degrades decides reader_degrades names own kind name asked
+        taken naming order node old new state stands
+    entering kind = stands_entered payload user_header degrades decides reader_degrades names own kind name asked taken naming order node
+        old new state stands fit.rise fit.factories
+
+    room : (next some : ℕ) → next + (some + 1) < 2 ^ 64 → next + some + 1 < 2 ^ 64
+    room next some few = omega (arith, few)
+
+    -- what is told for want of memory
+    same_lacking : {V : Type 0} (fresh : Bool)
+        → ◌≡◌ {A = OpenOrCreateFailure V} (lacking_either fresh) (told_of.either_lacking fresh)
+    same_lacking true = refl
+    same_lacking false = refl
+
+    module _ (named : ServiceOptions) {V E : Type 0} (judge : Description → Result (Unit {0}) V)
+        (verdict : Agreement → Result (Unit {0}) V)
+        (judged : (agreed : Agreement) → judge (description_of (pattern_of named) name agreed) ≡ verdict agreed)
+        (error : OpenOrCreateFailure V → E) (refused : E → Refusal) where
+      abbrev kind : MessagingPattern
+      kind = pattern_of named
+
+      -- what is agreed on in a service that is new
+      abbrev fresh_one : Agreement
+      fresh_one = new_agreement types required name named
+
+      -- the call of the machine
+      abbrev Goes : Call → Option (Result Bool (OpenOrCreateFailure V)) → Call → Type 0
+      Goes = OpensOrCreates types kind steps (Own node) verdict fresh_one
+
+      -- what is told of a failure
+      abbrev tell : OpenOrCreateFailure V → Refusal
+      tell why = refused (error why)
+
+      abbrev Is : Reply T → Type 0
+      Is = IsAnswered payload user_header degrades decides reader_degrades names own kind name asked taken naming order node old new state
+          stands Goes tell told_of.either_lacking
+
+      abbrev Negotiated : Description → Type 0 → List (List TableStep) → Result Membership E → Steps → Type 0
+      Negotiated agreed too_long lists answer mid = built.Either SteppedSight old.hub.table.id (service_hash_of kind name) node judge agreed
+          (AreWithinLimits agreed.settings) too_long error (record { table = old.hub.table; lists = lists }) answer mid
+
+      negotiated_so : (lists : List (List TableStep)) (answer : Result Membership E) (mid : Steps)
+          → Negotiated (required_agreement name named types required)
+          (IsHistoryTooLong (required_agreement name named types required).settings) lists answer mid
+          → Negotiated (description_of kind name fresh_one) (HasNoRoomForHistory (settings_of types named)) lists answer mid
+      negotiated_so lists answer mid does =
+          subst (λ (too_long : Type 0). Negotiated (description_of kind name fresh_one) too_long lists answer mid)
+          (same_history (settings_of types named))
+          (subst (λ (agreed : Description). Negotiated agreed (IsHistoryTooLong agreed.settings) lists answer mid)
+          (same_required_agreement types required name named) does)
+
+      either_so : (fits : (fresh : Bool) (last : Call)
+          → Goes (record { phase = state.phases kind name; accesses = 0 }) (Some (Ok fresh)) last
+          → kind ≡ pattern.PublishSubscribe → (life : ℕ) (agreed : Agreement) (nodes : List (Node × ℕ))
+          → last.phase ≡ Published life agreed nodes → FitsHere payload user_header agreed.settings)
+          → (lists : List (List TableStep)) → AreMade types name steps lists
+          → (roomier : FactoryTable) → SameNumbers old.factories.made roomier → new.made ≡ old.made → (result : Result ℕ Refusal)
+          → (opened : Result Made E)
+          → OpensInHub payload user_header (λ was_new. error (lacking_either was_new))
+          (λ before came after. built.Either SteppedSight before.table.id (service_hash_of kind name) node judge
+          (required_agreement name named types required)
+          (AreWithinLimits (required_agreement name named types required).settings)
+          (IsHistoryTooLong (required_agreement name named types required).settings) error before came after)
+          lists old.hub opened new.hub
+          → Numbers kind refused opened roomier result new.factories.made
+          → Is (factory_reply (Some result))
+      either_so fits lists listed roomier same same_made result opened does numbers =
+          let negotiated = negotiated_so lists does.answer does.mid does.negotiated in
+          answered payload user_header degrades decides reader_degrades names own kind name asked taken naming order node old new state
+          stands Goes tell told_of.either_lacking error refused (λ why. refl) (λ was_new. error (lacking_either was_new))
+          (λ fresh. ap error (same_lacking fresh))
+          (λ why last goes. neither_keeps kind name (taken kind name) (state.phases kind name) types steps node verdict last fresh_one why
+          goes)
+          (λ fresh last goes. either_enters kind name (taken kind name) (state.phases kind name) types steps node verdict last fresh_one
+          fresh goes)
+          fits stands.factories.numbers (entering kind) roomier same same_made does.mid.table
+          (went-keeps negotiated.negotiated.done.made (record { table = old.hub.table; lists = lists }) does.mid
+          negotiated.negotiated.done.went)
+          result does.answer opened
+          (open-or-create-matches T V E names types name node old.hub.table.id judge verdict named required.pairs steps lists taken
+          old.hub.table does.mid error does.answer state own asked (formed_so types name steps lists listed)
+          (room old.hub.table.next (length steps) fit.locks)
+          (listed_so types name steps lists listed) stands.table
+          (few_held kind name node (state.phases kind name) old.factories.made.entries old.factories.made.next factory_as state.factories
+          fit.rise fit.factories stands.factories.same (stands.factories.seats kind name node asked))
+          judged negotiated)
+          does.settled numbers
+
+    -- ---- by pattern
+
+    abbrev Followed : ServiceOptions → Reply T → Type 0
+    Followed named answer = IsFollowed payload user_header types is_default is_default_header fixed degrades decides fixed_reader
+        reader_degrades names (command.OpenOrCreate node name named required steps) old new state answer
+
+    module _ (named : ServiceOptions) (kind : MessagingPattern) {F : Type 0} (Calls : Call → Option (Result Bool F) → Call → Type 0)
+        (told : F → Refusal) (lacks : Bool → F) (answer : Reply T)
+        (steps_so : (after : State T)
+        → Came payload user_header degrades decides reader_degrades names own kind name asked taken naming order node old new state stands
+        Calls told lacks answer after
+        → machine.Step types is_default old.hub.expired_connection_buffer (command.OpenOrCreate node name named required steps) state
+        answer after)
+      where
+        followed_by : IsAnswered payload user_header degrades decides reader_degrades names own kind name asked taken naming order node
+            old new
+            state stands Calls told lacks answer
+            → Followed named answer
+        followed_by it = record {
+          taken = it.taken_then;
+          naming = it.naming_then;
+          order = it.order_then;
+          after = it.after;
+          step = steps_so it.after it.came;
+          stands = it.stands_then;
+        }
+
+    -- what is opened is as it was asked for, and what is created is so
+    either_fits : (named : PublishSubscribeOptions) (fresh : Bool) (last : Call)
+        → OpensOrCreates types pattern.PublishSubscribe steps (Own node) (publish_subscribe_verdict types required named)
+        (new_agreement types required name (options.PublishSubscribe named))
+        (record { phase = state.phases pattern.PublishSubscribe name; accesses = 0 }) (Some (Ok fresh)) last
+        → pattern.PublishSubscribe ≡ pattern.PublishSubscribe → (life : ℕ) (agreed : Agreement) (nodes : List (Node × ℕ))
+        → last.phase ≡ Published life agreed nodes → FitsHere payload user_header agreed.settings
+    either_fits named fresh last goes is life agreed nodes phase_is =
+        ⊎_elim (λ met. met_fits payload user_header required named agreed
+        (agreed_there (λ one. publish_subscribe_verdict types required named one ≡ Ok tt) last.phase life agreed nodes phase_is
+        (subst (IsAgreedOn (λ one. publish_subscribe_verdict types required named one ≡ Ok tt))
+        (phase-there pattern.PublishSubscribe name last.phase state) met)))
+        (λ new_one. subst (λ (one : Agreement). FitsHere payload user_header one.settings)
+        (same_agreed new_one.0 life
+        (new_agreement types required name (options.PublishSubscribe named)) agreed _ nodes
+        (sym new_one.2 ∙ phase-there pattern.PublishSubscribe name last.phase state ∙ phase_is))
+        (new_fits payload user_header named))
+        ((either-meets-asked is_default types old.hub.expired_connection_buffer node name (options.PublishSubscribe named) required steps
+        state (reply.FactoryMade (state.made.factories + 1)) then
+        (by_true _ _ _ made_node (inr (Ok fresh, last, goes, inl (refl, refl))))).0 (state.made.factories + 1) refl)
+      where
+        then : State T
+        then = with_factory_in payload user_header degrades decides reader_degrades names own pattern.PublishSubscribe name asked taken
+            naming order node old new state stands last.phase
+
+        same_agreed : (one other : ℕ) (agreed another : Agreement) (some others : List (Node × ℕ))
+            → Published one agreed some ≡ Published other another others → agreed ≡ another
+        same_agreed one other agreed another some others e = cc
+
+    either_as : (named : ServiceOptions) (lists : List (List TableStep)) → AreMade types name steps lists
+        → (roomier : FactoryTable) → SameNumbers old.factories.made roomier → new.made ≡ old.made → (result : Result ℕ Refusal)
+        → EitherAs named payload user_header types node name required lists roomier old.hub result new.factories.made new.hub
+        → Followed named (factory_reply (Some result))
+    either_as (options.PublishSubscribe named) lists listed roomier same same_made result (opened, does, numbers) =
+        followed_by (options.PublishSubscribe named) pattern.PublishSubscribe _ _ _ _ (λ after came. by_true _ _ _ made_node came)
+        (either_so (options.PublishSubscribe named)
+        (λ given. first_unmet (publish_subscribe_clauses.clauses (required_publish_subscribe named types required) given))
+        (publish_subscribe_verdict types required named)
+        (λ agreed. same_publish_subscribe_verdict types required name named agreed)
+        publish_subscribe.open_or_create_error refusal.PublishSubscribeOpenOrCreate (either_fits named) lists listed roomier same
+        same_made result opened does
+        numbers)
+    either_as (options.Event named) lists listed roomier same same_made result (opened, does, numbers) =
+        followed_by (options.Event named) pattern.Event _ _ _ _ (λ after came. by_true _ _ _ made_node came)
+        (either_so (options.Event named)
+        (λ given. first_unmet (event_clauses.clauses (required_event named required) given))
+        (event_verdict required named)
+        (λ agreed. same_event_verdict types required name named agreed)
+        event.open_or_create_error refusal.EventOpenOrCreate (λ fresh last goes is. absurd (is_event is)) lists listed roomier same
+        same_made result opened
+        does numbers)
+    either_as (options.RequestResponse named) lists listed roomier same same_made result (opened, does, numbers) =
+        followed_by (options.RequestResponse named) pattern.RequestResponse _ _ _ _ (λ after came. by_true _ _ _ made_node came)
+        (either_so (options.RequestResponse named)
+        (λ given. first_unmet (request_response_clauses.clauses (required_request_response named types required) given))
+        (request_response_verdict types required named)
+        (λ agreed. same_request_response_verdict types required name named agreed)
+        request_response.open_or_create_error refusal.RequestResponseOpenOrCreate (λ fresh last goes is. absurd (is_request_response is))
+        lists listed roomier
+        same same_made result opened does numbers)
+
+    lacks_as : (named : ServiceOptions) (lacking : AllocError) (roomier : FactoryTable) → SameNumbers old.factories.made roomier
+        → new.made ≡ old.made → (result : Result ℕ Refusal)
+        → IsRefusedWith (either_lacking named) roomier old.hub result new.factories.made new.hub
+        → Followed named (factory_reply (Some result))
+    lacks_as (options.PublishSubscribe named) lacking roomier same same_made result does =
+        followed_by (options.PublishSubscribe named) pattern.PublishSubscribe
+        (OpensOrCreates types pattern.PublishSubscribe steps (Own node) (publish_subscribe_verdict types required named)
+        (new_agreement types required name (options.PublishSubscribe named)))
+        (λ why. refusal.PublishSubscribeOpenOrCreate (publish_subscribe.open_or_create_error why)) told_of.either_lacking _
+        (λ after came. by_true _ _ _ made_node came)
+        (lacking_answered payload user_header degrades decides reader_degrades names own pattern.PublishSubscribe name asked taken naming
+        order node old new state stands
+        (OpensOrCreates types pattern.PublishSubscribe steps (Own node) (publish_subscribe_verdict types required named)
+        (new_agreement types required name (options.PublishSubscribe named)))
+        (λ why. refusal.PublishSubscribeOpenOrCreate (publish_subscribe.open_or_create_error why)) told_of.either_lacking roomier result
+        same
+        same_made does)
+    lacks_as (options.Event named) lacking roomier same same_made result does =
+        followed_by (options.Event named) pattern.Event
+        (OpensOrCreates types pattern.Event steps (Own node) (event_verdict required named)
+        (new_agreement types required name (options.Event named)))
+        (λ why. refusal.EventOpenOrCreate (event.open_or_create_error why)) told_of.either_lacking _
+        (λ after came. by_true _ _ _ made_node came)
+        (lacking_answered payload user_header degrades decides reader_degrades names own pattern.Event name asked taken naming order node
+        old new state stands (OpensOrCreates types pattern.Event steps (Own node) (event_verdict required named)
+        (new_agreement types required name (options.Event named)))
+        (λ why. refusal.EventOpenOrCreate (event.open_or_create_error why)) told_of.either_lacking roomier result same same_made does)
+    lacks_as (options.RequestResponse named) lacking roomier same same_made result does =
+        followed_by (options.RequestResponse named) pattern.RequestResponse
+        (OpensOrCreates types pattern.RequestResponse steps (Own node) (request_response_verdict types required named)
+        (new_agreement types required name (options.RequestResponse named)))
+        (λ why. refusal.RequestResponseOpenOrCreate (request_response.open_or_create_error why)) told_of.either_lacking _
+        (λ after came. by_true _ _ _ made_node came)
+        (lacking_answered payload user_header degrades decides reader_degrades names own pattern.RequestResponse name asked taken naming
+        order node old new state stands
+        (OpensOrCreates types pattern.RequestResponse steps (Own node) (request_response_verdict types required named)
+        (new_agreement types required name (options.RequestResponse named)))
+        (λ why. refusal.RequestResponseOpenOrCreate (request_response.open_or_create_error why)) told_of.either_lacking roomier result same
+        same_made does)
+
+    prepared_so : (named : ServiceOptions) (prepared : Result (List (List TableStep)) AllocError) (roomier : FactoryTable)
+        → new.made ≡ old.made → (result : Result ℕ Refusal)
+        → Prepares name types steps old.factories.made prepared roomier
+        → EitherPrepared prepared payload user_header types (record { node = node; name = name; options = named }) required roomier old.hub
+        result new.factories.made new.hub
+        → Followed named (factory_reply (Some result))
+    prepared_so named (Ok lists) roomier same_made result prepares does =
+        either_as named lists (prepares.1, prepares.3) roomier prepares.0 same_made result does
+    prepared_so named (Err lacking) roomier same_made result prepares does =
+        lacks_as named lacking roomier prepares.0 same_made result does
+
+  pub openings_or_creations_match : OpeningOrCreatingMatches payload user_header is_default is_default_header fixed degrades decides
+      fixed_reader reader_degrades
+  openings_or_creations_match names node name named required steps asked own taken naming order old new state answer fit stands
+      (made, does, same_made, told) =
+      by_node (is_node node old.hub.nodes) refl does
+    where
+      Now : Reply T → Type 0
+      Now given = IsFollowed payload user_header types is_default is_default_header fixed degrades decides fixed_reader reader_degrades
+          names
+          (command.OpenOrCreate node name named required steps) old new state given
+
+      by_node : (b : Bool) → is_node node old.hub.nodes ≡ b
+          → EitherNumbered b payload user_header types (record { node = node; name = name; options = named }) required steps
+          old.factories.made old.hub made new.factories.made new.hub
+          → Now answer
+      by_node true is (prepared, roomier, result, prepares, opens, made_is) =
+          subst Now (sym (told ∙ ap factory_reply made_is))
+          (prepared_so names node name required steps asked taken naming order old new state own fit stands is named prepared roomier
+          same_made result prepares opens)
+      by_node false is (none, table_is, hub_is) =
+          let replied : answer ≡ reply.Skipped = told ∙ ap factory_reply none in
+          let so = skipped_matches payload user_header types is_default is_default_header fixed degrades decides fixed_reader
+          reader_degrades names (command.OpenOrCreate node name named required steps) taken naming order old new state tt stands
+          (made, does, same_made, sym replied ∙ told) in
+          subst Now (sym replied)
+          (record { taken = taken; naming = naming; order = order; after = state; step = so.0; stands = so.1 })

@@ -1,0 +1,470 @@
+-- A run of a hub is a run of the machine, where each command is followed.
+use Rattle.std.proofs.Common.{◌≡◌, ◌⊎◌, ℕ, suc, ◌+◌, ◌^◌, ◌<◌, Bool, true, false, List, [], ◌∷◌, ◌++◌, length, Option, Some, Result, Ok}
+use Rattle.std.proofs.Common.{refl, sym, ap, subst, ◌∙◌, inl, inr, arith}
+use Rattle.std.proofs.Math.Logic.{⊎_elim}
+use Rattle.std.proofs.lemmas.List.{append-nil}
+use Rattle.std.specs.List.{AllByRecursion, IsAmong}
+use Rattle.std.specs.Prelude.{slice_get}
+use Rattle.std.specs.declared.alloc.AllocError.{AllocError}
+use Rattle.iox_command.specs.DomainValues.declared.backpressure.BackpressureAction.{BackpressureAction}
+use Rattle.iox_command.specs.DomainValues.declared.backpressure.BackpressureDecision.{BackpressureDecision}
+use Rattle.iox_command.specs.DomainValues.declared.backpressure.BackpressureInfo.{BackpressureInfo}
+use Rattle.iox_command.specs.DomainValues.declared.backpressure_strategy.BackpressureStrategy.{BackpressureStrategy}
+use Rattle.iox_command.specs.DomainValues.declared.degradation.DegradationAction.{DegradationAction}
+use Rattle.iox_command.specs.DomainValues.declared.degradation.DegradationCause.{DegradationCause}
+use Rattle.iox_command.specs.DomainValues.declared.degradation.DegradationInfo.{DegradationInfo}
+use Rattle.iox_command.specs.NegotiateBase.DescribeBase.Detail.{Detail}
+use Rattle.iox_command.specs.NegotiateBase.DescribeBase.declared.message_type.MessageTypeDetails.{MessageTypeDetails}
+use Rattle.iox_command.specs.NegotiateBase.DescribeBase.declared.pattern.MessagingPattern.{MessagingPattern}
+use Rattle.iox_command.specs.declared.command.Command.{Command}
+use Rattle.iox_command.specs.declared.command.Command.TheVariants as command
+use Rattle.iox_command.specs.declared.reply.Reply.{Reply}
+use Rattle.iox_domain.specs.declared.ports.service_ports.ServicePorts.{ServicePorts}
+use Rattle.iox_domain_machine.proofs.Found.{same_some}
+use Rattle.iox_domain_machine.specs.Naming.{Naming}
+use Rattle.iox_hub_base.specs.declared.hub.HubConfig.{HubConfig}
+use Rattle.iox_hub_commands.specs.CommandSteps as hub
+use Rattle.iox_hub_commands.specs.Room.{LacksValues, RepliesValues, StopsInTime}
+use Rattle.iox_hub_commands.specs.Runs as hub_runs
+use Rattle.iox_hub_commands.specs.Runs.{IsRun}
+use Rattle.iox_hub_commands.specs.declared.numbered_hub.NumberedHub.{NumberedHub}
+use Rattle.iox_hub_commands.specs.declared.room.Pledged.{Pledged}
+use Rattle.iox_hub_machine.proofs.Going.{same_stands}
+use Rattle.iox_hub_machine.proofs.Lacking.{lacks}
+use Rattle.iox_hub_machine.proofs.RunsOn.{new_has_room, new_runs_on, step_runs_on, step_takes}
+use Rattle.iox_hub_machine.specs.ArrivalLaws.{AnswersAsFixed, DecidesAsFixed}
+use Rattle.iox_hub_machine.specs.ClosingLaws.{IsCome}
+use Rattle.iox_hub_machine.specs.GoingOnLaws.{AreAllOn, IsOnUntil, IsOneOn, NewHubBegins, RunGoesOn, RunsGoOn}
+use Rattle.iox_hub_machine.specs.Ran.{RanAtMost, StandsAfter}
+use Rattle.iox_hub_machine.specs.RunLaws.{AsksAmong, RunAnswers, RunStands, all_asked, names_beside, names_in, steps_named}
+use Rattle.iox_hub_machine.specs.ServiceLaws.{IsFollowed}
+use Rattle.iox_hub_machine.specs.Services.{HubStandsFor}
+use Rattle.iox_machine.specs.Run as machine
+use Rattle.iox_machine.specs.State.{State, new_state}
+use Rattle.iox_negotiate_machine.specs.Laws.{HaveOwnHashes}
+
+-- ---- what is asked
+
+never_below : 0 < 0 → ⊥
+never_below less = omega (arith, less)
+
+first_among : (name : List ℕ) (names : List (List ℕ)) → IsAmong (name ∷ names) name
+first_among name names = (0, (omega arith, refl))
+
+later_among : (other name : List ℕ) (names : List (List ℕ)) → IsAmong names name → IsAmong (other ∷ names) name
+later_among other name names (place, (within, is)) = (suc place, (omega (arith, within), is))
+
+module _ {T : Type 0} where
+  its_own : (asked : Command T) (names : List (List ℕ)) → AsksAmong (names_beside asked names) asked
+  its_own (command.Create node name options attributes steps) names = first_among name names
+  its_own (command.Open node name options required steps) names = first_among name names
+  its_own (command.OpenOrCreate node name options required steps) names = first_among name names
+  its_own (command.Foreign pattern name steps) names = first_among name names
+  its_own command.Node names = tt
+  its_own (command.Close factory) names = tt
+  its_own (command.Publisher factory options) names = tt
+  its_own (command.Subscriber factory options) names = tt
+  its_own (command.Loan publisher elements) names = tt
+  its_own (command.LoanUninit publisher elements) names = tt
+  its_own (command.Set loan place value) names = tt
+  its_own (command.Fill loan values) names = tt
+  its_own (command.Drop loan) names = tt
+  its_own (command.Send loan) names = tt
+  its_own (command.Put publisher values) names = tt
+  its_own (command.Retry publisher nanoseconds) names = tt
+  its_own (command.GiveUp publisher) names = tt
+  its_own (command.Receive subscriber) names = tt
+  its_own (command.Read sample) names = tt
+  its_own (command.Release sample) names = tt
+  its_own (command.Update it) names = tt
+  its_own (command.Leave it) names = tt
+  its_own (command.Has subscriber) names = tt
+
+  wider : (asked : Command T) (name : List ℕ) (names : List (List ℕ)) → IsAmong names name → IsAmong (names_beside asked names) name
+  wider (command.Create node other options attributes steps) name names among = later_among other name names among
+  wider (command.Open node other options required steps) name names among = later_among other name names among
+  wider (command.OpenOrCreate node other options required steps) name names among = later_among other name names among
+  wider (command.Foreign pattern other steps) name names among = later_among other name names among
+  wider command.Node name names among = among
+  wider (command.Close factory) name names among = among
+  wider (command.Publisher factory options) name names among = among
+  wider (command.Subscriber factory options) name names among = among
+  wider (command.Loan publisher elements) name names among = among
+  wider (command.LoanUninit publisher elements) name names among = among
+  wider (command.Set loan place value) name names among = among
+  wider (command.Fill loan values) name names among = among
+  wider (command.Drop loan) name names among = among
+  wider (command.Send loan) name names among = among
+  wider (command.Put publisher values) name names among = among
+  wider (command.Retry publisher nanoseconds) name names among = among
+  wider (command.GiveUp publisher) name names among = among
+  wider (command.Receive subscriber) name names among = among
+  wider (command.Read sample) name names among = among
+  wider (command.Release sample) name names among = among
+  wider (command.Update it) name names among = among
+  wider (command.Leave it) name names among = among
+  wider (command.Has subscriber) name names among = among
+
+  asks_wider : (one asked : Command T) (names : List (List ℕ)) → AsksAmong names asked → AsksAmong (names_beside one names) asked
+  asks_wider one (command.Create node name options attributes steps) names among = wider one name names among
+  asks_wider one (command.Open node name options required steps) names among = wider one name names among
+  asks_wider one (command.OpenOrCreate node name options required steps) names among = wider one name names among
+  asks_wider one (command.Foreign pattern name steps) names among = wider one name names among
+  asks_wider one command.Node names among = tt
+  asks_wider one (command.Close factory) names among = tt
+  asks_wider one (command.Publisher factory options) names among = tt
+  asks_wider one (command.Subscriber factory options) names among = tt
+  asks_wider one (command.Loan publisher elements) names among = tt
+  asks_wider one (command.LoanUninit publisher elements) names among = tt
+  asks_wider one (command.Set loan place value) names among = tt
+  asks_wider one (command.Fill loan values) names among = tt
+  asks_wider one (command.Drop loan) names among = tt
+  asks_wider one (command.Send loan) names among = tt
+  asks_wider one (command.Put publisher values) names among = tt
+  asks_wider one (command.Retry publisher nanoseconds) names among = tt
+  asks_wider one (command.GiveUp publisher) names among = tt
+  asks_wider one (command.Receive subscriber) names among = tt
+  asks_wider one (command.Read sample) names among = tt
+  asks_wider one (command.Release sample) names among = tt
+  asks_wider one (command.Update it) names among = tt
+  asks_wider one (command.Leave it) names among = tt
+  asks_wider one (command.Has subscriber) names among = tt
+
+  all_wider : (one : Command T) (commands : List (Command T)) (names : List (List ℕ)) → AllByRecursion (AsksAmong names) commands
+      → AllByRecursion (AsksAmong (names_beside one names)) commands
+  all_wider one [] names all = tt
+  all_wider one (asked ∷ more) names all = (asks_wider one asked names all.0, all_wider one more names all.1)
+
+  -- the names of commands are those for which they ask
+  all_among : (commands : List (Command T)) → AllByRecursion (AsksAmong (names_in commands)) commands
+  all_among [] = tt
+  all_among (asked ∷ more) = (its_own asked (names_in more), all_wider asked more (names_in more) (all_among more))
+
+  both_asked : (first rest : List (Command T)) → all_asked (first ++ rest) ≡ all_asked first + all_asked rest
+  both_asked [] rest = omega arith
+  both_asked (asked ∷ first) rest = let both = both_asked first rest in omega (arith, both)
+
+  both_all : (P : Command T → Type 0) (first rest : List (Command T)) → AllByRecursion P (first ++ rest)
+      → AllByRecursion P first × AllByRecursion P rest
+  both_all P [] rest all = (tt, all)
+  both_all P (asked ∷ first) rest all = let (before, behind) = both_all P first rest all.1 in ((all.0, before), behind)
+
+-- ---- where a run stops
+
+module _ {T : Type 0} where
+  tells : (asked : Command T) → RepliesValues asked → machine.TellsValues asked
+  tells (command.Receive subscriber) values = tt
+  tells (command.Read sample) values = tt
+  tells other values = absurd values
+
+  next_is : (first rest : List (Command T)) (asked : Command T) → slice_get (first ++ asked ∷ rest) (length first) ≡ Some asked
+  next_is [] rest asked = refl
+  next_is (one ∷ first) rest asked = next_is first rest asked
+
+  none_given : (replies : List (Reply T)) → length replies ≡ 0 → replies ≡ []
+  none_given [] none = refl
+  none_given (reply ∷ replies) none = absurd (never none)
+    where
+      never : suc (length replies) ≡ 0 → ⊥
+      never none = omega (arith, none)
+
+  may_stop : (first rest : List (Command T)) (asked : Command T) (replies : List (Reply T)) → length replies ≡ length first
+      → (length replies ≡ 0) ⊎ LacksValues (first ++ asked ∷ rest) (length replies) → machine.MayStop (asked ∷ rest) replies
+  may_stop first rest asked replies each (inl none) = inl (none_given replies none)
+  may_stop first rest asked replies each (inr (other, is, values)) =
+      let same : other ≡ asked = same_some other asked (sym is ∙ ap (slice_get (first ++ asked ∷ rest)) each ∙ next_is first rest asked) in
+      inr (tells asked (subst (λ (it : Command T). RepliesValues it) same values))
+
+  one_each : (types : MessageTypeDetails) (is_default : T → Type 0) (buffer : ℕ) (first : List (Command T)) (old new : State T)
+      (answers : List (Reply T)) → machine.Runs types is_default buffer first old answers new → length answers ≡ length first
+  one_each types is_default buffer [] old new answers (none, same) = ap length none
+  one_each types is_default buffer (one ∷ first) old new answers (its, between, others, did, runs, is) =
+      ap length is ∙ ap suc (one_each types is_default buffer first between new others runs)
+
+-- ---- runs
+
+module _ {T : Type 0} (types : MessageTypeDetails) (is_default : T → Type 0) (buffer : ℕ) where
+  came_by : (first : List (Command T)) (asked : Command T) (old mid new : State T) (answers : List (Reply T)) (answer : Reply T)
+      → machine.Runs types is_default buffer first old answers mid → machine.Step types is_default buffer asked mid answer new
+      → machine.Runs types is_default buffer (first ++ asked ∷ []) old (answers ++ answer ∷ []) new
+  came_by [] asked old mid new answers answer (none, same) step = (
+    answer,
+    new,
+    [],
+    subst (λ (it : State T). machine.Step types is_default buffer asked it answer new) same step,
+    (refl, refl),
+    ap (λ (all : List (Reply T)). all ++ answer ∷ []) none,
+  )
+  came_by (one ∷ first) asked old mid new answers answer (its, between, others, did, runs, is) step = (
+    its,
+    between,
+    others ++ answer ∷ [],
+    did,
+    came_by first asked between mid new others answer runs step,
+    ap (λ (all : List (Reply T)). all ++ answer ∷ []) is,
+  )
+
+  -- a state to which one command more leads
+  came_more : (asked : Command T) (old new : State T) (answer : Reply T) → IsCome types is_default buffer old
+      → machine.Step types is_default buffer asked old answer new → IsCome types is_default buffer new
+  came_more asked old new answer (commands, answers, runs) step =
+      (commands ++ asked ∷ [], answers ++ answer ∷ [], came_by commands asked new_state old new answers answer runs step)
+
+module _ {T U B D : Type 0} (payload user_header : Detail) (types : MessageTypeDetails) (is_default : T → Type 0)
+    (is_default_header : U → Type 0)
+    (fixed : BackpressureStrategy → Option BackpressureAction → DegradationAction → B)
+    (degrades : B → DegradationCause → DegradationInfo → DegradationAction → Type 0)
+    (decides : B → BackpressureInfo → BackpressureDecision → Type 0)
+    (fixed_reader : DegradationAction → D)
+    (reader_degrades : D → DegradationCause → DegradationInfo → DegradationAction → Type 0) where
+  -- A hub may be asked a command that names so many steps: fewer than 2 ^ 56 commands and steps are asked with it.
+  abbrev pub MayBeAsked : ℕ → NumberedHub T U B D → Type 0
+  MayBeAsked steps hub = (most : ℕ) × RanAtMost most hub × (most + (1 + steps) < 2 ^ 56)
+
+  -- Each command is followed, from a hub that may be asked so, and that stands for what a run of a new machine led to.
+  abbrev pub EachFollows : Type 0
+  EachFollows = (names : List (List ℕ)) (asked : Command T) (taken : MessagingPattern → List ℕ → List ℕ) (naming : ℕ → Naming)
+      (order : List (ℕ × ServicePorts T U)) (old new : NumberedHub T U B D) (state : State T) (answer : Reply T)
+      → HaveOwnHashes names → AsksAmong names asked → MayBeAsked (steps_named asked) old
+      → IsCome types is_default old.hub.expired_connection_buffer state
+      → HubStandsFor degrades decides reader_degrades names taken naming order old state
+      → hub.Step payload user_header types is_default is_default_header fixed degrades decides fixed_reader reader_degrades asked old
+      (Ok answer) new
+      → IsFollowed payload user_header types is_default is_default_header fixed degrades decides fixed_reader reader_degrades names asked
+      old new state answer
+
+  abbrev Steps : Command T → NumberedHub T U B D → Result (Reply T) AllocError → NumberedHub T U B D → Type 0
+  Steps = hub.Step payload user_header types is_default is_default_header fixed degrades decides fixed_reader reader_degrades
+
+  abbrev Stands : List (List ℕ) → ℕ → NumberedHub T U B D → State T → Type 0
+  Stands = StandsAfter types is_default degrades decides reader_degrades
+
+  abbrev OneOn : List (List ℕ) → ℕ → ℕ → Command T → State T → Reply T → NumberedHub T U B D → Type 0
+  OneOn = IsOneOn payload user_header types is_default is_default_header fixed degrades decides fixed_reader reader_degrades
+
+  abbrev AllOn : List (List ℕ) → ℕ → ℕ → List (Command T) → State T → List (Reply T) → NumberedHub T U B D → Type 0
+  AllOn = AreAllOn payload user_header types is_default is_default_header fixed degrades decides fixed_reader reader_degrades
+
+  abbrev OnUntil : List (List ℕ) → ℕ → ℕ → List (Command T) → State T → List (Reply T) → NumberedHub T U B D → Type 0
+  OnUntil = IsOnUntil payload user_header types is_default is_default_header fixed degrades decides fixed_reader reader_degrades
+
+  -- the config stays
+  buffer_stays : (commands : List (Command T)) (old new : NumberedHub T U B D) (replies : List (Reply T))
+      → hub_runs.Runs Steps commands old replies new → new.hub.expired_connection_buffer ≡ old.hub.expired_connection_buffer
+  buffer_stays [] old new replies runs = ap (λ (it : NumberedHub T U B D). it.hub.expired_connection_buffer) runs.1
+  buffer_stays (asked ∷ more) old new replies (reply, mid, rest, step, runs, is) =
+      buffer_stays more mid new rest runs
+      ∙ (step_takes payload user_header types is_default is_default_header fixed degrades decides fixed_reader reader_degrades old mid reply
+      asked step).buffer
+
+  -- what is pledged isn't looked at
+  repledged : (names : List (List ℕ)) (most : ℕ) (old : NumberedHub T U B D) (state : State T) (pledged : Pledged)
+      → Stands names most old state → Stands names most (record old { pledged = pledged }) state
+  repledged names most old state pledged it =
+      let factories = it.stands.factories in
+      let ran = it.ran in record {
+        taken = it.taken;
+        naming = it.naming;
+        order = it.order;
+        stands = record {
+          nodes = it.stands.nodes;
+          table = it.stands.table;
+          id = it.stands.id;
+          factories = record {
+            numbers = factories.numbers;
+            owners = factories.owners;
+            same = factories.same;
+            each = factories.each;
+            seats = factories.seats;
+            counts = factories.counts;
+            opened = factories.opened;
+          };
+          served = it.stands.served;
+          ports = same_stands degrades decides reader_degrades it.naming it.order old state it.stands.ports 0
+              (record old { pledged = pledged }) refl refl;
+        };
+        came = it.came;
+        ran = record {
+          grown = ran.grown;
+          rise = ran.rise;
+          agreed = ran.agreed;
+          services = ran.services;
+          counts = ran.counts;
+          nodes = ran.nodes;
+          numbers = ran.numbers;
+          locks = ran.locks;
+          ports = ran.ports;
+        };
+      }
+
+  module _ (each : EachFollows) (names : List (List ℕ)) (own : HaveOwnHashes names) where
+    one_on : (asked : Command T) (most : ℕ) (old new : NumberedHub T U B D) (state : State T) (answer : Reply T)
+        → AsksAmong names asked → most + (1 + steps_named asked) < 2 ^ 56
+        → Stands names most old state → Steps asked old (Ok answer) new
+        → OneOn names most old.hub.expired_connection_buffer asked state answer new
+    one_on asked most old new state answer asks few it step =
+        let followed = each names asked it.taken it.naming it.order old new state answer own asks (most, it.ran, few) it.came
+        it.stands
+        step in
+        let takes = step_takes payload user_header types is_default is_default_header fixed degrades decides fixed_reader reader_degrades
+        old new answer asked step in record {
+          after = followed.after;
+          step = followed.step;
+          stands = record {
+            taken = followed.taken;
+            naming = followed.naming;
+            order = followed.order;
+            stands = followed.stands;
+            came = subst (λ (buffer : ℕ). IsCome types is_default buffer followed.after) (sym takes.buffer)
+                (came_more types is_default old.hub.expired_connection_buffer asked state followed.after answer it.came followed.step);
+            ran = step_runs_on payload user_header types is_default is_default_header fixed degrades decides fixed_reader reader_degrades
+                old
+                new answer most asked step it.ran;
+          };
+        }
+
+    all_on : (commands : List (Command T)) (most : ℕ) (old new : NumberedHub T U B D) (state : State T) (replies : List (Reply T))
+        → AllByRecursion (AsksAmong names) commands
+        → most + all_asked commands < 2 ^ 56 → Stands names most old state → hub_runs.Runs Steps commands old replies new
+        → AllOn names most old.hub.expired_connection_buffer commands state replies new
+    all_on [] most old new state replies asks few it runs =
+        let even : most ≡ most + 0 = omega arith in record {
+          after = state;
+          runs = (runs.0, refl);
+          stands = subst (λ (n : ℕ). Stands names n new state) even
+              (subst (λ (hub : NumberedHub T U B D). Stands names most hub state) (sym runs.1) it);
+        }
+    all_on (asked ∷ more) most old new state replies asks few it (reply, mid, rest, step, runs, is) =
+        let one = one_on asked most old mid state reply asks.0 (omega (arith, few)) it step in
+        let later = all_on more (most + (1 + steps_named asked)) mid new one.after rest asks.1 (omega (arith, few)) one.stands
+        runs in
+        let takes = step_takes payload user_header types is_default is_default_header fixed degrades decides fixed_reader reader_degrades
+        old mid reply asked step in
+        let even : most + (1 + steps_named asked) + all_asked more ≡ most + (1 + steps_named asked + all_asked more)
+        = omega arith in record {
+          after = later.after;
+          runs = (
+            reply,
+            one.after,
+            rest,
+            one.step,
+            subst (λ (n : ℕ). machine.Runs types is_default n more one.after rest later.after) takes.buffer later.runs,
+            is,
+          );
+          stands = subst (λ (n : ℕ). Stands names n new later.after) even later.stands;
+        }
+
+    -- a run that never began
+    before_all : (commands : List (Command T)) (most : ℕ) (old new : NumberedHub T U B D) (state : State T) (replies : List (Reply T))
+        → Stands names most old state → hub_runs.NeverBegins Steps commands old replies new
+        → OnUntil names most old.hub.expired_connection_buffer commands state replies new
+    before_all [] most old new state replies it (some, none, same) = absurd (never_below some)
+    before_all (asked ∷ more) most old new state replies it (some, none, same) =
+        let even : most ≡ most + 0 = omega arith in record {
+          first = [];
+          asked = asked;
+          rest = more;
+          are = refl;
+          after = state;
+          runs = (none, refl);
+          stands = inl (subst (λ (n : ℕ). Stands names n new state) even
+              (subst (λ (hub : NumberedHub T U B D). Stands names most hub state) (sym same) it));
+        }
+
+    until : (commands : List (Command T)) (most : ℕ) (old new : NumberedHub T U B D) (state : State T) (replies : List (Reply T))
+        → AllByRecursion (AsksAmong names) commands
+        → most + all_asked commands < 2 ^ 56 → Stands names most old state → hub_runs.EndsAt Steps commands old replies new
+        → OnUntil names most old.hub.expired_connection_buffer commands state replies new
+    until commands most old new state replies asks few it (first, asked, rest, mid, lacking, is, runs, lack) =
+        let (asks_first, asks_rest) = both_all (AsksAmong names) first (asked ∷ rest) (subst (AllByRecursion (AsksAmong names)) is asks) in
+        let all = ap (λ (them : List (Command T)). all_asked them) is in
+        let both = both_asked first (asked ∷ rest) in
+        let went = all_on first most old mid state replies asks_first (omega (arith, few, all, both)) it runs in
+        let same = buffer_stays first old mid replies runs in record {
+          first = first;
+          asked = asked;
+          rest = rest;
+          are = is;
+          after = went.after;
+          runs = went.runs;
+          stands = ⊎_elim
+              (λ only. inl (subst (λ (hub : NumberedHub T U B D). Stands names (most + all_asked first) hub went.after) (sym only)
+              (repledged names (most + all_asked first) mid went.after new.pledged went.stands)))
+              (λ might. inr (λ fit.
+              let (answer, did) = might fit in (
+                answer,
+                subst (λ (buffer : ℕ). OneOn names (most + all_asked first) buffer asked went.after answer new) same
+                    (one_on asked (most + all_asked first) mid new went.after answer asks_rest.0
+                    (omega (arith, few, all, both)) went.stands did),
+              )))
+              (lacks payload user_header types is_default is_default_header fixed degrades decides fixed_reader reader_degrades mid new
+              lacking asked lack);
+        }
+
+    goes_on : (commands : List (Command T)) (most : ℕ) (old new : NumberedHub T U B D) (state : State T) (replies : List (Reply T))
+        (stopped : Bool) → AllByRecursion (AsksAmong names) commands
+        → most + all_asked commands < 2 ^ 56 → Stands names most old state → IsRun Steps commands old replies stopped new
+        → RunGoesOn payload user_header types is_default is_default_header fixed degrades decides fixed_reader reader_degrades names most
+        old.hub.expired_connection_buffer commands state replies stopped new
+    goes_on commands most old new state replies false asks few it runs =
+        all_on commands most old new state replies asks few it runs
+    goes_on commands most old new state replies true asks few it (inl never) =
+        before_all commands most old new state replies it never
+    goes_on commands most old new state replies true asks few it (inr ends) =
+        until commands most old new state replies asks few it ends
+
+  pub runs_go_on : (DecidesAsFixed fixed degrades decides → AnswersAsFixed fixed_reader reader_degrades → EachFollows)
+      → RunsGoOn payload user_header types is_default is_default_header fixed degrades decides fixed_reader reader_degrades
+  runs_go_on each names most commands old new state replies stopped decides_so answers_so own asks few it runs =
+      goes_on (each decides_so answers_so) names own commands most old new state replies stopped asks few it runs
+
+  -- ---- a new hub
+
+  module _ (on : RunsGoOn payload user_header types is_default is_default_header fixed degrades decides fixed_reader reader_degrades)
+      (begins : NewHubBegins U types is_default degrades decides reader_degrades) where
+    answers_so : (config : HubConfig) (commands : List (Command T)) (old new : NumberedHub T U B D) (replies : List (Reply T))
+        (stopped : Bool) → old.hub.expired_connection_buffer ≡ config.expired_connection_buffer
+        → (stopped ≡ true → StopsInTime commands old (length replies) new)
+        → RunGoesOn payload user_header types is_default is_default_header fixed degrades decides fixed_reader reader_degrades
+        (names_in commands) 0 old.hub.expired_connection_buffer commands new_state replies stopped new
+        → machine.Answers types is_default config.expired_connection_buffer commands stopped replies
+    answers_so config commands old new replies false same stops it = (
+      commands,
+      [],
+      it.after,
+      sym (append-nil commands),
+      refl,
+      subst (λ (n : ℕ). machine.Runs types is_default n commands new_state replies it.after) same it.runs,
+    )
+    answers_so config commands old new replies true same stops it =
+        let runs = subst (λ (n : ℕ). machine.Runs types is_default n it.first new_state replies it.after) same it.runs in (
+          it.first,
+          it.asked ∷ it.rest,
+          it.after,
+          it.are,
+          may_stop it.first it.rest it.asked replies
+              (one_each types is_default config.expired_connection_buffer it.first new_state it.after replies runs)
+              (⊎_elim (λ never. inl never.0)
+              (λ lacks. inr (subst (λ (them : List (Command T)). LacksValues them (length replies)) it.are lacks)) (stops refl)),
+          runs,
+        )
+
+    pub run_answers : RunAnswers payload user_header types is_default is_default_header fixed degrades decides fixed_reader reader_degrades
+    run_answers config commands old new replies stopped runs stops decides_so answers_fixed is_new own few =
+        answers_so config commands old new replies stopped is_new.hub_is_new.expired_connection_buffer
+        (stops (new_has_room config old is_new) (new_runs_on config old is_new).grown)
+        (on (names_in commands) 0 commands old new new_state replies stopped decides_so answers_fixed own (all_among commands)
+        (omega (arith, few)) (begins (names_in commands) config old is_new) runs)
+
+    pub run_stands : RunStands payload user_header types is_default is_default_header fixed degrades decides fixed_reader reader_degrades
+    run_stands config commands old new replies runs decides_so answers_fixed is_new own few =
+        let it = on (names_in commands) 0 commands old new new_state replies false decides_so answers_fixed own (all_among commands)
+        (omega (arith, few)) (begins (names_in commands) config old is_new) runs in (
+          it.stands.taken,
+          it.stands.naming,
+          it.stands.order,
+          it.after,
+          subst (λ (n : ℕ). machine.Runs types is_default n commands new_state replies it.after)
+              is_new.hub_is_new.expired_connection_buffer it.runs,
+          it.stands.stands,
+        )

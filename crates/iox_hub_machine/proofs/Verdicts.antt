@@ -1,0 +1,85 @@
+-- What an opener asks of a service in a hub is what it asks in a machine.
+use Rattle.std.proofs.Common.{◌≡◌, ℕ, List, Option, refl, ap}
+use Rattle.std.specs.Option.{option_map}
+use Rattle.iox_command.specs.NegotiateBase.DescribeBase.Attributes.{Required}
+use Rattle.iox_command.specs.NegotiateBase.DescribeBase.declared.message_type.MessageTypeDetails.{MessageTypeDetails}
+use Rattle.iox_command.specs.NegotiateBase.DescribeBase.declared.pattern.MessagingPattern.TheVariants as pattern
+use Rattle.iox_command.specs.NegotiateBase.DescribeSettings.Agreement.{agreement}
+use Rattle.iox_command.specs.NegotiateBase.DescribeSettings.EventSettings as event_settings
+use Rattle.iox_command.specs.NegotiateBase.DescribeSettings.declared.static_config.Settings.{Settings}
+use Rattle.iox_command.specs.NegotiateBase.DescribeSettings.declared.static_config.Settings.TheVariants as settings
+use Rattle.iox_command.specs.NegotiateBase.DescribeVerdict.EventClauses as event_clauses
+use Rattle.iox_command.specs.NegotiateBase.DescribeVerdict.PublishSubscribeClauses as publish_subscribe_clauses
+use Rattle.iox_command.specs.NegotiateBase.DescribeVerdict.RequestResponseClauses as request_response_clauses
+use Rattle.iox_command.specs.NegotiateBase.DescribeVerdict.Verdict.{first_unmet}
+use Rattle.iox_command.specs.NegotiateBase.DescribeVerdict.declared.requirement.event.Requirement.{Requirement}
+use Rattle.iox_command.specs.Patterns.{pattern_of}
+use Rattle.iox_command.specs.declared.service.EventOptions.{EventOptions}
+use Rattle.iox_command.specs.declared.service.NumberOrOff.{NumberOrOff}
+use Rattle.iox_command.specs.declared.service.PublishSubscribeOptions.{PublishSubscribeOptions}
+use Rattle.iox_command.specs.declared.service.RequestResponseOptions.{RequestResponseOptions}
+use Rattle.iox_command.specs.declared.service.ServiceOptions.{ServiceOptions}
+use Rattle.iox_command.specs.declared.service.ServiceOptions.TheVariants as options
+use Rattle.iox_domain_machine.proofs.Found.{same_everywhere}
+use Rattle.iox_hub_commands.specs.Asked as commands
+use Rattle.iox_hub_commands.specs.Asking.{IsHistoryTooLong, hash_of, required_agreement, required_event, required_publish_subscribe}
+use Rattle.iox_hub_commands.specs.Asking.{required_request_response, required_settings}
+use Rattle.iox_hub_machine.proofs.SameSteps.{same_set}
+use Rattle.iox_machine.specs.Agreement.{Agreement, event_verdict, publish_subscribe_verdict, request_response_verdict}
+use Rattle.iox_machine.specs.Asked as machine
+use Rattle.iox_negotiate_machine.specs.CallLaws.{HasNoRoomForHistory}
+use Rattle.iox_negotiate_machine.specs.Standing.{description_of}
+
+-- what is asked of an event service, by what a setting that may be off is to be
+abbrev event_by : EventOptions → Required → (NumberOrOff → Option ℕ) → Requirement
+event_by named attributes set_to = record {
+  attributes = attributes;
+  deadline = option_map set_to named.deadline;
+  max_notifiers = named.max_notifiers;
+  max_listeners = named.max_listeners;
+  event_id_max_value = named.event_id_max_value;
+  notifier_created_event = option_map set_to named.notifier_created_event;
+  notifier_dropped_event = option_map set_to named.notifier_dropped_event;
+  notifier_dead_event = option_map set_to named.notifier_dead_event;
+  max_nodes = named.max_nodes;
+}
+
+module _ (types : MessageTypeDetails) (attributes : Required) (name : List ℕ) where
+  pub same_publish_subscribe_verdict : (named : PublishSubscribeOptions) (agreed : Agreement)
+      → first_unmet (publish_subscribe_clauses.clauses (required_publish_subscribe named types attributes)
+      (description_of pattern.PublishSubscribe name agreed)) ≡ publish_subscribe_verdict types attributes named agreed
+  same_publish_subscribe_verdict named agreed = refl
+
+  pub same_event_verdict : (named : EventOptions) (agreed : Agreement)
+      → first_unmet (event_clauses.clauses (required_event named attributes) (description_of pattern.Event name agreed))
+      ≡ event_verdict attributes named agreed
+  same_event_verdict named agreed =
+      ap (λ (set_to : NumberOrOff → Option ℕ). first_unmet (event_clauses.clauses_of (event_by named attributes set_to)
+      agreed.attributes agreed.settings)) (same_everywhere commands.set_to machine.set_to same_set)
+
+  pub same_request_response_verdict : (named : RequestResponseOptions) (agreed : Agreement)
+      → first_unmet (request_response_clauses.clauses (required_request_response named types attributes)
+      (description_of pattern.RequestResponse name agreed)) ≡ request_response_verdict types attributes named agreed
+  same_request_response_verdict named agreed = refl
+
+  same_required_settings : (named : ServiceOptions) → required_settings named types attributes ≡ machine.settings_of types named
+  same_required_settings (options.PublishSubscribe named) = refl
+  same_required_settings (options.Event named) =
+      ap (λ (set_to : NumberOrOff → Option ℕ). settings.Event (event_settings.adjusted (event_clauses.asked
+      (event_by named attributes set_to)))) (same_everywhere commands.set_to machine.set_to same_set)
+  same_required_settings (options.RequestResponse named) = refl
+
+  -- what is agreed on in a service that is created where none stands
+  abbrev pub new_agreement : ServiceOptions → Agreement
+  new_agreement named = record { settings = machine.settings_of types named; attributes = attributes.pairs }
+
+  pub same_required_agreement : (named : ServiceOptions)
+      → required_agreement name named types attributes ≡ description_of (pattern_of named) name (new_agreement named)
+  same_required_agreement named =
+      ap (λ (s : Settings). agreement name (hash_of name named) s attributes.pairs) (same_required_settings named)
+
+-- what the history is too long for is said alike
+pub same_history : (all : Settings) → IsHistoryTooLong all ≡ HasNoRoomForHistory all
+same_history (settings.PublishSubscribe c) = refl
+same_history (settings.Event c) = refl
+same_history (settings.RequestResponse c) = refl

@@ -1,0 +1,5 @@
+use Rattle.iox_hub_machine.proofs.Begun.{hub_begins}
+use Rattle.iox_hub_machine.proofs.runs.new_hub_begins.Goals as goal
+
+pub returns : goal.returns
+returns g c = hub_begins _ _ _ _ _

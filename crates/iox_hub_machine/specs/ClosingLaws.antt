@@ -1,0 +1,58 @@
+-- What a hub does where a factory is closed is what the machine does.
+use Rattle.std.specs.Prelude.{ℕ, List, Option, Ok}
+use Rattle.iox_command.specs.DomainValues.declared.backpressure.BackpressureAction.{BackpressureAction}
+use Rattle.iox_command.specs.DomainValues.declared.backpressure.BackpressureDecision.{BackpressureDecision}
+use Rattle.iox_command.specs.DomainValues.declared.backpressure.BackpressureInfo.{BackpressureInfo}
+use Rattle.iox_command.specs.DomainValues.declared.backpressure_strategy.BackpressureStrategy.{BackpressureStrategy}
+use Rattle.iox_command.specs.DomainValues.declared.degradation.DegradationAction.{DegradationAction}
+use Rattle.iox_command.specs.DomainValues.declared.degradation.DegradationCause.{DegradationCause}
+use Rattle.iox_command.specs.DomainValues.declared.degradation.DegradationInfo.{DegradationInfo}
+use Rattle.iox_command.specs.NegotiateBase.DescribeBase.Detail.{Detail}
+use Rattle.iox_command.specs.NegotiateBase.DescribeBase.declared.message_type.MessageTypeDetails.{MessageTypeDetails}
+use Rattle.iox_command.specs.NegotiateBase.DescribeBase.declared.pattern.MessagingPattern.{MessagingPattern}
+use Rattle.iox_command.specs.declared.command.Command.{Command}
+use Rattle.iox_command.specs.declared.command.Command.TheVariants as command
+use Rattle.iox_command.specs.declared.reply.Reply.{Reply}
+use Rattle.iox_domain.specs.declared.ports.service_ports.ServicePorts.{ServicePorts}
+use Rattle.iox_domain_machine.specs.Naming.{Naming}
+use Rattle.iox_domain_machine.specs.Services.{ComesOnce}
+use Rattle.iox_hub_base.specs.declared.hub.Hub.{Hub}
+use Rattle.iox_hub_commands.specs.Agreements.{AreOfOneAgreement}
+use Rattle.iox_hub_commands.specs.CommandSteps as hub
+use Rattle.iox_hub_commands.specs.declared.numbered_hub.NumberedHub.{NumberedHub}
+use Rattle.iox_hub_machine.specs.ServiceLaws.{IsFollowed}
+use Rattle.iox_hub_machine.specs.Services.{HubStandsFor}
+use Rattle.iox_machine.specs.Run.{Runs}
+use Rattle.iox_machine.specs.State.{State, new_state}
+use Rattle.iox_negotiate_machine.specs.Laws.{HaveOwnHashes}
+
+-- A run of a new machine leads to a state.
+abbrev pub IsCome : {T : Type 0} → MessageTypeDetails → (T → Type 0) → ℕ → State T → Type 0
+IsCome {T} types is_default buffer state =
+    (asked : List (Command T)) × (answers : List (Reply T)) × Runs types is_default buffer asked new_state answers state
+
+-- No number is that of two services of a hub, nor are the factories of a service counted twice.
+abbrev pub HasEachOnce : {T U B D : Type 0} → Hub T U B D → Type 0
+HasEachOnce hub = ComesOnce hub.services.domains × ComesOnce hub.factory_counts
+
+-- The two details are those of values and user headers, the types those of the messages; then what is a default value, and a default user
+-- header; who decides by fixed actions, and what anybody who decides may answer.
+module _ {T U B D : Type 0} (payload user_header : Detail) (types : MessageTypeDetails) (is_default : T → Type 0)
+    (is_default_header : U → Type 0)
+    (fixed : BackpressureStrategy → Option BackpressureAction → DegradationAction → B)
+    (degrades : B → DegradationCause → DegradationInfo → DegradationAction → Type 0)
+    (decides : B → BackpressureInfo → BackpressureDecision → Type 0)
+    (fixed_reader : DegradationAction → D)
+    (reader_degrades : D → DegradationCause → DegradationInfo → DegradationAction → Type 0) where
+  -- A factory is closed, or stays as it is in use. Each service of the hub has one agreement, no number stands twice, and a run of a new
+  -- machine led to what the hub stands for.
+  abbrev pub ClosingMatches : Type 0
+  ClosingMatches = (names : List (List ℕ)) (factory : ℕ) (taken : MessagingPattern → List ℕ → List ℕ) (naming : ℕ → Naming)
+      (order : List (ℕ × ServicePorts T U)) (old new : NumberedHub T U B D) (state : State T) (answer : Reply T)
+      → HaveOwnHashes names → AreOfOneAgreement old.factories.made old.hub → HasEachOnce old.hub
+      → IsCome types is_default old.hub.expired_connection_buffer state
+      → HubStandsFor degrades decides reader_degrades names taken naming order old state
+      → hub.Step payload user_header types is_default is_default_header fixed degrades decides fixed_reader reader_degrades
+      (command.Close factory) old (Ok answer) new
+      → IsFollowed payload user_header types is_default is_default_header fixed degrades decides fixed_reader reader_degrades names
+      (command.Close factory) old new state answer

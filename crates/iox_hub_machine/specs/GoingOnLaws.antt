@@ -1,0 +1,99 @@
+-- What a hub stands for after a run, whatever it stood for before.
+use Rattle.std.specs.Prelude.{ℕ, ◌+◌, ◌-◌, ◌^◌, ◌<◌, ◌≡◌, ◌⊎◌, Bool, true, false, List, ◌∷◌, ◌++◌, length, Option, Some}
+use Rattle.std.specs.List.{AllByRecursion}
+use Rattle.iox_command.specs.DomainValues.declared.backpressure.BackpressureAction.{BackpressureAction}
+use Rattle.iox_command.specs.DomainValues.declared.backpressure.BackpressureDecision.{BackpressureDecision}
+use Rattle.iox_command.specs.DomainValues.declared.backpressure.BackpressureInfo.{BackpressureInfo}
+use Rattle.iox_command.specs.DomainValues.declared.backpressure_strategy.BackpressureStrategy.{BackpressureStrategy}
+use Rattle.iox_command.specs.DomainValues.declared.degradation.DegradationAction.{DegradationAction}
+use Rattle.iox_command.specs.DomainValues.declared.degradation.DegradationCause.{DegradationCause}
+use Rattle.iox_command.specs.DomainValues.declared.degradation.DegradationInfo.{DegradationInfo}
+use Rattle.iox_command.specs.NegotiateBase.DescribeBase.Detail.{Detail}
+use Rattle.iox_command.specs.NegotiateBase.DescribeBase.declared.message_type.MessageTypeDetails.{MessageTypeDetails}
+use Rattle.iox_command.specs.declared.command.Command.{Command}
+use Rattle.iox_command.specs.declared.reply.Reply.{Reply}
+use Rattle.iox_container.specs.NumberTable.{value_at}
+use Rattle.iox_hub_base.specs.AsHome.{hub_ports}
+use Rattle.iox_hub_base.specs.declared.hub.HubConfig.{HubConfig}
+use Rattle.iox_hub_commands.specs.CommandSteps as hub
+use Rattle.iox_hub_commands.specs.Numbers.{IsNew}
+use Rattle.iox_hub_commands.specs.Reading.{values_under}
+use Rattle.iox_hub_commands.specs.Runs.{IsRun}
+use Rattle.iox_hub_commands.specs.declared.numbered_hub.NumberedHub.{NumberedHub}
+use Rattle.iox_hub_machine.specs.ArrivalLaws.{AnswersAsFixed, DecidesAsFixed}
+use Rattle.iox_hub_machine.specs.Ran.{StandsAfter}
+use Rattle.iox_hub_machine.specs.RunLaws.{AsksAmong, all_asked, steps_named}
+use Rattle.iox_machine.specs.Run as machine
+use Rattle.iox_machine.specs.State.{State, new_state}
+use Rattle.iox_negotiate_machine.specs.Laws.{HaveOwnHashes}
+
+-- The values of the sample that came last fit in a vector, if it is held: they can be told.
+abbrev pub NewestFits : {T U B D : Type 0} → NumberedHub T U B D → Type 0
+NewestFits {T} hub = (values : List T)
+    → values_under hub_ports (value_at hub.made.samples (hub.made.samples.next - 1)) hub.hub ≡ Some values → length values < 2 ^ 63
+
+-- A new hub stands for a new machine, after no command, whatever names are asked for.
+abbrev pub NewHubBegins : (U : Type 0) → {T B D : Type 0} → MessageTypeDetails → (T → Type 0)
+    → (B → DegradationCause → DegradationInfo → DegradationAction → Type 0)
+    → (B → BackpressureInfo → BackpressureDecision → Type 0) → (D → DegradationCause → DegradationInfo → DegradationAction → Type 0)
+    → Type 0
+NewHubBegins U {T} {B} {D} types is_default degrades decides reader_degrades = (names : List (List ℕ)) (config : HubConfig)
+    (hub : NumberedHub T U B D) → IsNew config hub
+    → StandsAfter types is_default degrades decides reader_degrades names 0 hub new_state
+
+-- The two details are those of values and user headers, the types those of the messages; then what is a default value, and a default user
+-- header; who decides by fixed actions, and what anybody who decides may answer.
+module _ {T U B D : Type 0} (payload user_header : Detail) (types : MessageTypeDetails) (is_default : T → Type 0)
+    (is_default_header : U → Type 0)
+    (fixed : BackpressureStrategy → Option BackpressureAction → DegradationAction → B)
+    (degrades : B → DegradationCause → DegradationInfo → DegradationAction → Type 0)
+    (decides : B → BackpressureInfo → BackpressureDecision → Type 0)
+    (fixed_reader : DegradationAction → D)
+    (reader_degrades : D → DegradationCause → DegradationInfo → DegradationAction → Type 0) where
+  -- The machine may answer so to this command, and the hub stands for what it is then.
+  pub record IsOneOn (names : List (List ℕ)) (most buffer : ℕ) (asked : Command T) (state : State T) (answer : Reply T)
+      (hub : NumberedHub T U B D) : Type 0 where
+    pub after : State T
+    pub step : machine.Step types is_default buffer asked state answer after
+    pub stands : StandsAfter types is_default degrades decides reader_degrades names (most + (1 + steps_named asked)) hub after
+
+  -- The machine may answer so to all these commands, and the hub stands for what it is then.
+  pub record AreAllOn (names : List (List ℕ)) (most buffer : ℕ) (commands : List (Command T)) (state : State T)
+      (replies : List (Reply T)) (hub : NumberedHub T U B D) : Type 0 where
+    pub after : State T
+    pub runs : machine.Runs types is_default buffer commands state replies after
+    pub stands : StandsAfter types is_default degrades decides reader_degrades names (most + all_asked commands) hub after
+
+  -- Some command is the first that isn't replied to. The machine may answer so to those before it, and the hub stands for what it is then;
+  -- or it stands for what the machine is after that command, too, to which it may answer something: so it is where the values of the
+  -- sample that came last fit in a vector.
+  pub record IsOnUntil (names : List (List ℕ)) (most buffer : ℕ) (commands : List (Command T)) (state : State T)
+      (replies : List (Reply T)) (hub : NumberedHub T U B D) : Type 0 where
+    pub first : List (Command T)
+    pub asked : Command T
+    pub rest : List (Command T)
+    pub are : commands ≡ first ++ asked ∷ rest
+    pub after : State T
+    pub runs : machine.Runs types is_default buffer first state replies after
+    pub stands : StandsAfter types is_default degrades decides reader_degrades names (most + all_asked first) hub after
+        ⊎ (NewestFits hub → (answer : Reply T) × IsOneOn names (most + all_asked first) buffer asked after answer hub)
+
+  -- What a run comes to, as it stopped or didn't.
+  abbrev pub RunGoesOn : List (List ℕ) → ℕ → ℕ → List (Command T) → State T → List (Reply T) → Bool → NumberedHub T U B D → Type 0
+  RunGoesOn names most buffer commands state replies false hub = AreAllOn names most buffer commands state replies hub
+  RunGoesOn names most buffer commands state replies true hub = IsOnUntil names most buffer commands state replies hub
+
+  -- A hub that stands for a state goes on as the machine does from there: what it replies to commands, from the first one on or until it
+  -- stops, the machine may answer, and the hub stands for what the machine is then, or for what it is after one command more. So it is
+  -- where no two services of the names that are asked for share a hash, all commands and steps, with those before the run, are fewer than
+  -- 2 ^ 56, and whoever is made of fixed actions for a port decides by these.
+  abbrev pub RunsGoOn : Type 0
+  RunsGoOn = (names : List (List ℕ)) (most : ℕ) (commands : List (Command T)) (old new : NumberedHub T U B D) (state : State T)
+      (replies : List (Reply T)) (stopped : Bool)
+      → DecidesAsFixed fixed degrades decides → AnswersAsFixed fixed_reader reader_degrades
+      → HaveOwnHashes names → AllByRecursion (AsksAmong names) commands
+      → most + all_asked commands < 2 ^ 56
+      → StandsAfter types is_default degrades decides reader_degrades names most old state
+      → IsRun (hub.Step payload user_header types is_default is_default_header fixed degrades decides fixed_reader reader_degrades)
+      commands old replies stopped new
+      → RunGoesOn names most old.hub.expired_connection_buffer commands state replies stopped new

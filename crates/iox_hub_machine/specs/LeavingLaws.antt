@@ -1,0 +1,44 @@
+-- What a hub does where a publisher or a subscriber leaves is what the machine does.
+use Rattle.std.specs.Prelude.{ℕ, ◌≡◌, true, Some}
+use Rattle.iox_command.specs.DomainValues.declared.backpressure.BackpressureDecision.{BackpressureDecision}
+use Rattle.iox_command.specs.DomainValues.declared.backpressure.BackpressureInfo.{BackpressureInfo}
+use Rattle.iox_command.specs.DomainValues.declared.degradation.DegradationAction.{DegradationAction}
+use Rattle.iox_command.specs.DomainValues.declared.degradation.DegradationCause.{DegradationCause}
+use Rattle.iox_command.specs.DomainValues.declared.degradation.DegradationInfo.{DegradationInfo}
+use Rattle.iox_command.specs.declared.command.Command.{Command}
+use Rattle.iox_command.specs.declared.command.Command.TheVariants as command
+use Rattle.iox_command.specs.declared.port.PortNumber.TheVariants as port
+use Rattle.iox_domain.specs.Rolls.{may_change}
+use Rattle.iox_domain.specs.declared.domain_id.DomainId.{DomainId}
+use Rattle.iox_domain.specs.declared.ports.service_ports.ServicePorts.{ServicePorts}
+use Rattle.iox_hub_base.specs.AsHome.{hub_ports}
+use Rattle.iox_hub_base.specs.declared.hub.Hub.{Hub}
+use Rattle.iox_hub_commands.specs.Grown.{HaveGrown}
+use Rattle.iox_hub_commands.specs.Lives.{NumbersRise}
+use Rattle.iox_hub_commands.specs.declared.numbered_hub.NumberedHub.{NumberedHub}
+use Rattle.iox_hub_machine.specs.Laws.{IsSimulatedFrom}
+
+-- One change more can be counted of the list of publishers, and of that of subscribers, of each domain that is here.
+abbrev pub ListsCanChange : {T U B D : Type 0} → Hub T U B D → Type 0
+ListsCanChange {T} {U} hub = (id : DomainId) (ports : ServicePorts T U) → hub_ports id hub ≡ Some ports
+    → (may_change ports.publisher_list ≡ true) × (may_change ports.subscriber_list ≡ true)
+
+-- What is a default value is given, and a default user header; and what anybody may answer who decides for a publisher, or for a
+-- subscriber.
+module _ {T U B D : Type 0} (is_default : T → Type 0) (is_default_header : U → Type 0)
+    (degrades : B → DegradationCause → DegradationInfo → DegradationAction → Type 0)
+    (decides : B → BackpressureInfo → BackpressureDecision → Type 0)
+    (reader_degrades : D → DegradationCause → DegradationInfo → DegradationAction → Type 0) where
+  -- So it is from a hub whose domains came by calls of ports, whose numbers rise from 1 on and stay below the one that comes next, as those
+  -- of each hub do, and of whose lists of ports each can change once more: one changes once at a command at most.
+  abbrev pub IsSimulatedIfCounted : Command T → Type 0
+  IsSimulatedIfCounted asked = (old : NumberedHub T U B D) → HaveGrown old.hub.services.domains → NumbersRise old
+      → ListsCanChange old.hub → IsSimulatedFrom is_default is_default_header degrades decides reader_degrades old asked
+
+  -- A publisher leaves.
+  abbrev pub PublisherLeaveIsSimulated : Type 0
+  PublisherLeaveIsSimulated = (publisher : ℕ) → IsSimulatedIfCounted (command.Leave (port.Publisher publisher))
+
+  -- A subscriber leaves.
+  abbrev pub SubscriberLeaveIsSimulated : Type 0
+  SubscriberLeaveIsSimulated = (subscriber : ℕ) → IsSimulatedIfCounted (command.Leave (port.Subscriber subscriber))

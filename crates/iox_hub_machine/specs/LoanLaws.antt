@@ -1,0 +1,33 @@
+-- What a hub does where a publisher lends is what the machine does.
+use Rattle.std.specs.Prelude.{ℕ}
+use Rattle.iox_command.specs.DomainValues.declared.backpressure.BackpressureDecision.{BackpressureDecision}
+use Rattle.iox_command.specs.DomainValues.declared.backpressure.BackpressureInfo.{BackpressureInfo}
+use Rattle.iox_command.specs.DomainValues.declared.degradation.DegradationAction.{DegradationAction}
+use Rattle.iox_command.specs.DomainValues.declared.degradation.DegradationCause.{DegradationCause}
+use Rattle.iox_command.specs.DomainValues.declared.degradation.DegradationInfo.{DegradationInfo}
+use Rattle.iox_command.specs.declared.command.Command.{Command}
+use Rattle.iox_command.specs.declared.command.Command.TheVariants as command
+use Rattle.iox_hub_commands.specs.Grown.{HaveGrown}
+use Rattle.iox_hub_commands.specs.Lives.{NumbersRise}
+use Rattle.iox_hub_commands.specs.declared.numbered_hub.NumberedHub.{NumberedHub}
+use Rattle.iox_hub_machine.specs.Laws.{IsSimulatedFrom}
+
+-- What is a default value is given, and a default user header; and what anybody may answer who decides for a publisher, or for a
+-- subscriber.
+module _ {T U B D : Type 0} (is_default : T → Type 0) (is_default_header : U → Type 0)
+    (degrades : B → DegradationCause → DegradationInfo → DegradationAction → Type 0)
+    (decides : B → BackpressureInfo → BackpressureDecision → Type 0)
+    (reader_degrades : D → DegradationCause → DegradationInfo → DegradationAction → Type 0) where
+  -- So it is from a hub whose domains came by calls of ports, and whose numbers rise from 1 on and stay below the one that comes next, as
+  -- `GrowsOn` and `NumbersGoOn` say of each hub.
+  abbrev pub IsSimulatedIfNumbered : Command T → Type 0
+  IsSimulatedIfNumbered asked = (old : NumberedHub T U B D) → HaveGrown old.hub.services.domains → NumbersRise old
+      → IsSimulatedFrom is_default is_default_header degrades decides reader_degrades old asked
+
+  -- A publisher lends so many values, none of which is written.
+  abbrev pub LendUninitIsSimulated : Type 0
+  LendUninitIsSimulated = (publisher values : ℕ) → IsSimulatedIfNumbered (command.LoanUninit publisher values)
+
+  -- A publisher lends so many values, each of which is written: a default.
+  abbrev pub LendIsSimulated : Type 0
+  LendIsSimulated = (publisher values : ℕ) → IsSimulatedIfNumbered (command.Loan publisher values)

@@ -1,0 +1,40 @@
+-- What a hub does where its ports bring their connections up to date, and its subscribers receive, is what the machine does.
+use Rattle.std.specs.Prelude.{ℕ, ◌<◌, ◌^◌}
+use Rattle.iox_command.specs.DomainValues.declared.backpressure.BackpressureDecision.{BackpressureDecision}
+use Rattle.iox_command.specs.DomainValues.declared.backpressure.BackpressureInfo.{BackpressureInfo}
+use Rattle.iox_command.specs.DomainValues.declared.degradation.DegradationAction.{DegradationAction}
+use Rattle.iox_command.specs.DomainValues.declared.degradation.DegradationCause.{DegradationCause}
+use Rattle.iox_command.specs.DomainValues.declared.degradation.DegradationInfo.{DegradationInfo}
+use Rattle.iox_command.specs.declared.command.Command.TheVariants as command
+use Rattle.iox_command.specs.declared.port.PortNumber.TheVariants as port
+use Rattle.iox_hub_commands.specs.Grown.{HaveGrown}
+use Rattle.iox_hub_commands.specs.Lives.{NumbersRise}
+use Rattle.iox_hub_commands.specs.declared.numbered_hub.NumberedHub.{NumberedHub}
+use Rattle.iox_hub_machine.specs.Laws.{IsSimulatedFrom, IsSimulatedIfGrown}
+
+-- What is a default value is given, and a default user header; and what anybody may answer who decides for a publisher, or for a
+-- subscriber.
+module _ {T U B D : Type 0} (is_default : T → Type 0) (is_default_header : U → Type 0)
+    (degrades : B → DegradationCause → DegradationInfo → DegradationAction → Type 0)
+    (decides : B → BackpressureInfo → BackpressureDecision → Type 0)
+    (reader_degrades : D → DegradationCause → DegradationInfo → DegradationAction → Type 0) where
+  -- A publisher follows the list of subscribers.
+  abbrev pub PublisherUpdateIsSimulated : Type 0
+  PublisherUpdateIsSimulated = (publisher : ℕ)
+      → IsSimulatedIfGrown is_default is_default_header degrades decides reader_degrades (command.Update (port.Publisher publisher))
+
+  -- A subscriber follows the list of publishers.
+  abbrev pub SubscriberUpdateIsSimulated : Type 0
+  SubscriberUpdateIsSimulated = (subscriber : ℕ)
+      → IsSimulatedIfGrown is_default is_default_header degrades decides reader_degrades (command.Update (port.Subscriber subscriber))
+
+  -- It is told whether some connection of a subscriber has data.
+  abbrev pub HasIsSimulated : Type 0
+  HasIsSimulated = (subscriber : ℕ)
+      → IsSimulatedIfGrown is_default is_default_header degrades decides reader_degrades (command.Has subscriber)
+
+  -- A subscriber receives, and a sample that comes gets the next number, which nothing goes by yet. Fewer than 2 ^ 64 - 1 came so far.
+  abbrev pub ReceiveIsSimulated : Type 0
+  ReceiveIsSimulated = (subscriber : ℕ) (old : NumberedHub T U B D) → HaveGrown old.hub.services.domains → NumbersRise old
+      → old.made.samples.next < 2 ^ 64
+      → IsSimulatedFrom is_default is_default_header degrades decides reader_degrades old (command.Receive subscriber)

@@ -1,0 +1,118 @@
+-- What a run of a new hub is replied is what a new machine may answer.
+use Rattle.std.specs.Prelude.{ℕ, ◌+◌, ◌^◌, ◌<◌, ◌≡◌, Bool, true, List, [], ◌∷◌, length, Option}
+use Rattle.std.specs.List.{IsAmong}
+use Rattle.iox_command.specs.DomainValues.declared.backpressure.BackpressureAction.{BackpressureAction}
+use Rattle.iox_command.specs.DomainValues.declared.backpressure.BackpressureDecision.{BackpressureDecision}
+use Rattle.iox_command.specs.DomainValues.declared.backpressure.BackpressureInfo.{BackpressureInfo}
+use Rattle.iox_command.specs.DomainValues.declared.backpressure_strategy.BackpressureStrategy.{BackpressureStrategy}
+use Rattle.iox_command.specs.DomainValues.declared.degradation.DegradationAction.{DegradationAction}
+use Rattle.iox_command.specs.DomainValues.declared.degradation.DegradationCause.{DegradationCause}
+use Rattle.iox_command.specs.DomainValues.declared.degradation.DegradationInfo.{DegradationInfo}
+use Rattle.iox_command.specs.NegotiateBase.DescribeBase.Detail.{Detail}
+use Rattle.iox_command.specs.NegotiateBase.DescribeBase.declared.message_type.MessageTypeDetails.{MessageTypeDetails}
+use Rattle.iox_command.specs.declared.command.Command.{Command}
+use Rattle.iox_command.specs.declared.command.Command.TheVariants as command
+use Rattle.iox_command.specs.declared.reply.Reply.{Reply}
+use Rattle.iox_command.specs.NegotiateBase.DescribeBase.declared.pattern.MessagingPattern.{MessagingPattern}
+use Rattle.iox_domain.specs.declared.ports.service_ports.ServicePorts.{ServicePorts}
+use Rattle.iox_domain_machine.specs.Naming.{Naming}
+use Rattle.iox_hub_base.specs.declared.hub.HubConfig.{HubConfig}
+use Rattle.iox_hub_commands.specs.CommandSteps as hub
+use Rattle.iox_hub_commands.specs.Grown.{HaveGrown}
+use Rattle.iox_hub_commands.specs.Numbers.{IsNew}
+use Rattle.iox_hub_commands.specs.PortRoom.{HasRoom}
+use Rattle.iox_hub_commands.specs.Room.{StopsInTime}
+use Rattle.iox_hub_commands.specs.Runs.{IsRun, Runs}
+use Rattle.iox_hub_commands.specs.declared.numbered_hub.NumberedHub.{NumberedHub}
+use Rattle.iox_hub_machine.specs.ArrivalLaws.{AnswersAsFixed, DecidesAsFixed}
+use Rattle.iox_hub_machine.specs.Services.{HubStandsFor}
+use Rattle.iox_machine.specs.Run as machine
+use Rattle.iox_machine.specs.State.{State, new_state}
+use Rattle.iox_negotiate_machine.specs.Laws.{HaveOwnHashes}
+
+module _ {T : Type 0} where
+  -- how many steps of nodes outside the hub a command names
+  abbrev pub steps_named : Command T → ℕ
+  steps_named (command.Create node name options attributes steps) = length steps
+  steps_named (command.Open node name options required steps) = length steps
+  steps_named (command.OpenOrCreate node name options required steps) = length steps
+  steps_named (command.Foreign pattern name steps) = length steps
+  steps_named other = 0
+
+  -- how many commands there are, and steps of nodes outside the hub that they name, together
+  abbrev pub all_asked : List (Command T) → ℕ
+  all_asked [] = 0
+  all_asked (asked ∷ more) = 1 + steps_named asked + all_asked more
+
+  -- names, and before them that of the service for which a command asks, if it asks for one
+  abbrev pub names_beside : Command T → List (List ℕ) → List (List ℕ)
+  names_beside (command.Create node name options attributes steps) names = name ∷ names
+  names_beside (command.Open node name options required steps) names = name ∷ names
+  names_beside (command.OpenOrCreate node name options required steps) names = name ∷ names
+  names_beside (command.Foreign pattern name steps) names = name ∷ names
+  names_beside other names = names
+
+  -- the names of the services for which commands ask
+  abbrev pub names_in : List (Command T) → List (List ℕ)
+  names_in [] = []
+  names_in (asked ∷ more) = names_beside asked (names_in more)
+
+  -- The name of the service for which a command asks is among these, if it asks for one.
+  abbrev pub AsksAmong : List (List ℕ) → Command T → Type 0
+  AsksAmong names (command.Create node name options attributes steps) = IsAmong names name
+  AsksAmong names (command.Open node name options required steps) = IsAmong names name
+  AsksAmong names (command.OpenOrCreate node name options required steps) = IsAmong names name
+  AsksAmong names (command.Foreign pattern name steps) = IsAmong names name
+  AsksAmong names other = Unit {0}
+
+-- Where the ports of a hub have room for the numbers of loans and samples, and its domains came by calls of ports, a run that stopped never
+-- began, or stopped at a command whose reply has values.
+abbrev pub StopsIfRoomy : {T U B D : Type 0} → List (Command T) → NumberedHub T U B D → List (Reply T) → Bool → NumberedHub T U B D
+    → Type 0
+StopsIfRoomy commands old replies stopped new = HasRoom old → HaveGrown old.hub.services.domains → stopped ≡ true
+    → StopsInTime commands old (length replies) new
+
+-- The two details are those of values and user headers, the types those of the messages; then what is a default value, and a default user
+-- header; who decides by fixed actions, and what anybody who decides may answer.
+module _ {T U B D : Type 0} (payload user_header : Detail) (types : MessageTypeDetails) (is_default : T → Type 0)
+    (is_default_header : U → Type 0)
+    (fixed : BackpressureStrategy → Option BackpressureAction → DegradationAction → B)
+    (degrades : B → DegradationCause → DegradationInfo → DegradationAction → Type 0)
+    (decides : B → BackpressureInfo → BackpressureDecision → Type 0)
+    (fixed_reader : DegradationAction → D)
+    (reader_degrades : D → DegradationCause → DegradationInfo → DegradationAction → Type 0) where
+  -- What a hub replied to commands, from the first one on or until it stopped, is what a new machine may answer: to all of them, or, where
+  -- it stopped, to the first of them, where a run may stop. So it is where the hub was new, no two services of the names that are asked for
+  -- share a hash, commands and their steps are fewer than 2 ^ 56, and whoever is made of fixed actions for a port decides by these.
+  abbrev pub AnswersAsMachine : HubConfig → List (Command T) → NumberedHub T U B D → List (Reply T) → Bool → Type 0
+  AnswersAsMachine config commands old replies stopped =
+      DecidesAsFixed fixed degrades decides → AnswersAsFixed fixed_reader reader_degrades
+      → IsNew config old → HaveOwnHashes (names_in commands)
+      → all_asked commands < 2 ^ 56
+      → machine.Answers types is_default config.expired_connection_buffer commands stopped replies
+
+  -- So it is of each run that stops only where it may.
+  abbrev pub RunAnswers : Type 0
+  RunAnswers = (config : HubConfig) (commands : List (Command T)) (old new : NumberedHub T U B D) (replies : List (Reply T))
+      (stopped : Bool)
+      → IsRun (hub.Step payload user_header types is_default is_default_header fixed degrades decides fixed_reader reader_degrades)
+      commands old replies stopped new
+      → StopsIfRoomy commands old replies stopped new
+      → AnswersAsMachine config commands old replies stopped
+
+  -- What a hub that replied to commands stands for is a state to which a new machine comes with the same replies.
+  abbrev pub StandsAsMachine : HubConfig → List (Command T) → NumberedHub T U B D → List (Reply T) → Type 0
+  StandsAsMachine config commands new replies =
+      (taken : MessagingPattern → List ℕ → List ℕ) × (naming : ℕ → Naming) × (order : List (ℕ × ServicePorts T U)) × (after : State T)
+      × machine.Runs types is_default config.expired_connection_buffer commands new_state replies after
+      × HubStandsFor degrades decides reader_degrades (names_in commands) taken naming order new after
+
+  -- So it is with each run to its end, by the same premises.
+  abbrev pub RunStands : Type 0
+  RunStands = (config : HubConfig) (commands : List (Command T)) (old new : NumberedHub T U B D) (replies : List (Reply T))
+      → Runs (hub.Step payload user_header types is_default is_default_header fixed degrades decides fixed_reader reader_degrades)
+      commands old replies new
+      → DecidesAsFixed fixed degrades decides → AnswersAsFixed fixed_reader reader_degrades
+      → IsNew config old → HaveOwnHashes (names_in commands)
+      → all_asked commands < 2 ^ 56
+      → StandsAsMachine config commands new replies

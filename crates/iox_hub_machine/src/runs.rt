@@ -1,0 +1,68 @@
+//! Runs of commands.
+ghost use Rattle.iox_hub_base.specs.DescribeBase.Detail.{detail};
+ghost use Rattle.iox_hub_base.specs.DescribeBase.declared.type_detail.TypeVariant.TheVariants.{FixedSize};
+ghost use Rattle.iox_hub_commands.specs.Asked.{types_of};
+ghost use Rattle.iox_hub_machine.specs.GoingOnLaws.{NewHubBegins, RunsGoOn};
+ghost use Rattle.iox_hub_machine.specs.RunLaws.{RunAnswers, RunStands};
+
+use iox_describe_base::ZeroCopySend;
+use iox_hub_commands::{PublisherHandlers, SubscriberHandler};
+
+/// A new hub stands for a new machine, after no command, whatever names are asked for.
+pub fn new_hub_begins<
+    T: ZeroCopySend + Default,
+    U: ZeroCopySend,
+    B: PublisherHandlers,
+    D: SubscriberHandler,
+>()
+    ensures { NewHubBegins U (types_of T.name T.size T.alignment U.name U.size U.alignment) T.is_default
+        (λ handlers. B.degrades handlers) (λ handlers. B.decides handlers) (λ handler. D.degrades handler) }
+{}
+
+/// A hub that stands for a state of the machine goes on as the machine does from there. What it is replied to commands, from the first one
+/// on or until it stops, the machine may answer. Where it doesn't stop it stands for what the machine is then; where it stops at a command,
+/// for what the machine is before that, or for what it is after that, if the values of the sample that came last fit in a vector.
+///
+/// `StandsAfter` says what is asked of the hub: a new hub is so after no command (`new_hub_begins`), and a run keeps it so; so two runs of
+/// a hub come to one. `IsRun` is what `NumberedHub::run` says of its replies. No two services of the names that are asked for may share a
+/// hash, all commands and steps, with those before the run, must be fewer than 2 ^ 56, and whoever is made of fixed actions for a port must
+/// decide by these, as `FixedHandlers` and `FixedDegradation` do.
+pub fn runs_go_on<
+    T: ZeroCopySend + Default,
+    U: ZeroCopySend + Default,
+    B: PublisherHandlers,
+    D: SubscriberHandler,
+>()
+    ensures { RunsGoOn (detail FixedSize T.name T.size T.alignment) (detail FixedSize U.name U.size U.alignment)
+        (types_of T.name T.size T.alignment U.name U.size U.alignment) T.is_default U.is_default B.fixed
+        (λ handlers. B.degrades handlers) (λ handlers. B.decides handlers) D.fixed (λ handler. D.degrades handler) }
+{}
+
+/// What a new hub is replied to commands is what a new machine may answer: to all of them, or, where the run stopped, to the first of them,
+/// where a run may stop: a command is left, and either nothing was replied, or the next one receives or reads. `IsRun` and `StopsIfRoomy`
+/// are what `NumberedHub::run` says of its replies. No two services of the names that are asked for may share a hash, commands and steps
+/// must be fewer than 2 ^ 56, and whoever is made of fixed actions for a port must decide by these, as `FixedHandlers` and
+/// `FixedDegradation` do.
+pub fn runs_answer<
+    T: ZeroCopySend + Default,
+    U: ZeroCopySend + Default,
+    B: PublisherHandlers,
+    D: SubscriberHandler,
+>()
+    ensures { RunAnswers (detail FixedSize T.name T.size T.alignment) (detail FixedSize U.name U.size U.alignment)
+        (types_of T.name T.size T.alignment U.name U.size U.alignment) T.is_default U.is_default B.fixed
+        (λ handlers. B.degrades handlers) (λ handlers. B.decides handlers) D.fixed (λ handler. D.degrades handler) }
+{}
+
+/// What a hub that replied to all commands stands for is a state to which a new machine comes with the same replies, by the same premises:
+/// what is so of each state that a run of the machine leads to, is so of what such a hub stands for.
+pub fn runs_stand<
+    T: ZeroCopySend + Default,
+    U: ZeroCopySend + Default,
+    B: PublisherHandlers,
+    D: SubscriberHandler,
+>()
+    ensures { RunStands (detail FixedSize T.name T.size T.alignment) (detail FixedSize U.name U.size U.alignment)
+        (types_of T.name T.size T.alignment U.name U.size U.alignment) T.is_default U.is_default B.fixed
+        (λ handlers. B.degrades handlers) (λ handlers. B.decides handlers) D.fixed (λ handler. D.degrades handler) }
+{}

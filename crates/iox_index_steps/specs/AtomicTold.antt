@@ -1,0 +1,120 @@
+-- What the steps on a single value make current, and what the answer of a call says of them.
+use Rattle.std.specs.Prelude.{ℕ, ◌≡◌, ◌+◌, ◌<◌, ◌≤◌, List, [], ◌∷◌, ◌++◌, length, take, drop}
+use Rattle.std.specs.Global.{Vec}
+use Rattle.iox_queues_steps.specs.declared.access.Word.TheVariants.{Write, Read, Cell}
+use Rattle.iox_queues_steps.specs.declared.access.Access.{Access}
+use Rattle.iox_queues_steps.specs.declared.access.Access.TheVariants.{Load, Store, Exchange, Local}
+use Rattle.iox_queues.specs.Told.{own}
+use Rattle.iox_queues.specs.declared.bits.machine.Event.{Event}
+use Rattle.iox_index_steps.specs.AtomicSteps.{table_value}
+use Rattle.iox_index_steps.specs.declared.atomic.call.Call.{Call}
+use Rattle.iox_index_steps.specs.declared.atomic.call.Call.TheVariants as call
+use Rattle.iox_index_steps.specs.declared.atomic.Finished.{Finished}
+
+-- 1 if the step moved the counter on: that is the moment of a store
+abbrev pub moved_by : Access → ℕ
+moved_by (Load word) = 0
+moved_by (Store Write value) = 1
+moved_by (Store Read value) = 0
+moved_by (Store (Cell position) value) = 0
+moved_by (Exchange word old new) = 0
+moved_by Local = 0
+
+-- the words put into cells since the last such moment, in their order: one more after a step that puts one
+abbrev pub put_by : Access → List ℕ → List ℕ
+put_by (Load word) put = put
+put_by (Store Write value) put = []
+put_by (Store Read value) put = put
+put_by (Store (Cell position) value) put = put ++ value ∷ []
+put_by (Exchange word old new) put = put
+put_by Local put = put
+
+-- the current words after a step: at the moment of a store those that were put since the last one
+abbrev pub current_by : Access → List ℕ → List ℕ → List ℕ
+current_by (Load word) put current = current
+current_by (Store Write value) put current = put
+current_by (Store Read value) put current = current
+current_by (Store (Cell position) value) put current = current
+current_by (Exchange word old new) put current = current
+current_by Local put current = current
+
+-- how many stores reached their moment
+abbrev pub times_moved : List Event → ℕ
+times_moved [] = 0
+times_moved (event ∷ events) = moved_by event.access + times_moved events
+
+-- the words put since the last moment, after some more steps
+abbrev pub put_after : List ℕ → List Event → List ℕ
+put_after put [] = put
+put_after put (event ∷ events) = put_after (put_by event.access put) events
+
+-- the current words, after some more steps
+abbrev pub current_after : List ℕ → List ℕ → List Event → List ℕ
+current_after put current [] = current
+current_after put current (event ∷ events) =
+    current_after (put_by event.access put) (current_by event.access put current) events
+
+-- the current words after all steps: those put between the last two times_moved, or the first words
+abbrev pub current_of : List ℕ → List Event → List ℕ
+current_of initial events = current_after [] initial events
+
+-- a step of the party since its begin made these words current, and was the last that its call asked for
+pub record MadeCurrent (initial : List ℕ) (party first : ℕ) (words : List ℕ) (events : List Event) : Type 0 where
+  pub before : List Event
+  pub moment : Event
+  pub after : List Event
+  pub whole : events ≡ before ++ moment ∷ after
+  pub inside : first ≤ length before
+  pub its : moment.party ≡ party
+  pub moves : moved_by moment.access ≡ 1
+  pub makes : current_of initial (before ++ moment ∷ []) ≡ words
+  pub last : own party after ≡ []
+
+-- the words that a party found in cells since it looked at the counter: one more after a step that loads one
+abbrev pub found_by : Access → ℕ → List ℕ → List ℕ
+found_by (Load Write) answer found = []
+found_by (Load Read) answer found = found
+found_by (Load (Cell position)) answer found = found ++ answer ∷ []
+found_by (Store word value) answer found = found
+found_by (Exchange word old new) answer found = found
+found_by Local answer found = found
+
+-- the words that it found since it looked last, after some more steps of its own
+abbrev pub found_after : List ℕ → List Event → List ℕ
+found_after found [] = found
+found_after found (event ∷ events) = found_after (found_by event.access event.answer found) events
+
+-- when the party looked at the counter last, the words that it had found since its look before were current
+pub record SawCurrent (initial : List ℕ) (party first : ℕ) (events : List Event) : Type 0 where
+  pub before : List Event
+  pub look : Event
+  pub after : List Event
+  pub whole : events ≡ before ++ look ∷ after
+  pub inside : first ≤ length before
+  pub its : look.party ≡ party
+  pub looks : look.access ≡ Load Write
+  pub sees : found_after [] (own party (drop first before)) ≡ current_of initial before
+  pub last : own party after ≡ []
+
+-- what holds of a call that did all that it asked for, which the party began with the step `first`: a store made its words
+-- current; a load found the words that were current when it looked at the counter last
+abbrev pub Tells : List (Vec ℕ) → ℕ → ℕ → List Event → Call → Type 0
+Tells values party first events (call.Store number) =
+    MadeCurrent (table_value values 0) party first (table_value values number) events
+Tells values party first events call.Load = SawCurrent (table_value values 0) party first events
+
+-- each call that ended did so
+abbrev pub AreTold : List (Vec ℕ) → List Event → List Finished → Type 0
+AreTold values events [] = Unit {0}
+AreTold values events (f ∷ finished) =
+    Tells values f.party f.first (take f.last events) f.call × AreTold values events finished
+
+-- a call that ended lies among the steps made
+pub record LiesWithin (events : List Event) (f : Finished) : Type 0 where
+  pub begun : f.first ≤ f.last
+  pub ended : f.last < length events
+
+-- each of these calls does
+abbrev pub LieWithin : List Event → List Finished → Type 0
+LieWithin events [] = Unit {0}
+LieWithin events (f ∷ finished) = LiesWithin events f × LieWithin events finished

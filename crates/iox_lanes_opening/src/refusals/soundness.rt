@@ -1,0 +1,299 @@
+//! What no calls leave of the ports of a service.
+ghost use Rattle.std.specs.Prelude.{◌≡◌, ◌<◌, true, length, slice_get};
+ghost use Rattle.std.specs.List.{list_any};
+ghost use Rattle.iox_domain.specs.DomainPorts.Ports.{connection_of};
+ghost use Rattle.iox_domain.specs.DomainPorts.Subscribing.{attached_at};
+ghost use Rattle.iox_domain.specs.DomainSlots.Uses.{is_there};
+ghost use Rattle.iox_lanes_opening.specs.Listed.{holds_at, of_each_listed};
+ghost use Rattle.iox_lanes_opening.specs.Soundness.{are_placed, has_twice, is_misfit, is_publisher_placed, is_subscriber_placed};
+ghost use Rattle.iox_lanes_opening.specs.Soundness.{attaches_twice, comes_again, is_unsound, remembers_ill, share_publisher, share_slot};
+ghost use Rattle.iox_lanes_opening.specs.Soundness.{stands_again, waits_ill};
+
+use iox_domain::ports::ServicePorts;
+use iox_domain_ports::{
+    Attached, Member, PublisherEntry, PublisherPort, Stage, SubscriberEntry, SubscriberPort,
+};
+use iox_domain_values::ServiceSizes;
+
+/// Whether the ports are such as no calls leave, where the room of no publisher may grow: a port is listed at another place than its own,
+/// a publisher has slots of more segments than one or keeps another number of messages than agreed, a connection is made for another
+/// number of them, more are kept or wait than may, or two in one slot, or two connections of a subscriber come from one publisher.
+pub fn is_unsound<T: Copy, U: Copy>(ports: &ServicePorts<T, U>) -> bool
+    ensures { result ≡ is_unsound ports.now }
+{
+    !are_placed(ports) || has_misfit(ports) || has_attached_twice(ports)
+}
+
+// Whether each port is listed at its own place alone.
+fn are_placed<T: Copy, U: Copy>(ports: &ServicePorts<T, U>) -> bool
+    ensures { result ≡ are_placed ports.now }
+{
+    are_publishers_placed(ports) && are_subscribers_placed(ports)
+}
+
+fn are_publishers_placed<T: Copy, U: Copy>(ports: &ServicePorts<T, U>) -> bool
+    ensures { result ≡ of_each_listed (is_publisher_placed ports.now) 0 ports.now.publisher_list.places }
+{
+    let listed = ports.publisher_list.listed();
+    for place in 0..listed.len() {
+        if !is_publisher_placed_at(ports, place, listed[place]) {
+            return false;
+        }
+    }
+    true
+}
+
+fn is_publisher_placed_at<T: Copy, U: Copy>(
+    ports: &ServicePorts<T, U>,
+    place: usize,
+    listed: Option<Member<PublisherEntry>>,
+) -> bool
+    ensures { result ≡ holds_at (is_publisher_placed ports.now) place listed }
+{
+    match listed {
+        Some(member) => is_publisher_placed(ports, place, member.value),
+        None => true,
+    }
+}
+
+// Whether the publisher that is listed at a place has this place.
+fn is_publisher_placed<T: Copy, U: Copy>(
+    ports: &ServicePorts<T, U>,
+    place: usize,
+    entry: PublisherEntry,
+) -> bool
+    ensures { result ≡ is_publisher_placed ports.now place entry }
+{
+    match ports.publishers.get(entry.publisher) {
+        Some(port) => port.place == place,
+        None => false,
+    }
+}
+
+fn are_subscribers_placed<T: Copy, U: Copy>(ports: &ServicePorts<T, U>) -> bool
+    ensures { result ≡ of_each_listed (is_subscriber_placed ports.now) 0 ports.now.subscriber_list.places }
+{
+    let listed = ports.subscriber_list.listed();
+    for place in 0..listed.len() {
+        if !is_subscriber_placed_at(ports, place, listed[place]) {
+            return false;
+        }
+    }
+    true
+}
+
+fn is_subscriber_placed_at<T: Copy, U: Copy>(
+    ports: &ServicePorts<T, U>,
+    place: usize,
+    listed: Option<Member<SubscriberEntry>>,
+) -> bool
+    ensures { result ≡ holds_at (is_subscriber_placed ports.now) place listed }
+{
+    match listed {
+        Some(member) => is_subscriber_placed(ports, place, member.value),
+        None => true,
+    }
+}
+
+// Whether the subscriber that is listed at a place has this place.
+fn is_subscriber_placed<T: Copy, U: Copy>(
+    ports: &ServicePorts<T, U>,
+    place: usize,
+    entry: SubscriberEntry,
+) -> bool
+    ensures { result ≡ is_subscriber_placed ports.now place entry }
+{
+    match ports.subscribers.get(entry.subscriber) {
+        Some(port) => port.place == place,
+        None => false,
+    }
+}
+
+fn has_misfit<T: Copy, U: Copy>(ports: &ServicePorts<T, U>) -> bool
+    ensures { result ≡ list_any (λ entry. is_misfit ports.now.sizes entry.1) ports.now.publishers }
+{
+    for (_number, port) in ports.publishers.iter() {
+        if is_misfit(ports.sizes, port) {
+            return true;
+        }
+    }
+    false
+}
+
+// Whether a publisher has slots of more segments than one, or isn't made for what is agreed, or its messages don't keep to that.
+fn is_misfit<T: Copy, U: Copy>(sizes: ServiceSizes, port: &PublisherPort<T, U>) -> bool
+    ensures { result ≡ is_misfit sizes port.now }
+{
+    0 < port.sender.first()
+        || port.sender.kept() != sizes.history_size as usize
+        || remembers_ill(sizes, port)
+        || has_ill_connection(sizes, port)
+}
+
+// Whether a publisher keeps more messages than agreed, or two in one slot.
+fn remembers_ill<T: Copy, U: Copy>(sizes: ServiceSizes, port: &PublisherPort<T, U>) -> bool
+    ensures { result ≡ remembers_ill sizes port.now }
+{
+    (sizes.history_size as usize) < port.sender.history() || remembers_twice(port)
+}
+
+fn remembers_twice<T: Copy, U: Copy>(port: &PublisherPort<T, U>) -> bool
+    ensures { result ≡ has_twice port.now.sender.uses.history }
+{
+    for place in 0..port.sender.history() {
+        if is_remembered_again(port, place) {
+            return true;
+        }
+    }
+    false
+}
+
+// Whether the message at a place of the history stands in the slot of one before it.
+fn is_remembered_again<T: Copy, U: Copy>(port: &PublisherPort<T, U>, place: usize) -> bool
+    requires { place < length port.now.sender.uses.history }
+    ensures { result ≡ stands_again port.now.sender.uses.history place }
+{
+    for other in 0..place {
+        if share_remembered(port, other, place) {
+            return true;
+        }
+    }
+    false
+}
+
+fn share_remembered<T: Copy, U: Copy>(port: &PublisherPort<T, U>, one: usize, other: usize) -> bool
+    requires one { one < length port.now.sender.uses.history }
+    requires other { other < length port.now.sender.uses.history }
+    ensures { result ≡ share_slot (slice_get port.now.sender.uses.history one) (slice_get port.now.sender.uses.history other) }
+{
+    let first = port.sender.remembered(one);
+    let second = port.sender.remembered(other);
+    first == second
+}
+
+fn has_ill_connection<T: Copy, U: Copy>(sizes: ServiceSizes, port: &PublisherPort<T, U>) -> bool
+    ensures { result ≡ list_any (waits_ill sizes) port.now.sender.uses.connections }
+{
+    for index in 0..port.sender.indices() {
+        if waits_ill_at(sizes, port, index) {
+            return true;
+        }
+    }
+    false
+}
+
+fn waits_ill_at<T: Copy, U: Copy>(
+    sizes: ServiceSizes,
+    port: &PublisherPort<T, U>,
+    index: usize,
+) -> bool
+    ensures { result ≡ waits_ill sizes (connection_of index port.now) }
+{
+    match port.sender.stage(index) {
+        Stage::Vacant => false,
+        Stage::Live | Stage::Ended => waits_ill(sizes, port, index),
+    }
+}
+
+// Whether none may wait at a connection, or more than agreed, or more do than may, or two in one slot.
+fn waits_ill<T: Copy, U: Copy>(
+    sizes: ServiceSizes,
+    port: &PublisherPort<T, U>,
+    index: usize,
+) -> bool
+    requires { is_there (connection_of index port.now) ≡ true }
+    ensures { result ≡ waits_ill sizes (connection_of index port.now) }
+{
+    let limit = port.sender.limit(index);
+    limit == 0
+        || (sizes.subscriber_max_buffer_size as usize) < limit
+        || limit < port.sender.waiting(index)
+        || waits_twice(port, index)
+}
+
+fn waits_twice<T: Copy, U: Copy>(port: &PublisherPort<T, U>, index: usize) -> bool
+    requires { is_there (connection_of index port.now) ≡ true }
+    ensures { result ≡ has_twice (connection_of index port.now).waiting }
+{
+    for place in 0..port.sender.waiting(index) {
+        if waits_again(port, index, place) {
+            return true;
+        }
+    }
+    false
+}
+
+// Whether the message that waits at a place of a connection stands in the slot of one before it.
+fn waits_again<T: Copy, U: Copy>(port: &PublisherPort<T, U>, index: usize, place: usize) -> bool
+    requires there { is_there (connection_of index port.now) ≡ true }
+    requires waits { place < length (connection_of index port.now).waiting }
+    ensures { result ≡ stands_again (connection_of index port.now).waiting place }
+{
+    for other in 0..place {
+        if share_waiting(port, index, other, place) {
+            return true;
+        }
+    }
+    false
+}
+
+fn share_waiting<T: Copy, U: Copy>(
+    port: &PublisherPort<T, U>,
+    index: usize,
+    one: usize,
+    other: usize,
+) -> bool
+    requires there { is_there (connection_of index port.now) ≡ true }
+    requires one { one < length (connection_of index port.now).waiting }
+    requires other { other < length (connection_of index port.now).waiting }
+    ensures { result ≡ share_slot (slice_get (connection_of index port.now).waiting one)
+        (slice_get (connection_of index port.now).waiting other) }
+{
+    let first = port.sender.waiting_slot(index, one);
+    let second = port.sender.waiting_slot(index, other);
+    first == second
+}
+
+fn has_attached_twice<T: Copy, U: Copy>(ports: &ServicePorts<T, U>) -> bool
+    ensures { result ≡ list_any (λ entry. attaches_twice entry.1) ports.now.subscribers }
+{
+    for (_number, port) in ports.subscribers.iter() {
+        if attaches_twice(port) {
+            return true;
+        }
+    }
+    false
+}
+
+// Whether two connections of a subscriber come from one publisher.
+fn attaches_twice(port: &SubscriberPort) -> bool
+    ensures { result ≡ attaches_twice port.now }
+{
+    for key in 0..port.connections.reached() {
+        if comes_again(port, key) {
+            return true;
+        }
+    }
+    false
+}
+
+// Whether the connection of a key comes from the publisher of one before it.
+fn comes_again(port: &SubscriberPort, key: usize) -> bool
+    ensures { result ≡ comes_again port.now key }
+{
+    for other in 0..key {
+        if share_publisher(port.attached(other), port.attached(key)) {
+            return true;
+        }
+    }
+    false
+}
+
+fn share_publisher(one: Option<Attached>, other: Option<Attached>) -> bool
+    ensures { result ≡ share_publisher one other }
+{
+    match (one, other) {
+        (Some(one), Some(other)) => one.publisher == other.publisher,
+        _ => false,
+    }
+}

@@ -1,0 +1,4 @@
+-- Lemmas on scripts.
+mod Counted
+mod Breaking
+mod Following
