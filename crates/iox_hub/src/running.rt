@@ -32,6 +32,9 @@ use std::alloc::Global;
 /// It stops before the first command, where an allocation fails for that room, and then nothing has changed; or at a command
 /// that receives or reads, where an allocation fails for the values of its reply, and those before it are replied to. It makes
 /// no room for numbers: each port made that when it came.
+///
+/// What a new hub replies to commands that name no handler is what a new machine may answer (`docs/MACHINE.md`), where no two services of
+/// the names that are asked for share a hash, commands and steps are fewer than 2 ^ 56, and who is made of actions decides by these.
 /// Example: `let report = run(&mut hub, alloc, commands, &mut given);`
 pub fn run<
     T: Words + ZeroCopySend + Default,
@@ -62,7 +65,7 @@ pub fn run<
     ensures one_agreement { AreOfOneAgreement hub.old.factories.made hub.old.hub → AreOfOneAgreement hub.new.factories.made hub.new.hub }
     // Just the places that commands name which are replied to, and not skipped, are emptied; each held a handler, and no two are the same.
     ensures once { TakesOnce (taken commands.entry.items result.replies.items) given.old.places.items given.new.places.items }
-    // What a new hub replies to commands that name no handler is what a machine may answer to them.
+    // What a new hub replies to commands that name no handler is what a new machine may answer to them, by the premises in the definition.
     ensures answers { OfPlain (λ config plain. AnswersAsMachine (detail FixedSize T.name T.size T.alignment)
         (detail FixedSize U.name U.size U.alignment) (types_of T.name T.size T.alignment U.name U.size U.alignment) T.is_default
         U.is_default B.fixed (λ handlers. B.degrades handlers) (λ handlers. B.decides handlers) D.fixed (λ handler. D.degrades handler)

@@ -301,11 +301,9 @@ pub fn creating_matches<
 
 /// A node opens a service by a name that is asked for, if it meets what is asked: the hub replies as the machine may, and has what the
 /// machine has then. So it is whether the service is refused, or no memory is found, and where it is opened, whether the hub had it open
-/// before, or others alone. No two services of the names that are asked for may share a hash; what steps of nodes outside the hub publish
-/// must have the form of a description; the numbers of factories must rise, as `NumberedHub::new` and `NumberedHub::run` say of each hub,
-/// one must be left for the new one, and numbers for as many locks as there are steps.
 /// before, or others alone. No two services of the names that are asked for may share a hash; the numbers of factories must rise, as
-/// `NumberedHub::step` says of each hub, one must be left for the new one, and numbers for as many locks as there are steps.
+/// `NumberedHub::new` and `NumberedHub::run` say of each hub, one must be left for the new one, and numbers for as many locks as there are
+/// steps.
 pub fn opening_matches<
     T: ZeroCopySend + Default,
     U: ZeroCopySend + Default,
@@ -332,9 +330,9 @@ pub fn opening_or_creating_matches<
 
 /// A factory is closed, or is refused as in use: the machine does so, too. With the last factory of a publish-subscribe service its ports
 /// end. Each service of the hub must have one agreement, as `NumberedHub::new` and `NumberedHub::step` say of each hub; no number may be
-/// that of two services of it, nor the factories of a service be counted twice, as `iox_hub_laws` says of each hub whose numbers are in
-/// order; no two services of the names that are asked for may share a hash; and a run of a new machine must have led to what the hub stands
-/// for.
+/// that of two services of it, nor the factories of a service be counted twice, as these numbers rise in each hub after a run
+/// (`StandsAfter`); no two services of the names that are asked for may share a hash; and a run of a new machine must have led to what the
+/// hub stands for.
 pub fn closing_matches<
     T: ZeroCopySend + Default,
     U: ZeroCopySend + Default,
