@@ -77,7 +77,7 @@ def each_source_of_the_program_calls_for_a_build():
 def nothing_else_calls_for_a_build():
     with Copy() as copy:
         copy.expect_built(BUILD)
-        for it in ("crates/iox_agreement_rows/src/lib.rt", "crates/iox_queues/src/lib.rt"):
+        for it in ("crates/iox_values_rows/src/lib.rt", "crates/iox_queues/src/lib.rt"):
             copy.edit(it)
         (copy.top / "crates" / "iox_line" / "src" / "tests.rt").write_text("// no test\n")
         copy.edit("crates.txt", "# x\n")

@@ -87,8 +87,8 @@ def blocks(sizes, text):
 
 def differs(lines, behind, is_at_its_end, kept, told):
     """What isn't as it should be in a block, or None."""
-    answers = [it.rpartition(" = ")[2] if " [" not in it else it.partition(" = ")[2] for it in told]
-    if [it.partition(" = ")[0] for it in told] != lines or (answers[-behind - 1] == "Went") == is_at_its_end:
+    answers = [it.rpartition(" -> ")[2] if " [" not in it else it.partition(" -> ")[2] for it in told]
+    if [it.partition(" -> ")[0] for it in told] != lines or (answers[-behind - 1] == "Went") == is_at_its_end:
         return answers[-behind - 1]
     read = [it for line, it in zip(lines[-behind:], answers[-behind:]) if " read " in line]
     if "Went" in answers[-behind:] or not set(read) <= {*SENT.values(), "Skipped"}:
@@ -102,10 +102,10 @@ def each_read_is_whole_where_a_schedule_of_lanes_is_cut():
     for schedule in SCHEDULES.items():
         asked = list(blocks(*schedule))
         given = "\n\n".join("\n".join(lines) for lines, *_ in asked)
-        told = [it.splitlines() for it in answered("lanes_cases", f"{given}\n".encode()).decode().strip("\n").split("\n\n")]
+        told = [it.splitlines() for it in answered("script_cases", f"{given}\n".encode()).decode().strip("\n").split("\n\n")]
         expect(len(told), len(asked))
         wrong = ((block[0][0], differs(*block, lines)) for block, lines in zip(asked, told))
         expect(next((it for it in wrong if it[1] is not None), None), None)
-        read |= {line.partition(" = ")[2] for lines in told for line in lines if re.match("s0 read .* = \\[", line)}
+        read |= {line.partition(" -> ")[2] for lines in told for line in lines if re.match("s0 read .* -> \\[", line)}
     # Each message is read behind some cut.
     expect(read, set(SENT.values()))

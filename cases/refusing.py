@@ -29,11 +29,8 @@ ENOUGH, TOO_LITTLE = 256 << 10, 128 << 10
 # many requests they make again what they made.
 MOST = 400
 MAKING = {
-    "iox_container_rows": ["sizes::"],
-    "iox_queues_rows": ["sizes::"],
-    "iox_agreement_rows": ["sizes::"],
-    "iox_lanes_opening_rows": ["sizes::"],
-    "iox_lanes_rows": ["messages::"],
+    "iox_values_rows": ["containers::sizes::", "queues::sizes::", "agreement::sizes::"],
+    "iox_lanes_rows": ["messages::", "sizes::"],
     "iox_delivery_rows": ["services::"],
 }
 # More than the limits below, in requests of 45 kB, and then lines of services, which go deepest.

@@ -108,7 +108,7 @@ def vendor_refuses_in_one_line_and_then_writes_nothing():
         file.touch()
         for status, words in (
             (64, []), (64, [folder]), (64, ["--fast", folder, "iox_line"]), (64, [folder, "iox_nothing"]),
-            (64, [folder, "iox_agreement_rows"]), (64, [folder, "iox_queues_base", "iox_index"]),
+            (64, [folder, "iox_values_rows"]), (64, [folder, "iox_queues_base", "iox_index"]),
             (66, [f"{folder}/missing", "iox_line"]), (66, [file, "iox_line"]),
         ):
             ran = vendor(*words)

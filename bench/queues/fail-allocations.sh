@@ -1,13 +1,13 @@
 #!/usr/bin/env bash
-# Runs the test `again` of `iox_queues_rows` once for each of its requests for memory, and has that one refused.
+# Runs the test `again` of `iox_values_rows` once for each of its requests for memory, and has that one refused.
 #
-# Usage, after `rt test` in crates/iox_queues_rows: bench/queues/fail-allocations.sh
+# Usage, after `rt test` in crates/iox_values_rows: bench/queues/fail-allocations.sh
 #
 # The test passes in each run, since a step that lacked memory goes when it is asked again. The status is 0 only if it did.
 set -u
 here=$(cd "$(dirname "$0")" && pwd)
-tests="$here/../../crates/iox_queues_rows/out/iox_queues_rows_tests"
-name=again::a_refused_step_goes_when_it_is_asked_again
+tests="$here/../../crates/iox_values_rows/out/iox_values_rows_tests"
+name=queues::again::a_refused_step_goes_when_it_is_asked_again
 place=$(mktemp -d)
 trap 'rm -rf "$place"' EXIT
 rustc -O --edition 2024 --crate-type cdylib -o "$place/librefuse.so" "$here/refuse.rs" || exit 3

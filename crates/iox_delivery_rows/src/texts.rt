@@ -7,50 +7,26 @@ use std::alloc::{AllocError, Global};
 use std::fmt::Display;
 use std::process::Abort;
 
-// An error, or one that another is made of.
-#[derive(Clone, Copy)]
-enum Shown {
-    Failure(ConnectionFailure),
-    SendOf(ConnectionFailure),
-    ReceiveOf(ConnectionFailure),
-    Loan(LoanError),
-    SendOfLoan(LoanError),
-    Creation(ZeroCopyCreationError),
-    Send(SendError),
-    Receive(ReceiveError),
-    Publisher(PublisherCreateError),
-    Subscriber(SubscriberCreateError),
-    Domain(DomainError),
-}
-
-// Whether an error displays so.
-fn is_shown<E: Display>(alloc: Global, error: &E, text: &str) -> Result<bool, AllocError> {
-    Ok(format!(in alloc; "{error}")?.as_str() == text)
-}
-
-// Whether the error of a creation displays so.
-fn is_creation(alloc: Global, shown: Shown, text: &str) -> Result<bool, AllocError> {
-    match shown {
-        Shown::Creation(error) => is_shown(alloc, &error, text),
-        Shown::Publisher(error) => is_shown(alloc, &error, text),
-        Shown::Subscriber(error) => is_shown(alloc, &error, text),
-        Shown::Domain(error) => is_shown(alloc, &error, text),
-        _ => Ok(false),
+// The first error that displays otherwise.
+fn first_other<E: Display>(alloc: Global, rows: &[(E, &str)]) -> Result<Option<usize>, AllocError> {
+    for (place, row) in rows.iter().enumerate() {
+        if format!(in alloc; "{}", row.0)?.as_str() != row.1 {
+            return Ok(Some(place));
+        }
     }
+    Ok(None)
 }
 
-// Whether an error displays so.
-fn displays(alloc: Global, shown: Shown, text: &str) -> Result<bool, AllocError> {
-    match shown {
-        Shown::Failure(error) => is_shown(alloc, &error, text),
-        Shown::SendOf(error) => is_shown(alloc, &SendError::from(error), text),
-        Shown::ReceiveOf(error) => is_shown(alloc, &ReceiveError::from(error), text),
-        Shown::Loan(error) => is_shown(alloc, &error, text),
-        Shown::SendOfLoan(error) => is_shown(alloc, &SendError::from(error), text),
-        Shown::Send(error) => is_shown(alloc, &error, text),
-        Shown::Receive(error) => is_shown(alloc, &error, text),
-        _ => is_creation(alloc, shown, text),
+// Each must have none.
+fn all_display(
+    rt: &impl Abort,
+    others: &[Result<Option<usize>, AllocError>],
+) -> Result<(), AllocError> {
+    for (place, other) in others.iter().enumerate() {
+        let row = (*other)?;
+        assert!(rt; row.is_none(), "table {place}, row {row:?}");
     }
+    Ok(())
 }
 
 const NO_MEMORY: ConnectionFailure = ConnectionFailure::FailedToEstablishConnection(
@@ -68,131 +44,130 @@ const INCOMPATIBLE: ConnectionFailure = ConnectionFailure::FailedToEstablishConn
 const UNMAPPED: ConnectionFailure = ConnectionFailure::UnableToMapSendersDataSegment;
 
 // Each failure of a connection, alone and inside those that it is made into.
-const FAILURES: [(Shown, &str); 12] = [
+const FAILURES: [(ConnectionFailure, &str); 4] = [
     (
-        Shown::Failure(NO_MEMORY),
+        NO_MEMORY,
         "ConnectionFailure::FailedToEstablishConnection(OutOfMemory)",
     ),
     (
-        Shown::SendOf(NO_MEMORY),
-        "SendError::ConnectionError(FailedToEstablishConnection(OutOfMemory))",
-    ),
-    (
-        Shown::ReceiveOf(NO_MEMORY),
-        "ReceiveError::ConnectionFailure(FailedToEstablishConnection(OutOfMemory))",
-    ),
-    (
-        Shown::Failure(NO_ROOM),
+        NO_ROOM,
         "ConnectionFailure::FailedToEstablishConnection(ExpiredConnectionBufferFull)",
     ),
     (
-        Shown::SendOf(NO_ROOM),
+        INCOMPATIBLE,
+        "ConnectionFailure::FailedToEstablishConnection(IncompatibleBufferSize)",
+    ),
+    (UNMAPPED, "ConnectionFailure::UnableToMapSendersDataSegment"),
+];
+
+// Each refused loan is a failed send, too.
+const SENDS: [(SendError, &str); 9] = [
+    (
+        SendError::ConnectionError(NO_MEMORY),
+        "SendError::ConnectionError(FailedToEstablishConnection(OutOfMemory))",
+    ),
+    (
+        SendError::ConnectionError(NO_ROOM),
         "SendError::ConnectionError(FailedToEstablishConnection(ExpiredConnectionBufferFull))",
     ),
     (
-        Shown::ReceiveOf(NO_ROOM),
-        "ReceiveError::ConnectionFailure(FailedToEstablishConnection(ExpiredConnectionBufferFull))",
-    ),
-    (
-        Shown::Failure(INCOMPATIBLE),
-        "ConnectionFailure::FailedToEstablishConnection(IncompatibleBufferSize)",
-    ),
-    (
-        Shown::SendOf(INCOMPATIBLE),
+        SendError::ConnectionError(INCOMPATIBLE),
         "SendError::ConnectionError(FailedToEstablishConnection(IncompatibleBufferSize))",
     ),
     (
-        Shown::ReceiveOf(INCOMPATIBLE),
-        "ReceiveError::ConnectionFailure(FailedToEstablishConnection(IncompatibleBufferSize))",
-    ),
-    (
-        Shown::Failure(UNMAPPED),
-        "ConnectionFailure::UnableToMapSendersDataSegment",
-    ),
-    (
-        Shown::SendOf(UNMAPPED),
+        SendError::ConnectionError(UNMAPPED),
         "SendError::ConnectionError(UnableToMapSendersDataSegment)",
     ),
     (
-        Shown::ReceiveOf(UNMAPPED),
-        "ReceiveError::ConnectionFailure(UnableToMapSendersDataSegment)",
-    ),
-];
-
-// Refused loans, alone and as a failed send, and one variant of each other error.
-const OTHERS: [(Shown, &str); 14] = [
-    (
-        Shown::Loan(LoanError::OutOfMemory),
-        "LoanError::OutOfMemory",
-    ),
-    (
-        Shown::SendOfLoan(LoanError::OutOfMemory),
+        SendError::LoanError(LoanError::OutOfMemory),
         "SendError::LoanError(OutOfMemory)",
     ),
     (
-        Shown::Loan(LoanError::ExceedsMaxLoans),
-        "LoanError::ExceedsMaxLoans",
-    ),
-    (
-        Shown::SendOfLoan(LoanError::ExceedsMaxLoans),
+        SendError::LoanError(LoanError::ExceedsMaxLoans),
         "SendError::LoanError(ExceedsMaxLoans)",
     ),
     (
-        Shown::Loan(LoanError::ExceedsMaxLoanSize),
-        "LoanError::ExceedsMaxLoanSize",
-    ),
-    (
-        Shown::SendOfLoan(LoanError::ExceedsMaxLoanSize),
+        SendError::LoanError(LoanError::ExceedsMaxLoanSize),
         "SendError::LoanError(ExceedsMaxLoanSize)",
     ),
     (
-        Shown::Loan(LoanError::InternalFailure),
-        "LoanError::InternalFailure",
-    ),
-    (
-        Shown::SendOfLoan(LoanError::InternalFailure),
+        SendError::LoanError(LoanError::InternalFailure),
         "SendError::LoanError(InternalFailure)",
     ),
+    (SendError::UnableToDeliver, "SendError::UnableToDeliver"),
+];
+
+const RECEIVES: [(ReceiveError, &str); 5] = [
     (
-        Shown::Creation(ZeroCopyCreationError::IncompatibleBufferSize),
-        "ZeroCopyCreationError::IncompatibleBufferSize",
+        ReceiveError::ConnectionFailure(NO_MEMORY),
+        "ReceiveError::ConnectionFailure(FailedToEstablishConnection(OutOfMemory))",
     ),
     (
-        Shown::Send(SendError::UnableToDeliver),
-        "SendError::UnableToDeliver",
+        ReceiveError::ConnectionFailure(NO_ROOM),
+        "ReceiveError::ConnectionFailure(FailedToEstablishConnection(ExpiredConnectionBufferFull))",
     ),
     (
-        Shown::Receive(ReceiveError::ExceedsMaxBorrows),
+        ReceiveError::ConnectionFailure(INCOMPATIBLE),
+        "ReceiveError::ConnectionFailure(FailedToEstablishConnection(IncompatibleBufferSize))",
+    ),
+    (
+        ReceiveError::ConnectionFailure(UNMAPPED),
+        "ReceiveError::ConnectionFailure(UnableToMapSendersDataSegment)",
+    ),
+    (
+        ReceiveError::ExceedsMaxBorrows,
         "ReceiveError::ExceedsMaxBorrows",
-    ),
-    (
-        Shown::Publisher(PublisherCreateError::UnableToCreateDataSegment),
-        "PublisherCreateError::UnableToCreateDataSegment",
-    ),
-    (
-        Shown::Subscriber(SubscriberCreateError::OutOfMemory),
-        "SubscriberCreateError::OutOfMemory",
-    ),
-    (
-        Shown::Domain(DomainError::OutOfMemory),
-        "DomainError::OutOfMemory",
     ),
 ];
 
-// Each error must display so.
-fn all_display(rt: &impl Abort, alloc: Global, texts: &[(Shown, &str)]) -> Result<(), AllocError> {
-    for (shown, text) in texts {
-        assert!(rt; displays(alloc, *shown, *text)?, "{text}");
-    }
-    Ok(())
-}
-
 #[test]
 fn failures_of_connections_display_at_any_depth(rt: HostRuntime) -> Result<(), AllocError> {
-    all_display(&rt, rt.alloc(), &FAILURES)
+    let alloc: Global = rt.alloc();
+    let others = [
+        first_other(alloc, &FAILURES),
+        first_other(alloc, &SENDS),
+        first_other(alloc, &RECEIVES),
+    ];
+    all_display(&rt, &others)
 }
+
+const LOANS: [(LoanError, &str); 4] = [
+    (LoanError::OutOfMemory, "LoanError::OutOfMemory"),
+    (LoanError::ExceedsMaxLoans, "LoanError::ExceedsMaxLoans"),
+    (
+        LoanError::ExceedsMaxLoanSize,
+        "LoanError::ExceedsMaxLoanSize",
+    ),
+    (LoanError::InternalFailure, "LoanError::InternalFailure"),
+];
+
+// One variant of each other error.
+const CREATIONS: [(ZeroCopyCreationError, &str); 1] = [(
+    ZeroCopyCreationError::IncompatibleBufferSize,
+    "ZeroCopyCreationError::IncompatibleBufferSize",
+)];
+
+const PUBLISHERS: [(PublisherCreateError, &str); 1] = [(
+    PublisherCreateError::UnableToCreateDataSegment,
+    "PublisherCreateError::UnableToCreateDataSegment",
+)];
+
+const SUBSCRIBERS: [(SubscriberCreateError, &str); 1] = [(
+    SubscriberCreateError::OutOfMemory,
+    "SubscriberCreateError::OutOfMemory",
+)];
+
+const DOMAINS: [(DomainError, &str); 1] = [(DomainError::OutOfMemory, "DomainError::OutOfMemory")];
 
 #[test]
 fn other_errors_display_as_type_and_variant(rt: HostRuntime) -> Result<(), AllocError> {
-    all_display(&rt, rt.alloc(), &OTHERS)
+    let alloc: Global = rt.alloc();
+    let others = [
+        first_other(alloc, &LOANS),
+        first_other(alloc, &CREATIONS),
+        first_other(alloc, &PUBLISHERS),
+        first_other(alloc, &SUBSCRIBERS),
+        first_other(alloc, &DOMAINS),
+    ];
+    all_display(&rt, &others)
 }

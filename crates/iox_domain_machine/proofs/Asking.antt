@@ -34,6 +34,7 @@ use Rattle.iox_domain_machine.proofs.FirstUpdating.{UpdatedFirst, updates_first,
 use Rattle.iox_domain_machine.proofs.Found.{same_some, never_some}
 use Rattle.iox_domain_machine.proofs.GivingUp.{some_of}
 use Rattle.iox_domain_machine.proofs.Hearing.{hears, asked}
+use Rattle.iox_machine.specs.Choices.{Choices}
 use Rattle.iox_machine.specs.Ports.{subscriber_in}
 use Rattle.iox_machine.specs.Receiving.{has_samples}
 use Rattle.iox_machine.specs.Service.{Service, Subscriber}
@@ -76,11 +77,11 @@ module _ {T U : Type 0} (names : Naming) (lent : List (ℕ × LentSlot)) (held :
       let was = stands.subscribers number port there in
       found_standing (names.subscriber number) service was.0 was.1 (was.2.stands ∙ standing)
 
-module _ {T U : Type 0} (IsDefault : T → Type 0) (may : DegradationInfo → DegradationAction → Type 0) (types : MessageTypeDetails)
+module _ {T U : Type 0} (choices : Choices T) (may : DegradationInfo → DegradationAction → Type 0) (types : MessageTypeDetails)
     (buffer : ℕ) (names : Naming) (lent : List (ℕ × LentSlot)) (held : List (ℕ × Taken)) (old : ServicePorts T U) (service : Service T)
     (state : State T) (number : ℕ) (stands : StandsFor names lent held buffer old service) (roomy : AreRoomy old)
     (named : names.subscriber number ≢ 0)
-    (acts : ActsAs may (names.subscriber number) service) where
+    (acts : ActsAs choices may (names.subscriber number) service) where
   abbrev name : ℕ
   name = names.subscriber number
 
@@ -90,13 +91,13 @@ module _ {T U : Type 0} (IsDefault : T → Type 0) (may : DegradationInfo → De
 
   abbrev Meant : Option (Result Bool ConnectionFailure) → ServicePorts T U → Type 0
   Meant answer new =
-      (reader : ℕ → ℕ → ℕ) × Matches T U IsDefault types buffer (command.Has name) (told_or_skipped answer) state service
+      (reader : ℕ → ℕ → ℕ) × Matches T U choices types buffer (command.Has name) (told_or_skipped answer) state service
       (record names { reader = reader }) lent held new
 
   skips : subscriber_in name service ≡ None → Meant None old
   skips none = (
     names.reader,
-    (service, alone_skips (subscriber_in name) (UpdatesFirst buffer name refusal.Connection Tells) state service none, stands),
+    (service, alone_skips (subscriber_in name) (UpdatesFirst choices buffer name refusal.Connection Tells) state service none, stands),
   )
 
   module _ (port : SubscriberPort) (there : subscriber_of number old.subscribers ≡ Some port) (standing : port.stands ≡ true)
@@ -112,7 +113,7 @@ module _ {T U : Type 0} (IsDefault : T → Type 0) (may : DegradationInfo → De
 
     -- it is told so once connections are up to date, and refused where one failed
     told_by : (updated : Result (Unit {0}) ConnectionFailure)
-        → UpdatedFirst names lent held buffer old service number was updated after publishers
+        → UpdatedFirst choices names lent held buffer old service number was updated after publishers
         → HasSamplesAfter updated after publishers outcome → Meant (Some outcome) between
     told_by (Ok tt) it (unread, first, is) =
         let later_names : Naming = record names { reader = it.reader } in
@@ -126,9 +127,9 @@ module _ {T U : Type 0} (IsDefault : T → Type 0) (may : DegradationInfo → De
           it.reader,
           (
             it.mid,
-            alone_does (subscriber_in name) (UpdatesFirst buffer name refusal.Connection Tells) state service it.mid
+            alone_does (subscriber_in name) (UpdatesFirst choices buffer name refusal.Connection Tells) state service it.mid
                 (reply.Has (is_some unread)) was found
-                (does_then buffer name was service (Ok tt) it.later it.mid it.begun refl refusal.Connection Tells
+                (does_then choices buffer name was service (Ok tt) it.later it.mid it.begun refl refusal.Connection Tells
                 (reply.Has (is_some unread)) it.mid (ap reply.Has (sym tells), refl)),
             it.stands,
           ),
@@ -137,9 +138,9 @@ module _ {T U : Type 0} (IsDefault : T → Type 0) (may : DegradationInfo → De
       it.reader,
       (
         it.mid,
-        alone_does (subscriber_in name) (UpdatesFirst buffer name refusal.Connection Tells) state service it.mid
+        alone_does (subscriber_in name) (UpdatesFirst choices buffer name refusal.Connection Tells) state service it.mid
             (reply.Refused (refusal.Connection failure)) was found
-            (fails_so buffer name was service (Err failure) it.later it.mid it.begun failure refl refusal.Connection Tells),
+            (fails_so choices buffer name was service (Err failure) it.later it.mid it.begun failure refl refusal.Connection Tells),
         it.stands,
       ),
     )
@@ -147,7 +148,7 @@ module _ {T U : Type 0} (IsDefault : T → Type 0) (may : DegradationInfo → De
     asked_so : (listed : List (Option (Member PublisherEntry))) → IsListOf listed old.publisher_list
         → HasSamples may listed old.publisher_list.changes port old.publishers outcome after publishers → Meant (Some outcome) between
     asked_so listed is_list (updated, updates, after_it) =
-        told_by updated (updates_first names lent held buffer old service number types IsDefault state may stands roomy acts port there
+        told_by updated (updates_first choices names lent held buffer old service number types state may stands roomy acts port there
         standing listed is_list updated after publishers updates) after_it
 
   asks : (new : ServicePorts T U) (port : SubscriberPort) → subscriber_of number old.subscribers ≡ Some port → (standing : Bool)
@@ -177,8 +178,8 @@ module _ {T U : Type 0} (IsDefault : T → Type 0) (may : DegradationInfo → De
       rw call.0 (rw call.1 (skips (nobody_found names lent held buffer old service number stands named there)))
   asks_by new answer (Some port) there call = at_subscriber new port there answer call
 
-pub has_matches : (T U : Type 0) (IsDefault : T → Type 0) (may : DegradationInfo → DegradationAction → Type 0)
-    → HasMatches T U IsDefault may
-has_matches T U IsDefault may types buffer names lent held old new service state number answer stands roomy named acts call =
-    asks_by IsDefault may types buffer names lent held old service state number stands roomy named acts new answer
+pub has_matches : (T U : Type 0) (choices : Choices T) (may : DegradationInfo → DegradationAction → Type 0)
+    → HasMatches T U choices may
+has_matches T U choices may types buffer names lent held old new service state number answer stands roomy named acts call =
+    asks_by choices may types buffer names lent held old service state number stands roomy named acts new answer
     (subscriber_of number old.subscribers) refl call

@@ -66,6 +66,7 @@ use Rattle.iox_domain_machine.proofs.TableEnds.{at_end}
 use Rattle.iox_domain_machine.proofs.UpdateLists.{mapped_at}
 use Rattle.iox_domain_machine.proofs.UpdateMachine.{connects, only_boxes}
 use Rattle.iox_domain_machine.proofs.UpdatingSubscriber.{IsReady, update_stands}
+use Rattle.iox_machine.specs.Choices.{Choices}
 use Rattle.iox_machine.specs.Arriving.{SubscriberArrives}
 use Rattle.iox_machine.specs.Arriving as machine
 use Rattle.iox_machine.specs.PortList.{PortList, registered, those}
@@ -150,12 +151,12 @@ tied_still next place places came port is_next within well = record {
         by false is = refl
         by true is = let it = well.below other subscriber is in absurd (omega (arith, it, same))
 
-module _ {T U : Type 0} (types : MessageTypeDetails) (IsDefault : T → Type 0) (buffer : ℕ) (names : Naming) (lent : List (ℕ × LentSlot))
+module _ {T U : Type 0} (types : MessageTypeDetails) (choices : Choices T) (buffer : ℕ) (names : Naming) (lent : List (ℕ × LentSlot))
     (held : List (ℕ × Taken)) (old new : ServicePorts T U) (service : Service T) (state : State T) (factory : ℕ) (made : Factory)
     (options : SubscriberOptions) (config : SubscriberConfig) (may : DegradationInfo → DegradationAction → Type 0)
     (answer : Result ℕ SubscriberCreateError) (stands : StandsFor names lent held buffer old service) (roomy : AreRoomy old)
     (is_made : at factory state.factories ≡ Some made) (of_made : is_service_of made service ≡ true)
-    (asked : IsAskedSo may factory options config) (some_room : 0 < service.settings.subscriber_max_buffer_size)
+    (asked : IsAskedSo factory options config) (some_room : 0 < service.settings.subscriber_max_buffer_size)
     (fresh : at (state.made.subscribers + 1) service.subscribers ≡ None) (counted : old.next_port + 1 < 2 ^ 64)
     (may_list : may_change old.subscriber_list ≡ true) where
   abbrev name : ℕ
@@ -166,7 +167,7 @@ module _ {T U : Type 0} (types : MessageTypeDetails) (IsDefault : T → Type 0) 
 
   abbrev Result_of : Result ℕ SubscriberCreateError → ServicePorts T U → Type 0
   Result_of so after =
-      (reader : ℕ → ℕ → ℕ) × Matches T U IsDefault types buffer (command.Subscriber factory options) (came_or_refused name so) state service
+      (reader : ℕ → ℕ → ℕ) × Matches T U choices types buffer (command.Subscriber factory options) (came_or_refused name so) state service
       (record (with_came old.next_port name so names) { reader = reader }) lent held after
 
   abbrev Arrives : Service T → Service T → Reply T → Service T → Type 0
@@ -384,7 +385,9 @@ module _ {T U : Type 0} (types : MessageTypeDetails) (IsDefault : T → Type 0) 
           → (so : ℕ) → Result_of (Ok so) (with_both old.next_port after ports_after there_ports)
       comes items is_list outcome after ports_after follows so =
           let it = update_stands there_names lent held buffer there_ports there_service old.next_port quiet one there_stands
-          (lookup-came old.next_port quiet old.subscribers) one_there ready (omega (arith, sized.0, sized.1)) refl may asked.acts items
+          (lookup-came old.next_port quiet old.subscribers) one_there ready (omega (arith, sized.0, sized.1)) refl may
+          (λ (action : DegradationAction). Unit {0})
+          (λ info action is. tt) items
           is_list
           outcome after ports_after follows in
           by it.reader it.later it.mid (subst (λ n. Follows buffer n one there_service it.later it.mid) its_name it.follows) it.stands_after
@@ -441,11 +444,11 @@ module _ {T U : Type 0} (types : MessageTypeDetails) (IsDefault : T → Type 0) 
   by (Ok size) is None is_place creates = rw creates.0 (rw creates.1 (no_place size is is_place))
   by (Ok size) is (Some place) is_place (outcome, step, is_answer) = adds size is place is_place outcome step is_answer
 
-pub subscriber_comes_matches : (T U : Type 0) (IsDefault : T → Type 0) (may : DegradationInfo → DegradationAction → Type 0)
-    → SubscriberComesMatches T U IsDefault may
-subscriber_comes_matches T U IsDefault may types buffer names lent held old new service state factory made options config answer stands
+pub subscriber_comes_matches : (T U : Type 0) (choices : Choices T) (may : DegradationInfo → DegradationAction → Type 0)
+    → SubscriberComesMatches T U choices may
+subscriber_comes_matches T U choices may types buffer names lent held old new service state factory made options config answer stands
     roomy
     is_made of_made asked some_room fresh counted may_list creates =
-    by types IsDefault buffer names lent held old new service state factory made options config may answer stands roomy is_made of_made
+    by types choices buffer names lent held old new service state factory made options config may answer stands roomy is_made of_made
     asked
     some_room fresh counted may_list (buffer_of config.buffer_size old.sizes) refl (subscriber_place old) refl creates

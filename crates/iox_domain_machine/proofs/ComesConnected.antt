@@ -19,7 +19,6 @@ use Rattle.iox_command.specs.DomainValues.declared.create_error.PublisherCreateE
 use Rattle.iox_command.specs.DomainValues.declared.create_error.PublisherCreateError.TheVariants as error
 use Rattle.iox_command.specs.DomainValues.declared.connection_failure.ConnectionFailure.{ConnectionFailure}
 use Rattle.iox_command.specs.DomainValues.declared.degradation.DegradationAction.{DegradationAction}
-use Rattle.iox_command.specs.DomainValues.declared.degradation.DegradationAction.TheVariants.{Warn}
 use Rattle.iox_command.specs.DomainValues.declared.degradation.DegradationInfo.{DegradationInfo}
 use Rattle.iox_command.specs.NegotiateBase.DescribeBase.declared.message_type.MessageTypeDetails.{MessageTypeDetails}
 use Rattle.iox_command.specs.declared.command.Command.TheVariants as command
@@ -74,6 +73,7 @@ use Rattle.iox_domain_machine.proofs.FollowMachine.{all_welcomed}
 use Rattle.iox_domain_machine.proofs.FollowStands.{follows_stands, publisher_after, service_after}
 use Rattle.iox_domain_machine.proofs.Found.{same_some, never_some, never_true, mapped_none, same_everywhere}
 use Rattle.iox_domain_machine.proofs.TableEnds.{at_end, changed_end}
+use Rattle.iox_machine.specs.Choices.{Choices}
 use Rattle.iox_machine.specs.Arriving.{PublisherArrives}
 use Rattle.iox_machine.specs.Arriving as machine
 use Rattle.iox_machine.specs.Mailbox.{Mailbox}
@@ -134,13 +134,13 @@ nothing_lost : {X : Type 0} (b : Bool) (f : X → X) (found : Option X) → foun
 nothing_lost true f found none = ap (option_map f) none ∙ sym none
 nothing_lost false f found none = refl
 
-module _ {T U : Type 0} (types : MessageTypeDetails) (IsDefault : T → Type 0) (buffer : ℕ) (names : Naming) (lent : List (ℕ × LentSlot))
+module _ {T U : Type 0} (types : MessageTypeDetails) (choices : Choices T) (buffer : ℕ) (names : Naming) (lent : List (ℕ × LentSlot))
     (held : List (ℕ × Taken)) (old new : ServicePorts T U) (service : Service T) (state : State T) (factory : ℕ) (made : Factory)
     (options : PublisherOptions) (config : PublisherConfig) (user_header : U) (overrides : ℕ → ℕ → Type 0)
     (may : DegradationInfo → DegradationAction → Type 0)
     (answer : Result ℕ PublisherCreateError) (stands : StandsFor names lent held buffer old service) (roomy : AreRoomy old)
     (is_made : at factory state.factories ≡ Some made) (of_made : is_service_of made service ≡ true)
-    (asked : IsPublisherAskedSo overrides may factory options config)
+    (asked : IsPublisherAskedSo overrides factory options config)
     (fresh : at (state.made.publishers + 1) service.publishers ≡ None) (counted : old.next_port + 1 < 2 ^ 64)
     (may_list : may_change old.publisher_list ≡ true) where
   abbrev name : ℕ
@@ -151,7 +151,7 @@ module _ {T U : Type 0} (types : MessageTypeDetails) (IsDefault : T → Type 0) 
 
   abbrev Result_of : Result ℕ PublisherCreateError → ServicePorts T U → Type 0
   Result_of so after =
-      (reader : ℕ → ℕ → ℕ) × Matches T U IsDefault types buffer (command.Publisher factory options) (publisher_came_or_refused name so)
+      (reader : ℕ → ℕ → ℕ) × Matches T U choices types buffer (command.Publisher factory options) (publisher_came_or_refused name so)
       state service (record (with_publisher_came old.next_port name so names) { reader = reader }) lent held after
 
   abbrev Arrives : Service T → Service T → Reply T → Service T → Type 0
@@ -505,7 +505,7 @@ module _ {T U : Type 0} (types : MessageTypeDetails) (IsDefault : T → Type 0) 
 
         abbrev Followed : Result (Unit {0}) ConnectionFailure → PublisherPort T U → Type 0
         Followed outcome after = ItsUpdate there_names lent held buffer there_ports there_service there_stands next first after there_first
-            (unwrap_or options.degradation_handler Warn) outcome
+            (λ (action : DegradationAction). Unit {0}) outcome
 
         abbrev its : PublisherIs there_names there_ports there_service next first
         its = there_stands.publishers next first there_first
@@ -532,24 +532,23 @@ module _ {T U : Type 0} (types : MessageTypeDetails) (IsDefault : T → Type 0) 
             (concludes so there_ports names.reader one there_service (follows_none unseen.0) there_stands))
             (λ seen. followed seen.1)
             (update_is there_names lent held buffer there_ports there_service there_stands next first after there_first
-            (unwrap_or options.degradation_handler Warn) outcome may apart_now allowed_now refl refl
-            (λ publisher at_it up.
-            (asked.acts, ap (λ (it : Publisher T). it.degradation) (same_some publisher one (sym at_it ∙ one_there))))
+            (λ (action : DegradationAction). Unit {0}) outcome may apart_now allowed_now refl refl
+            (λ info action is. tt)
             listed is_list updates)
           where
             followed : Followed outcome after → Result_of (Ok so) (with_came after)
             followed it =
                 let later : Publisher T = publisher_after there_names lent held buffer there_ports there_service there_stands next first
-                after there_first (unwrap_or options.degradation_handler Warn) outcome it in
+                after there_first (λ (action : DegradationAction). Unit {0}) outcome it in
                 let mid : Service T = service_after there_names lent held buffer there_ports there_service there_stands next first after
-                there_first (unwrap_or options.degradation_handler Warn) outcome it in
+                there_first (λ (action : DegradationAction). Unit {0}) outcome it in
                 concludes so (with_came after) (with_name next it.new_reader names.reader) later mid
                 (subst (λ (publisher : Publisher T). Follows name publisher there_service later mid) own
                 (subst (λ n. Follows n its.0 there_service later mid) its_name it.follows))
                 (subst (λ (ports : ServicePorts T U). StandsFor
                 (record there_names { reader = with_name next it.new_reader names.reader }) lent held buffer ports mid) (same_came after)
                 (follows_stands there_names lent held buffer there_ports there_service there_stands next first after there_first
-                (unwrap_or options.degradation_handler Warn) outcome it))
+                (λ (action : DegradationAction). Unit {0}) outcome it))
 
         adds : (outcome : Result ℕ AllocError)
             → AddsPublisher may config user_header place (places (max needed 1) slots) old outcome new
@@ -566,9 +565,9 @@ module _ {T U : Type 0} (types : MessageTypeDetails) (IsDefault : T → Type 0) 
   by (Some needed) (Some place) is is_place (slots, is_slots, outcome, step, is_answer) =
       adds needed is place is_place slots is_slots outcome step is_answer
 
-pub publisher_comes_matches : (T U : Type 0) (IsDefault : T → Type 0) (overrides : ℕ → ℕ → Type 0)
-    (may : DegradationInfo → DegradationAction → Type 0) → PublisherComesMatches T U IsDefault overrides may
-publisher_comes_matches T U IsDefault overrides may types buffer names lent held old new service state factory made options config
+pub publisher_comes_matches : (T U : Type 0) (choices : Choices T) (overrides : ℕ → ℕ → Type 0)
+    (may : DegradationInfo → DegradationAction → Type 0) → PublisherComesMatches T U choices overrides may
+publisher_comes_matches T U choices overrides may types buffer names lent held old new service state factory made options config
     user_header answer stands roomy is_made of_made asked fresh counted may_list creates =
-    by types IsDefault buffer names lent held old new service state factory made options config user_header overrides may answer stands
+    by types choices buffer names lent held old new service state factory made options config user_header overrides may answer stands
     roomy is_made of_made asked fresh counted may_list (slots_needed config old) (publisher_place old) refl refl creates

@@ -38,6 +38,7 @@ use Rattle.iox_domain_machine.proofs.Removing.{placed, but, but_less, slots_with
 use Rattle.iox_domain_machine.proofs.Removing.{others_lent, removed_mapped}
 use Rattle.iox_domain_machine.proofs.Settling.{settled_stands}
 use Rattle.iox_domain_machine.proofs.Writing.{IsThere, is_there, each_either, goes_there}
+use Rattle.iox_machine.specs.Choices.{Choices}
 use Rattle.iox_machine.specs.Message as machine
 use Rattle.iox_machine.specs.Service.{Service}
 use Rattle.iox_machine.specs.Table.{at, removed}
@@ -205,8 +206,8 @@ module _ {T U : Type 0} (names : Naming) (lent : List (ℕ × LentSlot)) (held :
   pub is_given_up : passes out.publisher (λ (port : PublisherPort T U). is_some (place_of out.slot port)) ports ≡ true
   is_given_up = ap (passes_port (λ (port : PublisherPort T U). is_some (place_of out.slot port))) there.there ∙ ap is_some is_placed
 
-pub drop_matches : (T U : Type 0) (IsDefault : T → Type 0) → DropMatches T U IsDefault
-drop_matches T U IsDefault types buffer names lent held ports service state loan out stands sound goes =
+pub drop_matches : (T U : Type 0) (choices : Choices T) → DropMatches T U choices
+drop_matches T U choices types buffer names lent held ports service state loan out stands sound goes =
     let after : Service T = record service { loans = removed loan service.loans } in (
       after,
       rw (is_given_up names lent held buffer ports service loan out stands goes)

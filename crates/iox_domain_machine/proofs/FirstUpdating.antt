@@ -2,6 +2,7 @@
 use Rattle.std.proofs.Common.{◌≡◌, ◌⊎◌, ◌&&◌, ◌==◌, ℕ, Bool, true, false, not, List, Option, Some, Result, Ok, Err, refl, sym, ap, subst}
 use Rattle.std.proofs.Common.{inl, inr, ◌∙◌}
 use Rattle.std.proofs.lemmas.Map.Steps.{set_value_same}
+use Rattle.std.specs.Prelude.{zip}
 use Rattle.iox_command.specs.DomainValues.declared.connection_failure.ConnectionFailure.{ConnectionFailure}
 use Rattle.iox_command.specs.DomainValues.declared.degradation.DegradationAction.{DegradationAction}
 use Rattle.iox_command.specs.DomainValues.declared.degradation.DegradationInfo.{DegradationInfo}
@@ -31,33 +32,39 @@ use Rattle.iox_domain_machine.specs.Tables.{LentSlot}
 use Rattle.iox_domain_machine.proofs.Found.{same_some}
 use Rattle.iox_domain_machine.proofs.UpdateMatches.{few, ready, to_update}
 use Rattle.iox_domain_machine.proofs.UpdatingSubscriber.{update_stands}
-use Rattle.iox_machine.specs.PublisherUpdate.{update_answer}
+use Rattle.iox_machine.specs.Choices.{Choices}
+use Rattle.iox_machine.specs.PublisherUpdate.{UpdateAnswers}
 use Rattle.iox_machine.specs.Service.{Service, Subscriber}
 use Rattle.iox_machine.specs.State.{State}
 use Rattle.iox_machine.specs.SubscriberUpdate.{Follows, UpdatesFirst}
 use Rattle.iox_machine.specs.Table.{at}
 
-module _ {T : Type 0} (buffer name : ℕ) (was : Subscriber) (service : Service T) where
+module _ {T : Type 0} (choices : Choices T) (buffer name : ℕ) (was : Subscriber) (service : Service T) where
   -- whether a subscriber of the machine has nothing to bring up to date
   abbrev is_up_to_date : Bool
   is_up_to_date = (was.seen == service.publisher_list.changes) && not was.again
+
+  -- what its update may answer, once it is another
+  abbrev Answers : Subscriber → Result (Unit {0}) ConnectionFailure → Type 0
+  Answers later updated =
+      UpdateAnswers (choices.subscriber_acts name was.degradation) (zip service.publisher_list.places later.connected) updated
 
   -- What the machine does first: nothing, or it follows the list, and the answer is this.
   abbrev pub HasBegun : Result (Unit {0}) ConnectionFailure → Subscriber → Service T → Type 0
   HasBegun updated later mid =
       ((is_up_to_date ≡ true) × (later ≡ was) × (mid ≡ service) × (updated ≡ Ok tt))
       ⊎ ((is_up_to_date ≡ false) × Follows buffer name was service later mid
-      × (update_answer was.degradation service.publisher_list.places later.connected ≡ updated))
+      × Answers later updated)
 
   -- then it does what it is to
   pub does_then : (updated : Result (Unit {0}) ConnectionFailure) (later : Subscriber) (mid : Service T) → HasBegun updated later mid
       → updated ≡ Ok tt → (told : ConnectionFailure → Refusal) (Does : Subscriber → Service T → Reply T → Service T → Type 0)
-      (answer : Reply T) (end : Service T) → Does later mid answer end → UpdatesFirst buffer name told Does was service answer end
+      (answer : Reply T) (end : Service T) → Does later mid answer end → UpdatesFirst choices buffer name told Does was service answer end
   does_then updated later mid (inl begun) done told Does answer end does =
       rw begun.0 (subst (λ (one : Subscriber). Does one service answer end) begun.1
       (subst (λ (one : Service T). Does later one answer end) begun.2 does))
   does_then updated later mid (inr begun) done told Does answer end does =
-      rw begun.0 (later, mid, begun.1, rw (begun.2 ∙ done) does)
+      rw begun.0 (later, mid, begun.1, (Ok tt, subst (λ (one : Result (Unit {0}) ConnectionFailure). Answers later one) done begun.2, does))
 
   never_failed : {A : Type 0} (failure : ConnectionFailure) → ◌≡◌ {A = Result (Unit {0}) ConnectionFailure} (Ok tt) (Err failure) → A
   never_failed failure is = absurd (differ is)
@@ -69,12 +76,18 @@ module _ {T : Type 0} (buffer name : ℕ) (was : Subscriber) (service : Service 
   pub fails_so : (updated : Result (Unit {0}) ConnectionFailure) (later : Subscriber) (mid : Service T) → HasBegun updated later mid
       → (failure : ConnectionFailure) → updated ≡ Err failure → (told : ConnectionFailure → Refusal)
       (Does : Subscriber → Service T → Reply T → Service T → Type 0)
-      → UpdatesFirst buffer name told Does was service (reply.Refused (told failure)) mid
+      → UpdatesFirst choices buffer name told Does was service (reply.Refused (told failure)) mid
   fails_so updated later mid (inl begun) failure failed told Does = never_failed failure (sym begun.3 ∙ failed)
   fails_so updated later mid (inr begun) failure failed told Does =
-      rw begun.0 (later, mid, begun.1, rw (begun.2 ∙ failed) (refl, refl))
+      rw begun.0 (
+        later,
+        mid,
+        begun.1,
+        (Err failure, subst (λ (one : Result (Unit {0}) ConnectionFailure). Answers later one) failed begun.2, (refl, refl)),
+      )
 
-module _ {T U : Type 0} (names : Naming) (lent : List (ℕ × LentSlot)) (held : List (ℕ × Taken)) (buffer : ℕ) (old : ServicePorts T U)
+module _ {T U : Type 0} (choices : Choices T) (names : Naming) (lent : List (ℕ × LentSlot)) (held : List (ℕ × Taken)) (buffer : ℕ)
+    (old : ServicePorts T U)
     (service : Service T) (number : ℕ) where
   -- What a subscriber has before it does something: the machine began so, the ports stand for its service, connections that were made have
   -- names, the ports are roomy still, and it stands.
@@ -83,14 +96,15 @@ module _ {T U : Type 0} (names : Naming) (lent : List (ℕ × LentSlot)) (held :
     pub reader : ℕ → ℕ → ℕ
     pub later : Subscriber
     pub mid : Service T
-    pub begun : HasBegun buffer (names.subscriber number) was service updated later mid
+    pub begun : HasBegun choices buffer (names.subscriber number) was service updated later mid
     pub now : at (names.subscriber number) mid.subscribers ≡ Some later
     pub stands : StandsFor (record names { reader = reader }) lent held buffer (with_both number after ports_after old) mid
     pub roomy : AreRoomy (with_both number after ports_after old)
     pub standing : after.stands ≡ true
 
-  module _ (types : MessageTypeDetails) (IsDefault : T → Type 0) (state : State T) (may : DegradationInfo → DegradationAction → Type 0)
-      (stands : StandsFor names lent held buffer old service) (roomy : AreRoomy old) (acts : ActsAs may (names.subscriber number) service)
+  module _ (types : MessageTypeDetails) (state : State T) (may : DegradationInfo → DegradationAction → Type 0)
+      (stands : StandsFor names lent held buffer old service) (roomy : AreRoomy old)
+      (acts : ActsAs choices may (names.subscriber number) service)
       (port : SubscriberPort) (there : subscriber_of number old.subscribers ≡ Some port) (standing : port.stands ≡ true)
       (items : List (Option (Member PublisherEntry))) (is_list : IsListOf items old.publisher_list)
       (updated : Result (Unit {0}) ConnectionFailure) (after : SubscriberPort) (ports_after : List (ℕ × PublisherPort T U)) where
@@ -123,7 +137,7 @@ module _ {T U : Type 0} (names : Naming) (lent : List (ℕ × LentSlot)) (held :
 
     same : (((was.seen == service.publisher_list.changes) && not was.again))
         ≡ ((port.seen == old.publisher_list.changes) && not port.again)
-    same = to_update types IsDefault buffer names lent held old service state number may stands roomy acts port there standing
+    same = to_update types choices buffer names lent held old service state number may stands roomy acts port there standing
 
     updates_first_by : (quiet : Bool) → ((port.seen == old.publisher_list.changes) && not port.again) ≡ quiet
         → UpdatesIf quiet may items old.publisher_list.changes port old.publishers updated after ports_after → AreRoomy new
@@ -144,9 +158,10 @@ module _ {T U : Type 0} (names : Naming) (lent : List (ℕ × LentSlot)) (held :
     }
     updates_first_by false is follows still =
         let it = update_stands names lent held buffer old service number port was stands there found.1
-        (ready types IsDefault buffer names lent held old service state number may stands roomy acts port there standing)
-        (few types IsDefault buffer names lent held old service state number may stands roomy acts port there standing) was_stands may
-        (acts was found.1 was_stands) items is_list updated after ports_after follows in
+        (ready types choices buffer names lent held old service state number may stands roomy acts port there standing)
+        (few types choices buffer names lent held old service state number may stands roomy acts port there standing) was_stands may
+        (choices.subscriber_acts (names.subscriber number) was.degradation) (acts was found.1 was_stands) items is_list updated after
+        ports_after follows in
         let its = it.stands_after.subscribers number after there_now in
         let own = same_some its.0 it.later (sym its.1 ∙ it.now) in
         record {

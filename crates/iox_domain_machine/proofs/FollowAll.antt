@@ -1,7 +1,7 @@
 -- A publisher follows the list of subscribers, place by place.
 use Rattle.std.proofs.Common.{◌≡◌, ◌≤◌, ◌<◌, ◌+◌, ◌-◌, ◌∷◌, [], ℕ, zero, suc, true, List, get_or, length, map, Option, None, Some, Result}
 use Rattle.std.proofs.Common.{refl, sym, ap, subst, ◌∙◌, arith}
-use Rattle.std.specs.Prelude.{is_ok, option_map}
+use Rattle.std.specs.Prelude.{is_ok, option_map, zip}
 use Rattle.iox_domain.specs.Container.declared.container.Member.{Member}
 use Rattle.iox_domain.specs.DomainPorts.MessagesSending.{slots_of}
 use Rattle.iox_domain.specs.DomainPorts.PublisherUpdating.{FollowsAll, untied_from}
@@ -10,12 +10,11 @@ use Rattle.iox_domain.specs.DomainPorts.declared.publisher_port.PublisherPort.{P
 use Rattle.iox_domain.specs.DomainPorts.declared.subscriber_entry.SubscriberEntry.{SubscriberEntry}
 use Rattle.iox_domain.specs.DomainSlots.Counting.{times}
 use Rattle.iox_domain.specs.DomainValues.declared.degradation.DegradationInfo.{DegradationInfo}
-use Rattle.iox_domain_machine.proofs.FollowAnswer.{answer_from, answer_on}
+use Rattle.iox_domain_machine.proofs.FollowAnswer.{AnswersFrom, answer_on}
 use Rattle.iox_domain_machine.proofs.FollowMidway.{FollowsList, Midway, named_by}
 use Rattle.iox_domain_machine.proofs.FollowPlace.{FollowsOne, follows_place}
 use Rattle.iox_command.specs.DomainValues.declared.connection_failure.ConnectionFailure.{ConnectionFailure}
 use Rattle.iox_command.specs.DomainValues.declared.degradation.DegradationAction.{DegradationAction}
-use Rattle.iox_command.specs.DomainValues.declared.degradation.DegradationAction.TheVariants as action
 use Rattle.iox_machine.specs.Mailbox.{Mailbox}
 use Rattle.iox_machine.specs.PublisherUpdate.{failure_at}
 use Rattle.iox_machine.specs.Service.{Subscriber}
@@ -25,8 +24,8 @@ module _ {T U : Type 0} (name subscriber_name : ℕ → ℕ) (next most : ℕ) (
     (follows : FollowsList subscriber_name next most places subscribers) (standing : begun.stands ≡ true)
     (silent : begun.sender.uses.sending ≡ None) (most_waiting : begun.sender.uses.most_waiting ≡ most)
     (once : (slot : ℕ) → times slot (slots_of begun.sender).history ≤ 1)
-    (may : DegradationInfo → DegradationAction → Type 0) (degradation : DegradationAction)
-    (only : (info : DegradationInfo) (told : DegradationAction) → may info told → told ≡ degradation) where
+    (may : DegradationInfo → DegradationAction → Type 0) (May : DegradationAction → Type 0)
+    (over : (info : DegradationInfo) (told : DegradationAction) → may info told → May told) where
   abbrev Mid : ℕ → ℕ → PublisherPort T U → (ℕ → ℕ) → (ℕ → Option (Mailbox T)) → Type 0
   Mid = Midway name subscriber_name next places subscribers begun first_reader first_boxes
 
@@ -41,16 +40,12 @@ module _ {T U : Type 0} (name subscriber_name : ℕ → ℕ) (next most : ℕ) (
     pub answered : (connected : List (Option ℕ)) → length connected ≡ length listed
         → ((place : ℕ) → place < length listed
         → get_or connected place None ≡ option_map new_reader (get_or after.ties.items (first + place) None))
-        → answer ≡ answer_from degradation found (map (named_by subscriber_name) listed) connected
+        → AnswersFrom May found (zip (map (named_by subscriber_name) listed) connected) answer
 
-  answer_is : (found : Option ConnectionFailure) → domain.update_answer found ≡ answer_from degradation found [] []
-  answer_is None = by degradation
-    where
-      by : (degradation : DegradationAction) → domain.update_answer None ≡ answer_from degradation None [] []
-      by action.Ignore = refl
-      by action.Warn = refl
-      by action.DegradeAndFail = refl
-  answer_is (Some failure) = refl
+  answer_is : (found : Option ConnectionFailure) (answer : Result (Unit {0}) ConnectionFailure) → answer ≡ domain.update_answer found
+      → AnswersFrom May found [] answer
+  answer_is None answer is = is
+  answer_is (Some failure) answer is = is
 
   untied_none_left : (count place : ℕ) (port : PublisherPort T U) → count ≡ 0 → untied_from count place port ≡ port
   untied_none_left zero place port is = refl
@@ -70,13 +65,8 @@ module _ {T U : Type 0} (name subscriber_name : ℕ → ℕ) (next most : ℕ) (
         midway = subst (λ (one : PublisherPort T U). Mid (length places) (length places) one reader boxes) (sym stays)
             (subst (λ n. Mid n n port reader boxes) all midway);
         still = λ place below. ap (λ (one : PublisherPort T U). option_map reader (get_or one.ties.items place None)) stays;
-        answered = λ connected none each. is.0 ∙ answer_is found
-            ∙ ap (answer_from degradation found []) (sym (nothing connected none));
+        answered = λ connected none each. answer_is found answer is.0;
       }
-    where
-      nothing : (connected : List (Option ℕ)) → length connected ≡ 0 → connected ≡ []
-      nothing [] none = refl
-      nothing (one ∷ connected) none = absurd (omega (arith, none))
   follows_all first (item ∷ listed) found port after reader boxes answer long same midway (outcome, between, met, one, asks, further) =
       let here : get_or places first None ≡ item = ap (λ n. get_or places n None) (omega arith) ∙ same zero in
       let step : FollowsOne name subscriber_name next most places subscribers begun first_reader first_boxes follows standing silent
@@ -99,15 +89,15 @@ module _ {T U : Type 0} (name subscriber_name : ℕ → ℕ) (next most : ℕ) (
           → length connected ≡ length (item ∷ listed)
           → ((place : ℕ) → place < length (item ∷ listed)
           → get_or connected place None ≡ option_map rest.new_reader (get_or after.ties.items (first + place) None))
-          → answer ≡ answer_from degradation found (map (named_by subscriber_name) (item ∷ listed)) connected
+          → AnswersFrom May found (zip (map (named_by subscriber_name) (item ∷ listed)) connected) answer
       by step rest [] as_long each = absurd (omega (arith, as_long))
       by step rest (connected_here ∷ connected) as_long each =
           let same : connected_here ≡ option_map step.new_reader (get_or between.ties.items first None) =
           each zero (omega arith) ∙ ap (λ n. option_map rest.new_reader (get_or after.ties.items n None)) (omega arith)
           ∙ rest.still first (omega arith) in
-          rest.answered connected (omega (arith, as_long))
-          (λ place below. each (suc place) (omega (arith, below))
-          ∙ ap (λ n. option_map rest.new_reader (get_or after.ties.items n None)) (omega arith))
-          ∙ answer_on may degradation only item between found met (is_ok outcome) (named_by subscriber_name item) connected_here
-          (map (named_by subscriber_name) listed) connected asks
+          answer_on may May over item between found met (is_ok outcome) (named_by subscriber_name item) connected_here
+          (zip (map (named_by subscriber_name) listed) connected) answer asks
           (ap (λ one. failure_at (named_by subscriber_name item) one) same ∙ step.failure) step.listed
+          (rest.answered connected (omega (arith, as_long))
+          (λ place below. each (suc place) (omega (arith, below))
+          ∙ ap (λ n. option_map rest.new_reader (get_or after.ties.items n None)) (omega arith)))

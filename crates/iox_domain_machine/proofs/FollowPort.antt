@@ -5,7 +5,7 @@ use Rattle.std.proofs.Math.Logic.{⊎_elim}
 use Rattle.std.proofs.lemmas.Bool.{cases_eq, cases_lt, eq-eqb}
 use Rattle.std.proofs.lemmas.List.{get_or-map, get_or_past, length-map, length-replicate}
 use Rattle.std.specs.List.{filter, list_all}
-use Rattle.std.specs.Prelude.{is_some, option_map, replicate, if◌then◌else◌}
+use Rattle.std.specs.Prelude.{is_some, option_map, replicate, if◌then◌else◌, zip}
 use Rattle.iox_command.specs.DomainValues.declared.connection_failure.ConnectionFailure.{ConnectionFailure}
 use Rattle.iox_command.specs.DomainValues.declared.degradation.DegradationAction.{DegradationAction}
 use Rattle.iox_domain.proofs.TiedWell.{alike_still, still_there, well_alike}
@@ -40,7 +40,7 @@ use Rattle.iox_domain_machine.proofs.ReleasePort.{differ}
 use Rattle.iox_domain_machine.proofs.Settling.{both, isn't}
 use Rattle.iox_machine.specs.Mailbox.{Mailbox}
 use Rattle.iox_machine.specs.PortList.{those, unless}
-use Rattle.iox_machine.specs.PublisherUpdate.{Follows, update_answer, ended}
+use Rattle.iox_machine.specs.PublisherUpdate.{Follows, UpdateAnswers, ended}
 use Rattle.iox_machine.specs.Service.{Publisher, Service, with_publisher}
 use Rattle.iox_machine.specs.Table.{at, contains}
 
@@ -51,7 +51,7 @@ module _ {T U : Type 0} (name subscriber_name reader : ℕ → ℕ) (next most_s
   begun = record port { seen = roll.changes }
 
   -- What comes of an update: the machine's publisher follows the list, with this answer, and is what the domain's is.
-  pub record HasFollowed (degradation : DegradationAction) (answer : Result (Unit {0}) ConnectionFailure) : Type 0 where
+  pub record HasFollowed (May : DegradationAction → Type 0) (answer : Result (Unit {0}) ConnectionFailure) : Type 0 where
     pub new_reader : ℕ → ℕ
     pub connected : List (Option ℕ)
     pub new_mailboxes : ℕ → ℕ → Option (Mailbox T)
@@ -60,7 +60,7 @@ module _ {T U : Type 0} (name subscriber_name reader : ℕ → ℕ) (next most_s
         (record (with_publisher its_name (record publisher { seen = service.subscriber_list.changes; connected = connected }) service) {
           mailboxes = new_mailboxes;
         })
-    pub answered : answer ≡ update_answer degradation service.subscriber_list.places connected
+    pub answered : UpdateAnswers May (zip service.subscriber_list.places connected) answer
     pub port_stands : PublisherStandsFor name new_reader most_subscribers after
         (record publisher { seen = service.subscriber_list.changes; connected = connected })
     pub boxes_stand : MailboxesStandFor name new_reader subscriber_name after (new_mailboxes its_name) service.subscribers
@@ -79,8 +79,8 @@ module _ {T U : Type 0} (name subscriber_name reader : ℕ → ℕ) (next most_s
       (most_waiting : port.sender.uses.most_waiting ≡ most) (well : IsTiedWell next roll.places port)
       (is : PublisherStandsFor name reader most_subscribers port publisher)
       (boxes : MailboxesStandFor name reader subscriber_name port (service.mailboxes its_name) service.subscribers)
-      (may : DegradationInfo → DegradationAction → Type 0) (degradation : DegradationAction)
-      (told : (info : DegradationInfo) (action : DegradationAction) → may info action → action ≡ degradation)
+      (may : DegradationInfo → DegradationAction → Type 0) (May : DegradationAction → Type 0)
+      (told : (info : DegradationInfo) (action : DegradationAction) → may info action → May action)
       (answer : Result (Unit {0}) ConnectionFailure) (call : FollowsAll may 0 roll.places None begun answer after) where
     abbrev places : List (Option (Member SubscriberEntry))
     places = roll.places
@@ -123,9 +123,9 @@ module _ {T U : Type 0} (name subscriber_name reader : ℕ → ℕ) (next most_s
     }
 
     all : FollowedAll name subscriber_name next most places service.subscribers begun reader first_boxes follows standing silent
-        most_waiting is.once may degradation told 0 places None begun after reader answer
+        most_waiting is.once may May told 0 places None begun after reader answer
     all = follows_all name subscriber_name next most places service.subscribers begun reader first_boxes follows standing silent
-        most_waiting is.once may degradation told 0 places None begun after reader first_boxes answer (omega arith)
+        most_waiting is.once may May told 0 places None begun after reader first_boxes answer (omega arith)
         (λ place. ap (λ n. get_or places n None) (omega arith)) begins call
 
     abbrev mid : Midway name subscriber_name next places service.subscribers begun reader first_boxes (length places) (length places) after
@@ -506,7 +506,7 @@ module _ {T U : Type 0} (name subscriber_name reader : ℕ → ℕ) (next most_s
           ample = is.ample;
         })
 
-    pub port_follows : HasFollowed degradation answer
+    pub port_follows : HasFollowed May answer
     port_follows = record {
       new_reader = all.new_reader;
       connected = now_connected;
@@ -517,9 +517,9 @@ module _ {T U : Type 0} (name subscriber_name reader : ℕ → ℕ) (next most_s
         ap (λ connected. record publisher { seen = service.subscriber_list.changes; connected = connected }) connected_is,
         sym (all_welcomed its_name publisher.history news (with_publisher its_name publisher_after (ended its_name service))),
       );
-      answered = all.answered now_connected connected_long (λ place below. connected_at place
-          ∙ ap (λ n. option_map all.new_reader (get_or after.ties.items n None)) (omega arith))
-          ∙ ap (λ places. update_answer degradation places now_connected) (sym same_listed);
+      answered = subst (λ (places : List (Option ℕ)). UpdateAnswers May (zip places now_connected) answer) (sym same_listed)
+          (all.answered now_connected connected_long (λ place below. connected_at place
+          ∙ ap (λ n. option_map all.new_reader (get_or after.ties.items n None)) (omega arith)));
       port_stands = stands_now;
       boxes_stand = subst (λ (boxes : ℕ → Option (Mailbox T)). MailboxesStandFor name all.new_reader subscriber_name after boxes
           service.subscribers) (sym (same_everywhere (after_boxes its_name) all.new_boxes box_here)) mid.boxes_stand;

@@ -93,23 +93,23 @@ module _ {T U : Type 0} (names : Naming) (lent : List (ℕ × LentSlot)) (held :
 
     -- the update of a publisher that stands, and of which no send waits, where the list changed
     pub its_update : IsApart old → AreAllowed old → port.stands ≡ true → port.sender.uses.sending ≡ None
-        → (may : DegradationInfo → DegradationAction → Type 0) (degradation : DegradationAction)
-        → ((info : DegradationInfo) (action : DegradationAction) → may info action → action ≡ degradation)
+        → (may : DegradationInfo → DegradationAction → Type 0) (May : DegradationAction → Type 0)
+        → ((info : DegradationInfo) (action : DegradationAction) → may info action → May action)
         → (answer : Result (Unit {0}) ConnectionFailure)
         → FollowsAll may 0 old.subscriber_list.places None (record port { seen = old.subscriber_list.changes }) answer after
         → HasFollowed (names.message number) names.subscriber (names.reader number) old.next_port old.sizes.max_subscribers
-        old.sizes.subscriber_max_buffer_size old.subscriber_list port after service its_name was.0 degradation answer
-    its_update apart allowed standing silent may degradation told answer call =
+        old.sizes.subscriber_max_buffer_size old.subscriber_list port after service its_name was.0 May answer
+    its_update apart allowed standing silent may May told answer call =
         let made : FoundEntry (IsMadeFor (allowed_by old.sizes)) (at_number number) port =
         found_of_all (IsMadeFor (allowed_by old.sizes)) (at_number number) old.publishers port allowed there in
         port_follows (names.message number) names.subscriber (names.reader number) old.next_port old.sizes.max_subscribers
         old.sizes.subscriber_max_buffer_size old.subscriber_list port after service its_name was.0 (list_follows apart)
         stands.subscriber_list apart.places standing silent (ap (λ one. one.most_waiting) made.holds.0)
-        (well_of old number port apart there standing) was.2 was.3 may degradation told answer call
+        (well_of old number port apart there standing) was.2 was.3 may May told answer call
 
-    module _ (degradation : DegradationAction) (answer : Result (Unit {0}) ConnectionFailure)
+    module _ (May : DegradationAction → Type 0) (answer : Result (Unit {0}) ConnectionFailure)
         (followed : HasFollowed (names.message number) names.subscriber (names.reader number) old.next_port old.sizes.max_subscribers
-        old.sizes.subscriber_max_buffer_size old.subscriber_list port after service its_name was.0 degradation answer) where
+        old.sizes.subscriber_max_buffer_size old.subscriber_list port after service its_name was.0 May answer) where
       -- the names of the subscribers at the connections of the publisher are others
       abbrev pub names_after : Naming
       names_after = record names { reader = with_name number followed.new_reader names.reader }

@@ -30,6 +30,7 @@ use Rattle.iox_domain_machine.proofs.Changing.{one_changed}
 use Rattle.iox_domain_machine.proofs.Found.{same_some, never_some, at_changed, at_changed_other}
 use Rattle.iox_domain_machine.proofs.Kept.{loans_kept, samples_kept}
 use Rattle.iox_domain_machine.proofs.Named.{named_less, lent_in_use}
+use Rattle.iox_machine.specs.Choices.{Choices}
 use Rattle.iox_machine.specs.Mailbox.{Mailbox}
 use Rattle.iox_machine.specs.Ports.{publisher_in}
 use Rattle.iox_machine.specs.Replies.{IsSkipped}
@@ -118,7 +119,7 @@ pub kept_there : {T U : Type 0} (number : ℕ) (port : PublisherPort T U) (ports
     → port.stands ≡ true → settled number ports ≡ ports
 kept_there number port ports there standing = rw there (rw standing refl)
 
-module _ {T U : Type 0} (types : MessageTypeDetails) (IsDefault : T → Type 0) (buffer : ℕ) (names : Naming) (lent : List (ℕ × LentSlot))
+module _ {T U : Type 0} (types : MessageTypeDetails) (choices : Choices T) (buffer : ℕ) (names : Naming) (lent : List (ℕ × LentSlot))
     (held : List (ℕ × Taken)) (old : ServicePorts T U) (service : Service T) (state : State T) (number : ℕ)
     (stands : StandsFor names lent held buffer old service) where
   abbrev name : ℕ
@@ -129,7 +130,7 @@ module _ {T U : Type 0} (types : MessageTypeDetails) (IsDefault : T → Type 0) 
       (λ send. (answered ≡ reply.Delivered send.delivered) × (after ≡ machine.with_publisher name (record one { blocked = None }) service))
 
   abbrev Result : Option ℕ → ServicePorts T U → Type 0
-  Result answer new = Matches T U IsDefault types buffer (command.GiveUp name) (gave_up_or_skipped answer) state service names lent held new
+  Result answer new = Matches T U choices types buffer (command.GiveUp name) (gave_up_or_skipped answer) state service names lent held new
 
   -- nothing happens where the machine has no such publisher that stands
   skips : publisher_in name service ≡ None → Result None old
@@ -214,6 +215,6 @@ module _ {T U : Type 0} (types : MessageTypeDetails) (IsDefault : T → Type 0) 
       → Result answer new
   gives_up answer new named call = by_port named (port_of number old.publishers) refl answer new call
 
-pub give_up_matches : (T U : Type 0) (IsDefault : T → Type 0) → GiveUpMatches T U IsDefault
-give_up_matches T U IsDefault types buffer names lent held old new service state number answer stands named call =
-    gives_up types IsDefault buffer names lent held old service state number stands answer new named call
+pub give_up_matches : (T U : Type 0) (choices : Choices T) → GiveUpMatches T U choices
+give_up_matches T U choices types buffer names lent held old new service state number answer stands named call =
+    gives_up types choices buffer names lent held old service state number stands answer new named call

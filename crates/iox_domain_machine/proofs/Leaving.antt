@@ -39,8 +39,9 @@ use Rattle.iox_domain_machine.proofs.Kept.{loans_kept}
 use Rattle.iox_domain_machine.proofs.LeavePort.{HasParted, parts, none_set, left_port, left_boxes, borrowed_same, still_read}
 use Rattle.iox_domain_machine.proofs.LeaveSamples.{samples_alike}
 use Rattle.iox_domain_machine.proofs.Settling.{settled_stands}
+use Rattle.iox_machine.specs.Choices.{Choices}
 use Rattle.iox_machine.specs.PortList as machine_list
-use Rattle.iox_machine.specs.PortList.{PortList, unless}
+use Rattle.iox_machine.specs.PortList.{unless}
 use Rattle.iox_machine.specs.Ports.{publisher_in}
 use Rattle.iox_machine.specs.Replies.{IsSkipped}
 use Rattle.iox_machine.specs.Service.{Service, Publisher}
@@ -216,7 +217,7 @@ module _ {T U : Type 0} (names : Naming) (lent : List (ℕ × LentSlot)) (held :
       (settled_stands names lent held buffer (record new { publisher_list = roll }) service_after number after given_stands
       (tidy_after port after (port_departed port) (tidy_found old.next_port number old.publishers port sound there)) now)
 
-module _ {T U : Type 0} (types : MessageTypeDetails) (IsDefault : T → Type 0) (buffer : ℕ) (names : Naming) (lent : List (ℕ × LentSlot))
+module _ {T U : Type 0} (types : MessageTypeDetails) (choices : Choices T) (buffer : ℕ) (names : Naming) (lent : List (ℕ × LentSlot))
     (held : List (ℕ × Taken)) (old : ServicePorts T U) (service : Service T) (state : State T) (number : ℕ)
     (stands : StandsFor names lent held buffer old service) (sound : IsSound old) (named_so : names.publisher number ≢ 0)
     (may : may_change old.publisher_list ≡ true) where
@@ -231,7 +232,7 @@ module _ {T U : Type 0} (types : MessageTypeDetails) (IsDefault : T → Type 0) 
       (λ send. IsSkipped before answered later)
 
   abbrev Result : Bool → ServicePorts T U → Type 0
-  Result answer new = Matches T U IsDefault types buffer (command.Leave (number_of.Publisher its_name)) (done_or_skipped answer) state
+  Result answer new = Matches T U choices types buffer (command.Leave (number_of.Publisher its_name)) (done_or_skipped answer) state
       service names lent held new
 
   -- nothing happens where the machine has no such publisher that stands
@@ -286,6 +287,6 @@ module _ {T U : Type 0} (types : MessageTypeDetails) (IsDefault : T → Type 0) 
   pub leave : (answer : Bool) (new : ServicePorts T U) → LeavesAt number (port_of number old.publishers) old answer new → Result answer new
   leave answer new call = by_port (port_of number old.publishers) refl answer new call
 
-pub publisher_leave_matches : (T U : Type 0) (IsDefault : T → Type 0) → PublisherLeaveMatches T U IsDefault
-publisher_leave_matches T U IsDefault types buffer names lent held old new service state number answer stands sound named_so may call =
-    leave types IsDefault buffer names lent held old service state number stands sound named_so may answer new call
+pub publisher_leave_matches : (T U : Type 0) (choices : Choices T) → PublisherLeaveMatches T U choices
+publisher_leave_matches T U choices types buffer names lent held old new service state number answer stands sound named_so may call =
+    leave types choices buffer names lent held old service state number stands sound named_so may answer new call

@@ -28,6 +28,7 @@ use Rattle.iox_domain_machine.proofs.GivingUp.{some_of}
 use Rattle.iox_domain_machine.proofs.LeaveDetaching.{left_all_stands}
 use Rattle.iox_domain_machine.proofs.LeaveReading.{still_reads}
 use Rattle.iox_domain_machine.proofs.LeaveSubscriber.{service_after, leave_stands}
+use Rattle.iox_machine.specs.Choices.{Choices}
 use Rattle.iox_machine.specs.PortList as machine_list
 use Rattle.iox_machine.specs.Ports.{subscriber_in}
 use Rattle.iox_machine.specs.Service.{Service, Subscriber}
@@ -44,7 +45,7 @@ module _ {T : Type 0} (service : Service T) (number : ℕ) (subscriber : Subscri
   pub is_subscriber_in : subscriber.stands ≡ true → subscriber_in number service ≡ Some subscriber
   is_subscriber_in stands = rw is (rw stands refl)
 
-module _ {T U : Type 0} (types : MessageTypeDetails) (IsDefault : T → Type 0) (buffer : ℕ) (names : Naming) (lent : List (ℕ × LentSlot))
+module _ {T U : Type 0} (types : MessageTypeDetails) (choices : Choices T) (buffer : ℕ) (names : Naming) (lent : List (ℕ × LentSlot))
     (held : List (ℕ × Taken)) (old : ServicePorts T U) (service : Service T) (state : State T) (number : ℕ)
     (stands : StandsFor names lent held buffer old service) (sound : IsSound old) (named_so : names.subscriber number ≢ 0)
     (may : may_change old.subscriber_list ≡ true) where
@@ -58,7 +59,7 @@ module _ {T U : Type 0} (types : MessageTypeDetails) (IsDefault : T → Type 0) 
       (record before { subscriber_list = machine_list.left name before.subscriber_list }))
 
   abbrev Result : Bool → ServicePorts T U → Type 0
-  Result answer new = Matches T U IsDefault types buffer (command.Leave (number_of.Subscriber name)) (done_or_skipped answer) state
+  Result answer new = Matches T U choices types buffer (command.Leave (number_of.Subscriber name)) (done_or_skipped answer) state
       service names lent held new
 
   -- nothing happens where the machine has no such subscriber that stands
@@ -122,6 +123,6 @@ module _ {T U : Type 0} (types : MessageTypeDetails) (IsDefault : T → Type 0) 
       → LeavesAt number (subscriber_of number old.subscribers) old answer new → Result answer new
   subscriber_leaves answer new call = by_port (subscriber_of number old.subscribers) refl answer new call
 
-pub subscriber_leave_matches : (T U : Type 0) (IsDefault : T → Type 0) → SubscriberLeaveMatches T U IsDefault
-subscriber_leave_matches T U IsDefault types buffer names lent held old new service state number answer stands sound named may call =
-    subscriber_leaves types IsDefault buffer names lent held old service state number stands sound named may answer new call
+pub subscriber_leave_matches : (T U : Type 0) (choices : Choices T) → SubscriberLeaveMatches T U choices
+subscriber_leave_matches T U choices types buffer names lent held old new service state number answer stands sound named may call =
+    subscriber_leaves types choices buffer names lent held old service state number stands sound named may answer new call

@@ -47,6 +47,7 @@ use Rattle.iox_domain_machine.proofs.LendingFull.{tells_full}
 use Rattle.iox_domain_machine.proofs.LendingNames.{lent_at}
 use Rattle.iox_domain_machine.proofs.LendingStands.{service_after, lent_stands}
 use Rattle.iox_domain_machine.proofs.LendingTally.{Tells}
+use Rattle.iox_machine.specs.Choices.{Choices}
 use Rattle.iox_machine.specs.Lending.{how_many, is_static, loans_of, LendsLonger, loan_refusal, Lends}
 use Rattle.iox_machine.specs.Lending as lending
 use Rattle.iox_machine.specs.Message as machine
@@ -144,7 +145,7 @@ most_by strategy.BestFit is = refl
 most_by strategy.PowerOfTwo is = refl
 most_by strategy.Static is = never_true (sym is)
 
-module _ {T U : Type 0} (types : MessageTypeDetails) (IsDefault : T → Type 0) (buffer : ℕ) (names : Naming) (lent : List (ℕ × LentSlot))
+module _ {T U : Type 0} (types : MessageTypeDetails) (choices : Choices T) (buffer : ℕ) (names : Naming) (lent : List (ℕ × LentSlot))
     (held : List (ℕ × Taken)) (old : ServicePorts T U) (service : Service T) (state : State T) (number values : ℕ)
     (stands : StandsFor names lent held buffer old service) (fresh : at (state.made.loans + 1) lent ≡ None)
     (known : names.publisher number ≢ 0) where
@@ -159,7 +160,7 @@ module _ {T U : Type 0} (types : MessageTypeDetails) (IsDefault : T → Type 0) 
       (λ send. IsSkipped before answered after)
 
   abbrev Comes : Option (Result ℕ LoanError) → ServicePorts T U → Type 0
-  Comes answer new = (next : ℕ) × Matches T U IsDefault types buffer (command.LoanUninit name values) (lent_or_not loan answer) state
+  Comes answer new = (next : ℕ) × Matches T U choices types buffer (command.LoanUninit name values) (lent_or_not loan answer) state
       service (with_lent_name number next answer names) (with_lent loan number answer lent) held new
 
   -- nothing happens where the machine has no such publisher that stands
@@ -489,8 +490,8 @@ module _ {T U : Type 0} (types : MessageTypeDetails) (IsDefault : T → Type 0) 
       by_standing port there port.stands refl
       (found_of_all (IsSoundEntry old.next_port) (at_number number) old.publishers port sound there).holds.1 answer new call
 
-pub lend_uninit_matches : (T U : Type 0) (IsDefault : T → Type 0) → LendUninitMatches T U IsDefault
-lend_uninit_matches T U IsDefault types buffer names lent held old new service state number values answer stands sound known fresh
+pub lend_uninit_matches : (T U : Type 0) (choices : Choices T) → LendUninitMatches T U choices
+lend_uninit_matches T U choices types buffer names lent held old new service state number values answer stands sound known fresh
     call =
-    by_port types IsDefault buffer names lent held old service state number values stands fresh known sound
+    by_port types choices buffer names lent held old service state number values stands fresh known sound
     (port_of number old.publishers) refl answer new call

@@ -12,6 +12,7 @@ use Rattle.iox_domain_machine.specs.Laws.{with_alone}
 use Rattle.iox_domain_machine.specs.LendingLaws.{lent_or_not}
 use Rattle.iox_domain_machine.proofs.Alone.{alone_does, alone_skips}
 use Rattle.iox_domain_machine.proofs.AloneDid.{by_option, alone_did}
+use Rattle.iox_machine.specs.Choices.{Choices}
 use Rattle.iox_machine.specs.Lending.{Lends}
 use Rattle.iox_machine.specs.Ports.{AtFree, publisher_in, LendsLoan}
 use Rattle.iox_machine.specs.Replies.{IsSkipped}
@@ -143,12 +144,12 @@ module _ {T : Type 0} (name values loan : ℕ) (service : Service T) where
     )
 
 -- how a publisher lent that was answered so
-pub lent_back : {T : Type 0} (types : MessageTypeDetails) (IsDefault : T → Type 0) (buffer name values : ℕ) (service after : Service T)
+pub lent_back : {T : Type 0} (types : MessageTypeDetails) (choices : Choices T) (buffer name values : ℕ) (service after : Service T)
     (state : State T) (answer : Option (Result ℕ LoanError))
-    → Step types IsDefault buffer (command.LoanUninit name values) (with_alone service state) (lent_or_not (state.made.loans + 1) answer)
+    → Step types choices buffer (command.LoanUninit name values) (with_alone service state) (lent_or_not (state.made.loans + 1) answer)
     (record (with_alone after state) { made = counted {T = T} (lent_or_not (state.made.loans + 1) answer) state.made })
     → LoanCame name values (state.made.loans + 1) service answer after
-lent_back types IsDefault buffer name values service after state answer step =
+lent_back types choices buffer name values service after state answer step =
     let loan = state.made.loans + 1 in
     lent_by name values loan service after answer
     (lent_as name values loan service after (lent_or_not loan answer)

@@ -23,6 +23,7 @@ use Rattle.iox_domain_machine.proofs.Lending.{lend_uninit_matches}
 use Rattle.iox_domain_machine.proofs.LendingBack.{LoanCame, service_with, free_does, busy_skips, lent_back}
 use Rattle.iox_domain_machine.proofs.TableEnds.{at_end, changed_end}
 use Rattle.iox_domain_machine.proofs.Writing.{fill_matches}
+use Rattle.iox_machine.specs.Choices.{Choices}
 use Rattle.iox_machine.specs.Message as machine
 use Rattle.iox_machine.specs.Ports.{LendsLoan, Writes}
 use Rattle.iox_machine.specs.Run.{Step}
@@ -35,13 +36,13 @@ map_same f zero x = refl
 map_same f (suc count) x = ap (λ more. f x ∷ more) (map_same f count x)
 
 -- a loan of a machine that has one service alone was written whole, if it has as many places
-filled_back : {T : Type 0} (types : MessageTypeDetails) (IsDefault : T → Type 0) (buffer loan : ℕ) (values : List T)
+filled_back : {T : Type 0} (types : MessageTypeDetails) (choices : Choices T) (buffer loan : ℕ) (values : List T)
     (service after : Service T) (state : State T) (answer : Reply T) (one : machine.Loan T) → at loan service.loans ≡ Some one
     → length one.values ≡ length values
-    → Step types IsDefault buffer (command.Fill loan values) (with_alone service state) answer (record
+    → Step types choices buffer (command.Fill loan values) (with_alone service state) answer (record
     (with_alone after state) { made = counted answer state.made })
     → after ≡ record service { loans = changed loan (record one { values = map Some values }) service.loans }
-filled_back {T} types IsDefault buffer loan values service after state answer one there as_many step =
+filled_back {T} types choices buffer loan values service after state answer one there as_many step =
     elim (alone_did (λ (it : Service T). at loan it.loans)
     (λ it. Writes loan it (length values == length it.values) (map Some values)) state service after answer step) [
       | inl w ↦ written w.0 (same_some w.0 one (sym w.1 ∙ there)) w.2
@@ -61,7 +62,7 @@ filled_back {T} types IsDefault buffer loan values service after state answer on
               ∙ eq-eqb (length values) (length it.values) (sym (ap (λ (it : machine.Loan T). length it.values) same ∙ as_many)))
         ]
 
-module _ {T U : Type 0} (types : MessageTypeDetails) (IsDefault : T → Type 0) (buffer : ℕ) (names : Naming) (lent : List (ℕ × LentSlot))
+module _ {T U : Type 0} (types : MessageTypeDetails) (choices : Choices T) (buffer : ℕ) (names : Naming) (lent : List (ℕ × LentSlot))
     (held : List (ℕ × Taken)) (old made : ServicePorts T U) (service : Service T) (state : State T) (number values : ℕ)
     (stands : StandsFor names lent held buffer old service) (fresh : at (state.made.loans + 1) lent ≡ None) where
   abbrev name : ℕ
@@ -72,13 +73,13 @@ module _ {T U : Type 0} (types : MessageTypeDetails) (IsDefault : T → Type 0) 
 
   -- so a loan was made whose values are unwritten
   abbrev pub LoanMatched : Option (Result ℕ LoanError) → Type 0
-  LoanMatched answer = (next : ℕ) × Matches T U IsDefault types buffer (command.LoanUninit name values) (lent_or_not loan answer) state
+  LoanMatched answer = (next : ℕ) × Matches T U choices types buffer (command.LoanUninit name values) (lent_or_not loan answer) state
       service
       (with_lent_name number next answer names) (with_lent loan number answer lent) held made
 
   abbrev pub lent_so : (answer : Option (Result ℕ LoanError)) (came : LoanMatched answer)
       → LoanCame name values loan service answer came.1.0
-  lent_so answer came = lent_back types IsDefault buffer name values service came.1.0 state answer came.1.1
+  lent_so answer came = lent_back types choices buffer name values service came.1.0 state answer came.1.1
 
   pub none_there : at loan service.loans ≡ None
   none_there = ap (λ loans. at loan loans) stands.loans.same ∙ at_mapped (loan_as names old) loan lent
@@ -96,9 +97,9 @@ module _ {T U : Type 0} (types : MessageTypeDetails) (IsDefault : T → Type 0) 
       let out : LentSlot = record { publisher = number; slot = slot } in
       let there : at loan came.1.0.loans ≡ Some one =
       ap (λ (it : Service T). at loan it.loans) is ∙ at_end loan one service.loans none_there in
-      let fill = fill_matches T U IsDefault types buffer (with_lent_name number came.0 (Some (Ok slot)) names)
+      let fill = fill_matches T U choices types buffer (with_lent_name number came.0 (Some (Ok slot)) names)
       (with_lent loan number (Some (Ok slot)) lent) held made came.1.0 state loan written out came.1.2 (at_end loan out lent fresh) in
-      let became = filled_back types IsDefault buffer loan written came.1.0 fill.0 state _ one there
+      let became = filled_back types choices buffer loan written came.1.0 fill.0 state _ one there
       (length-replicate values None ∙ sym as_many) fill.1 in
       subst (λ (it : Service T). StandsFor (with_lent_name number came.0 (Some (Ok slot)) names)
       (with_lent loan number (Some (Ok slot)) lent) held buffer (with_values_in number slot written made) it)
@@ -108,9 +109,9 @@ module _ {T U : Type 0} (types : MessageTypeDetails) (IsDefault : T → Type 0) 
       (changed_end loan (record one { values = map Some written }) one service.loans none_there))
       fill.2
 
-  module _ (value : T) (default : IsDefault value) where
+  module _ (value : T) (default : choices.is_default value) where
     abbrev Comes : Option (Result ℕ LoanError) → Type 0
-    Comes answer = (next : ℕ) × Matches T U IsDefault types buffer (command.Loan name values) (lent_or_not loan answer) state service
+    Comes answer = (next : ℕ) × Matches T U choices types buffer (command.Loan name values) (lent_or_not loan answer) state service
         (with_lent_name number next answer names) (with_lent loan number answer lent) held
         (with_lent_values number (replicate values value) answer made)
 
@@ -158,9 +159,9 @@ module _ {T U : Type 0} (types : MessageTypeDetails) (IsDefault : T → Type 0) 
           ),
         )
 
-pub lend_matches : (T U : Type 0) (IsDefault : T → Type 0) → LendMatches T U IsDefault
-lend_matches T U IsDefault types buffer names lent held old made service state number values value answer stands sound known fresh default
+pub lend_matches : (T U : Type 0) (choices : Choices T) → LendMatches T U choices
+lend_matches T U choices types buffer names lent held old made service state number values value answer stands sound known fresh default
     call =
-    comes types IsDefault buffer names lent held old made service state number values stands fresh value default answer
-    (lend_uninit_matches T U IsDefault types buffer names lent held old made service state number values answer stands sound known fresh
+    comes types choices buffer names lent held old made service state number values stands fresh value default answer
+    (lend_uninit_matches T U choices types buffer names lent held old made service state number values answer stands sound known fresh
     call)

@@ -64,7 +64,8 @@ pub mod UpdateMidway
 pub mod UpdateParting
 pub mod UpdateConnecting
 pub mod UpdateBody
-pub mod UpdateWalk
+pub mod UpdateTold
+mod UpdateWalk
 pub mod UpdatingSubscriber
 pub mod UpdateMatches
 pub mod FirstUpdating

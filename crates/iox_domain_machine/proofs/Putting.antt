@@ -42,6 +42,7 @@ use Rattle.iox_domain_machine.proofs.PuttingParts.{PutParts, puts_in_parts}
 use Rattle.iox_domain_machine.proofs.SendingBack.{sending_back}
 use Rattle.iox_domain_machine.proofs.SendingLoan.{send_matches}
 use Rattle.iox_domain_machine.proofs.TableEnds.{at_end, removed_end, numbers_total, none_above}
+use Rattle.iox_machine.specs.Choices.{Choices}
 use Rattle.iox_machine.specs.Lending.{LendsLonger, loan_refusal}
 use Rattle.iox_machine.specs.Message as machine
 use Rattle.iox_machine.specs.Ports.{publisher_in, Puts}
@@ -132,13 +133,13 @@ not_skipped {T} (Err why) is = differ is
     differ : ◌≡◌ {A = Reply T} (reply.Refused (refusal.Send why)) reply.Skipped → ⊥
     differ e = cc
 
-module _ {T U : Type 0} (types : MessageTypeDetails) (IsDefault : T → Type 0) (buffer : ℕ)
+module _ {T U : Type 0} (types : MessageTypeDetails) (choices : Choices T) (buffer : ℕ)
     (may_degrade : DegradationInfo → DegradationAction → Type 0) (may : BackpressureInfo → BackpressureDecision → Type 0) (names : Naming)
     (lent : List (ℕ × LentSlot)) (held : List (ℕ × Taken)) (old : ServicePorts T U) (service : Service T) (state : State T)
     (number : ℕ) (values : List T) (stands : StandsFor names lent held buffer old service) (roomy : AreRoomy old)
     (known : names.publisher number ≢ 0)
     (decides : (publisher : Publisher T) → at (names.publisher number) service.publishers ≡ Some publisher → publisher.stands ≡ true
-    → DecidesAs may publisher) where
+    → DecidesAs choices may (names.publisher number) publisher) where
   abbrev name : ℕ
   name = names.publisher number
 
@@ -154,47 +155,48 @@ module _ {T U : Type 0} (types : MessageTypeDetails) (IsDefault : T → Type 0) 
 
   abbrev Comes : Option (Result Sent SendError) → ServicePorts T U → Type 0
   Comes answer new = (message : ℕ → ℕ → ℕ) × (reader : ℕ → ℕ → ℕ)
-      × Matches T U IsDefault types buffer (command.Put name values) (sent_or_skipped answer) state service
+      × Matches T U choices types buffer (command.Put name values) (sent_or_skipped answer) state service
       (record names { message = message; reader = reader }) lent held new
 
   came : (answer : Option (Result ℕ LoanError)) (made : ServicePorts T U)
       → LoansBy number (length values) (length values) old answer made
-      → LoanMatched types IsDefault buffer names lent held old made service before number (length values) stands fresh answer
-  came answer made lends = lend_uninit_matches T U IsDefault types buffer names lent held old made service before number (length values)
+      → LoanMatched types choices buffer names lent held old made service before number (length values) stands fresh answer
+  came answer made lends = lend_uninit_matches T U choices types buffer names lent held old made service before number (length values)
       answer stands roomy.sound known fresh lends
 
   -- nobody puts
   none_puts : LoansBy number (length values) (length values) old None old → Comes None old
   none_puts lends =
       let here = came None old lends in
-      let busy = lent_so types IsDefault buffer names lent held old old service before number (length values) stands fresh None here in
-      (names.message, names.reader, (service, busy_skips name service state (Puts name values) busy.0, stands))
+      let busy = lent_so types choices buffer names lent held old old service before number (length values) stands fresh None here in
+      (names.message, names.reader, (service, busy_skips name service state (Puts choices name values) busy.0, stands))
 
   -- the loan is refused, and nothing changes
   refused_puts : (why : LoanError) (new : ServicePorts T U) → LoansBy number (length values) (length values) old (Some (Err why)) new
       → Comes (Some (Err (error.LoanError why))) new
   refused_puts why new lends =
       let here = came (Some (Err why)) new lends in
-      let so = lent_so types IsDefault buffer names lent held old new service before number (length values) stands fresh (Some (Err why))
+      let so = lent_so types choices buffer names lent held old new service before number (length values) stands fresh (Some (Err why))
       here in
       let by = so.0 in (
         names.message,
         names.reader,
         (
           service,
-          free_does name service state (Puts name values) by.publisher by.there by.free (reply.Refused (refusal.Send (error.LoanError why)))
+          free_does name service state (Puts choices name values) by.publisher by.there by.free
+              (reply.Refused (refusal.Send (error.LoanError why)))
               service (Some why, by.after, by.lends, (refl, refl)),
           subst (λ (it : Service T). StandsFor names lent held buffer new it) so.1 here.1.2,
         ),
       )
 
   module _ (slot : ℕ) (made : ServicePorts T U) (lends : LoansBy number (length values) (length values) old (Some (Ok slot)) made) where
-    abbrev here : LoanMatched types IsDefault buffer names lent held old made service before number (length values) stands fresh
+    abbrev here : LoanMatched types choices buffer names lent held old made service before number (length values) stands fresh
         (Some (Ok slot))
     here = came (Some (Ok slot)) made lends
 
     abbrev by : LentBy name (length values) service None
-    by = (lent_so types IsDefault buffer names lent held old made service before number (length values) stands fresh (Some (Ok slot))
+    by = (lent_so types choices buffer names lent held old made service before number (length values) stands fresh (Some (Ok slot))
         here).0
 
     abbrev written : ServicePorts T U
@@ -216,11 +218,11 @@ module _ {T U : Type 0} (types : MessageTypeDetails) (IsDefault : T → Type 0) 
     now = service_with name (length values) loan service (map Some values) by
 
     none_here : at loan service.loans ≡ None
-    none_here = none_there types IsDefault buffer names lent held old made service before number (length values) stands fresh
+    none_here = none_there types choices buffer names lent held old made service before number (length values) stands fresh
 
     -- the loan is written whole, and goes by a number for now
     now_stands : StandsFor names_now lent_now held buffer written now
-    now_stands = filled_stands types IsDefault buffer names lent held old made service before number (length values) stands fresh slot
+    now_stands = filled_stands types choices buffer names lent held old made service before number (length values) stands fresh slot
         here values
         refl
 
@@ -234,69 +236,68 @@ module _ {T U : Type 0} (types : MessageTypeDetails) (IsDefault : T → Type 0) 
     there_now = at_changed name by.after by.publisher service.publishers (standing_at name service by.publisher by.there)
 
     decides_now : (publisher : Publisher T) → at name now.publishers ≡ Some publisher → publisher.stands ≡ true
-        → DecidesAs may publisher
+        → DecidesAs choices may name publisher
     decides_now publisher is up =
-        subst (DecidesAs may) (same_some by.after publisher (sym there_now ∙ is))
-        (lender_keeps (DecidesAs may) (λ one room segments first next as_before. as_before) name (length values) service by
+        subst (DecidesAs choices may name) (same_some by.after publisher (sym there_now ∙ is))
+        (lender_keeps (DecidesAs choices may name) (λ one room segments first next as_before. as_before) name (length values) service by
         (decides by.publisher (standing_at name service by.publisher by.there) (standing_there name service by.publisher by.there)))
 
     -- and is sent
     sends_now : (answer : Result Sent SendError) (new : ServicePorts T U) (reader : ℕ → ℕ → ℕ)
-        → Matches T U IsDefault types buffer (command.Send loan) (sent_or_skipped (Some answer)) state now
+        → Matches T U choices types buffer (command.Send loan) (sent_or_skipped (Some answer)) state now
         (record names_now { reader = reader }) (removed loan lent_now) held new
         → Comes (Some answer) new
     sends_now answer new reader sent =
-        let sends = sending_back loan now sent.0 (sent_or_skipped (Some answer)) (not_skipped answer) types IsDefault buffer state one
+        let sends = sending_back choices loan now sent.0 (sent_or_skipped (Some answer)) (not_skipped answer) types buffer state one
         by.after (at_end loan one service.loans none_here) there_now sent.1 in
-        let as_put : Sends name (record { number = by.publisher.next; values = values }) by.after (with_publisher name by.after service)
+        let as_put : Sends choices name (record { number = by.publisher.next; values = values }) by.after
+        (with_publisher name by.after service)
         (sent_or_skipped (Some answer)) sent.0 =
-        subst (λ (loans : List (ℕ × machine.Loan T)). Sends name (record { number = by.publisher.next; values = values }) by.after
+        subst (λ (loans : List (ℕ × machine.Loan T)). Sends choices name (record { number = by.publisher.next; values = values }) by.after
         (record (with_publisher name by.after service) { loans = loans }) (sent_or_skipped (Some answer)) sent.0)
         (removed_end loan one service.loans none_here)
-        (subst (λ (it : List T). Sends name (record { number = by.publisher.next; values = it }) by.after
+        (subst (λ (it : List T). Sends choices name (record { number = by.publisher.next; values = it }) by.after
         (record now { loans = removed loan now.loans }) (sent_or_skipped (Some answer)) sent.0) (values_written values) sends) in (
           names_now.message,
           reader,
           (
             sent.0,
-            free_does name service state (Puts name values) by.publisher by.there by.free (sent_or_skipped (Some answer)) sent.0
+            free_does name service state (Puts choices name values) by.publisher by.there by.free (sent_or_skipped (Some answer)) sent.0
                 (None, by.after, by.lends, as_put),
             subst (λ (table : List (ℕ × LentSlot)). StandsFor (record names_now { reader = reader }) table held buffer new sent.0)
                 (removed_end loan out lent fresh) sent.2,
           ),
         )
 
-    degrades_now : (degradation : DegradationAction) → DegradesAs may_degrade degradation name service
-        → DegradesAs may_degrade degradation name now
-    degrades_now degradation degrades publisher is up =
-        let was = degrades by.publisher (standing_at name service by.publisher by.there)
-        (standing_there name service by.publisher by.there) in (
-          was.0,
-          subst (λ (it : Publisher T). it.degradation ≡ degradation) (same_some by.after publisher (sym there_now ∙ is))
-              (lender_keeps (λ it. it.degradation ≡ degradation) (λ it room segments first next as_before. as_before) name (length values)
-              service by was.1),
-        )
+    degrades_now : DegradesAs choices may_degrade name service → DegradesAs choices may_degrade name now
+    degrades_now degrades publisher is up =
+        subst (λ (it : Publisher T). (info : DegradationInfo) (action : DegradationAction) → may_degrade info action
+        → choices.publisher_acts name it.degradation action) (same_some by.after publisher (sym there_now ∙ is))
+        (lender_keeps (λ it. (info : DegradationInfo) (action : DegradationAction) → may_degrade info action
+        → choices.publisher_acts name it.degradation action) (λ it room segments first next as_before. as_before) name (length values)
+        service by
+        (degrades by.publisher (standing_at name service by.publisher by.there) (standing_there name service by.publisher by.there)))
 
   -- whether nobody puts, or the loan is refused, or it is made, written and sent
-  pub put_parts_match : (degradation : DegradationAction) → DegradesAs may_degrade degradation name service
+  pub put_parts_match : DegradesAs choices may_degrade name service
       → (answer : Option (Result Sent SendError)) (new : ServicePorts T U) → PutParts may_degrade may number values old answer new
       → Comes answer new
-  put_parts_match degradation degrades answer new (inl busy) =
+  put_parts_match degrades answer new (inl busy) =
       subst (λ (told : Option (Result Sent SendError)). Comes told new) (sym busy.0)
       (subst (λ (ports : ServicePorts T U). Comes None ports) (sym busy.1) (none_puts busy.2))
-  put_parts_match degradation degrades answer new (inr (inl refused)) =
+  put_parts_match degrades answer new (inr (inl refused)) =
       subst (λ (told : Option (Result Sent SendError)). Comes told new) (sym refused.1) (refused_puts refused.0 new refused.2)
-  put_parts_match degradation degrades answer new (inr (inr (slot, made, result, is, lends, goes))) =
-      let sent = send_matches T U IsDefault may may_degrade types buffer (names_now slot made lends) (lent_now slot made lends) held
-      (written slot made lends) new (now slot made lends) state loan (out slot made lends) degradation (Some result)
+  put_parts_match degrades answer new (inr (inr (slot, made, result, is, lends, goes))) =
+      let sent = send_matches T U choices may may_degrade types buffer (names_now slot made lends) (lent_now slot made lends) held
+      (written slot made lends) new (now slot made lends) state loan (out slot made lends) (Some result)
       (now_stands slot made lends) (now_roomy slot made lends) (at_end loan (out slot made lends) lent fresh)
-      (decides_now slot made lends) (degrades_now slot made lends degradation degrades) goes in
+      (decides_now slot made lends) (degrades_now slot made lends degrades) goes in
       subst (λ (told : Option (Result Sent SendError)). Comes told new) (sym is)
       (sends_now slot made lends result new (with_name number sent.0 names.reader) sent.1)
 
-pub put_matches : (T U : Type 0) (IsDefault : T → Type 0) (may : BackpressureInfo → BackpressureDecision → Type 0)
-    (may_degrade : DegradationInfo → DegradationAction → Type 0) → PutMatches T U IsDefault may may_degrade
-put_matches T U IsDefault may may_degrade types buffer names lent held old new service state number values degradation answer stands roomy
+pub put_matches : (T U : Type 0) (choices : Choices T) (may : BackpressureInfo → BackpressureDecision → Type 0)
+    (may_degrade : DegradationInfo → DegradationAction → Type 0) → PutMatches T U choices may may_degrade
+put_matches T U choices may may_degrade types buffer names lent held old new service state number values answer stands roomy
     known decides degrades call =
-    put_parts_match types IsDefault buffer may_degrade may names lent held old service state number values stands roomy known decides
-    degradation degrades answer new (puts_in_parts may_degrade may number values old answer new call)
+    put_parts_match types choices buffer may_degrade may names lent held old service state number values stands roomy known decides
+    degrades answer new (puts_in_parts may_degrade may number values old answer new call)

@@ -21,6 +21,7 @@ use Rattle.iox_domain_machine.proofs.Alone.{alone_does}
 use Rattle.iox_domain_machine.proofs.Found.{at_mapped, at_head, at_behind, same_some, never_some}
 use Rattle.iox_domain_machine.proofs.Kept.{sample_by}
 use Rattle.iox_domain_machine.proofs.Loans.{unlike}
+use Rattle.iox_machine.specs.Choices.{Choices}
 use Rattle.iox_machine.specs.Message.{Sample}
 use Rattle.iox_machine.specs.Service.{Service}
 use Rattle.iox_machine.specs.Table.{at}
@@ -77,8 +78,8 @@ borrowed_there {T} {U} slot (message ∷ messages) is = ⊎_elim
     (rest.0, ap (λ b. cond b (Some message) (find (λ (message : Message T U). message.slot == slot) messages)) other.0 ∙ rest.1))
     (eqb_tells message.slot slot)
 
-pub read_matches : (T U : Type 0) (IsDefault : T → Type 0) → ReadMatches T U IsDefault
-read_matches T U IsDefault types buffer names lent held ports service state sample taken stands held_there =
+pub read_matches : (T U : Type 0) (choices : Choices T) → ReadMatches T U choices
+read_matches T U choices types buffer names lent held ports service state sample taken stands held_there =
     let borrowed = (connection_in taken.publisher taken.index ports.publishers).borrowed in
     let found = borrowed_there taken.slot borrowed
     (subst (λ (slots : List ℕ). 0 < times taken.slot slots) (stands.samples.all taken.publisher taken.index)

@@ -38,6 +38,7 @@ use Rattle.iox_domain_machine.proofs.Found.{never_some, same_some}
 use Rattle.iox_domain_machine.proofs.Hearing.{hears}
 use Rattle.iox_domain_machine.proofs.ReceiveSweeping.{set_again}
 use Rattle.iox_domain_machine.proofs.Receiving.{receive_stands}
+use Rattle.iox_machine.specs.Choices.{Choices}
 use Rattle.iox_machine.specs.Ports.{subscriber_in}
 use Rattle.iox_machine.specs.Receiving as machine
 use Rattle.iox_machine.specs.Service.{Service, Subscriber}
@@ -45,11 +46,11 @@ use Rattle.iox_machine.specs.State.{State}
 use Rattle.iox_machine.specs.SubscriberUpdate.{UpdatesFirst}
 use Rattle.iox_machine.specs.Table.{at}
 
-module _ {T U : Type 0} (IsDefault : T → Type 0) (may : DegradationInfo → DegradationAction → Type 0) (types : MessageTypeDetails)
+module _ {T U : Type 0} (choices : Choices T) (may : DegradationInfo → DegradationAction → Type 0) (types : MessageTypeDetails)
     (buffer : ℕ) (names : Naming) (lent : List (ℕ × LentSlot)) (held : List (ℕ × Taken)) (old new : ServicePorts T U) (service : Service T)
     (state : State T) (number : ℕ) (values : Vec T) (stands : StandsFor names lent held buffer old service) (roomy : AreRoomy old)
     (named : names.subscriber number ≢ 0)
-    (acts : ActsAs may (names.subscriber number) service) (free : at (state.made.samples + 1) held ≡ None)
+    (acts : ActsAs choices may (names.subscriber number) service) (free : at (state.made.samples + 1) held ≡ None)
     (few : samples_held_by number held < 2 ^ 64 - 1) where
   abbrev sample : ℕ
   sample = state.made.samples + 1
@@ -63,13 +64,17 @@ module _ {T U : Type 0} (IsDefault : T → Type 0) (may : DegradationInfo → De
 
   abbrev Meant : Option (Result (Option Taken) ReceiveError) → ServicePorts T U → Type 0
   Meant answer new =
-      (reader : ℕ → ℕ → ℕ) × Matches T U IsDefault types buffer (command.Receive name) (received_or_not sample values answer) state service
+      (reader : ℕ → ℕ → ℕ) × Matches T U choices types buffer (command.Receive name) (received_or_not sample values answer) state service
       (record names { reader = reader }) lent (with_held sample answer held) new
 
   skips : subscriber_in name service ≡ None → new ≡ old → Meant None new
   skips none same = rw same (
     names.reader,
-    (service, alone_skips (subscriber_in name) (UpdatesFirst buffer name told (machine.Receives name sample)) state service none, stands),
+    (
+      service,
+      alone_skips (subscriber_in name) (UpdatesFirst choices buffer name told (machine.Receives name sample)) state service none,
+      stands,
+    ),
   )
 
   module _ (port : SubscriberPort) (there : subscriber_of number old.subscribers ≡ Some port) (standing : port.stands ≡ true)
@@ -94,7 +99,7 @@ module _ {T U : Type 0} (IsDefault : T → Type 0) (may : DegradationInfo → De
 
     -- it receive_stands once its connections are up to date, and is refused where one failed
     received_by : (updated : Result (Unit {0}) ConnectionFailure)
-        → UpdatedFirst names lent held buffer old service number was updated between between_ports
+        → UpdatedFirst choices names lent held buffer old service number was updated between between_ports
         → ReceivesAfter updated between between_ports outcome received publishers → AreReceived values (Some outcome) later
         → Meant (Some outcome) later
     received_by (Ok tt) it does are =
@@ -108,9 +113,9 @@ module _ {T U : Type 0} (IsDefault : T → Type 0) (may : DegradationInfo → De
           it.reader,
           (
             done.0,
-            alone_does (subscriber_in name) (UpdatesFirst buffer name told (machine.Receives name sample)) state service done.0
+            alone_does (subscriber_in name) (UpdatesFirst choices buffer name told (machine.Receives name sample)) state service done.0
                 (received_or_not sample values (Some outcome)) was found
-                (does_then buffer name was service (Ok tt) it.later it.mid it.begun refl told (machine.Receives name sample)
+                (does_then choices buffer name was service (Ok tt) it.later it.mid it.begun refl told (machine.Receives name sample)
                 (received_or_not sample values (Some outcome)) done.0
                 (subst (λ (one : Subscriber). machine.Receives name sample one it.mid (received_or_not sample values (Some outcome)) done.0)
                 (same_some its.0 it.later (sym its.1 ∙ it.now)) done.1)),
@@ -123,9 +128,10 @@ module _ {T U : Type 0} (IsDefault : T → Type 0) (may : DegradationInfo → De
           it.reader,
           (
             it.mid,
-            alone_does (subscriber_in name) (UpdatesFirst buffer name told (machine.Receives name sample)) state service it.mid
+            alone_does (subscriber_in name) (UpdatesFirst choices buffer name told (machine.Receives name sample)) state service it.mid
                 (reply.Refused (told failure)) was found
-                (fails_so buffer name was service (Err failure) it.later it.mid it.begun failure refl told (machine.Receives name sample)),
+                (fails_so choices buffer name was service (Err failure) it.later it.mid it.begun failure refl told
+                (machine.Receives name sample)),
             it.stands,
           ),
         )))
@@ -138,7 +144,7 @@ module _ {T U : Type 0} (IsDefault : T → Type 0) (may : DegradationInfo → De
       → Meant (Some outcome) new
   received_so port there standing listed is_list received publishers outcome (updated, between, between_ports, updates, after_it) is are =
       rw is (received_by port there standing between received between_ports publishers outcome updated
-      (updates_first names lent held buffer old service number types IsDefault state may stands roomy acts port there standing listed
+      (updates_first choices names lent held buffer old service number types state may stands roomy acts port there standing listed
       is_list updated between between_ports updates) after_it
       (subst (λ (ports : ServicePorts T U). AreReceived values (Some outcome) ports) is are))
 
@@ -172,9 +178,9 @@ module _ {T U : Type 0} (IsDefault : T → Type 0) (may : DegradationInfo → De
       rw call.0 (skips (nobody_found names lent held buffer old service number stands named there) call.1)
   receives_by answer read (Some port) there call = at_subscriber port there answer call read
 
-pub receive_matches : (T U : Type 0) (IsDefault : T → Type 0) (may : DegradationInfo → DegradationAction → Type 0)
-    → ReceiveMatches T U IsDefault may
-receive_matches T U IsDefault may types buffer names lent held old new service state number answer values stands roomy named acts free
+pub receive_matches : (T U : Type 0) (choices : Choices T) (may : DegradationInfo → DegradationAction → Type 0)
+    → ReceiveMatches T U choices may
+receive_matches T U choices may types buffer names lent held old new service state number answer values stands roomy named acts free
     few call read =
-    receives_by IsDefault may types buffer names lent held old new service state number values stands roomy named acts free few answer read
+    receives_by choices may types buffer names lent held old new service state number values stands roomy named acts free few answer read
     (subscriber_of number old.subscribers) refl call

@@ -50,6 +50,7 @@ use Rattle.iox_domain_machine.proofs.ReleasePort.{boxes_after}
 use Rattle.iox_domain_machine.proofs.ReleaseSettling.{subscriber_settled}
 use Rattle.iox_domain_machine.proofs.Removing.{placed, but, often_removed}
 use Rattle.iox_domain_machine.proofs.Settling.{both, settled_stands}
+use Rattle.iox_machine.specs.Choices.{Choices}
 use Rattle.iox_machine.specs.Mailbox as machine
 use Rattle.iox_machine.specs.Mailbox.{Mailbox}
 use Rattle.iox_machine.specs.Message.{Sample}
@@ -435,8 +436,8 @@ module _ {T U : Type 0} (names : Naming) (lent : List (ℕ × LentSlot)) (held :
       ap (λ samples. at sample samples) stands.samples.same ∙ at_mapped (sample_as names old) sample held
       ∙ ap (option_map (sample_as names old)) goes
 
-pub release_matches : (T U : Type 0) (IsDefault : T → Type 0) → ReleaseMatches T U IsDefault
-release_matches T U IsDefault types buffer names lent held old new service state sample taken answer stands sound goes call =
+pub release_matches : (T U : Type 0) (choices : Choices T) → ReleaseMatches T U choices
+release_matches T U choices types buffer names lent held old new service state sample taken answer stands sound goes call =
     let it = is_held names lent held buffer old service sample taken stands sound goes in
     let is = call_is names lent held buffer old service sample taken stands sound goes it answer new call in
     let after : Service T = service_after names lent held buffer old service sample taken stands sound goes it in

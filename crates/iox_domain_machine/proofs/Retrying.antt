@@ -37,6 +37,7 @@ use Rattle.iox_domain_machine.proofs.Kept.{loans_kept}
 use Rattle.iox_domain_machine.proofs.SendEnds.{Finished, finishes, reader_at}
 use Rattle.iox_domain_machine.proofs.SendPut.{further}
 use Rattle.iox_domain_machine.proofs.SendReady.{is_ready, within_limit}
+use Rattle.iox_machine.specs.Choices.{Choices}
 use Rattle.iox_machine.specs.Ports.{publisher_in}
 use Rattle.iox_machine.specs.Replies.{IsSkipped}
 use Rattle.iox_machine.specs.Sending.{GoesOn}
@@ -47,12 +48,12 @@ use Rattle.iox_machine.specs.Table.{at}
 once_more : (retries counted most : ℕ) → counted ≡ min retries most → min (counted + 1) most ≡ min (retries + 1) most
 once_more retries counted most same = omega (arith, same)
 
-module _ {T U : Type 0} (types : MessageTypeDetails) (IsDefault : T → Type 0) (buffer : ℕ)
+module _ {T U : Type 0} (types : MessageTypeDetails) (choices : Choices T) (buffer : ℕ)
     (may : BackpressureInfo → BackpressureDecision → Type 0) (names : Naming) (lent : List (ℕ × LentSlot)) (held : List (ℕ × Taken))
     (old : ServicePorts T U) (service : Service T) (state : State T) (number nanoseconds : ℕ)
     (stands : StandsFor names lent held buffer old service) (roomy : AreRoomy old)
     (decides : (publisher : Publisher T) → at (names.publisher number) service.publishers ≡ Some publisher → publisher.stands ≡ true
-    → DecidesAs may publisher) where
+    → DecidesAs choices may (names.publisher number) publisher) where
   abbrev name : ℕ
   name = names.publisher number
 
@@ -62,10 +63,10 @@ module _ {T U : Type 0} (types : MessageTypeDetails) (IsDefault : T → Type 0) 
 
   abbrev Does : Publisher T → Service T → Reply T → Service T → Type 0
   Does one before answered after = MatchOption one.blocked (IsSkipped before answered after)
-      (λ send. GoesOn name one (again send) before answered after)
+      (λ send. GoesOn choices name one (again send) before answered after)
 
   abbrev Comes : Option (Result Sent SendError) → ServicePorts T U → Type 0
-  Comes answer new = Matches T U IsDefault types buffer (command.Retry name nanoseconds) (sent_or_skipped answer) state service names lent
+  Comes answer new = Matches T U choices types buffer (command.Retry name nanoseconds) (sent_or_skipped answer) state service names lent
       held new
 
   -- nothing happens where the machine has no such publisher that stands
@@ -118,10 +119,10 @@ module _ {T U : Type 0} (types : MessageTypeDetails) (IsDefault : T → Type 0) 
 
       goes : (answer : Result Sent SendError) (after : PublisherPort T U)
           → Finishes may (with_progress (tried_again nanoseconds port.progress) port) answer after
-          → Finished names lent lent held buffer old service number port stands there (tried_again nanoseconds port.progress)
+          → Finished choices names lent lent held buffer old service number port stands there (tried_again nanoseconds port.progress)
           port.sender.uses.loans port.sender.uses.history was.0.history service.loans message (again blocked.0) may answer after
       goes answer after finished =
-          finishes names lent lent held buffer old service number port stands there (tried_again nanoseconds port.progress)
+          finishes choices names lent lent held buffer old service number port stands there (tried_again nanoseconds port.progress)
           port.sender.uses.loans port.sender.uses.history was.0.history service.loans message (again blocked.0) may standing
           was.2.history was.2.once
           (subst (λ (sending : Option (Message T U)). NamesSlots (names.message number)
@@ -143,7 +144,7 @@ module _ {T U : Type 0} (types : MessageTypeDetails) (IsDefault : T → Type 0) 
           (further (names.message number) (names.reader number) names.subscriber port (tried_again nanoseconds port.progress)
           (service.mailboxes name) service.subscribers was.3 (omega arith)))
           (within_limit old roomy number port there)
-          (let is = is_ready names lent held buffer old service stands roomy number port there standing may was.0
+          (let is = is_ready choices names lent held buffer old service stands roomy number port there standing may was.0
           (decides was.0 was.1 (was.2.stands ∙ standing)) in
           record {
             overflows = is.overflows;
@@ -170,7 +171,7 @@ module _ {T U : Type 0} (types : MessageTypeDetails) (IsDefault : T → Type 0) 
             alone_does (publisher_in name) Does state service to.0 (sent_or_skipped (Some answer)) was.0
                 (is_in service name was.0 was.1 (was.2.stands ∙ standing))
                 (subst (λ (send : Option (Send T)). MatchOption send (IsSkipped {T = T} service (sent_or_skipped (Some answer)) to.0)
-                (λ one. GoesOn name was.0 (again one) service (sent_or_skipped (Some answer)) to.0)) (sym blocked.1) to.1),
+                (λ one. GoesOn choices name was.0 (again one) service (sent_or_skipped (Some answer)) to.0)) (sym blocked.1) to.1),
             subst (λ (ports : List (ℕ × PublisherPort T U)). StandsFor names lent held buffer (record old { publishers = ports }) to.0)
                 (sym (kept_there number after (with_port number old.publishers after)
                 (same_set (at_number number) old.publishers after port there) to.3)) to.2,
@@ -203,9 +204,9 @@ module _ {T U : Type 0} (types : MessageTypeDetails) (IsDefault : T → Type 0) 
   by_port named None none answer new call = rw call.0 (rw call.1 (there_none named none))
   by_port named (Some port) there answer new call = by_waiting port there port.sender.uses.sending refl answer new call
 
-pub retry_matches : (T U : Type 0) (IsDefault : T → Type 0) (may : BackpressureInfo → BackpressureDecision → Type 0)
-    → RetryMatches T U IsDefault may
-retry_matches T U IsDefault may types buffer names lent held old new service state number nanoseconds answer stands roomy named decides
+pub retry_matches : (T U : Type 0) (choices : Choices T) (may : BackpressureInfo → BackpressureDecision → Type 0)
+    → RetryMatches T U choices may
+retry_matches T U choices may types buffer names lent held old new service state number nanoseconds answer stands roomy named decides
     call =
-    by_port types IsDefault buffer may names lent held old service state number nanoseconds stands roomy decides named
+    by_port types choices buffer may names lent held old service state number nanoseconds stands roomy decides named
     (port_of number old.publishers) refl answer new call

@@ -50,6 +50,7 @@ use Rattle.iox_machine.specs.PortList.{those}
 use Rattle.iox_machine.specs.Sending.{Begins}
 use Rattle.iox_machine.specs.Service.{Service, Publisher, Send}
 use Rattle.iox_machine.specs.Table.{at, removed}
+use Rattle.iox_machine.specs.Choices.{Choices}
 
 -- what is found is at its place, and passes
 found_at_by : {X : Type 0} (test : X → Bool) (b : Bool) (first : X) (rest : List X) (found : X) → test first ≡ b
@@ -86,7 +87,8 @@ found_counts slot (loan ∷ loans) found is = ⊎_elim
     ))
     (eqb_tells loan.slot slot)
 
-module _ {T U : Type 0} (names : Naming) (lent : List (ℕ × LentSlot)) (held : List (ℕ × Taken)) (buffer : ℕ) (ports : ServicePorts T U)
+module _ {T U : Type 0} (choices : Choices T) (names : Naming) (lent : List (ℕ × LentSlot)) (held : List (ℕ × Taken)) (buffer : ℕ)
+    (ports : ServicePorts T U)
     (service : Service T) (loan : ℕ) (out : LentSlot) (stands : StandsFor names lent held buffer ports service)
     (goes : at loan lent ≡ Some out) (may : BackpressureInfo → BackpressureDecision → Type 0) where
   abbrev there : IsThere ports out
@@ -234,7 +236,7 @@ module _ {T U : Type 0} (names : Naming) (lent : List (ℕ × LentSlot)) (held :
         (λ off. omega (arith, history_less slot, was.2.once slot, one_other slot out.slot off.0))
         (eqb_tells slot out.slot)
 
-    module _ (standing : whose.stands ≡ true) (ready : IsReadyToSend may (names.reader out.publisher) name was.0 service whose)
+    module _ (standing : whose.stands ≡ true) (ready : IsReadyToSend choices may (names.reader out.publisher) name was.0 service whose)
         (within : (index : ℕ) → length (connection_of index whose).waiting ≤ (connection_of index whose).limit) where
       history_is : publisher.history ≡ map (message_as naming) begun.sender.uses.history
       history_is =
@@ -286,13 +288,13 @@ module _ {T U : Type 0} (names : Naming) (lent : List (ℕ × LentSlot)) (held :
       -- The send of a loan goes over all places, in the domain and in the machine.
       abbrev pub BeginsAlike : Result Sent SendError → PublisherPort T U → Type 0
       BeginsAlike answer after =
-          (new : Service T) × Begins name message_there was.0 before (sent_or_skipped (Some answer)) new
+          (new : Service T) × Begins choices name message_there was.0 before (sent_or_skipped (Some answer)) new
           × StandsFor names (removed loan lent) held buffer (with_one out.publisher after ports) new × (after.stands ≡ true)
 
       pub begins : (answer : Result Sent SendError) (after : PublisherPort T U) → Finishes may (begun_at place whose) answer after
           → BeginsAlike answer after
       begins answer after goes_on =
-          finishes names lent (removed loan lent) held buffer ports service out.publisher whose stands there.there start
+          finishes choices names lent (removed loan lent) held buffer ports service out.publisher whose stands there.there start
           begun.sender.uses.loans begun.sender.uses.history publisher.history (removed loan service.loans) message send may standing
           history_is once (named_still naming slots_was slots_now was.0.first was.0.next refl refl used_then sole was.2.named)
           (record {

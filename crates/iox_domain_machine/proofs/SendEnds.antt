@@ -28,7 +28,7 @@ use Rattle.iox_domain.specs.DomainPorts.declared.meeting.Sent.{Sent}
 use Rattle.iox_domain.specs.DomainPorts.declared.meeting.Sent.TheVariants as sent
 use Rattle.iox_domain.specs.DomainPorts.declared.publisher_port.PublisherPort.{PublisherPort}
 use Rattle.iox_domain.specs.DomainSlots.Counting.{times}
-use Rattle.iox_domain.specs.DomainSlots.Uses.{Connection, nobody, in_use}
+use Rattle.iox_domain.specs.DomainSlots.Uses.{Connection, in_use}
 use Rattle.iox_domain.specs.DomainSlots.Uses as uses
 use Rattle.iox_domain.specs.declared.ports.service_ports.ServicePorts.{ServicePorts}
 use Rattle.iox_domain_machine.specs.Mailboxes.{MailboxesStandFor}
@@ -50,9 +50,11 @@ use Rattle.iox_domain_machine.proofs.SendWalk.{IsAsFar, EndsAlike, walk, readers
 use Rattle.iox_machine.specs.Mailbox.{Mailbox}
 use Rattle.iox_machine.specs.Message.{Message, Loan}
 use Rattle.iox_machine.specs.PortList.{those}
-use Rattle.iox_machine.specs.Sending.{GoesOn, deliver}
+use Rattle.iox_machine.specs.Sending.{GoesOn}
+use Rattle.iox_machine.specs.Sending as machine
 use Rattle.iox_machine.specs.Service.{Service, Publisher, Send, with_publisher}
 use Rattle.iox_machine.specs.Table.{changed}
+use Rattle.iox_machine.specs.Choices.{Choices}
 
 module _ (reader : ℕ → ℕ) where
   nobody_at : (count : ℕ) → those (map (option_map reader) (replicate count None)) ≡ []
@@ -134,7 +136,8 @@ pub record IsBegun {T U : Type 0} (name : ℕ → ℕ) (connected ties : List (O
   pub elapsed : progress.elapsed ≡ send.elapsed
   pub untried : get_or ties progress.place None ≡ None → (send.retries ≡ 0) × (send.elapsed ≡ 0)
 
-module _ {T U : Type 0} (names : Naming) (lent after_lent : List (ℕ × LentSlot)) (held : List (ℕ × Taken)) (buffer : ℕ)
+module _ {T U : Type 0} (choices : Choices T) (names : Naming) (lent after_lent : List (ℕ × LentSlot)) (held : List (ℕ × Taken))
+    (buffer : ℕ)
     (old : ServicePorts T U) (service : Service T) (number : ℕ) (port : PublisherPort T U)
     (stands : StandsFor names lent held buffer old service) (there : port_of number old.publishers ≡ Some port) (from : ProgressState)
     (out : List (domain.Loan T U)) (kept : List (domain.Message T U)) (history : List (Message T)) (loans : List (ℕ × Loan T))
@@ -167,10 +170,10 @@ module _ {T U : Type 0} (names : Naming) (lent after_lent : List (ℕ × LentSlo
   }
 
   abbrev IsFar : List (Connection (domain.Message T U)) → ProgressState → (ℕ → ℕ → Option (Mailbox T)) → Send T → Type 0
-  IsFar = IsAsFar may (names.message number) (names.reader number) names.subscriber name publisher before started message
+  IsFar = IsAsFar choices may (names.message number) (names.reader number) names.subscriber name publisher before started message
 
-  abbrev Comes : Bool → PublisherPort T U → Send T × Service T → Type 0
-  Comes = EndsAlike may (names.message number) (names.reader number) names.subscriber name publisher before started message
+  abbrev Comes : Bool → PublisherPort T U → (Send T → Service T → Type 0) → Type 0
+  Comes = EndsAlike choices may (names.message number) (names.reader number) names.subscriber name publisher before started message
 
   -- what the machine answers to a send that waits, or doesn't, and what it makes of its publisher
   abbrev TellsBy : Bool → Send T → Service T → Reply T → Service T → Type 0
@@ -178,13 +181,10 @@ module _ {T U : Type 0} (names : Naming) (lent after_lent : List (ℕ × LentSlo
       (answered ≡ (if waiting then reply.Blocked else told so_far.fails so_far.delivered))
       × (new ≡ with_publisher name (record publisher { blocked = if waiting then Some so_far else None }) after)
 
-  abbrev Tells : Send T × Service T → Reply T → Service T → Type 0
-  Tells found = TellsBy (is_some (slice_get found.0.left 0)) found.0 found.1
-
   -- a publisher that began to send comes to this in a domain, and in the machine
   abbrev pub Finished : Result Sent SendError → PublisherPort T U → Type 0
   Finished answer after =
-      (new : Service T) × GoesOn name publisher send before (sent_or_skipped (Some answer)) new
+      (new : Service T) × GoesOn choices name publisher send before (sent_or_skipped (Some answer)) new
       × StandsFor names after_lent held buffer (with_one number after old) new × (after.stands ≡ true)
 
   module _ (standing : port.stands ≡ true) (history_is : history ≡ map (message_as (names.message number)) kept)
@@ -194,7 +194,7 @@ module _ {T U : Type 0} (names : Naming) (lent after_lent : List (ℕ × LentSlo
       (boxes : MailboxesStandFor (names.message number) (names.reader number) names.subscriber started (service.mailboxes name)
       service.subscribers)
       (within : (index : ℕ) → length (connection_of index port).waiting ≤ (connection_of index port).limit)
-      (ready : IsReadyToSend may (names.reader number) name publisher before started)
+      (ready : IsReadyToSend choices may (names.reader number) name publisher before started)
       (lends : LoansStandFor names (with_one number started old) after_lent loans) where
     abbrev slot_of : domain.Message T U → ℕ
     slot_of one = one.slot
@@ -223,7 +223,7 @@ module _ {T U : Type 0} (names : Naming) (lent after_lent : List (ℕ × LentSlo
     }
 
     left_there : (place : ℕ) → those (drop place publisher.connected)
-        ≡ readers_of may (names.message number) (names.reader number) names.subscriber name publisher before started message
+        ≡ readers_of choices may (names.message number) (names.reader number) names.subscriber name publisher before started message
         (drop place started.ties.items)
     left_there place =
         ap (λ connected. those (drop place connected)) was.2.connected
@@ -231,11 +231,11 @@ module _ {T U : Type 0} (names : Naming) (lent after_lent : List (ℕ × LentSlo
 
     walked : (arrived : Bool) (gone : PublisherPort T U)
         → Delivers may (length started.ties.items - started.progress.place) started arrived gone
-        → Comes arrived gone (deliver name publisher send.left send before)
+        → Comes arrived gone (machine.Delivers choices name publisher send.left send before)
     walked arrived gone delivers =
-        subst (λ left. Comes arrived gone (deliver name publisher left send before))
+        subst (λ left. Comes arrived gone (machine.Delivers choices name publisher left send before))
         (sym (begins.left ∙ left_there started.progress.place))
-        (walk may (names.message number) (names.reader number) names.subscriber name publisher before started message ready refl
+        (walk choices may (names.message number) (names.reader number) names.subscriber name publisher before started message ready refl
         (drop started.progress.place started.ties.items) started.sender.uses.connections started.progress service.mailboxes send arrived
         gone refl first
         (subst (λ count. Delivers may count started arrived gone) (sym (length-drop started.progress.place started.ties.items)) delivers))
@@ -368,8 +368,14 @@ module _ {T U : Type 0} (names : Naming) (lent after_lent : List (ℕ × LentSlo
           (samples_alike names held old number port after there
           far.borrowed service.samples stands.samples)
 
+    -- what is told of a send that went so far
+    tells : (so_far : Send T) (after : Service T) → machine.Delivers choices name publisher send.left send before so_far after
+        → (answered : Reply T) (new : Service T) → TellsBy (is_some (slice_get so_far.left 0)) so_far after answered new
+        → GoesOn choices name publisher send before answered new
+    tells so_far after went answered new (told_so, is) = (so_far, after, went, told_so, is)
+
     -- a send that came to the end
-    arrives : (gone : PublisherPort T U) → Comes true gone (deliver name publisher send.left send before)
+    arrives : (gone : PublisherPort T U) → Comes true gone (machine.Delivers choices name publisher send.left send before)
         → Finished (sent_answer true gone.progress) (concluded true gone)
     arrives gone to =
         let new : Service T = with_publisher name (record publisher { blocked = None }) (record before { mailboxes = to.mailboxes }) in
@@ -377,7 +383,7 @@ module _ {T U : Type 0} (names : Naming) (lent after_lent : List (ℕ × LentSlo
         let after : Service T = record before { mailboxes = to.mailboxes } in
         subst (λ (one : PublisherPort T U). Finished (sent_answer true one.progress) (concluded true one)) (sym to.is_gone) (
           new,
-          subst (λ found. Tells found (sent_or_skipped {T = T} (Some (sent_answer true to.progress))) new) (sym to.is_found)
+          tells to.send after to.is_found (sent_or_skipped (Some (sent_answer true to.progress))) new
               (subst (λ b. TellsBy b to.send after (sent_or_skipped {T = T} (Some (sent_answer true to.progress))) new) (sym none) (
                 answered_by to.progress.fails to.progress.delivered
                     ∙ ended_by to.progress.fails to.send.fails to.progress.delivered to.send.delivered to.is_at.fails to.is_at.delivered,
@@ -388,7 +394,7 @@ module _ {T U : Type 0} (names : Naming) (lent after_lent : List (ℕ × LentSlo
         )
 
     -- a send that waits
-    waits : (gone : PublisherPort T U) → Comes false gone (deliver name publisher send.left send before)
+    waits : (gone : PublisherPort T U) → Comes false gone (machine.Delivers choices name publisher send.left send before)
         → Finished (sent_answer false gone.progress) (concluded false gone)
     waits gone to =
         let new : Service T = with_publisher name (record publisher { blocked = Some to.send })
@@ -409,14 +415,15 @@ module _ {T U : Type 0} (names : Naming) (lent after_lent : List (ℕ × LentSlo
         ) in
         subst (λ (one : PublisherPort T U). Finished (sent_answer false one.progress) (concluded false one)) (sym to.is_gone) (
           new,
-          subst (λ found. Tells found reply.Blocked new) (sym to.is_found)
+          tells to.send (record before { mailboxes = to.mailboxes }) to.is_found reply.Blocked new
               (subst (λ b. TellsBy b to.send (record before { mailboxes = to.mailboxes }) reply.Blocked new) (sym some) (refl, refl)),
           stands_after to.connections to.progress to.mailboxes to.send to.is_at started.sender.uses.sending (inr refl) (Some to.send)
               blocked,
           standing,
         )
 
-    by_end : (arrived : Bool) (gone : PublisherPort T U) → Comes arrived gone (deliver name publisher send.left send before)
+    by_end : (arrived : Bool) (gone : PublisherPort T U)
+        → Comes arrived gone (machine.Delivers choices name publisher send.left send before)
         → Finished (sent_answer arrived gone.progress) (concluded arrived gone)
     by_end true gone to = arrives gone to
     by_end false gone to = waits gone to

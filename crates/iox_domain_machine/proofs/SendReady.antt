@@ -21,6 +21,7 @@ use Rattle.iox_domain_machine.specs.Tables.{LentSlot}
 use Rattle.iox_domain_machine.proofs.SendReaders.{reads_still, reader_known}
 use Rattle.iox_machine.specs.Service.{Service, Publisher}
 use Rattle.iox_machine.specs.Table.{at}
+use Rattle.iox_machine.specs.Choices.{Choices}
 
 module _ {T U : Type 0} (ports : ServicePorts T U) (roomy : AreRoomy ports) (number : ℕ) (port : PublisherPort T U)
     (there : port_of number ports.publishers ≡ Some port) where
@@ -47,7 +48,8 @@ module _ {T U : Type 0} (ports : ServicePorts T U) (roomy : AreRoomy ports) (num
   within_limit index = (allowed.1 index).0
 
 -- What sees to it that a message is sent alike in a domain and in the machine, whatever the message is.
-pub record IsReadyToSend {T U : Type 0} (may : BackpressureInfo → BackpressureDecision → Type 0) (reader : ℕ → ℕ) (number : ℕ)
+pub record IsReadyToSend {T U : Type 0} (choices : Choices T) (may : BackpressureInfo → BackpressureDecision → Type 0) (reader : ℕ → ℕ)
+    (number : ℕ)
     (publisher : Publisher T) (service : Service T) (port : PublisherPort T U) : Type 0 where
   pub overflows : port.sender.uses.overflows ≡ service.settings.enable_safe_overflow
   pub keeps : port.sender.uses.kept ≡ service.settings.history_size
@@ -55,14 +57,16 @@ pub record IsReadyToSend {T U : Type 0} (may : BackpressureInfo → Backpressure
   pub live : (place index : ℕ) → get_or port.ties.items place None ≡ Some index → is_live index port ≡ true
   pub readers : (index : ℕ) → is_live index port ≡ true
       → option_map_or (reads_still number) (at (reader index) service.subscribers) false ≡ is_attached (get_or port.readers index None)
-  pub decides : DecidesAs may publisher
+  pub decides : DecidesAs choices may number publisher
 
-module _ {T U : Type 0} (names : Naming) (lent : List (ℕ × LentSlot)) (held : List (ℕ × Taken)) (buffer : ℕ) (ports : ServicePorts T U)
+module _ {T U : Type 0} (choices : Choices T) (names : Naming) (lent : List (ℕ × LentSlot)) (held : List (ℕ × Taken)) (buffer : ℕ)
+    (ports : ServicePorts T U)
     (service : Service T) (stands : StandsFor names lent held buffer ports service) (roomy : AreRoomy ports) (number : ℕ)
     (port : PublisherPort T U) (there : port_of number ports.publishers ≡ Some port) (standing : port.stands ≡ true)
     (may : BackpressureInfo → BackpressureDecision → Type 0) (publisher : Publisher T) where
   -- so it is with a publisher that stands
-  pub is_ready : DecidesAs may publisher → IsReadyToSend may (names.reader number) (names.publisher number) publisher service port
+  pub is_ready : DecidesAs choices may (names.publisher number) publisher
+      → IsReadyToSend choices may (names.reader number) (names.publisher number) publisher service port
   is_ready decides =
       let well = tied_well ports roomy number port there standing in
       record {

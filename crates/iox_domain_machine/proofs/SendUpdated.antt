@@ -30,7 +30,6 @@ use Rattle.iox_domain.specs.Rolls.{IsListOf}
 use Rattle.iox_domain.specs.Roomy.{AreRoomy}
 use Rattle.iox_domain.specs.declared.ports.service_ports.ServicePorts.{ServicePorts}
 use Rattle.iox_domain_machine.specs.Naming.{Naming}
-use Rattle.iox_domain_machine.specs.PublisherUpdateLaws.{DegradesAs}
 use Rattle.iox_domain_machine.specs.SendLaws.{DecidesAs, sent_or_skipped}
 use Rattle.iox_domain_machine.specs.Standing.{StandsFor, PublisherIs}
 use Rattle.iox_domain_machine.specs.Tables.{LentSlot, loan_as}
@@ -47,13 +46,15 @@ use Rattle.iox_domain_machine.proofs.SendReady.{is_ready, within_limit}
 use Rattle.iox_domain_machine.proofs.Writing.{IsThere, is_there, goes_there}
 use Rattle.iox_machine.specs.Message as machine
 use Rattle.iox_machine.specs.PortList.{PortList}
-use Rattle.iox_machine.specs.PublisherUpdate.{UpdatesFirst, update_answer}
+use Rattle.iox_machine.specs.PublisherUpdate.{UpdatesFirst}
 use Rattle.iox_machine.specs.Replies.{IsRefused}
 use Rattle.iox_machine.specs.Sending.{Begins}
 use Rattle.iox_machine.specs.Service.{Service, Publisher}
 use Rattle.iox_machine.specs.Table.{at, removed}
+use Rattle.iox_machine.specs.Choices.{Choices}
 
-module _ {T U : Type 0} (names : Naming) (lent : List (ℕ × LentSlot)) (held : List (ℕ × Taken)) (buffer : ℕ) (old : ServicePorts T U)
+module _ {T U : Type 0} (choices : Choices T) (names : Naming) (lent : List (ℕ × LentSlot)) (held : List (ℕ × Taken)) (buffer : ℕ)
+    (old : ServicePorts T U)
     (service : Service T) (loan : ℕ) (out : LentSlot) (stands : StandsFor names lent held buffer old service) (roomy : AreRoomy old)
     (goes : at loan lent ≡ Some out) (may : BackpressureInfo → BackpressureDecision → Type 0)
     (may_degrade : DegradationInfo → DegradationAction → Type 0) where
@@ -73,7 +74,7 @@ module _ {T U : Type 0} (names : Naming) (lent : List (ℕ × LentSlot)) (held :
   place = dropping.place names lent held buffer old service loan out stands goes
 
   abbrev message : machine.Message T
-  message = message_there names lent held buffer old service loan out stands goes may
+  message = message_there choices names lent held buffer old service loan out stands goes may
 
   abbrev before : Service T
   before = record service { loans = removed loan service.loans }
@@ -81,30 +82,35 @@ module _ {T U : Type 0} (names : Naming) (lent : List (ℕ × LentSlot)) (held :
   -- what the machine does that updates first
   abbrev pub UpdatesAndSends : Reply T → Service T → Type 0
   UpdatesAndSends answered after =
-      UpdatesFirst name (λ failure. refusal.Send (error.ConnectionError failure)) (Begins name message) was.0 before answered after
+      UpdatesFirst choices name (λ failure. refusal.Send (error.ConnectionError failure)) (Begins choices name message) was.0 before
+      answered after
 
   module _ (listed : List (Option (Member SubscriberEntry))) (outcome : Result (Unit {0}) ConnectionFailure) (updated : PublisherPort T U)
       (tells : IsListOf listed old.subscriber_list) (updates : Updates may_degrade listed old.subscriber_list.changes port outcome updated)
-      (standing : port.stands ≡ true) (free : port.sender.uses.sending ≡ None) (decides : DecidesAs may was.0)
-      (degradation : DegradationAction) (degrades : DegradesAs may_degrade degradation name service)
-      (followed : ItsUpdate names lent held buffer old service stands out.publisher port updated there.there degradation outcome)
+      (standing : port.stands ≡ true) (free : port.sender.uses.sending ≡ None) (decides : DecidesAs choices may name was.0)
+      (followed : ItsUpdate names lent held buffer old service stands out.publisher port updated there.there
+      (choices.publisher_acts name was.0.degradation) outcome)
       (unseen : (port.seen == old.subscriber_list.changes) ≡ false) where
     abbrev names_now : Naming
-    names_now = names_after names lent held buffer old service stands out.publisher port updated there.there degradation outcome followed
+    names_now = names_after names lent held buffer old service stands out.publisher port updated there.there
+        (choices.publisher_acts name was.0.degradation) outcome followed
 
     abbrev ports_now : ServicePorts T U
     ports_now = with_one out.publisher updated old
 
     abbrev service_now : Service T
-    service_now = service_after names lent held buffer old service stands out.publisher port updated there.there degradation outcome
+    service_now = service_after names lent held buffer old service stands out.publisher port updated there.there
+        (choices.publisher_acts name was.0.degradation) outcome
         followed
 
     abbrev publisher_now : Publisher T
-    publisher_now = publisher_after names lent held buffer old service stands out.publisher port updated there.there degradation outcome
+    publisher_now = publisher_after names lent held buffer old service stands out.publisher port updated there.there
+        (choices.publisher_acts name was.0.degradation) outcome
         followed
 
     abbrev stands_now : StandsFor names_now lent held buffer ports_now service_now
-    stands_now = follows_stands names lent held buffer old service stands out.publisher port updated there.there degradation outcome
+    stands_now = follows_stands names lent held buffer old service stands out.publisher port updated there.there
+        (choices.publisher_acts name was.0.degradation) outcome
         followed
 
     abbrev there_now : IsThere ports_now out
@@ -134,7 +140,7 @@ module _ {T U : Type 0} (names : Naming) (lent : List (ℕ × LentSlot)) (held :
 
     -- and has the same values
     abbrev message_now : machine.Message T
-    message_now = message_there names_now lent held buffer ports_now service_now loan out stands_now goes may
+    message_now = message_there choices names_now lent held buffer ports_now service_now loan out stands_now goes may
 
     same_message : message_now ≡ message
     same_message =
@@ -179,7 +185,8 @@ module _ {T U : Type 0} (names : Naming) (lent : List (ℕ × LentSlot)) (held :
     -- the machine's publisher follows first, and then does this
     abbrev Goes : Result (Unit {0}) ConnectionFailure → Reply T → Service T → Type 0
     Goes result answered after =
-        MatchResult result (λ done. Begins name message publisher_now (record service_now { loans = removed loan service.loans }) answered
+        MatchResult result (λ done. Begins choices name message publisher_now (record service_now { loans = removed loan service.loans })
+        answered
         after)
         (λ failure. IsRefused (refusal.Send (error.ConnectionError failure))
         (record service_now { loans = removed loan service.loans }) answered after)
@@ -195,10 +202,7 @@ module _ {T U : Type 0} (names : Naming) (lent : List (ℕ × LentSlot)) (held :
           publisher_now,
           record service_now { loans = removed loan service.loans },
           follows_lending name (removed loan service.loans) was.0 publisher_now service service_now followed.follows,
-          subst (λ result. Goes result answered after)
-              (followed.answered
-              ∙ ap (λ action. update_answer action service.subscriber_list.places followed.connected)
-              (sym ((degrades was.0 was.1 (was.2.stands ∙ standing)).1))) does,
+          (outcome, followed.answered, does),
         )
 
     -- its update went well
@@ -207,18 +211,19 @@ module _ {T U : Type 0} (names : Naming) (lent : List (ℕ × LentSlot)) (held :
         → (new : Service T) × UpdatesAndSends (sent_or_skipped (Some answer)) new
         × StandsFor names_now (removed loan lent) held buffer (with_publisher out.publisher after old) new
     updated_goes_on done answer after finishes =
-        let to = begins names_now lent held buffer ports_now service_now loan out stands_now goes may free_now standing_now
-        (is_ready names_now lent held buffer ports_now service_now stands_now roomy_now out.publisher there_now.port there_now.there
-        standing_now may was_now.0 (subst (λ (one : Publisher T). DecidesAs may one) (sym is_publisher) decides))
+        let to = begins choices names_now lent held buffer ports_now service_now loan out stands_now goes may free_now standing_now
+        (is_ready choices names_now lent held buffer ports_now service_now stands_now roomy_now out.publisher there_now.port there_now.there
+        standing_now may was_now.0 (subst (λ (one : Publisher T). DecidesAs choices may name one) (sym is_publisher) decides))
         (within_limit ports_now roomy_now out.publisher there_now.port there_now.there) answer after
         (subst (λ (one : PublisherPort T U). Finishes may (begun_at place_now one) answer after) (sym is_updated)
         (subst (λ n. Finishes may (begun_at n updated) answer after) same_place finishes)) in (
           to.0,
           follows (sent_or_skipped (Some answer)) to.0
               (subst (λ result. Goes result (sent_or_skipped (Some answer)) to.0) (sym done)
-              (subst (λ (one : machine.Message T). Begins name one publisher_now (record service_now { loans = removed loan service.loans })
+              (subst (λ (one : machine.Message T). Begins choices name one publisher_now
+              (record service_now { loans = removed loan service.loans })
               (sent_or_skipped {T = T} (Some answer)) to.0) same_message
-              (subst (λ (one : Publisher T). Begins name message_now one (record service_now { loans = removed loan service.loans })
+              (subst (λ (one : Publisher T). Begins choices name message_now one (record service_now { loans = removed loan service.loans })
               (sent_or_skipped {T = T} (Some answer)) to.0) is_publisher to.1))),
           subst (λ (ports : ServicePorts T U). StandsFor names_now (removed loan lent) held buffer ports to.0)
               (sym (kept_now after to.3)) to.2,

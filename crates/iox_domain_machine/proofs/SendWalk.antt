@@ -1,10 +1,11 @@
 -- A send goes over the places that are left, of a domain and of the machine.
-use Rattle.std.proofs.Common.{◌≡◌, ◌≢◌, ◌≤◌, ◌<◌, ◌+◌, ◌-◌, ◌∷◌, [], ◌&&◌, ℕ, Bool, true, false, List, length, get_or, set, drop, map}
+use Rattle.std.proofs.Common.{◌≡◌, ◌⊎◌, inl, inr, ◌≢◌, ◌≤◌, ◌<◌, ◌+◌, ◌-◌, ◌∷◌, [], ◌&&◌, ℕ, Bool, true, false, List, length, get_or}
+use Rattle.std.proofs.Common.{set, drop, map}
 use Rattle.std.proofs.Common.{nat_lt, Option, None, Some, refl, sym, ap, subst, ◌∙◌, arith, if◌then◌else◌}
 use Rattle.std.proofs.Math.Logic.{⊎_elim}
 use Rattle.std.proofs.lemmas.Bool.{cases_Bool}
 use Rattle.std.proofs.lemmas.List.{drop_more, length-drop, set-get_or}
-use Rattle.std.specs.Prelude.{is_some, min, ◌^◌, option_map, unwrap_or}
+use Rattle.std.specs.Prelude.{is_some, min, ◌^◌, option_map, unwrap_or, MatchOption, MatchBool}
 use Rattle.iox_command.specs.DomainValues.Actions.{decision_of}
 use Rattle.iox_command.specs.DomainValues.declared.backpressure.BackpressureDecision.{BackpressureDecision}
 use Rattle.iox_command.specs.DomainValues.declared.backpressure.BackpressureDecision.TheVariants.{Retry, DiscardData, DiscardDataAndFail}
@@ -35,7 +36,8 @@ use Rattle.iox_domain_machine.proofs.SendReady.{IsReadyToSend}
 use Rattle.iox_domain_machine.proofs.SendPut.{further, each_given, put_boxes, same_stage, same_borrowed}
 use Rattle.iox_machine.specs.Mailbox.{Mailbox, put}
 use Rattle.iox_machine.specs.PortList.{those}
-use Rattle.iox_machine.specs.Sending.{decision_at, offered, deliver}
+use Rattle.iox_machine.specs.Choices.{Choices}
+use Rattle.iox_machine.specs.Sending as machine
 use Rattle.iox_machine.specs.Service.{Service, Publisher, Send, mailbox, with_mailbox}
 
 -- what comes first of the rest of a list, and then
@@ -46,7 +48,8 @@ rest_is place items tie rest is =
     let both : get_or items place None ∷ drop (place + 1) items ≡ tie ∷ rest = sym (drop_more items place None some) ∙ is in
     (some, ap (λ xs. get_or xs 0 None) both, ap (drop 1) both)
 
-module _ {T U : Type 0} (may : BackpressureInfo → BackpressureDecision → Type 0) (name reader subscriber_name : ℕ → ℕ) (number : ℕ)
+module _ {T U : Type 0} (choices : Choices T) (may : BackpressureInfo → BackpressureDecision → Type 0)
+    (name reader subscriber_name : ℕ → ℕ) (number : ℕ)
     (publisher : Publisher T) (service : Service T) (port : PublisherPort T U) (message : domain.Message T U) where
   -- the publisher with these connections, as far as this
   abbrev pub port_at : List (Connection (domain.Message T U)) → ProgressState → PublisherPort T U
@@ -91,13 +94,13 @@ module _ {T U : Type 0} (may : BackpressureInfo → BackpressureDecision → Typ
       × (index : ℕ) × (get_or port.ties.items progress.place None ≡ Some index)
 
   -- What comes of a send, in the domain and in the machine.
-  pub record EndsAlike (arrived : Bool) (gone : PublisherPort T U) (found : Send T × Service T) : Type 0 where
+  pub record EndsAlike (arrived : Bool) (gone : PublisherPort T U) (Found : Send T → Service T → Type 0) : Type 0 where
     pub connections : List (Connection (domain.Message T U))
     pub progress : ProgressState
     pub mailboxes : ℕ → ℕ → Option (Mailbox T)
     pub send : Send T
     pub is_gone : gone ≡ port_at connections progress
-    pub is_found : found ≡ (send, service_at mailboxes)
+    pub is_found : Found send (service_at mailboxes)
     pub is_at : IsAsFar connections progress mailboxes send
     pub ends : Ends arrived progress send
 
@@ -108,17 +111,32 @@ module _ {T U : Type 0} (may : BackpressureInfo → BackpressureDecision → Typ
       (send : Send T) (arrived : Bool) (gone : PublisherPort T U)
       → drop progress.place port.ties.items ≡ rest → IsAsFar connections progress mailboxes send
       → Delivers may (length rest) (port_at connections progress) arrived gone
-      → EndsAlike arrived gone (deliver number publisher (readers_of rest) send (service_at mailboxes))
+      → EndsAlike arrived gone (machine.Delivers choices number publisher (readers_of rest) send (service_at mailboxes))
+
+  -- what is found may be told in other words
+  as_found : (arrived : Bool) (gone : PublisherPort T U) (Found Other : Send T → Service T → Type 0)
+      → ((after : Send T) (new : Service T) → Found after new → Other after new) → EndsAlike arrived gone Found
+      → EndsAlike arrived gone Other
+  as_found arrived gone Found Other over is = record {
+    connections = is.connections;
+    progress = is.progress;
+    mailboxes = is.mailboxes;
+    send = is.send;
+    is_gone = is.is_gone;
+    is_found = over is.send (service_at is.mailboxes) is.is_found;
+    is_at = is.is_at;
+    ends = is.ends;
+  }
 
   walk_end : WalksAlike []
   walk_end connections progress mailboxes send arrived gone is so_far delivers =
-      subst (λ b. EndsAlike b gone (record send { left = [] }, service_at mailboxes)) (sym delivers.0) (record {
+      subst (λ b. EndsAlike b gone (machine.Delivers choices number publisher [] send (service_at mailboxes))) (sym delivers.0) (record {
         connections = connections;
         progress = progress;
         mailboxes = mailboxes;
         send = record send { left = [] };
         is_gone = delivers.1;
-        is_found = refl;
+        is_found = (refl, refl);
         is_at = record {
           boxes = so_far.boxes;
           stage = so_far.stage;
@@ -177,7 +195,7 @@ module _ {T U : Type 0} (may : BackpressureInfo → BackpressureDecision → Typ
       untried = λ nobody. (refl, refl);
     }
 
-  module _ (is : IsReadyToSend may reader number publisher service port) (sent_is : port.sender.uses.sending ≡ Some message)
+  module _ (is : IsReadyToSend choices may reader number publisher service port) (sent_is : port.sender.uses.sending ≡ Some message)
       (rest : List (Option ℕ)) (walks : WalksAlike rest)
       (connections : List (Connection (domain.Message T U))) (progress : ProgressState) (mailboxes : ℕ → ℕ → Option (Mailbox T))
       (send : Send T) (arrived : Bool) (gone : PublisherPort T U) (so_far : IsAsFar connections progress mailboxes send) where
@@ -209,7 +227,7 @@ module _ {T U : Type 0} (may : BackpressureInfo → BackpressureDecision → Typ
     -- a place that is tied to nobody
     passes_none : drop progress.place port.ties.items ≡ None ∷ rest
         → Delivers may (length (None ∷ rest)) now arrived gone
-        → EndsAlike arrived gone (deliver number publisher (readers_of rest) send (service_at mailboxes))
+        → EndsAlike arrived gone (machine.Delivers choices number publisher (readers_of rest) send (service_at mailboxes))
     passes_none left delivers =
         let step = steps_by None left delivers.0 delivers.1 delivers.2 in
         let untried = so_far.untried (rest_is progress.place port.ties.items None rest left).1 in
@@ -263,11 +281,24 @@ module _ {T U : Type 0} (may : BackpressureInfo → BackpressureDecision → Typ
           (subst (λ b. Steps may (if b then meets (accepts overflows was) else meeting.Passed) (met_by (Some index) now) went next)
           (ap (λ b. b && is_some port.sender.uses.sending) live ∙ ap is_some sent_is) steps))
 
+      -- what the machine may decide there
+      abbrev May : BackpressureDecision → Type 0
+      May decision = machine.MayDecide choices number publisher subscriber send (service_at mailboxes) decision
+
+      -- and then the others
+      abbrev Then : Send T → Send T → Service T → Type 0
+      Then next = machine.Delivers choices number publisher (readers_of rest) next (service_at mailboxes)
+
       -- the machine's subscriber, and then the others
-      abbrev Goes : Option (Mailbox T) → BackpressureDecision → Send T × Service T
-      Goes found decision =
-          offered number found decision subscriber (readers_of rest) (deliver number publisher (readers_of rest)) send
-          (service_at mailboxes)
+      abbrev Goes : Option (Mailbox T) → Send T → Service T → Type 0
+      Goes found after new =
+          MatchOption found
+          ((May Retry × (after ≡ record send { left = subscriber ∷ readers_of rest }) × (new ≡ service_at mailboxes))
+          ⊎ (May DiscardData × Then (record send { retries = 0; elapsed = 0 }) after new)
+          ⊎ (May DiscardDataAndFail × Then (record send { retries = 0; elapsed = 0; fails = true }) after new))
+          (λ box. machine.Delivers choices number publisher (readers_of rest)
+          (record send { retries = 0; elapsed = 0; delivered = send.delivered + 1 })
+          (with_mailbox number subscriber box (service_at mailboxes)) after new)
 
       -- the connection accepts the message
       module _ (accepted : accepts overflows was ≡ true) where
@@ -312,11 +343,10 @@ module _ {T U : Type 0} (may : BackpressureInfo → BackpressureDecision → Typ
 
         takes_it : (went : Bool) (next : PublisherPort T U)
             → Steps may (meets (accepts overflows was)) (port_at (set connections index given) progress) went next → Further went next
-            → EndsAlike arrived gone (Goes (put overflows (message_as name message) (mailbox_as name was))
-            (decision_at number publisher (service_at mailboxes) subscriber))
+            → EndsAlike arrived gone (Goes (put overflows (message_as name message) (mailbox_as name was)))
         takes_it went next steps more =
             let step = subst (λ b. Steps may (meets b) (port_at (set connections index given) progress) went next) accepted steps in
-            subst (λ found. EndsAlike arrived gone (Goes found (decision_at number publisher (service_at mailboxes) subscriber)))
+            subst (λ found. EndsAlike arrived gone (Goes found))
             (sym (takes name message overflows was accepted (so_far.within index)))
             (walks (set connections index given) (counted progress) boxes_now
             (record send { retries = 0; elapsed = 0; delivered = send.delivered + 1 }) arrived gone (next_left (Some index) left) taken_at
@@ -324,29 +354,33 @@ module _ {T U : Type 0} (may : BackpressureInfo → BackpressureDecision → Typ
 
       -- the connection doesn't accept it
       module _ (refused : accepts overflows was ≡ false) (went : Bool) (next : PublisherPort T U) (more : Further went next) where
-        passes : went ≡ true → next ≡ port_at connections (passed progress) → EndsAlike arrived gone (Goes None DiscardData)
-        passes on same =
-            walks connections (passed progress) mailboxes (record send { retries = 0; elapsed = 0 }) arrived gone
+        passes : May DiscardData → went ≡ true → next ≡ port_at connections (passed progress) → EndsAlike arrived gone (Goes None)
+        passes may_so on same =
+            as_found arrived gone (Then (record send { retries = 0; elapsed = 0 })) (Goes None)
+            (λ after new found. inr (inl (may_so, found)))
+            (walks connections (passed progress) mailboxes (record send { retries = 0; elapsed = 0 }) arrived gone
             (next_left (Some index) left) (passed_at connections progress mailboxes send so_far 0 0 refl refl)
-            (goes went next (port_at connections (passed progress)) on same more)
+            (goes went next (port_at connections (passed progress)) on same more))
 
-        decides : (decision : BackpressureDecision) → went ≡ goes_on_by decision → next ≡ decided_by decision now
-            → EndsAlike arrived gone (Goes None decision)
-        decides DiscardData on same = passes on same
-        decides DiscardDataAndFail on same =
-            walks connections (failing progress) mailboxes (record send { retries = 0; elapsed = 0; fails = true }) arrived gone
+        decides : (decision : BackpressureDecision) → May decision → went ≡ goes_on_by decision → next ≡ decided_by decision now
+            → EndsAlike arrived gone (Goes None)
+        decides DiscardData may_so on same = passes may_so on same
+        decides DiscardDataAndFail may_so on same =
+            as_found arrived gone (Then (record send { retries = 0; elapsed = 0; fails = true })) (Goes None)
+            (λ after new found. inr (inr (may_so, found)))
+            (walks connections (failing progress) mailboxes (record send { retries = 0; elapsed = 0; fails = true }) arrived gone
             (next_left (Some index) left) (failed_at connections progress mailboxes send so_far)
-            (goes went next (port_at connections (failing progress)) on same more)
-        decides Retry on same =
+            (goes went next (port_at connections (failing progress)) on same more))
+        decides Retry may_so on same =
             let waits = subst (λ b. Further b next) on more in
             let stopped : Send T = record send { left = subscriber ∷ readers_of rest } in
-            subst (λ b. EndsAlike b gone (stopped, service_at mailboxes)) (sym waits.0) (record {
+            subst (λ b. EndsAlike b gone (Goes None)) (sym waits.0) (record {
               connections = connections;
               progress = progress;
               mailboxes = mailboxes;
               send = stopped;
               is_gone = waits.1 ∙ same;
-              is_found = refl;
+              is_found = inl (may_so, refl, refl);
               is_at = record {
                 boxes = so_far.boxes;
                 stage = so_far.stage;
@@ -365,50 +399,55 @@ module _ {T U : Type 0} (may : BackpressureInfo → BackpressureDecision → Typ
               ends = (subscriber, readers_of rest, refl, ap readers_of (sym left), index, tied);
             })
 
-        abbrev decided : Bool → BackpressureDecision
-        decided attached = if attached then decision_of publisher.strategy publisher.handler else DiscardData
+        -- what may be decided, by whether the subscriber is connected
+        abbrev By : Bool → BackpressureDecision → Type 0
+        By attached decision =
+            MatchBool attached
+            (choices.publisher_decides number send.retries send.elapsed (decision_of publisher.strategy publisher.handler) decision)
+            (decision ≡ DiscardData)
 
-        by_attached : (attached : Bool) (other : ℕ) → Steps may (if attached then meeting.Full other else meeting.Passed) now went next
-            → EndsAlike arrived gone (Goes None (decided attached))
-        by_attached false other step = passes step.0 step.1
-        by_attached true other step =
-            let same = is.decides _ step.0 step.1 in
-            decides (decision_of publisher.strategy publisher.handler) (step.2 ∙ ap goes_on_by same)
-            (step.3 ∙ ap (λ decision. decided_by decision now) same)
+        by_attached : (attached : Bool) (other : ℕ) → ((decision : BackpressureDecision) → By attached decision → May decision)
+            → Steps may (if attached then meeting.Full other else meeting.Passed) now went next → EndsAlike arrived gone (Goes None)
+        by_attached false other over step = passes (over DiscardData refl) step.0 step.1
+        by_attached true other over step =
+            decides step.0 (over step.0
+            (subst (λ (elapsed : ℕ). choices.publisher_decides number send.retries elapsed
+            (decision_of publisher.strategy publisher.handler) step.0) so_far.elapsed
+            (is.decides _ step.0 send.retries step.1 so_far.retries))) step.2 step.3
 
-        by_reader : (found : Option Reader) → Steps may (unheard found) now went next
-            → EndsAlike arrived gone (Goes None (decided (is_attached found)))
-        by_reader None step = passes step.0 step.1
-        by_reader (Some to) step = by_attached to.attached to.subscriber step
+        by_reader : (found : Option Reader) → ((decision : BackpressureDecision) → By (is_attached found) decision → May decision)
+            → Steps may (unheard found) now went next → EndsAlike arrived gone (Goes None)
+        by_reader None over step = passes (over DiscardData refl) step.0 step.1
+        by_reader (Some to) over step = by_attached to.attached to.subscriber over step
 
         kept : port_at (set connections index given) progress ≡ now
         kept = ap (λ one. port_at one progress)
             (ap (set connections index) (offered_full overflows message was refused) ∙ set-get_or connections index nobody)
 
         refuses_it : Steps may (meets (accepts overflows was)) (port_at (set connections index given) progress) went next
-            → EndsAlike arrived gone (Goes (put overflows (message_as name message) (mailbox_as name was))
-            (decision_at number publisher (service_at mailboxes) subscriber))
+            → EndsAlike arrived gone (Goes (put overflows (message_as name message) (mailbox_as name was)))
         refuses_it steps =
-            subst (λ found. EndsAlike arrived gone (Goes found (decision_at number publisher (service_at mailboxes) subscriber)))
+            subst (λ found. EndsAlike arrived gone (Goes found))
             (sym (is_full name message overflows was refused))
-            (subst (λ attached. EndsAlike arrived gone (Goes None (decided attached))) (sym (is.readers index live_first))
             (by_reader (get_or port.readers index None)
+            (λ decision by. subst (λ (attached : Bool). By attached decision) (sym (is.readers index live_first)) by)
             (subst (λ one. Steps may (unheard (get_or port.readers index None)) one went next) kept
-            (subst (λ b. Steps may (meets b) (port_at (set connections index given) progress) went next) refused steps))))
+            (subst (λ b. Steps may (meets b) (port_at (set connections index given) progress) went next) refused steps)))
 
       -- a place that is tied to somebody
       passes_some : Delivers may (length (Some index ∷ rest)) now arrived gone
-          → EndsAlike arrived gone (deliver number publisher (readers_of (Some index ∷ rest)) send (service_at mailboxes))
+          → EndsAlike arrived gone (machine.Delivers choices number publisher (readers_of (Some index ∷ rest)) send (service_at mailboxes))
       passes_some delivers =
           let steps = steps_there delivers.0 delivers.1 (steps_by (Some index) left delivers.0 delivers.1 delivers.2) in
-          subst (λ found. EndsAlike arrived gone (Goes found (decision_at number publisher (service_at mailboxes) subscriber))) (sym put_is)
+          subst (λ found. EndsAlike arrived gone (Goes found)) (sym put_is)
           (⊎_elim
           (λ accepted. takes_it accepted delivers.0 delivers.1 steps delivers.3)
           (λ refused. refuses_it refused delivers.0 delivers.1 delivers.3 steps)
           (cases_Bool (accepts overflows was)))
 
   -- a send goes over places in both
-  pub walk : IsReadyToSend may reader number publisher service port → port.sender.uses.sending ≡ Some message → (rest : List (Option ℕ))
+  pub walk : IsReadyToSend choices may reader number publisher service port → port.sender.uses.sending ≡ Some message
+      → (rest : List (Option ℕ))
       → WalksAlike rest
   walk is sent_is [] = walk_end
   walk is sent_is (None ∷ rest) = λ connections progress mailboxes send arrived gone left so_far delivers.

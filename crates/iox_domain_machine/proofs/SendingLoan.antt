@@ -52,6 +52,7 @@ use Rattle.iox_domain_machine.proofs.SendReady.{is_ready, within_limit}
 use Rattle.iox_domain_machine.proofs.SendUpdated.{UpdatesAndSends, updated_goes_on, updated_fails}
 use Rattle.iox_domain_machine.proofs.Settling.{settled_stands}
 use Rattle.iox_domain_machine.proofs.Writing.{IsThere, is_there, goes_there, same_values}
+use Rattle.iox_machine.specs.Choices.{Choices}
 use Rattle.iox_machine.specs.Message as machine
 use Rattle.iox_machine.specs.PortList.{PortList}
 use Rattle.iox_machine.specs.Ports.{SendsLoan}
@@ -78,13 +79,13 @@ same_name number names = same_everywhere (with_name number (names number) names)
     by other true is = ap (λ b. if b then names number else names other) is ∙ ap names (sym (eqb-true other number is))
     by other false is = ap (λ b. if b then names number else names other) is
 
-module _ {T U : Type 0} (types : MessageTypeDetails) (IsDefault : T → Type 0) (buffer : ℕ)
+module _ {T U : Type 0} (types : MessageTypeDetails) (choices : Choices T) (buffer : ℕ)
     (may_degrade : DegradationInfo → DegradationAction → Type 0) (may : BackpressureInfo → BackpressureDecision → Type 0) (names : Naming)
     (lent : List (ℕ × LentSlot)) (held : List (ℕ × Taken)) (old : ServicePorts T U) (service : Service T) (state : State T) (loan : ℕ)
     (out : LentSlot) (stands : StandsFor names lent held buffer old service) (roomy : AreRoomy old) (goes : at loan lent ≡ Some out)
     (decides : (publisher : Publisher T) → at (names.publisher out.publisher) service.publishers ≡ Some publisher
-    → publisher.stands ≡ true → DecidesAs may publisher) (degradation : DegradationAction)
-    (degrades : DegradesAs may_degrade degradation (names.publisher out.publisher) service) where
+    → publisher.stands ≡ true → DecidesAs choices may (names.publisher out.publisher) publisher)
+    (degrades : DegradesAs choices may_degrade (names.publisher out.publisher) service) where
   abbrev there : IsThere old out
   there = is_there names lent held buffer old service loan out stands goes
 
@@ -112,7 +113,7 @@ module _ {T U : Type 0} (types : MessageTypeDetails) (IsDefault : T → Type 0) 
 
   abbrev Comes : Option (Result Sent SendError) → ServicePorts T U → Type 0
   Comes answer new =
-      (reader : ℕ → ℕ) × Matches T U IsDefault types buffer (command.Send loan) (sent_or_skipped answer) state service (read_by reader)
+      (reader : ℕ → ℕ) × Matches T U choices types buffer (command.Send loan) (sent_or_skipped answer) state service (read_by reader)
       (lent_after_send loan answer lent) held new
 
   -- where no connection is made the names are the same
@@ -126,7 +127,8 @@ module _ {T U : Type 0} (types : MessageTypeDetails) (IsDefault : T → Type 0) 
   abbrev SendsIt : Bool → Reply T → Service T → Type 0
   SendsIt standing answered after =
       MatchBool standing
-      (UpdatesFirst name (λ failure. refusal.Send (error.ConnectionError failure)) (sending.Begins name (machine.sent_as lent_loan)) was.0
+      (UpdatesFirst choices name (λ failure. refusal.Send (error.ConnectionError failure))
+      (sending.Begins choices name (machine.sent_as lent_loan)) was.0
       before answered after)
       (IsRefused {T = T} (refusal.Send error.ConnectionBrokenSinceSenderNoLongerExists) before answered after)
 
@@ -143,11 +145,11 @@ module _ {T U : Type 0} (types : MessageTypeDetails) (IsDefault : T → Type 0) 
     reader,
     (
       after,
-      alone_does (λ (one : Service T). at loan one.loans) (SendsLoan loan) state service after (sent_or_skipped answer) lent_loan
+      alone_does (λ (one : Service T). at loan one.loans) (SendsLoan choices loan) state service after (sent_or_skipped answer) lent_loan
           (goes_there names lent held buffer old service loan out stands goes)
           (subst (λ (found : Option (Publisher T)). MatchOption found (IsSkipped {T = T} service (sent_or_skipped answer) after)
           (λ publisher. MatchBool (machine.is_written lent_loan && not (is_some publisher.blocked))
-          (sending.Sends name (machine.sent_as lent_loan) publisher before (sent_or_skipped {T = T} answer) after)
+          (sending.Sends choices name (machine.sent_as lent_loan) publisher before (sent_or_skipped {T = T} answer) after)
           (IsSkipped {T = T} service (sent_or_skipped answer) after))) (sym was.1)
           (subst (λ b. Does b (sent_or_skipped {T = T} answer) after) (sym is) does)),
       after_stands,
@@ -194,7 +196,7 @@ module _ {T U : Type 0} (types : MessageTypeDetails) (IsDefault : T → Type 0) 
       (is : (machine.is_written lent_loan && not (is_some was.0.blocked)) ≡ true) where
     -- what a publisher does that stands
     sends_it : (answer : Result Sent SendError) (after : PublisherPort T U) (new : Service T)
-        → UpdatesAndSends names lent held buffer old service loan out stands roomy goes may may_degrade
+        → UpdatesAndSends choices names lent held buffer old service loan out stands roomy goes may may_degrade
         (sent_or_skipped (Some answer)) new → (reader : ℕ → ℕ)
         → StandsFor (read_by reader) (removed loan lent) held buffer (with_publisher out.publisher after old) new
         → Comes (Some answer) (with_publisher out.publisher after old)
@@ -211,8 +213,8 @@ module _ {T U : Type 0} (types : MessageTypeDetails) (IsDefault : T → Type 0) 
     goes_on : (port.seen == old.subscriber_list.changes) ≡ true → (answer : Result Sent SendError) (after : PublisherPort T U)
         → Finishes may (begun_at place port) answer after → Comes (Some answer) (with_publisher out.publisher after old)
     goes_on seen answer after finishes =
-        let to = begins names lent held buffer old service loan out stands goes may free standing
-        (is_ready names lent held buffer old service stands roomy out.publisher port there.there standing may was.0
+        let to = begins choices names lent held buffer old service loan out stands goes may free standing
+        (is_ready choices names lent held buffer old service stands roomy out.publisher port there.there standing may was.0
         (decides was.0 was.1 (was.2.stands ∙ standing)))
         (within_limit old roomy out.publisher port there.there) answer after finishes in
         sends_it answer after to.0 (rw (seen_alike seen) to.1) (names.reader out.publisher)
@@ -243,17 +245,20 @@ module _ {T U : Type 0} (types : MessageTypeDetails) (IsDefault : T → Type 0) 
 
       -- it did
       module _ (unseen : (port.seen == old.subscriber_list.changes) ≡ false)
-          (followed : ItsUpdate names lent held buffer old service stands out.publisher port updated there.there degradation outcome) where
+          (followed : ItsUpdate names lent held buffer old service stands out.publisher port updated there.there
+          (choices.publisher_acts name was.0.degradation) outcome) where
         follows : (result : Result (Unit {0}) ConnectionFailure) → outcome ≡ result → SendsAfter may place result updated answer after
             → Gone answer after
         follows (Ok done) is_done sent =
-            let to = updated_goes_on names lent held buffer old service loan out stands roomy goes may may_degrade listed outcome updated
-            tells updates standing free (decides was.0 was.1 (was.2.stands ∙ standing)) degradation degrades followed unseen is_done
+            let to = updated_goes_on choices names lent held buffer old service loan out stands roomy goes may may_degrade listed outcome
+            updated
+            tells updates standing free (decides was.0 was.1 (was.2.stands ∙ standing)) followed unseen is_done
             sent.0 after sent.1 in
             (sent.0, sent.2, sends_it free standing is sent.0 after to.0 to.1 followed.new_reader to.2)
         follows (Err failure) failed sent =
-            let to = updated_fails names lent held buffer old service loan out stands roomy goes may may_degrade listed outcome updated
-            tells updates standing free (decides was.0 was.1 (was.2.stands ∙ standing)) degradation degrades followed unseen failure
+            let to = updated_fails choices names lent held buffer old service loan out stands roomy goes may may_degrade listed outcome
+            updated
+            tells updates standing free (decides was.0 was.1 (was.2.stands ∙ standing)) followed unseen failure
             failed in (
               Err (error.ConnectionError failure),
               sent.0,
@@ -267,8 +272,9 @@ module _ {T U : Type 0} (types : MessageTypeDetails) (IsDefault : T → Type 0) 
       sends_after sent = ⊎_elim
           (λ same. unchanged same.0 same.1 same.2 sent)
           (λ changed. follows changed.0 changed.1 outcome refl sent)
-          (update_is names lent held buffer old service stands out.publisher port updated there.there degradation outcome may_degrade
-          roomy.tied roomy.allowed standing free degrades listed tells updates)
+          (update_is names lent held buffer old service stands out.publisher port updated there.there
+          (choices.publisher_acts name was.0.degradation) outcome may_degrade
+          roomy.tied roomy.allowed standing free (degrades was.0 was.1 (was.2.stands ∙ standing)) listed tells updates)
 
     sends_if : port.sender.uses.sending ≡ None → (machine.is_written lent_loan && not (is_some was.0.blocked)) ≡ true
         → (standing : Bool) → port.stands ≡ standing → (answer : Option (Result Sent SendError)) (after : PublisherPort T U)
@@ -339,12 +345,12 @@ module _ {T U : Type 0} (types : MessageTypeDetails) (IsDefault : T → Type 0) 
   by_answer None new call = sends_one call.1.0 call.1.1 None call.0 new call.1.2 call.2
   by_answer (Some result) new call = sends_one call.1.0 call.1.1 (Some result) call.0 new call.1.2 call.2
 
-pub send_matches : (T U : Type 0) (IsDefault : T → Type 0) (may : BackpressureInfo → BackpressureDecision → Type 0)
-    (may_degrade : DegradationInfo → DegradationAction → Type 0) → SendMatches T U IsDefault may may_degrade
-send_matches T U IsDefault may may_degrade types buffer names lent held old new service state loan out degradation answer stands roomy goes
+pub send_matches : (T U : Type 0) (choices : Choices T) (may : BackpressureInfo → BackpressureDecision → Type 0)
+    (may_degrade : DegradationInfo → DegradationAction → Type 0) → SendMatches T U choices may may_degrade
+send_matches T U choices may may_degrade types buffer names lent held old new service state loan out answer stands roomy goes
     decides degrades call =
     let there = is_there names lent held buffer old service loan out stands goes in
-    by_answer types IsDefault buffer may_degrade may names lent held old service state loan out stands roomy goes decides degradation
+    by_answer types choices buffer may_degrade may names lent held old service state loan out stands roomy goes decides
     degrades answer new
     (subst (λ (found : Option (PublisherPort T U)). AtPublisher out.publisher
     (SendsOne may_degrade may old.subscriber_list out.slot) found old answer new) there.there call)

@@ -20,6 +20,7 @@ use Rattle.iox_domain_machine.specs.ServiceLaws.{IsNamed, GoesBy, NamesOf, Chang
 use Rattle.iox_domain_machine.specs.Services.{those_of, AreNamedApart, ComesOnce, StandInTurn, DomainsStandFor}
 use Rattle.iox_domain_machine.specs.Standing.{StandsFor}
 use Rattle.iox_domain_machine.specs.Tables.{LentSlot}
+use Rattle.iox_machine.specs.Choices.{Choices}
 use Rattle.iox_machine.specs.AmongLaws.{StepsAmong}
 use Rattle.iox_machine.specs.Named.{is_on_ports, has_named}
 use Rattle.iox_machine.specs.Ports.{publisher_in, subscriber_in}
@@ -324,7 +325,7 @@ names_stay of domain names later same =
     (λ is. ap (λ (b : Bool). of (cond b later (names one))) is.0 ∙ (same ∙ ap (λ (n : ℕ). of (names n)) (sym is.1)))
     (λ not. ap (λ (b : Bool). of (cond b later (names one))) not.0) (eqb_tells one domain))
 
-module _ (T U : Type 0) (IsDefault : T → Type 0) (steps_among : StepsAmong IsDefault) (types : MessageTypeDetails) (buffer : ℕ)
+module _ (T U : Type 0) (choices : Choices T) (steps_among : StepsAmong choices) (types : MessageTypeDetails) (buffer : ℕ)
     (names : ℕ → Naming) (lent lent_then : List (ℕ × (ℕ × LentSlot))) (held held_then : List (ℕ × (ℕ × Taken)))
     (before behind : List (ℕ × ServicePorts T U)) (domain : ℕ) (old new : ServicePorts T U) (state : State T) (asked : Command T)
     (answer : Reply T) (all : DomainsStandFor names lent held buffer (before ++ (domain, old) ∷ behind) state.services)
@@ -332,12 +333,12 @@ module _ (T U : Type 0) (IsDefault : T → Type 0) (steps_among : StepsAmong IsD
     (samples : ChangesAt domain held held_then) where
   -- a domain's own ports match, by some names then
   abbrev Its : Naming → Service T → Type 0
-  Its later service = Matches T U IsDefault types buffer asked answer state service later (those_of domain lent_then)
+  Its later service = Matches T U choices types buffer asked answer state service later (those_of domain lent_then)
       (those_of domain held_then) new
 
   abbrev Does : Naming → Type 0
   Does later = (services : List (Service T))
-      × Step types IsDefault buffer asked state answer (record state { made = counted answer state.made; services = services })
+      × Step types choices buffer asked state answer (record state { made = counted answer state.made; services = services })
       × DomainsStandFor (with_name domain later names) lent_then held_then buffer (before ++ (domain, new) ∷ behind) services
 
   among_there : (first : List (Service T)) (service : Service T) (last : List (Service T)) → state.services ≡ first ++ service ∷ last
@@ -353,7 +354,7 @@ module _ (T U : Type 0) (IsDefault : T → Type 0) (steps_among : StepsAmong IsD
       let stay = others_stand {T = T} {U = U} names (with_name domain later names) lent lent_then held held_then buffer domain
       (λ other off. named_then domain other names later off) loans.0 samples.0 in (
         first ++ after ∷ last,
-        subst (λ (services : List (Service T)). Step types IsDefault buffer asked (record state { services = services }) answer
+        subst (λ (services : List (Service T)). Step types choices buffer asked (record state { services = services }) answer
             (record state { made = counted answer state.made; services = first ++ after ∷ last })) (sym are)
             (steps_among types buffer asked state answer first last service after
             (on_ports domain (names domain) lent held asked named)
@@ -393,11 +394,11 @@ module _ (T U : Type 0) (IsDefault : T → Type 0) (steps_among : StepsAmong IsD
         among_there first service last are stand_before stand_behind later same_publishers same_subscribers its,
       )
 
-pub among_others : (T U : Type 0) (IsDefault : T → Type 0) → StepsAmong IsDefault → AmongOthersMatches T U IsDefault
-among_others T U IsDefault steps_among types buffer names lent lent_then held held_then before behind domain old new state asked answer
+pub among_others : (T U : Type 0) (choices : Choices T) → StepsAmong choices → AmongOthersMatches T U choices
+among_others T U choices steps_among types buffer names lent lent_then held held_then before behind domain old new state asked answer
     later all named same_publishers same_subscribers loans samples matches =
     let (first, service, last, are, stand_before, it, stand_behind) =
     parted names lent held buffer before behind (domain, old) state.services all.each in
-    among_there T U IsDefault steps_among types buffer names lent lent_then held held_then before behind domain old new state asked answer
+    among_there T U choices steps_among types buffer names lent lent_then held held_then before behind domain old new state asked answer
     all named loans samples first service last are stand_before stand_behind later same_publishers same_subscribers
     (matches first service last are it)

@@ -3,7 +3,7 @@ use Rattle.std.proofs.Common.{◌≡◌, ◌≢◌, ◌<◌, ◌⊎◌, ◌∷�
 use Rattle.std.proofs.Common.{get_or, remove, slice_get, Option, None, Some, refl, ap, ◌∙◌, inl, inr, arith}
 use Rattle.std.proofs.lemmas.Bool.{eq-eqb, eqb-true, ne_eqb, or_cases, or_from, or_right}
 use Rattle.std.specs.List.{list_any}
-use Rattle.std.specs.Prelude.{filter, filter_map, option_map, if◌then◌else◌}
+use Rattle.std.specs.Prelude.{filter, option_map, if◌then◌else◌}
 use Rattle.iox_machine.specs.PortList.{those}
 use Rattle.iox_machine.specs.Table.{contains}
 
@@ -102,16 +102,3 @@ pub any_not : {X : Type 0} (test : X → Bool) (xs : List X) (d : X) → ((i : �
 any_not test [] d none = refl
 any_not test (x ∷ xs) d none =
     or_from (test x) (list_any test xs) (none 0 (omega arith)) (any_not test xs d (λ i within. none (suc i) (omega (arith, within))))
-
--- the first that is something
-pub first_none : {X Y : Type 0} (g : X → Option Y) (xs : List X) (d : X) → ((i : ℕ) → i < length xs → g (get_or xs i d) ≡ None)
-    → slice_get (filter_map g xs) 0 ≡ None
-first_none g [] d none = refl
-first_none g (x ∷ xs) d none = rw (none 0 (omega arith)) (first_none g xs d (λ i within. none (suc i) (omega (arith, within))))
-
-pub first_some : {X Y : Type 0} (g : X → Option Y) (xs : List X) (d : X) (y : Y) (i : ℕ) → i < length xs → g (get_or xs i d) ≡ Some y
-    → ((j : ℕ) → j < i → g (get_or xs j d) ≡ None) → slice_get (filter_map g xs) 0 ≡ Some y
-first_some g [] d y i within is none = absurd (omega (arith, within))
-first_some g (x ∷ xs) d y zero within is none = rw is refl
-first_some g (x ∷ xs) d y (suc i) within is none =
-    rw (none 0 (omega arith)) (first_some g xs d y i (omega (arith, within)) is (λ j below. none (suc j) (omega (arith, below))))

@@ -2,7 +2,7 @@
 use Rattle.std.proofs.Common.{◌≡◌, ◌≢◌, ◌≤◌, ◌&&◌, ◌==◌, ◌∷◌, [], ℕ, Bool, true, false, not, List, Option, None, Some, Result, Ok, Err}
 use Rattle.std.proofs.Common.{refl, sym, ap, subst, ◌∙◌, arith}
 use Rattle.std.specs.Map.{lookup, set_value}
-use Rattle.std.specs.Prelude.{MatchResult}
+use Rattle.std.specs.Prelude.{MatchResult, zip}
 use Rattle.iox_command.specs.DomainValues.declared.connection_failure.ConnectionFailure.{ConnectionFailure}
 use Rattle.iox_command.specs.DomainValues.declared.degradation.DegradationAction.{DegradationAction}
 use Rattle.iox_command.specs.DomainValues.declared.degradation.DegradationInfo.{DegradationInfo}
@@ -37,9 +37,10 @@ use Rattle.iox_domain_machine.proofs.Alone.{alone_does, alone_skips}
 use Rattle.iox_domain_machine.proofs.Found.{same_some, never_some}
 use Rattle.iox_domain_machine.proofs.GivingUp.{some_of}
 use Rattle.iox_domain_machine.proofs.UpdatingSubscriber.{IsReady, update_stands}
+use Rattle.iox_machine.specs.Choices.{Choices}
 use Rattle.iox_machine.specs.PortList.{PortList}
 use Rattle.iox_machine.specs.Ports.{subscriber_in}
-use Rattle.iox_machine.specs.PublisherUpdate.{update_answer}
+use Rattle.iox_machine.specs.PublisherUpdate.{UpdateAnswers}
 use Rattle.iox_machine.specs.Replies.{IsRefused}
 use Rattle.iox_machine.specs.Service.{Service, Subscriber}
 use Rattle.iox_machine.specs.State.{State}
@@ -56,10 +57,10 @@ set_same {V} test (entry ∷ table) v is = by (test entry.0) refl (set_same test
     by true here rest = rw here (ap (λ (one : V). (entry.0, one) ∷ table) (sym (same_some entry.1 v (rw here at is))))
     by false off rest = rw off (ap (λ more. entry ∷ more) (rest (rw off at is)))
 
-module _ {T U : Type 0} (types : MessageTypeDetails) (IsDefault : T → Type 0) (buffer : ℕ) (names : Naming) (lent : List (ℕ × LentSlot))
+module _ {T U : Type 0} (types : MessageTypeDetails) (choices : Choices T) (buffer : ℕ) (names : Naming) (lent : List (ℕ × LentSlot))
     (held : List (ℕ × Taken)) (old : ServicePorts T U) (service : Service T) (state : State T) (number : ℕ)
     (may : DegradationInfo → DegradationAction → Type 0) (stands : StandsFor names lent held buffer old service) (roomy : AreRoomy old)
-    (acts : ActsAs may (names.subscriber number) service) where
+    (acts : ActsAs choices may (names.subscriber number) service) where
   abbrev its : ℕ
   its = names.subscriber number
 
@@ -67,11 +68,11 @@ module _ {T U : Type 0} (types : MessageTypeDetails) (IsDefault : T → Type 0) 
   Ends one before answered later = (answered ≡ reply.Done) × (later ≡ before)
 
   abbrev Does : Subscriber → Service T → Reply T → Service T → Type 0
-  Does = UpdatesFirst buffer its refusal.Connection Ends
+  Does = UpdatesFirst choices buffer its refusal.Connection Ends
 
   abbrev Result_of : Option (Result (Unit {0}) ConnectionFailure) → ServicePorts T U → Type 0
   Result_of answer new =
-      (reader : ℕ → ℕ → ℕ) × Matches T U IsDefault types buffer (command.Update (number_of.Subscriber its)) (updated_or_skipped answer)
+      (reader : ℕ → ℕ → ℕ) × Matches T U choices types buffer (command.Update (number_of.Subscriber its)) (updated_or_skipped answer)
       state
       service (record names { reader = reader }) lent held new
 
@@ -139,12 +140,13 @@ module _ {T U : Type 0} (types : MessageTypeDetails) (IsDefault : T → Type 0) 
           ∙ ap (λ b. (port.seen == old.publisher_list.changes) && not b) found.2.again
 
       ends : (outcome : Result (Unit {0}) ConnectionFailure) (later : Subscriber) (mid : Service T)
-          → update_answer was.degradation service.publisher_list.places later.connected ≡ outcome
-          → MatchResult (update_answer was.degradation service.publisher_list.places later.connected)
-          (λ done. Ends later mid (updated_or_skipped (Some outcome)) mid)
+          → UpdateAnswers (choices.subscriber_acts its was.degradation) (zip service.publisher_list.places later.connected) outcome
+          → (told : Result (Unit {0}) ConnectionFailure)
+          × UpdateAnswers (choices.subscriber_acts its was.degradation) (zip service.publisher_list.places later.connected) told
+          × MatchResult told (λ done. Ends later mid (updated_or_skipped (Some outcome)) mid)
           (λ failure. IsRefused {T = T} (refusal.Connection failure) mid (updated_or_skipped (Some outcome)) mid)
-      ends (Ok tt) later mid is = rw is (refl, refl)
-      ends (Err failure) later mid is = rw is (refl, refl)
+      ends (Ok tt) later mid is = (Ok tt, is, (refl, refl))
+      ends (Err failure) later mid is = (Err failure, is, (refl, refl))
 
       follows : (items : List (Option (Member PublisherEntry))) → IsListOf items old.publisher_list
           → (outcome : Result (Unit {0}) ConnectionFailure) (after : SubscriberPort) (ports_after : List (ℕ × PublisherPort T U))
@@ -166,7 +168,7 @@ module _ {T U : Type 0} (types : MessageTypeDetails) (IsDefault : T → Type 0) 
           )))
       follows items is_list outcome after ports_after false is parts =
           let it = update_stands names lent held buffer old service number port was stands there found.1 ready few was_stands may
-          (acts was found.1 was_stands) items is_list outcome after ports_after parts in (
+          (choices.subscriber_acts its was.degradation) (acts was found.1 was_stands) items is_list outcome after ports_after parts in (
             it.reader,
             (
               it.mid,
@@ -201,8 +203,8 @@ module _ {T U : Type 0} (types : MessageTypeDetails) (IsDefault : T → Type 0) 
   by_port named (Some port) there (Some outcome) new (after, ports_after, call, is_new) =
       rw is_new (some_so port there port.stands refl outcome after ports_after call)
 
-pub subscriber_update_matches : (T U : Type 0) (IsDefault : T → Type 0) (may : DegradationInfo → DegradationAction → Type 0)
-    → SubscriberUpdateMatches T U IsDefault may
-subscriber_update_matches T U IsDefault may types buffer names lent held old new service state number answer stands roomy named acts call =
-    by_port types IsDefault buffer names lent held old service state number may stands roomy acts named
+pub subscriber_update_matches : (T U : Type 0) (choices : Choices T) (may : DegradationInfo → DegradationAction → Type 0)
+    → SubscriberUpdateMatches T U choices may
+subscriber_update_matches T U choices may types buffer names lent held old new service state number answer stands roomy named acts call =
+    by_port types choices buffer names lent held old service state number may stands roomy acts named
     (subscriber_of number old.subscribers) refl answer new call

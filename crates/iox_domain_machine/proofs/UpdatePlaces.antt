@@ -1,7 +1,7 @@
 -- Who parts at places that are left to be gone over, and which place is the first where something failed.
-use Rattle.std.proofs.Common.{◌≡◌, ◌≢◌, ◌<◌, ◌⊎◌, ◌+◌, ◌∷◌, [], ◌||◌, ℕ, zero, suc, true, false, not, List, get_or, Option, None, Some}
-use Rattle.std.proofs.Common.{refl, ap, ◌∙◌, inl, inr, arith}
-use Rattle.std.proofs.lemmas.Bool.{cases_eq, eq-eqb, ne_eqb}
+use Rattle.std.proofs.Common.{◌≡◌, ◌≢◌, ◌⊎◌, ◌∷◌, [], ◌||◌, ℕ, zero, suc, true, false, not, List, get_or, Option, None, Some}
+use Rattle.std.proofs.Common.{refl, ap, ◌∙◌, inl, inr}
+use Rattle.std.proofs.lemmas.Bool.{eq-eqb, ne_eqb}
 use Rattle.std.proofs.lemmas.List.Elements.{filter_map-append}
 use Rattle.std.proofs.lemmas.List.Sums.{fold-append}
 use Rattle.std.specs.Prelude.{filter, filter_map, fold, is_some, if◌then◌else◌}
@@ -57,43 +57,3 @@ none_then ((Some connected, None) ∷ places) none = by (none zero)
     by : (false ≡ true) ⊎ (Some connected ≡ None) → leaving_then ((Some connected, None) ∷ places) ≡ []
     by (inl wrong) = cc
     by (inr wrong) = cc
-
--- what is at the first of so many places where there is something
-pub record IsFirstBelow {Y : Type 0} (at_place : ℕ → Option Y) (count : ℕ) (found : Option Y) : Type 0 where
-  pub none : found ≡ None → (place : ℕ) → place < count → at_place place ≡ None
-  pub some : (y : Y) → found ≡ Some y
-      → (place : ℕ) × (place < count) × (at_place place ≡ Some y) × ((lower : ℕ) → lower < place → at_place lower ≡ None)
-
-pub none_below_zero : {Y : Type 0} (at_place : ℕ → Option Y) → IsFirstBelow at_place 0 None
-none_below_zero at_place = record { none = λ is place below. absurd (omega (arith, below)); some = λ y is. absurd (cc) }
-
-module _ {Y : Type 0} (before now : ℕ → Option Y) (count : ℕ) (same : (place : ℕ) → place ≢ count → now place ≡ before place) where
-  -- one more place is gone over, where nothing is, or where something is already
-  pub still_first : (found : Option Y) → (found ≡ None → now count ≡ None) → IsFirstBelow before count found
-      → IsFirstBelow now (count + 1) found
-  still_first found here first = record {
-    none = λ is place below. elim (cases_eq place count) [
-      | inl at ↦ ap now at ∙ here is
-      | inr off ↦ same place off ∙ first.none is place (omega (arith, below, off))
-    ];
-    some = λ y is.
-        let it = first.some y is in (
-          it.0,
-          omega (arith, it.1),
-          same it.0 (λ at. absurd (omega (arith, at, it.1))) ∙ it.2,
-          λ lower below. same lower (λ at. absurd (omega (arith, at, it.1, below))) ∙ it.3 lower below,
-        );
-  }
-
-  -- or where something is, the first
-  pub now_first : (y : Y) → now count ≡ Some y → IsFirstBelow before count None → IsFirstBelow now (count + 1) (Some y)
-  now_first y here first = record {
-    none = λ is. absurd (cc);
-    some = λ other is.
-        let own : y ≡ other = cc in (
-          count,
-          omega arith,
-          here ∙ ap (λ one. Some one) own,
-          λ lower below. same lower (λ at. absurd (omega (arith, at, below))) ∙ first.none refl lower below,
-        );
-  }

@@ -6,13 +6,10 @@ use Rattle.std.proofs.lemmas.List.{drop_more, get_or-drop}
 use Rattle.std.specs.Map.{keys_of}
 use Rattle.std.specs.Prelude.{fold, is_some, option_map}
 use Rattle.iox_command.specs.DomainValues.declared.connection_failure.ConnectionFailure.{ConnectionFailure}
-use Rattle.iox_command.specs.DomainValues.declared.connection_failure.ConnectionFailure.TheVariants.{FailedToEstablishConnection}
 use Rattle.iox_command.specs.DomainValues.declared.connection_failure.ZeroCopyCreationError.{ZeroCopyCreationError}
 use Rattle.iox_command.specs.DomainValues.declared.degradation.DegradationAction.{DegradationAction}
-use Rattle.iox_command.specs.DomainValues.declared.degradation.DegradationAction.TheVariants.{DegradeAndFail, Ignore, Warn}
 use Rattle.iox_command.specs.DomainValues.declared.degradation.DegradationInfo.{DegradationInfo}
 use Rattle.iox_domain.specs.Container.declared.container.Member.{Member}
-use Rattle.iox_domain.specs.DomainPorts.PublisherUpdating.{first_failure}
 use Rattle.iox_domain.specs.DomainPorts.SubscriberUpdating.{AsksOf, FollowsFrom, FollowsNoneIf, FollowsNones}
 use Rattle.iox_domain.specs.DomainPorts.declared.attached.Taken.{Taken}
 use Rattle.iox_domain.specs.DomainPorts.declared.publisher_entry.PublisherEntry.{PublisherEntry}
@@ -29,30 +26,12 @@ use Rattle.iox_domain_machine.proofs.Found.{never_some}
 use Rattle.iox_domain_machine.proofs.UpdateAlong.{along_same, again_same}
 use Rattle.iox_domain_machine.proofs.UpdateBody.{Walked, before, listed, outcome_of, parts_from, step_listed, step_unlisted}
 use Rattle.iox_domain_machine.proofs.UpdateMidway.{Midway, connected_at}
-use Rattle.iox_domain_machine.proofs.UpdatePlaces.{IsFirstBelow, Place, leaving_first, leaving_then, none_first, none_then, now_first}
-use Rattle.iox_domain_machine.proofs.UpdatePlaces.{still_first}
+use Rattle.iox_domain_machine.proofs.UpdatePlaces.{Place, leaving_first, leaving_then, none_first, none_then}
+use Rattle.iox_domain_machine.proofs.UpdateTold.{ToldBelow, told_past, told_here}
 use Rattle.iox_machine.specs.PublisherUpdate.{failure_at}
 use Rattle.iox_machine.specs.Service.{Service, Subscriber}
 use Rattle.iox_machine.specs.SubscriberUpdate.{Parted}
 use Rattle.iox_machine.specs.Table.{at}
-
--- what is answered where this failed first
-abbrev pub told : DegradationAction → Option ZeroCopyCreationError → Option ConnectionFailure
-told Ignore failed = None
-told Warn failed = None
-told DegradeAndFail failed = option_map FailedToEstablishConnection failed
-
--- the first failure, if this is one more
-abbrev or_else : Option ZeroCopyCreationError → ZeroCopyCreationError → Option ZeroCopyCreationError
-or_else None failure = Some failure
-or_else (Some failed) failure = Some failed
-
-told_on : (action : DegradationAction) (failed : Option ZeroCopyCreationError) (failure : ZeroCopyCreationError)
-    → first_failure (told action failed) (FailedToEstablishConnection failure) action ≡ told action (or_else failed failure)
-told_on Ignore failed failure = refl
-told_on Warn failed failure = refl
-told_on DegradeAndFail None failure = refl
-told_on DegradeAndFail (Some failed) failure = refl
 
 ok_isn't : {A : Type 0} (failure : ZeroCopyCreationError) (outcome : Result (Unit {0}) ZeroCopyCreationError) → outcome ≡ Ok tt
     → outcome ≡ Err failure → A
@@ -139,8 +118,8 @@ module _ {T U : Type 0} (names : Naming) (lent : List (ℕ × LentSlot)) (held :
       → listed_at place ≡ Some (names.publisher member.value.publisher)
   listed_some place member is = ap (option_map (λ (m : Member PublisherEntry). names.publisher m.value.publisher)) is
 
-  module _ (may : DegradationInfo → DegradationAction → Type 0)
-      (acts : (info : DegradationInfo) (action : DegradationAction) → may info action → action ≡ was.degradation) (zipped : List Place)
+  module _ (may : DegradationInfo → DegradationAction → Type 0) (May : DegradationAction → Type 0)
+      (acts : (info : DegradationInfo) (action : DegradationAction) → may info action → May action) (zipped : List Place)
       (zipped_at : (place : ℕ) → get_or zipped place (None, None) ≡ (was_at place, listed_at place))
       (zipped_long : length zipped ≡ old.sizes.max_publishers) where
     -- What comes of the places that list a publisher.
@@ -149,9 +128,7 @@ module _ {T U : Type 0} (names : Naming) (lent : List (ℕ × LentSlot)) (held :
       pub after : Parted
       pub walked : At (done_then 0) new new_ports after
       pub folds : fold parts parted (leaving_first (drop from zipped)) ≡ after
-      pub failed : Option ZeroCopyCreationError
-      pub is_told : found ≡ told was.degradation failed
-      pub is_first : IsFirstBelow (fails_at new) old.sizes.max_publishers failed
+      pub is_told : ToldBelow May (fails_at new) old.sizes.max_publishers found
 
     from_here : (from : ℕ) → from < old.sizes.max_publishers
         → drop from zipped ≡ (was_at from, listed_at from) ∷ drop (from + 1) zipped
@@ -161,23 +138,23 @@ module _ {T U : Type 0} (names : Naming) (lent : List (ℕ × LentSlot)) (held :
 
     -- none of the places from one on lists a publisher
     none_further : (from : ℕ) (new : SubscriberPort) (new_ports : List (ℕ × PublisherPort T U)) (parted : Parted)
-        (found : Option ConnectionFailure) (failed : Option ZeroCopyCreationError) → found ≡ told was.degradation failed
+        (found : Option ConnectionFailure)
         → ((place : ℕ) → from ≤ place → listed_at place ≡ None) → from ≤ old.sizes.max_publishers
-        → At (done_first from) new new_ports parted → IsFirstBelow (fails_at new) from failed → WentFirst new new_ports parted from found
-    none_further from new new_ports parted found failed is_told none few_places walked first_so = record {
+        → At (done_first from) new new_ports parted → ToldBelow May (fails_at new) from found → WentFirst new new_ports parted from found
+    none_further from new new_ports parted found none few_places walked told_so = record {
       after = parted;
       walked = moved (done_first from) (done_then 0) new new_ports parted same walked;
       folds = ap (fold parts parted) (none_first (drop from zipped) (λ place.
           ap (λ (it : Place). it.1) (get_or-drop from zipped place (None, None) ∙ zipped_at (from + place))
           ∙ none (from + place) (omega arith)));
-      failed = failed;
-      is_told = is_told;
-      is_first = record {
-        none = λ is place below. elim (cases_lt place from) [
-          | inl lower ↦ first_so.none is place lower
-          | inr higher ↦ ap (λ l. failure_at l (connected_at names.publisher new place)) (none place higher)
+      is_told = record {
+        passes = λ is place why below there. elim (cases_lt place from) [
+          | inl lower ↦ told_so.passes is place why lower there
+          | inr higher ↦ never_some why
+              (sym (ap (λ l. failure_at l (connected_at names.publisher new place)) (none place higher)) ∙ there)
         ];
-        some = λ y is. let it = first_so.some y is in (it.0, omega (arith, it.1, few_places), it.2, it.3);
+        tells = λ failure is. let it = told_so.tells failure is in
+            (it.0, it.1, omega (arith, it.2, few_places), it.3, it.4, it.5, it.6);
       };
     }
       where
@@ -193,22 +170,22 @@ module _ {T U : Type 0} (names : Naming) (lent : List (ℕ × LentSlot)) (held :
 
     pub went_first : (items : List (Option (Member PublisherEntry))) (from : ℕ) (found after : Option ConnectionFailure)
         (port new : SubscriberPort) (ports new_ports : List (ℕ × PublisherPort T U)) (parted : Parted)
-        (failed : Option ZeroCopyCreationError) → found ≡ told was.degradation failed
         → ((k : ℕ) → get_or old.publisher_list.places (from + k) None ≡ get_or items k None)
-        → from + length items ≤ old.sizes.max_publishers → At (done_first from) port ports parted → IsFirstBelow (fails_at port) from failed
+        → from + length items ≤ old.sizes.max_publishers → At (done_first from) port ports parted → ToldBelow May (fails_at port) from found
         → FollowsFrom may from items found port ports after new new_ports → WentFirst new new_ports parted from after
-    went_first [] from found after port new ports new_ports parted failed is_told same few_places walked first_so follows =
+    went_first [] from found after port new ports new_ports parted same few_places walked told_so follows =
         subst (λ one. WentFirst one new_ports parted from after) (sym follows.1)
         (subst (λ all. WentFirst port all parted from after) (sym follows.2)
-        (none_further from port ports parted after failed (follows.0 ∙ is_told)
+        (none_further from port ports parted after
         (λ place higher. listed_none place
         (ap (λ n. get_or old.publisher_list.places n None) (omega (arith, higher)) ∙ same (place - from)))
-        (omega (arith, few_places)) walked first_so))
-    went_first (None ∷ items) from found after port new ports new_ports parted failed is_told same few_places walked first_so
+        (omega (arith, few_places)) walked
+        (subst (λ one. ToldBelow May (fails_at port) from one) (sym follows.0) told_so)))
+    went_first (None ∷ items) from found after port new ports new_ports parted same few_places walked told_so
         (outcome, next, next_ports, then_found, one, asks, further) =
         let none : listed_at from ≡ None =
         listed_none from (ap (λ n. get_or old.publisher_list.places n None) (omega arith) ∙ same 0) in
-        let rest = went_first items (from + 1) then_found after port new ports new_ports parted failed (asks ∙ is_told)
+        let rest = went_first items (from + 1) then_found after port new ports new_ports parted
         (λ k. ap (λ n. get_or old.publisher_list.places n None) (omega arith) ∙ same (suc k)) (omega (arith, few_places))
         (moved (done_first from) (done_first (from + 1)) port ports parted (λ place. elim (cases_eq place from) [
           | inl own ↦
@@ -218,8 +195,9 @@ module _ {T U : Type 0} (names : Naming) (lent : List (ℕ × LentSlot)) (held :
               ∙ and_no (nat_lt from from))
           | inr off ↦ ap (λ b. b && is_some (listed_at place)) (below_next from place off)
         ]) walked)
-        (still_first (fails_at port) (fails_at port) from (λ place off. refl) failed
-        (λ is. ap (λ l. failure_at l (connected_at names.publisher port from)) none) first_so)
+        (subst (λ one. ToldBelow May (fails_at port) (from + 1) one) (sym asks)
+        (told_past May (fails_at port) (fails_at port) from (λ place off. refl) found
+        (ap (λ l. failure_at l (connected_at names.publisher port from)) none) told_so))
         (subst (λ one. FollowsFrom may (from + 1) items then_found one ports after new new_ports) one.1
         (subst (λ all. FollowsFrom may (from + 1) items then_found next all after new new_ports) one.2 further)) in
         record {
@@ -227,11 +205,9 @@ module _ {T U : Type 0} (names : Naming) (lent : List (ℕ × LentSlot)) (held :
           walked = rest.walked;
           folds = ap (λ all. fold parts parted (leaving_first all)) (from_here from (omega (arith, few_places)))
               ∙ ap (λ l. fold parts parted (leaving_first ((was_at from, l) ∷ drop (from + 1) zipped))) none ∙ rest.folds;
-          failed = rest.failed;
           is_told = rest.is_told;
-          is_first = rest.is_first;
         }
-    went_first (Some member ∷ items) from found after port new ports new_ports parted failed is_told same few_places walked first_so
+    went_first (Some member ∷ items) from found after port new ports new_ports parted same few_places walked told_so
         (outcome, next, next_ports, then_found, one, asks, further) =
         let is_listed : get_or old.publisher_list.places from None ≡ Some member =
         ap (λ n. get_or old.publisher_list.places n None) (omega arith) ∙ same 0 in
@@ -244,46 +220,33 @@ module _ {T U : Type 0} (names : Naming) (lent : List (ℕ × LentSlot)) (held :
         member is_listed (omega (arith, few_places)) outcome next next_ports one in
         let same_fails : (place : ℕ) → place ≢ from → fails_at next place ≡ fails_at port place =
         λ place off. ap (failure_at (listed_at place)) (stepped.others place off) in
-        let told_so = asked next outcome (fails_at next from) refl stepped.fails asks in
-        let rest = went_first items (from + 1) then_found after next new next_ports new_ports stepped.after told_so.0 told_so.1
+        let told_then = asked next outcome (fails_at next from) refl stepped.fails same_fails asks in
+        let rest = went_first items (from + 1) then_found after next new next_ports new_ports stepped.after
         (λ k. ap (λ n. get_or old.publisher_list.places n None) (omega arith) ∙ same (suc k)) (omega (arith, few_places)) stepped.walked
-        (told_so.2 same_fails) further in
+        told_then further in
         record {
           after = rest.after;
           walked = rest.walked;
           folds = ap (λ all. fold parts parted (leaving_first all)) (from_here from (omega (arith, few_places)))
               ∙ stepped.folds (drop (from + 1) zipped) ∙ rest.folds;
-          failed = rest.failed;
           is_told = rest.is_told;
-          is_first = rest.is_first;
         }
       where
-        -- the first failure so far
+        -- what is told so far
         asked : (next : SubscriberPort) (outcome : Result (Unit {0}) ZeroCopyCreationError) (fails : Option ZeroCopyCreationError)
             → fails_at next from ≡ fails → outcome ≡ outcome_of (fails_at next from)
-            → AsksOf may (Some member) next found outcome then_found
-            → (then_failed : Option ZeroCopyCreationError) × (then_found ≡ told was.degradation then_failed)
-            × (((place : ℕ) → place ≢ from → fails_at next place ≡ fails_at port place)
-            → IsFirstBelow (fails_at next) (from + 1) then_failed)
-        asked next (Ok tt) None is is_outcome asks =
-            (failed, asks ∙ is_told, λ same_fails. still_first (fails_at port) (fails_at next) from same_fails failed (λ none. is) first_so)
-        asked next (Ok tt) (Some failure) is is_outcome asks = ok_isn't failure (Ok tt) refl (is_outcome ∙ ap outcome_of is)
-        asked next (Err why) None is is_outcome asks = ok_isn't why (Err why) (is_outcome ∙ ap outcome_of is) refl
-        asked next (Err why) (Some failure) is is_outcome (action, may_so, is_found) =
-            let same_why : why ≡ failure = same_error why failure (Err why) refl (is_outcome ∙ ap outcome_of is) in (
-              or_else failed why,
-              is_found ∙ ap (λ a. first_failure found (FailedToEstablishConnection why) a) (acts _ action may_so)
-                  ∙ ap (λ f. first_failure f (FailedToEstablishConnection why) was.degradation) is_told
-                  ∙ told_on was.degradation failed why,
-              λ same_fails. by failed same_fails (is ∙ ap (λ f. Some f) (sym same_why)) first_so,
-            )
-          where
-            by : (failed : Option ZeroCopyCreationError) → ((place : ℕ) → place ≢ from → fails_at next place ≡ fails_at port place)
-                → fails_at next from ≡ Some why → IsFirstBelow (fails_at port) from failed
-                → IsFirstBelow (fails_at next) (from + 1) (or_else failed why)
-            by None same_fails now_fails first_so = now_first (fails_at port) (fails_at next) from same_fails why now_fails first_so
-            by (Some failed) same_fails now_fails first_so =
-                still_first (fails_at port) (fails_at next) from same_fails (Some failed) (λ none. never_some failed (sym none)) first_so
+            → ((place : ℕ) → place ≢ from → fails_at next place ≡ fails_at port place)
+            → AsksOf may (Some member) next found outcome then_found → ToldBelow May (fails_at next) (from + 1) then_found
+        asked next (Ok tt) None is is_outcome same_fails asks =
+            subst (λ one. ToldBelow May (fails_at next) (from + 1) one) (sym asks)
+            (told_past May (fails_at port) (fails_at next) from same_fails found is told_so)
+        asked next (Ok tt) (Some failure) is is_outcome same_fails asks = ok_isn't failure (Ok tt) refl (is_outcome ∙ ap outcome_of is)
+        asked next (Err why) None is is_outcome same_fails asks = ok_isn't why (Err why) (is_outcome ∙ ap outcome_of is) refl
+        asked next (Err why) (Some failure) is is_outcome same_fails (action, may_so, is_found) =
+            let same_why : why ≡ failure = same_error why failure (Err why) refl (is_outcome ∙ ap outcome_of is) in
+            subst (λ one. ToldBelow May (fails_at next) (from + 1) one) (sym is_found)
+            (told_here May (fails_at port) (fails_at next) from same_fails found why (is ∙ ap (λ f. Some f) (sym same_why)) action
+            (acts _ action may_so) told_so)
 
     -- What comes of the places that list none.
     pub record WentThen (port new : SubscriberPort) (new_ports : List (ℕ × PublisherPort T U)) (parted : Parted) (from most : ℕ)

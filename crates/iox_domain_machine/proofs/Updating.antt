@@ -41,6 +41,7 @@ use Rattle.iox_domain_machine.proofs.FollowStands.{publisher_after, service_afte
 use Rattle.iox_domain_machine.proofs.Found.{same_some, never_some, same_everywhere}
 use Rattle.iox_domain_machine.proofs.GivingUp.{some_of, is_in, isn't_in, kept_there, none_blocked}
 use Rattle.iox_domain_machine.proofs.Kept.{loans_kept, samples_kept}
+use Rattle.iox_machine.specs.Choices.{Choices}
 use Rattle.iox_machine.specs.Ports.{publisher_in}
 use Rattle.iox_machine.specs.PublisherUpdate.{UpdatesFirst}
 use Rattle.iox_machine.specs.Replies.{IsSkipped, IsRefused}
@@ -48,11 +49,11 @@ use Rattle.iox_machine.specs.Service.{Publisher, Service}
 use Rattle.iox_machine.specs.State.{State}
 use Rattle.iox_machine.specs.Table.{at}
 
-module _ {T U : Type 0} (types : MessageTypeDetails) (IsDefault : T → Type 0) (buffer : ℕ) (names : Naming) (lent : List (ℕ × LentSlot))
+module _ {T U : Type 0} (types : MessageTypeDetails) (choices : Choices T) (buffer : ℕ) (names : Naming) (lent : List (ℕ × LentSlot))
     (held : List (ℕ × Taken)) (old : ServicePorts T U) (service : Service T) (state : State T) (number : ℕ)
-    (may : DegradationInfo → DegradationAction → Type 0) (degradation : DegradationAction)
+    (may : DegradationInfo → DegradationAction → Type 0)
     (stands : StandsFor names lent held buffer old service) (apart : IsApart old) (allowed : AreAllowed old)
-    (named_so : names.publisher number ≢ 0) (degrades : DegradesAs may degradation (names.publisher number) service) where
+    (named_so : names.publisher number ≢ 0) (degrades : DegradesAs choices may (names.publisher number) service) where
   abbrev name : ℕ
   name = names.publisher number
 
@@ -60,12 +61,12 @@ module _ {T U : Type 0} (types : MessageTypeDetails) (IsDefault : T → Type 0) 
   IsDone one before answered later = (answered ≡ reply.Done) × (later ≡ before)
 
   abbrev Does : Publisher T → Service T → Reply T → Service T → Type 0
-  Does one before answered later = MatchOption one.blocked (UpdatesFirst name refusal.Connection IsDone one before answered later)
+  Does one before answered later = MatchOption one.blocked (UpdatesFirst choices name refusal.Connection IsDone one before answered later)
       (λ send. IsSkipped before answered later)
 
   abbrev Outcome : Option (Result (Unit {0}) ConnectionFailure) → ServicePorts T U → Type 0
   Outcome answer new =
-      (reader : ℕ → ℕ) × Matches T U IsDefault types buffer (command.Update (number_of.Publisher name)) (updated_or_skipped answer) state
+      (reader : ℕ → ℕ) × Matches T U choices types buffer (command.Update (number_of.Publisher name)) (updated_or_skipped answer) state
       service (record names { reader = with_name number reader names.reader }) lent held new
 
   same_names : with_name number (names.reader number) names.reader ≡ names.reader
@@ -100,6 +101,9 @@ module _ {T U : Type 0} (types : MessageTypeDetails) (IsDefault : T → Type 0) 
     abbrev found : PublisherIs names old service number port
     found = stands.publishers number port there
 
+    abbrev May : DegradationAction → Type 0
+    May = choices.publisher_acts name found.0.degradation
+
     skips_blocked : (message : Message T U) → port.stands ≡ true → port.sender.uses.sending ≡ Some message → Outcome None old
     skips_blocked message standing waits =
         let blocked = subst (λ (sending : Option (Message T U)). BlockedStandsFor
@@ -122,10 +126,11 @@ module _ {T U : Type 0} (types : MessageTypeDetails) (IsDefault : T → Type 0) 
       here = found.2.stands ∙ standing
 
       -- a publisher of which no send waits updates first
-      does_free : (answered : Reply T) (later : Service T) → UpdatesFirst name refusal.Connection IsDone found.0 service answered later
+      does_free : (answered : Reply T) (later : Service T)
+          → UpdatesFirst choices name refusal.Connection IsDone found.0 service answered later
           → Does found.0 service answered later
       does_free answered later it =
-          subst (λ blocked. MatchOption blocked (UpdatesFirst name refusal.Connection IsDone found.0 service answered later)
+          subst (λ blocked. MatchOption blocked (UpdatesFirst choices name refusal.Connection IsDone found.0 service answered later)
           (λ send. IsSkipped service answered later)) (sym free) it
 
       -- nothing changed since the last update
@@ -135,8 +140,7 @@ module _ {T U : Type 0} (types : MessageTypeDetails) (IsDefault : T → Type 0) 
         (
           service,
           alone_does (publisher_in name) Does state service service reply.Done found.0 (is_in service name found.0 found.1 here)
-              (does_free reply.Done service (does_at_once names lent held buffer old service stands number port port there degradation
-              (Ok tt)
+              (does_free reply.Done service (does_at_once choices names lent held buffer old service stands number port port there (Ok tt)
               refusal.Connection IsDone reply.Done service seen (refl, refl))),
           stays (with_publisher number port old)
               (subst (λ (ports : List (ℕ × PublisherPort T U)).
@@ -151,13 +155,13 @@ module _ {T U : Type 0} (types : MessageTypeDetails) (IsDefault : T → Type 0) 
       )
 
       module _ (after : PublisherPort T U) (answer : Result (Unit {0}) ConnectionFailure)
-          (followed : ItsUpdate names lent held buffer old service stands number port after there degradation answer)
+          (followed : ItsUpdate names lent held buffer old service stands number port after there May answer)
           (seen : (port.seen == old.subscriber_list.changes) ≡ false) where
         abbrev later : Service T
-        later = service_after names lent held buffer old service stands number port after there degradation answer followed
+        later = service_after names lent held buffer old service stands number port after there May answer followed
 
         abbrev one_after : Publisher T
-        one_after = publisher_after names lent held buffer old service stands number port after there degradation answer followed
+        one_after = publisher_after names lent held buffer old service stands number port after there May answer followed
 
         abbrev Ends : Result (Unit {0}) ConnectionFailure → Type 0
         Ends result = MatchResult result (λ done. IsDone one_after later (updated_or_skipped {T = T} (Some answer)) later)
@@ -177,15 +181,16 @@ module _ {T U : Type 0} (types : MessageTypeDetails) (IsDefault : T → Type 0) 
             later,
             alone_does (publisher_in name) Does state service later (updated_or_skipped (Some answer)) found.0
                 (is_in service name found.0 found.1 here)
-                (does_free (updated_or_skipped (Some answer)) later (does_then names lent held buffer old service stands number port after
-                there degradation answer refusal.Connection IsDone (updated_or_skipped (Some answer)) later seen
-                (degrades found.0 found.1 (found.2.stands ∙ standing)).1 followed (ends answer refl))),
+                (does_free (updated_or_skipped (Some answer)) later
+                (does_then choices names lent held buffer old service stands number port after
+                there answer refusal.Connection IsDone (updated_or_skipped (Some answer)) later seen
+                followed (ends answer refl))),
             subst (λ (ports : List (ℕ × PublisherPort T U)).
                 StandsFor (record names { reader = with_name number followed.new_reader names.reader }) lent held buffer
                 (record old { publishers = ports }) later)
                 (sym (kept_there number after (with_port number old.publishers after)
                 (same_set (at_number number) old.publishers after port there) standing_after))
-                (follows_stands names lent held buffer old service stands number port after there degradation answer followed),
+                (follows_stands names lent held buffer old service stands number port after there May answer followed),
           ),
         )
 
@@ -197,8 +202,8 @@ module _ {T U : Type 0} (types : MessageTypeDetails) (IsDefault : T → Type 0) 
           (λ same. subst (λ (one : PublisherPort T U). Outcome (Some answer) (with_publisher number one old)) (sym same.2)
           (subst (λ result. Outcome (Some result) (with_publisher number port old)) (sym same.1) (unchanged same.0)))
           (λ other. changed after answer other.1 other.0)
-          (update_is names lent held buffer old service stands number port after there degradation answer may apart allowed standing silent
-          degrades listed tells is)
+          (update_is names lent held buffer old service stands number port after there May answer may apart allowed standing silent
+          (degrades found.0 found.1 here) listed tells is)
 
     -- what comes of a call at a publisher that is there
     by : (answer : Option (Result (Unit {0}) ConnectionFailure)) (new : ServicePorts T U) (standing : Bool)
@@ -225,9 +230,9 @@ module _ {T U : Type 0} (types : MessageTypeDetails) (IsDefault : T → Type 0) 
       → AtPublisher number (UpdatesOne may old.subscriber_list) (port_of number old.publishers) old answer new → Outcome answer new
   updates_publisher answer new call = by_port (port_of number old.publishers) refl answer new call
 
-pub publisher_update_matches : (T U : Type 0) (IsDefault : T → Type 0) (may : DegradationInfo → DegradationAction → Type 0)
-    → PublisherUpdateMatches T U IsDefault may
-publisher_update_matches T U IsDefault may types buffer names lent held old new service state number degradation answer stands apart allowed
+pub publisher_update_matches : (T U : Type 0) (choices : Choices T) (may : DegradationInfo → DegradationAction → Type 0)
+    → PublisherUpdateMatches T U choices may
+publisher_update_matches T U choices may types buffer names lent held old new service state number answer stands apart allowed
     named degrades call =
-    updates_publisher types IsDefault buffer names lent held old service state number may degradation stands apart allowed named degrades
+    updates_publisher types choices buffer names lent held old service state number may stands apart allowed named degrades
     answer new call

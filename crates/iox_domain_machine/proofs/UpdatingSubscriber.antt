@@ -1,6 +1,6 @@
 -- A subscriber brings its connections up to date, of a domain and of the machine.
 use Rattle.std.proofs.Common.{◌≡◌, ◌≤◌, ◌<◌, ◌⊎◌, ◌+◌, ◌-◌, [], ◌&&◌, ◌||◌, ℕ, Bool, true, false, List, length, map, get_or, nat_lt}
-use Rattle.std.proofs.Common.{replicate, Option, None, Some, Result, Ok, Err, refl, sym, ap, subst, inl, inr, ◌∙◌, arith}
+use Rattle.std.proofs.Common.{replicate, Option, None, Some, Result, refl, sym, ap, subst, inl, inr, ◌∙◌, arith}
 use Rattle.std.proofs.lemmas.Bool.{cases_eq, cases_lt, le-ltb, lt-ltb}
 use Rattle.std.proofs.lemmas.List.{ext_get_or, get_or-map, get_or_past, length-append, length-map, length-replicate}
 use Rattle.std.proofs.lemmas.List.Elements.{All-from_get_or}
@@ -8,13 +8,9 @@ use Rattle.std.proofs.lemmas.List.Folds.{list_any_at}
 use Rattle.std.proofs.lemmas.Map.{keys-set_value}
 use Rattle.std.proofs.lemmas.Slice.Zip.{get_or-zip, length-zip}
 use Rattle.std.specs.List.{All, list_any}
-use Rattle.std.specs.Option.{option_map_or}
-use Rattle.std.specs.Prelude.{filter_map, fold, is_some, option_map, slice_get, zip}
+use Rattle.std.specs.Prelude.{fold, is_some, option_map, zip}
 use Rattle.iox_command.specs.DomainValues.declared.connection_failure.ConnectionFailure.{ConnectionFailure}
-use Rattle.iox_command.specs.DomainValues.declared.connection_failure.ConnectionFailure.TheVariants.{FailedToEstablishConnection}
-use Rattle.iox_command.specs.DomainValues.declared.connection_failure.ZeroCopyCreationError.{ZeroCopyCreationError}
 use Rattle.iox_command.specs.DomainValues.declared.degradation.DegradationAction.{DegradationAction}
-use Rattle.iox_command.specs.DomainValues.declared.degradation.DegradationAction.TheVariants.{DegradeAndFail, Ignore, Warn}
 use Rattle.iox_command.specs.DomainValues.declared.degradation.DegradationInfo.{DegradationInfo}
 use Rattle.iox_domain.proofs.Fitting.{goes_same}
 use Rattle.iox_domain.proofs.Numbered.{at_number, same_set}
@@ -45,26 +41,22 @@ use Rattle.iox_domain_machine.specs.Tables.{LentSlot}
 use Rattle.iox_domain_machine.proofs.Found.{same_some, never_some, never_true, same_everywhere, other_found, at_changed, at_changed_other}
 use Rattle.iox_domain_machine.proofs.UpdateAlong.{is_stuck}
 use Rattle.iox_domain_machine.proofs.UpdateBody.{Walked}
-use Rattle.iox_domain_machine.proofs.UpdateLists.{any_not, first_none, first_some, mapped_at, those_at, those_has}
+use Rattle.iox_domain_machine.proofs.UpdateLists.{any_not, mapped_at, those_at, those_has}
 use Rattle.iox_domain_machine.proofs.UpdateMachine.{all_came, all_else, all_kept, all_off, connects, empty_box, only_boxes}
 use Rattle.iox_domain_machine.proofs.UpdateMidway.{IsSamePort, Midway, as_stands, box_now, connected_at, connected_is, one_now}
 use Rattle.iox_domain_machine.proofs.UpdateMidway.{service_at, subscriber_as}
 use Rattle.iox_domain_machine.proofs.UpdateParting.{got}
-use Rattle.iox_domain_machine.proofs.UpdatePlaces.{Place, leaving_then, none_below_zero, parting_in_two}
+use Rattle.iox_domain_machine.proofs.UpdatePlaces.{Place, leaving_then, parting_in_two}
+use Rattle.iox_domain_machine.proofs.UpdateTold.{ToldBelow, answers_told, failures, told_alike, told_of_none}
 use Rattle.iox_domain_machine.proofs.UpdateReading.{IsReading, expired_key, key_attached, placed_key, reads_alike}
 use Rattle.iox_domain_machine.proofs.UpdateSubscriber.{subscriber_changed}
-use Rattle.iox_domain_machine.proofs.UpdateWalk.{told, went_first, went_then, WentFirst, WentThen, parts}
+use Rattle.iox_domain_machine.proofs.UpdateWalk.{went_first, went_then, WentFirst, WentThen, parts}
 use Rattle.iox_machine.specs.Mailbox.{Mailbox}
 use Rattle.iox_machine.specs.PortList.{PortList, those}
-use Rattle.iox_machine.specs.PublisherUpdate.{failure_at, update_answer}
+use Rattle.iox_machine.specs.PublisherUpdate.{failure_at, UpdateAnswers}
 use Rattle.iox_machine.specs.Service.{Service, Subscriber, with_subscriber as with_machine_subscriber}
 use Rattle.iox_machine.specs.SubscriberUpdate.{Follows, Parted, now_at, parting}
 use Rattle.iox_machine.specs.Table.{at, changed, contains}
-
-told_none : (action : DegradationAction) → None ≡ told action None
-told_none Ignore = refl
-told_none Warn = refl
-told_none DegradeAndFail = refl
 
 -- Ports where the subscriber of a number is in order: its keys, its connections, and the publishers.
 pub record IsReady {T U : Type 0} (number : ℕ) (port : SubscriberPort) (ports : ServicePorts T U) : Type 0 where
@@ -259,7 +251,7 @@ module _ {T U : Type 0} (names : Naming) (lent : List (ℕ × LentSlot)) (held :
   }
 
   -- What the machine does, and what its ports stand for then.
-  pub record HasUpdated (outcome : Result (Unit {0}) ConnectionFailure) (after : SubscriberPort)
+  pub record HasUpdated (May : DegradationAction → Type 0) (outcome : Result (Unit {0}) ConnectionFailure) (after : SubscriberPort)
       (ports_after : List (ℕ × PublisherPort T U))
       : Type 0 where
     pub reader : ℕ → ℕ → ℕ
@@ -267,11 +259,11 @@ module _ {T U : Type 0} (names : Naming) (lent : List (ℕ × LentSlot)) (held :
     pub mid : Service T
     pub follows : Follows buffer (names.subscriber number) was service later mid
     pub now : at (names.subscriber number) mid.subscribers ≡ Some later
-    pub answers : update_answer was.degradation service.publisher_list.places later.connected ≡ outcome
+    pub answers : UpdateAnswers May (zip service.publisher_list.places later.connected) outcome
     pub stands_after : StandsFor (record names { reader = reader }) lent held buffer (with_both number after ports_after old) mid
 
-  module _ (may : DegradationInfo → DegradationAction → Type 0)
-      (acts : (info : DegradationInfo) (action : DegradationAction) → may info action → action ≡ was.degradation)
+  module _ (may : DegradationInfo → DegradationAction → Type 0) (May : DegradationAction → Type 0)
+      (acts : (info : DegradationInfo) (action : DegradationAction) → may info action → May action)
       (items : List (Option (Member PublisherEntry))) (is_list : IsListOf items old.publisher_list)
       (outcome : Result (Unit {0}) ConnectionFailure) (after : SubscriberPort) (ports_after : List (ℕ × PublisherPort T U)) where
     same_items : (place : ℕ) → get_or old.publisher_list.places place None ≡ get_or items place None
@@ -288,14 +280,14 @@ module _ {T U : Type 0} (names : Naming) (lent : List (ℕ × LentSlot)) (held :
     abbrev First : SubscriberPort → List (ℕ × PublisherPort T U) → Option ConnectionFailure → Type 0
     First between between_ports found =
         WentFirst names lent held buffer old service number first was there was_there was_is stands.once_subscribers begun start
-        ready.list_once few was_stands may acts zipped zipped_at
+        ready.list_once few was_stands may May acts zipped zipped_at
         (both_long was.connected service.publisher_list.places was_long listed_long)
         between between_ports parted_first 0 found
 
     module _ (found : Option ConnectionFailure) (between : SubscriberPort) (between_ports : List (ℕ × PublisherPort T U))
         (went : First between between_ports found)
         (then_went : WentThen names lent held buffer old service number first was there was_there was_is stands.once_subscribers begun start
-        ready.list_once few was_stands may acts zipped zipped_at
+        ready.list_once few was_stands may May acts zipped zipped_at
         (both_long was.connected service.publisher_list.places was_long listed_long)
         between after ports_after went.after 0 (length between.places.items))
         (is_answer : outcome ≡ domain.update_answer found) where
@@ -466,39 +458,16 @@ module _ {T U : Type 0} (names : Naming) (lent : List (ℕ × LentSlot)) (held :
           ∙ ap (λ (l : Option ℕ). (l, get_or later.connected place None)) (list_is place)
           ∙ ap (λ (c : Option ℕ). (list_at place, c)) (later_at place)
 
-      abbrev fails : ℕ → Option ZeroCopyCreationError
-      fails place = failure_at (list_at place) (now_so place)
+      told_so : ToldBelow May (failures May (zip service.publisher_list.places later.connected))
+          (length (zip service.publisher_list.places later.connected)) found
+      told_so =
+          told_alike May (λ place. failure_at (list_at place) (connected_at names.publisher between place))
+          (failures May (zip service.publisher_list.places later.connected)) old.sizes.max_publishers
+          (length (zip service.publisher_list.places later.connected)) found
+          (λ place. ap (λ (it : Place). failure_at it.0 it.1) (fails_there place) ∙ then_went.same_fails place)
+          (both_long service.publisher_list.places later.connected listed_long later_long) went.is_told
 
-      first_fails : (failed : Option ZeroCopyCreationError) → went.failed ≡ failed
-          → slice_get (filter_map (λ (place : Place). failure_at place.0 place.1) (zip service.publisher_list.places later.connected)) 0
-          ≡ failed
-      first_fails None is = first_none (λ (place : Place). failure_at place.0 place.1) (zip service.publisher_list.places later.connected)
-          (None, None) (λ place within. ap (λ (it : Place). failure_at it.0 it.1) (fails_there place)
-          ∙ then_went.same_fails place ∙ went.is_first.none is place
-          (let long = both_long service.publisher_list.places later.connected listed_long later_long in omega (arith, long, within)))
-      first_fails (Some failure) is =
-          let it = went.is_first.some failure is in
-          let long = both_long service.publisher_list.places later.connected listed_long later_long in
-          first_some (λ (place : Place). failure_at place.0 place.1) (zip service.publisher_list.places later.connected) (None, None)
-          failure it.0
-          (omega (arith, long, it.1))
-          (ap (λ (p : Place). failure_at p.0 p.1) (fails_there it.0) ∙ then_went.same_fails it.0 ∙ it.2)
-          (λ lower below. ap (λ (p : Place). failure_at p.0 p.1) (fails_there lower) ∙ then_went.same_fails lower ∙ it.3 lower below)
-
-      answer_by : (action : DegradationAction) (failed : Option ZeroCopyCreationError)
-          → slice_get (filter_map (λ (place : Place). failure_at place.0 place.1) (zip service.publisher_list.places later.connected)) 0
-          ≡ failed
-          → update_answer action service.publisher_list.places later.connected ≡ domain.update_answer (told action failed)
-      answer_by Ignore failed is = refl
-      answer_by Warn failed is = refl
-      answer_by DegradeAndFail None is =
-          ap (λ (found : Option ZeroCopyCreationError). option_map_or (λ failure. Err (FailedToEstablishConnection failure)) found
-          (Ok tt)) is
-      answer_by DegradeAndFail (Some failure) is =
-          ap (λ (found : Option ZeroCopyCreationError). option_map_or (λ failure. Err (FailedToEstablishConnection failure)) found
-          (Ok tt)) is
-
-      updated : HasUpdated outcome after ports_after
+      updated : HasUpdated May outcome after ports_after
       updated = record {
         reader = final.reader;
         later = later;
@@ -517,26 +486,26 @@ module _ {T U : Type 0} (names : Naming) (lent : List (ℕ × LentSlot)) (held :
           service_so,
         );
         now = one_now names lent held buffer old service number first was there was_there was_is stands.once_subscribers after;
-        answers = answer_by was.degradation went.failed (first_fails went.failed refl) ∙ ap domain.update_answer (sym went.is_told)
-            ∙ sym is_answer;
+        answers = subst (λ (one : Result (Unit {0}) ConnectionFailure). UpdateAnswers May
+            (zip service.publisher_list.places later.connected) one) (sym is_answer)
+            (answers_told May (zip service.publisher_list.places later.connected) found told_so);
         stands_after = final.body.mid.stands;
       }
 
     -- A subscriber that is to follow the list does what the machine's subscriber does.
-    pub update_stands : FollowsList may items begun old.publishers outcome after ports_after → HasUpdated outcome after ports_after
+    pub update_stands : FollowsList may items begun old.publishers outcome after ports_after → HasUpdated May outcome after ports_after
     update_stands (found, between, between_ports, firsts, nones, is_answer) =
         let long = both_long was.connected service.publisher_list.places was_long listed_long in
         let went = went_first names lent held buffer old service number first was there was_there was_is stands.once_subscribers begun start
-        ready.list_once few was_stands may acts zipped zipped_at long items 0 None found begun between old.publishers between_ports
+        ready.list_once few was_stands may May acts zipped zipped_at long items 0 None found begun between old.publishers between_ports
         parted_first
-        None (told_none was.degradation)
         (λ k. ap (λ n. get_or old.publisher_list.places n None) (omega arith) ∙ same_items k) (omega (arith, items_few)) walked_first
-        (none_below_zero (λ place. failure_at (list_at place) (connected_at names.publisher begun place))) firsts in
+        (told_of_none May (λ place. failure_at (list_at place) (connected_at names.publisher begun place))) firsts in
         let few_between = went.walked.body.mid.fit.places in
         let room_between = went.walked.body.mid.room in
         let then_went = went_then names lent held buffer old service number first was there was_there was_is stands.once_subscribers
         begun start
-        ready.list_once few was_stands may acts zipped zipped_at long (length between.places.items) 0 (length between.places.items)
+        ready.list_once few was_stands may May acts zipped zipped_at long (length between.places.items) 0 (length between.places.items)
         items between
         after between_ports ports_after went.after same_items (omega arith) (omega (arith, few_between, room_between))
         (λ place past. ap (option_map (publisher_by names.publisher between)) (get_or_past between.places.items place None past))

@@ -34,6 +34,7 @@ use Rattle.iox_domain_machine.proofs.Found.{other_found, at_mapped}
 use Rattle.iox_domain_machine.proofs.Kept.{out_of, loan_by, slots_by, samples_kept}
 use Rattle.iox_domain_machine.proofs.Loans.{slots, in_slot, slots_same, found_changed, found_other, found_there, found_passes}
 use Rattle.iox_domain_machine.proofs.Named.{lent_used}
+use Rattle.iox_machine.specs.Choices.{Choices}
 use Rattle.iox_machine.specs.Message as machine
 use Rattle.iox_machine.specs.Ports.{Writes}
 use Rattle.iox_machine.specs.Service.{Service}
@@ -300,8 +301,8 @@ if_if : {A : Type 0} (one other : Bool) (x y : A)
 if_if true other x y = refl
 if_if false other x y = refl
 
-pub set_matches : (T U : Type 0) (IsDefault : T → Type 0) → SetMatches T U IsDefault
-set_matches T U IsDefault types buffer names lent held ports service state loan place value out stands goes =
+pub set_matches : (T U : Type 0) (choices : Choices T) → SetMatches T U choices
+set_matches T U choices types buffer names lent held ports service state loan place value out stands goes =
     let gone = is_there names lent held buffer ports service loan out stands goes in
     let values = same_values names lent held buffer ports service loan out stands goes in
     let found = loan_found names lent held buffer ports service loan out stands goes in
@@ -332,8 +333,8 @@ set_matches T U IsDefault types buffer names lent held ports service state loan 
           result.2,
     )
 
-pub fill_matches : (T U : Type 0) (IsDefault : T → Type 0) → FillMatches T U IsDefault
-fill_matches T U IsDefault types buffer names lent held ports service state loan values out stands goes =
+pub fill_matches : (T U : Type 0) (choices : Choices T) → FillMatches T U choices
+fill_matches T U choices types buffer names lent held ports service state loan values out stands goes =
     let gone = is_there names lent held buffer ports service loan out stands goes in
     let test : PublisherPort T U → Bool = λ port. has_length out.slot (length values) port.sender.uses in
     let change : Loan T U → Loan T U = write_all values in

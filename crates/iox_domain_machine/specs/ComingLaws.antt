@@ -1,8 +1,7 @@
 -- What a domain does when a subscriber comes is what the machine's service does.
-use Rattle.std.specs.Prelude.{ℕ, ◌+◌, ◌^◌, ◌<◌, ◌≡◌, true, List, None, Some, Result, Ok, Err, unwrap_or}
+use Rattle.std.specs.Prelude.{ℕ, ◌+◌, ◌^◌, ◌<◌, ◌≡◌, true, List, None, Some, Result, Ok, Err}
 use Rattle.iox_command.specs.DomainValues.declared.create_error.SubscriberCreateError.{SubscriberCreateError}
 use Rattle.iox_command.specs.DomainValues.declared.degradation.DegradationAction.{DegradationAction}
-use Rattle.iox_command.specs.DomainValues.declared.degradation.DegradationAction.TheVariants.{Warn}
 use Rattle.iox_command.specs.DomainValues.declared.degradation.DegradationInfo.{DegradationInfo}
 use Rattle.iox_command.specs.NegotiateBase.DescribeBase.declared.message_type.MessageTypeDetails.{MessageTypeDetails}
 use Rattle.iox_command.specs.declared.command.Command.TheVariants as command
@@ -21,6 +20,7 @@ use Rattle.iox_domain_machine.specs.Laws.{Matches}
 use Rattle.iox_domain_machine.specs.Naming.{Naming, with_name}
 use Rattle.iox_domain_machine.specs.Standing.{StandsFor}
 use Rattle.iox_domain_machine.specs.Tables.{LentSlot}
+use Rattle.iox_machine.specs.Choices.{Choices}
 use Rattle.iox_machine.specs.Service.{Service}
 use Rattle.iox_machine.specs.State.{State, Factory, is_service_of}
 use Rattle.iox_machine.specs.Table.{at}
@@ -35,26 +35,22 @@ abbrev pub with_came : ℕ → ℕ → Result ℕ SubscriberCreateError → Nami
 with_came number name (Ok came) names = record names { subscriber = with_name number name names.subscriber }
 with_came number name (Err why) names = names
 
--- A command asks for what a domain is asked for: by this factory, and for so many waiting messages; and where a connection fails it is
--- done what the command says.
-pub record IsAskedSo (may : DegradationInfo → DegradationAction → Type 0) (factory : ℕ) (options : SubscriberOptions)
-    (config : SubscriberConfig) : Type 0 where
+-- A command asks for what a domain is asked for: by this factory, and for so many waiting messages.
+pub record IsAskedSo (factory : ℕ) (options : SubscriberOptions) (config : SubscriberConfig) : Type 0 where
   pub owner : config.owner.number ≡ factory
   pub buffer_size : config.buffer_size ≡ options.buffer_size
-  pub acts : (info : DegradationInfo) (action : DegradationAction) → may info action
-      → action ≡ unwrap_or options.degradation_handler Warn
 
 -- A subscriber comes, by a factory of the service, and follows the list of publishers; or it is told why it doesn't. It gets the next
 -- number, which no subscriber has yet. At least one message may wait for it, one port more and one change more of the list of subscribers
 -- can be counted, and the ports are roomy: so they are after any calls, as `SamplesLeft` says.
-abbrev pub SubscriberComesMatches : (T U : Type 0) → (T → Type 0) → (DegradationInfo → DegradationAction → Type 0) → Type 0
-SubscriberComesMatches T U IsDefault may = (types : MessageTypeDetails) (buffer : ℕ) (names : Naming) (lent : List (ℕ × LentSlot))
+abbrev pub SubscriberComesMatches : (T U : Type 0) → Choices T → (DegradationInfo → DegradationAction → Type 0) → Type 0
+SubscriberComesMatches T U choices may = (types : MessageTypeDetails) (buffer : ℕ) (names : Naming) (lent : List (ℕ × LentSlot))
     (held : List (ℕ × Taken)) (old new : ServicePorts T U) (service : Service T) (state : State T) (factory : ℕ) (made : Factory)
     (options : SubscriberOptions) (config : SubscriberConfig) (answer : Result ℕ SubscriberCreateError)
     → StandsFor names lent held buffer old service → AreRoomy old → at factory state.factories ≡ Some made
-    → is_service_of made service ≡ true → IsAskedSo may factory options config → 0 < service.settings.subscriber_max_buffer_size
+    → is_service_of made service ≡ true → IsAskedSo factory options config → 0 < service.settings.subscriber_max_buffer_size
     → at (state.made.subscribers + 1) service.subscribers ≡ None → old.next_port + 1 < 2 ^ 64 → may_change old.subscriber_list ≡ true
     → CreatesSubscriber may config.owner (buffer_of config.buffer_size old.sizes) (subscriber_place old) old answer new
-    → (reader : ℕ → ℕ → ℕ) × Matches T U IsDefault types buffer (command.Subscriber factory options)
+    → (reader : ℕ → ℕ → ℕ) × Matches T U choices types buffer (command.Subscriber factory options)
     (came_or_refused (state.made.subscribers + 1) answer) state service
     (record (with_came old.next_port (state.made.subscribers + 1) answer names) { reader = reader }) lent held new

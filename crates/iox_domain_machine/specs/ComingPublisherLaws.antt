@@ -2,7 +2,6 @@
 use Rattle.std.specs.Prelude.{ℕ, ◌+◌, ◌^◌, ◌<◌, ◌≡◌, true, List, None, Some, Result, Ok, Err, unwrap_or}
 use Rattle.iox_command.specs.DomainValues.declared.create_error.PublisherCreateError.{PublisherCreateError}
 use Rattle.iox_command.specs.DomainValues.declared.degradation.DegradationAction.{DegradationAction}
-use Rattle.iox_command.specs.DomainValues.declared.degradation.DegradationAction.TheVariants.{Warn}
 use Rattle.iox_command.specs.DomainValues.declared.degradation.DegradationInfo.{DegradationInfo}
 use Rattle.iox_command.specs.NegotiateBase.DescribeBase.declared.message_type.MessageTypeDetails.{MessageTypeDetails}
 use Rattle.iox_command.specs.declared.command.Command.TheVariants as command
@@ -21,6 +20,7 @@ use Rattle.iox_domain_machine.specs.Laws.{Matches}
 use Rattle.iox_domain_machine.specs.Naming.{Naming, with_name}
 use Rattle.iox_domain_machine.specs.Standing.{StandsFor}
 use Rattle.iox_domain_machine.specs.Tables.{LentSlot}
+use Rattle.iox_machine.specs.Choices.{Choices}
 use Rattle.iox_machine.specs.Service.{Service}
 use Rattle.iox_machine.specs.State.{State, Factory, is_service_of}
 use Rattle.iox_machine.specs.Table.{at}
@@ -36,32 +36,30 @@ with_publisher_came number name (Ok came) names = record names { publisher = wit
 with_publisher_came number name (Err why) names = names
 
 -- A command asks for what a domain is asked for: by this factory, for so many loans, so many values in a slot at first, single values, and
--- this way to grow, each with the domain's default where it isn't named; as many slots are answered as the command names, or those that
--- are needed; and where a connection fails it is done what the command says.
-pub record IsPublisherAskedSo (overrides : ℕ → ℕ → Type 0) (may : DegradationInfo → DegradationAction → Type 0) (factory : ℕ)
-    (options : PublisherOptions) (config : PublisherConfig) : Type 0 where
+-- this way to grow, each with the domain's default where it isn't named; and as many slots are answered as the command names, or those that
+-- are needed.
+pub record IsPublisherAskedSo (overrides : ℕ → ℕ → Type 0) (factory : ℕ) (options : PublisherOptions)
+    (config : PublisherConfig) : Type 0 where
   pub owner : config.owner.number ≡ factory
   pub max_loaned_samples : config.max_loaned_samples ≡ unwrap_or options.max_loaned_samples publisher_defaults.max_loaned_samples
   pub values : config.values ≡ unwrap_or options.initial_max_slice_len publisher_defaults.initial_max_slice_len
   pub unit : config.unit ≡ 1
   pub allocation : config.allocation ≡ unwrap_or options.allocation_strategy publisher_defaults.allocation
   pub slots : (needed named : ℕ) → overrides needed named → named ≡ unwrap_or options.preallocated_samples needed
-  pub acts : (info : DegradationInfo) (action : DegradationAction) → may info action
-      → action ≡ unwrap_or options.degradation_handler Warn
 
 -- A publisher comes, by a factory of the service, and follows the list of subscribers; or it is told why it doesn't. It gets the next
 -- number, which no publisher has yet. One port more and one change more of the list of publishers can be counted, and the ports are roomy:
 -- so they are after any calls, as `SamplesLeft` says. Connections that are made have names then.
-abbrev pub PublisherComesMatches : (T U : Type 0) → (T → Type 0) → (ℕ → ℕ → Type 0) → (DegradationInfo → DegradationAction → Type 0)
+abbrev pub PublisherComesMatches : (T U : Type 0) → Choices T → (ℕ → ℕ → Type 0) → (DegradationInfo → DegradationAction → Type 0)
     → Type 0
-PublisherComesMatches T U IsDefault overrides may = (types : MessageTypeDetails) (buffer : ℕ) (names : Naming)
+PublisherComesMatches T U choices overrides may = (types : MessageTypeDetails) (buffer : ℕ) (names : Naming)
     (lent : List (ℕ × LentSlot)) (held : List (ℕ × Taken)) (old new : ServicePorts T U) (service : Service T) (state : State T)
     (factory : ℕ) (made : Factory) (options : PublisherOptions) (config : PublisherConfig) (user_header : U)
     (answer : Result ℕ PublisherCreateError)
     → StandsFor names lent held buffer old service → AreRoomy old → at factory state.factories ≡ Some made
-    → is_service_of made service ≡ true → IsPublisherAskedSo overrides may factory options config
+    → is_service_of made service ≡ true → IsPublisherAskedSo overrides factory options config
     → at (state.made.publishers + 1) service.publishers ≡ None → old.next_port + 1 < 2 ^ 64 → may_change old.publisher_list ≡ true
     → CreatesPublisher overrides may config user_header (slots_needed config old) (publisher_place old) old answer new
-    → (reader : ℕ → ℕ → ℕ) × Matches T U IsDefault types buffer (command.Publisher factory options)
+    → (reader : ℕ → ℕ → ℕ) × Matches T U choices types buffer (command.Publisher factory options)
     (publisher_came_or_refused (state.made.publishers + 1) answer) state service
     (record (with_publisher_came old.next_port (state.made.publishers + 1) answer names) { reader = reader }) lent held new

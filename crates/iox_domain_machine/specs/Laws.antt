@@ -23,6 +23,7 @@ use Rattle.iox_domain.specs.declared.ports.service_ports.ServicePorts.{ServicePo
 use Rattle.iox_domain_machine.specs.Naming.{Naming, nameless}
 use Rattle.iox_domain_machine.specs.Standing.{StandsFor}
 use Rattle.iox_domain_machine.specs.Tables.{LentSlot}
+use Rattle.iox_machine.specs.Choices.{Choices}
 use Rattle.iox_machine.specs.Run.{Step}
 use Rattle.iox_machine.specs.Service.{Service, new_service}
 use Rattle.iox_machine.specs.State.{State, counted}
@@ -47,15 +48,15 @@ abbrev pub NewStands : Type 0 → Type 0 → Type 0
 NewStands T U = (buffer number : ℕ) (name : List ℕ) (settings : StaticConfig)
     → StandsFor {T = T} {U = U} nameless [] [] buffer (no_ports number (sizes buffer settings)) (new_service name settings)
 
--- A machine is made for messages of certain types, with what a default value is; and its subscribers keep at least so many connections to
+-- A machine is made for messages of certain types, with what others may choose; and its subscribers keep at least so many connections to
 -- publishers that left.
-module _ (T U : Type 0) (IsDefault : T → Type 0) where
+module _ (T U : Type 0) (choices : Choices T) where
   -- A machine that has this service alone answers a command so, and has one then for which these ports stand.
   abbrev pub Matches : MessageTypeDetails → ℕ → Command T → Reply T → State T → Service T → Naming → List (ℕ × LentSlot) → List (ℕ × Taken)
       → ServicePorts T U → Type 0
   Matches types buffer command answer state service names lent held ports =
       (after : Service T)
-      × Step types IsDefault buffer command (with_alone service state) answer
+      × Step types choices buffer command (with_alone service state) answer
       (record (with_alone after state) { made = counted answer state.made })
       × StandsFor names lent held buffer ports after
 

@@ -12,24 +12,25 @@ use Rattle.iox_domain_machine.specs.Laws.{Matches, done_or_skipped}
 use Rattle.iox_domain_machine.specs.Naming.{Naming}
 use Rattle.iox_domain_machine.specs.Standing.{StandsFor}
 use Rattle.iox_domain_machine.specs.Tables.{LentSlot}
+use Rattle.iox_machine.specs.Choices.{Choices}
 use Rattle.iox_machine.specs.Service.{Service}
 use Rattle.iox_machine.specs.State.{State}
 
 -- A publisher leaves, of ports that are sound: so they are after any calls, as `HeldStays` says. One change more of the list of
 -- publishers can be counted.
-abbrev pub PublisherLeaveMatches : (T U : Type 0) → (T → Type 0) → Type 0
-PublisherLeaveMatches T U IsDefault = (types : MessageTypeDetails) (buffer : ℕ) (names : Naming) (lent : List (ℕ × LentSlot))
+abbrev pub PublisherLeaveMatches : (T U : Type 0) → Choices T → Type 0
+PublisherLeaveMatches T U choices = (types : MessageTypeDetails) (buffer : ℕ) (names : Naming) (lent : List (ℕ × LentSlot))
     (held : List (ℕ × Taken)) (old new : ServicePorts T U) (service : Service T) (state : State T) (number : ℕ) (answer : Bool)
     → StandsFor names lent held buffer old service → IsSound old → names.publisher number ≢ 0 → may_change old.publisher_list ≡ true
     → PublisherLeaves number old answer new
-    → Matches T U IsDefault types buffer (command.Leave (port.Publisher (names.publisher number))) (done_or_skipped answer) state
+    → Matches T U choices types buffer (command.Leave (port.Publisher (names.publisher number))) (done_or_skipped answer) state
     service names lent held new
 
 -- A subscriber leaves, of ports that are sound. One change more of the list of subscribers can be counted.
-abbrev pub SubscriberLeaveMatches : (T U : Type 0) → (T → Type 0) → Type 0
-SubscriberLeaveMatches T U IsDefault = (types : MessageTypeDetails) (buffer : ℕ) (names : Naming) (lent : List (ℕ × LentSlot))
+abbrev pub SubscriberLeaveMatches : (T U : Type 0) → Choices T → Type 0
+SubscriberLeaveMatches T U choices = (types : MessageTypeDetails) (buffer : ℕ) (names : Naming) (lent : List (ℕ × LentSlot))
     (held : List (ℕ × Taken)) (old new : ServicePorts T U) (service : Service T) (state : State T) (number : ℕ) (answer : Bool)
     → StandsFor names lent held buffer old service → IsSound old → names.subscriber number ≢ 0 → may_change old.subscriber_list ≡ true
     → SubscriberLeaves number old answer new
-    → Matches T U IsDefault types buffer (command.Leave (port.Subscriber (names.subscriber number))) (done_or_skipped answer) state
+    → Matches T U choices types buffer (command.Leave (port.Subscriber (names.subscriber number))) (done_or_skipped answer) state
     service names lent held new

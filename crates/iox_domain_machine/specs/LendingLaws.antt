@@ -17,6 +17,7 @@ use Rattle.iox_domain_machine.specs.Laws.{Matches}
 use Rattle.iox_domain_machine.specs.Naming.{Naming, with_name}
 use Rattle.iox_domain_machine.specs.Standing.{StandsFor}
 use Rattle.iox_domain_machine.specs.Tables.{LentSlot}
+use Rattle.iox_machine.specs.Choices.{Choices}
 use Rattle.iox_machine.specs.Service.{Service}
 use Rattle.iox_machine.specs.State.{State}
 use Rattle.iox_machine.specs.Table.{at}
@@ -51,7 +52,7 @@ with_lent_values number values None ports = ports
 with_lent_values number values (Some (Ok slot)) ports = with_values_in number slot values ports
 with_lent_values number values (Some (Err why)) ports = ports
 
-module _ (T U : Type 0) (IsDefault : T → Type 0) where
+module _ (T U : Type 0) (choices : Choices T) where
   -- A publisher lends so many values, none of which is written, or it is told why not. The loan gets the next number, which no loan has
   -- yet, and its message the publisher's next; of ports that are sound.
   abbrev pub LendUninitMatches : Type 0
@@ -59,7 +60,7 @@ module _ (T U : Type 0) (IsDefault : T → Type 0) where
       (old new : ServicePorts T U) (service : Service T) (state : State T) (number values : ℕ) (answer : Option (Result ℕ LoanError))
       → StandsFor names lent held buffer old service → IsSound old → names.publisher number ≢ 0
       → at (state.made.loans + 1) lent ≡ None → LoansBy number values values old answer new
-      → (name : ℕ) × Matches T U IsDefault types buffer (command.LoanUninit (names.publisher number) values)
+      → (name : ℕ) × Matches T U choices types buffer (command.LoanUninit (names.publisher number) values)
       (lent_or_not (state.made.loans + 1) answer) state service (with_lent_name number name answer names)
       (with_lent (state.made.loans + 1) number answer lent) held new
 
@@ -70,7 +71,7 @@ module _ (T U : Type 0) (IsDefault : T → Type 0) where
       (old made : ServicePorts T U) (service : Service T) (state : State T) (number values : ℕ) (value : T)
       (answer : Option (Result ℕ LoanError))
       → StandsFor names lent held buffer old service → IsSound old → names.publisher number ≢ 0
-      → at (state.made.loans + 1) lent ≡ None → IsDefault value → LoansBy number values values old answer made
-      → (name : ℕ) × Matches T U IsDefault types buffer (command.Loan (names.publisher number) values)
+      → at (state.made.loans + 1) lent ≡ None → choices.is_default value → LoansBy number values values old answer made
+      → (name : ℕ) × Matches T U choices types buffer (command.Loan (names.publisher number) values)
       (lent_or_not (state.made.loans + 1) answer) state service (with_lent_name number name answer names)
       (with_lent (state.made.loans + 1) number answer lent) held (with_lent_values number (replicate values value) answer made)

@@ -16,25 +16,25 @@ use Rattle.iox_domain_machine.specs.Naming.{Naming, with_name}
 use Rattle.iox_domain_machine.specs.Standing.{StandsFor}
 use Rattle.iox_domain_machine.specs.SubscriberUpdateLaws.{updated_or_skipped}
 use Rattle.iox_domain_machine.specs.Tables.{LentSlot}
+use Rattle.iox_machine.specs.Choices.{Choices}
 use Rattle.iox_machine.specs.Service.{Publisher, Service}
 use Rattle.iox_machine.specs.State.{State}
 use Rattle.iox_machine.specs.Table.{at}
 
--- Where the machine's publisher of this name stands, a handler answers nothing but this action, and it is that publisher's.
-abbrev pub DegradesAs : {T : Type 0} → (DegradationInfo → DegradationAction → Type 0) → DegradationAction → ℕ → Service T → Type 0
-DegradesAs {T} may degradation name service =
+-- Where the machine's publisher of this name stands, whatever a handler answers may be chosen for it.
+abbrev pub DegradesAs : {T : Type 0} → Choices T → (DegradationInfo → DegradationAction → Type 0) → ℕ → Service T → Type 0
+DegradesAs {T} choices may name service =
     (publisher : Publisher T) → at name service.publishers ≡ Some publisher → publisher.stands ≡ true
-    → ((info : DegradationInfo) (action : DegradationAction) → may info action → action ≡ degradation)
-    × (publisher.degradation ≡ degradation)
+    → (info : DegradationInfo) (action : DegradationAction) → may info action → choices.publisher_acts name publisher.degradation action
 
-module _ (T U : Type 0) (IsDefault : T → Type 0) (may : DegradationInfo → DegradationAction → Type 0) where
+module _ (T U : Type 0) (choices : Choices T) (may : DegradationInfo → DegradationAction → Type 0) where
   -- A publisher follows the list of subscribers, of ports whose ties are apart and whose sizes are those allowed: so they are after any
   -- calls, as `AtMostOnce` and `SizesAgree` say. Its new connections get names.
   abbrev pub PublisherUpdateMatches : Type 0
   PublisherUpdateMatches = (types : MessageTypeDetails) (buffer : ℕ) (names : Naming) (lent : List (ℕ × LentSlot))
       (held : List (ℕ × Taken)) (old new : ServicePorts T U) (service : Service T) (state : State T) (number : ℕ)
-      (degradation : DegradationAction) (answer : Option (Result (Unit {0}) ConnectionFailure))
+      (answer : Option (Result (Unit {0}) ConnectionFailure))
       → StandsFor names lent held buffer old service → IsApart old → AreAllowed old → names.publisher number ≢ 0
-      → DegradesAs may degradation (names.publisher number) service → UpdatesBy may number old answer new
-      → (reader : ℕ → ℕ) × Matches T U IsDefault types buffer (command.Update (port.Publisher (names.publisher number)))
+      → DegradesAs choices may (names.publisher number) service → UpdatesBy may number old answer new
+      → (reader : ℕ → ℕ) × Matches T U choices types buffer (command.Update (port.Publisher (names.publisher number)))
       (updated_or_skipped answer) state service (record names { reader = with_name number reader names.reader }) lent held new

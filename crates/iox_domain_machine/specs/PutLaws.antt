@@ -18,24 +18,25 @@ use Rattle.iox_domain_machine.specs.PublisherUpdateLaws.{DegradesAs}
 use Rattle.iox_domain_machine.specs.SendLaws.{sent_or_skipped, DecidesAs}
 use Rattle.iox_domain_machine.specs.Standing.{StandsFor}
 use Rattle.iox_domain_machine.specs.Tables.{LentSlot}
+use Rattle.iox_machine.specs.Choices.{Choices}
 use Rattle.iox_machine.specs.Service.{Service, Publisher}
 use Rattle.iox_machine.specs.State.{State}
 use Rattle.iox_machine.specs.Table.{at}
 
 -- A publisher lends a message for some values, and sends it with them, or it is told why not. It follows the list of subscribers before it
 -- sends, where that changed. No loan that goes by a number is made, and messages and connections may get other names. The ports are roomy:
--- so they are after any calls, as `SamplesLeft` says. What may be decided at a full mailbox, and answered where a connection failed, is
--- what the machine's publisher decides and does.
-abbrev pub PutMatches : (T U : Type 0) → (T → Type 0) → (BackpressureInfo → BackpressureDecision → Type 0)
+-- so they are after any calls, as `SamplesLeft` says. What may be decided at a full mailbox, and answered where a connection failed, may be
+-- chosen for the machine's publisher.
+abbrev pub PutMatches : (T U : Type 0) → Choices T → (BackpressureInfo → BackpressureDecision → Type 0)
     → (DegradationInfo → DegradationAction → Type 0) → Type 0
-PutMatches T U IsDefault may may_degrade = (types : MessageTypeDetails) (buffer : ℕ) (names : Naming) (lent : List (ℕ × LentSlot))
+PutMatches T U choices may may_degrade = (types : MessageTypeDetails) (buffer : ℕ) (names : Naming) (lent : List (ℕ × LentSlot))
     (held : List (ℕ × Taken)) (old new : ServicePorts T U) (service : Service T) (state : State T) (number : ℕ) (values : List T)
-    (degradation : DegradationAction) (answer : Option (Result Sent SendError))
+    (answer : Option (Result Sent SendError))
     → StandsFor names lent held buffer old service → AreRoomy old → names.publisher number ≢ 0
     → ((publisher : Publisher T) → at (names.publisher number) service.publishers ≡ Some publisher → publisher.stands ≡ true
-    → DecidesAs may publisher)
-    → DegradesAs may_degrade degradation (names.publisher number) service
+    → DecidesAs choices may (names.publisher number) publisher)
+    → DegradesAs choices may_degrade (names.publisher number) service
     → PutsBy may_degrade may number values old answer new
     → (message : ℕ → ℕ → ℕ) × (reader : ℕ → ℕ → ℕ)
-    × Matches T U IsDefault types buffer (command.Put (names.publisher number) values) (sent_or_skipped answer) state service
+    × Matches T U choices types buffer (command.Put (names.publisher number) values) (sent_or_skipped answer) state service
     (record names { message = message; reader = reader }) lent held new

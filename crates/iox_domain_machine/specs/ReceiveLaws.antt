@@ -22,6 +22,7 @@ use Rattle.iox_domain_machine.specs.Naming.{Naming}
 use Rattle.iox_domain_machine.specs.Standing.{StandsFor}
 use Rattle.iox_domain_machine.specs.SubscriberUpdateLaws.{ActsAs}
 use Rattle.iox_domain_machine.specs.Tables.{LentSlot, samples_held_by}
+use Rattle.iox_machine.specs.Choices.{Choices}
 use Rattle.iox_machine.specs.Service.{Service}
 use Rattle.iox_machine.specs.State.{State}
 use Rattle.iox_machine.specs.Table.{at}
@@ -54,16 +55,16 @@ with_held sample (Some (Ok (Some taken))) held = held ++ (sample, taken) ∷ []
 with_held sample (Some (Ok None)) held = held
 with_held sample (Some (Err why)) held = held
 
--- A machine is made for messages of certain types, with what a default value is; and a handler may decide so where a connection fails.
-module _ (T U : Type 0) (IsDefault : T → Type 0) (may : DegradationInfo → DegradationAction → Type 0) where
+-- A machine is made for messages of certain types, with what others may choose; and a handler may decide so where a connection fails.
+module _ (T U : Type 0) (choices : Choices T) (may : DegradationInfo → DegradationAction → Type 0) where
   -- A subscriber is told whether some connection of it has data, once its connections are up to date. The ports are roomy: so they are
   -- after any calls, as `SamplesLeft` says. Connections that are made have names then.
   abbrev pub HasMatches : Type 0
   HasMatches = (types : MessageTypeDetails) (buffer : ℕ) (names : Naming) (lent : List (ℕ × LentSlot)) (held : List (ℕ × Taken))
       (old new : ServicePorts T U) (service : Service T) (state : State T) (number : ℕ) (answer : Option (Result Bool ConnectionFailure))
       → StandsFor names lent held buffer old service → AreRoomy old → names.subscriber number ≢ 0
-      → ActsAs may (names.subscriber number) service → TellsBy may number old answer new
-      → (reader : ℕ → ℕ → ℕ) × Matches T U IsDefault types buffer (command.Has (names.subscriber number)) (told_or_skipped answer) state
+      → ActsAs choices may (names.subscriber number) service → TellsBy may number old answer new
+      → (reader : ℕ → ℕ → ℕ) × Matches T U choices types buffer (command.Has (names.subscriber number)) (told_or_skipped answer) state
       service (record names { reader = reader }) lent held new
 
   -- A subscriber receives, once its connections are up to date: a sample, which gets the next number, that no sample has yet; or it is told
@@ -73,8 +74,9 @@ module _ (T U : Type 0) (IsDefault : T → Type 0) (may : DegradationInfo → De
       (old new : ServicePorts T U) (service : Service T) (state : State T) (number : ℕ)
       (answer : Option (Result (Option Taken) ReceiveError)) (values : Vec T)
       → StandsFor names lent held buffer old service → AreRoomy old → names.subscriber number ≢ 0
-      → ActsAs may (names.subscriber number) service → at (state.made.samples + 1) held ≡ None → samples_held_by number held < 2 ^ 64 - 1
+      → ActsAs choices may (names.subscriber number) service → at (state.made.samples + 1) held ≡ None
+      → samples_held_by number held < 2 ^ 64 - 1
       → ReceivesBy may number old answer new → AreReceived values answer new
-      → (reader : ℕ → ℕ → ℕ) × Matches T U IsDefault types buffer (command.Receive (names.subscriber number))
+      → (reader : ℕ → ℕ → ℕ) × Matches T U choices types buffer (command.Receive (names.subscriber number))
       (received_or_not (state.made.samples + 1) values answer) state service (record names { reader = reader }) lent
       (with_held (state.made.samples + 1) answer held) new

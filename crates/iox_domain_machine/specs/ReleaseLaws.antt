@@ -10,16 +10,17 @@ use Rattle.iox_domain_machine.specs.Laws.{Matches, done_or_skipped}
 use Rattle.iox_domain_machine.specs.Naming.{Naming}
 use Rattle.iox_domain_machine.specs.Standing.{StandsFor}
 use Rattle.iox_domain_machine.specs.Tables.{LentSlot}
+use Rattle.iox_machine.specs.Choices.{Choices}
 use Rattle.iox_machine.specs.Service.{Service}
 use Rattle.iox_machine.specs.State.{State}
 use Rattle.iox_machine.specs.Table.{at, removed}
 
 -- A sample is released by the subscriber that received it, of ports that are sound: so they are after any calls, as `HeldStays` says.
-abbrev pub ReleaseMatches : (T U : Type 0) → (T → Type 0) → Type 0
-ReleaseMatches T U IsDefault = (types : MessageTypeDetails) (buffer : ℕ) (names : Naming) (lent : List (ℕ × LentSlot))
+abbrev pub ReleaseMatches : (T U : Type 0) → Choices T → Type 0
+ReleaseMatches T U choices = (types : MessageTypeDetails) (buffer : ℕ) (names : Naming) (lent : List (ℕ × LentSlot))
     (held : List (ℕ × Taken)) (old new : ServicePorts T U) (service : Service T) (state : State T) (sample : ℕ) (taken : Taken)
     (answer : Bool)
     → StandsFor names lent held buffer old service → IsSound old → at sample held ≡ Some taken
     → Releases taken.subscriber taken old answer new
-    → Matches T U IsDefault types buffer (command.Release sample) (done_or_skipped answer) state
+    → Matches T U choices types buffer (command.Release sample) (done_or_skipped answer) state
     service names lent (removed sample held) new

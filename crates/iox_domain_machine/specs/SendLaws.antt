@@ -1,5 +1,5 @@
 -- What a publisher's send is, of a domain and of the machine.
-use Rattle.std.specs.Prelude.{ℕ, ◌≡◌, ◌≢◌, true, List, Option, None, Some, Result, Ok, Err}
+use Rattle.std.specs.Prelude.{ℕ, ◌-◌, ◌^◌, ◌≡◌, ◌≢◌, min, true, List, Option, None, Some, Result, Ok, Err}
 use Rattle.iox_command.specs.DomainValues.Actions.{decision_of}
 use Rattle.iox_command.specs.DomainValues.declared.backpressure.BackpressureDecision.{BackpressureDecision}
 use Rattle.iox_command.specs.DomainValues.declared.backpressure.BackpressureInfo.{BackpressureInfo}
@@ -22,6 +22,7 @@ use Rattle.iox_domain_machine.specs.Naming.{Naming, with_name}
 use Rattle.iox_domain_machine.specs.PublisherUpdateLaws.{DegradesAs}
 use Rattle.iox_domain_machine.specs.Standing.{StandsFor}
 use Rattle.iox_domain_machine.specs.Tables.{LentSlot}
+use Rattle.iox_machine.specs.Choices.{Choices}
 use Rattle.iox_machine.specs.Service.{Service, Publisher}
 use Rattle.iox_machine.specs.State.{State}
 use Rattle.iox_machine.specs.Table.{at, removed}
@@ -38,37 +39,38 @@ abbrev pub lent_after_send : ℕ → Option (Result Sent SendError) → List (�
 lent_after_send loan None lent = lent
 lent_after_send loan (Some result) lent = removed loan lent
 
--- whatever may be decided at a full mailbox is what a publisher of the machine decides
-abbrev pub DecidesAs : {T : Type 0} → (BackpressureInfo → BackpressureDecision → Type 0) → Publisher T → Type 0
-DecidesAs may publisher =
-    (info : BackpressureInfo) (decision : BackpressureDecision) → may info decision
-    → decision ≡ decision_of publisher.strategy publisher.handler
+-- Whatever may be decided at a full mailbox may be chosen for a publisher of the machine, by its name, which counts retries on.
+abbrev pub DecidesAs : {T : Type 0} → Choices T → (BackpressureInfo → BackpressureDecision → Type 0) → ℕ → Publisher T → Type 0
+DecidesAs choices may name publisher =
+    (info : BackpressureInfo) (decision : BackpressureDecision) (retries : ℕ) → may info decision
+    → info.retries ≡ min retries (2 ^ 64 - 1)
+    → choices.publisher_decides name retries info.elapsed_time (decision_of publisher.strategy publisher.handler) decision
 
-module _ (T U : Type 0) (IsDefault : T → Type 0) (may : BackpressureInfo → BackpressureDecision → Type 0) where
+module _ (T U : Type 0) (choices : Choices T) (may : BackpressureInfo → BackpressureDecision → Type 0) where
   -- A send that waits is tried again, after so many nanoseconds; of ports that are roomy: so they are after any calls, as `SamplesLeft`
-  -- says. What may be decided at a full mailbox is what the machine's publisher decides.
+  -- says. What may be decided at a full mailbox may be chosen for the machine's publisher.
   abbrev pub RetryMatches : Type 0
   RetryMatches = (types : MessageTypeDetails) (buffer : ℕ) (names : Naming) (lent : List (ℕ × LentSlot)) (held : List (ℕ × Taken))
       (old new : ServicePorts T U) (service : Service T) (state : State T) (number nanoseconds : ℕ)
       (answer : Option (Result Sent SendError))
       → StandsFor names lent held buffer old service → AreRoomy old → names.publisher number ≢ 0
       → ((publisher : Publisher T) → at (names.publisher number) service.publishers ≡ Some publisher → publisher.stands ≡ true
-      → DecidesAs may publisher)
+      → DecidesAs choices may (names.publisher number) publisher)
       → RetriesBy may number nanoseconds old answer new
-      → Matches T U IsDefault types buffer (command.Retry (names.publisher number) nanoseconds) (sent_or_skipped answer) state service
+      → Matches T U choices types buffer (command.Retry (names.publisher number) nanoseconds) (sent_or_skipped answer) state service
       names lent held new
 
   -- A loan that goes by a number is sent: its publisher follows the list of subscribers first, where that changed, and its new connections
   -- get names. The ports are roomy: so they are after any calls, as `SamplesLeft` says. What may be decided at a full mailbox, and answered
-  -- where a connection failed, is what the machine's publisher decides and does.
+  -- where a connection failed, may be chosen for the machine's publisher.
   abbrev pub SendMatches : (DegradationInfo → DegradationAction → Type 0) → Type 0
   SendMatches may_degrade = (types : MessageTypeDetails) (buffer : ℕ) (names : Naming) (lent : List (ℕ × LentSlot))
       (held : List (ℕ × Taken)) (old new : ServicePorts T U) (service : Service T) (state : State T) (loan : ℕ) (out : LentSlot)
-      (degradation : DegradationAction) (answer : Option (Result Sent SendError))
+      (answer : Option (Result Sent SendError))
       → StandsFor names lent held buffer old service → AreRoomy old → at loan lent ≡ Some out
       → ((publisher : Publisher T) → at (names.publisher out.publisher) service.publishers ≡ Some publisher → publisher.stands ≡ true
-      → DecidesAs may publisher)
-      → DegradesAs may_degrade degradation (names.publisher out.publisher) service
+      → DecidesAs choices may (names.publisher out.publisher) publisher)
+      → DegradesAs choices may_degrade (names.publisher out.publisher) service
       → SendsBy may_degrade may out.publisher out.slot old answer new
-      → (reader : ℕ → ℕ) × Matches T U IsDefault types buffer (command.Send loan) (sent_or_skipped answer) state service
+      → (reader : ℕ → ℕ) × Matches T U choices types buffer (command.Send loan) (sent_or_skipped answer) state service
       (record names { reader = with_name out.publisher reader names.reader }) (lent_after_send loan answer lent) held new

@@ -12,6 +12,7 @@ use Rattle.iox_domain_machine.specs.Naming.{Naming, with_name}
 use Rattle.iox_domain_machine.specs.Services.{those_of, ComesOnce, DomainsStandFor}
 use Rattle.iox_domain_machine.specs.Standing.{StandsFor}
 use Rattle.iox_domain_machine.specs.Tables.{LentSlot}
+use Rattle.iox_machine.specs.Choices.{Choices}
 use Rattle.iox_machine.specs.Run.{Step}
 use Rattle.iox_machine.specs.Service.{Service}
 use Rattle.iox_machine.specs.State.{State, counted}
@@ -53,8 +54,8 @@ ChangesAt domain old new = ((other : ℕ) → other ≢ domain → those_of othe
 -- Domains stand for the services of a machine, and a command names something of one of them. If what this domain does matches the command
 -- at its service alone, the machine with all services does the command with the same answer, and all domains stand for its services then.
 -- No port comes by it.
-abbrev pub AmongOthersMatches : (T U : Type 0) → (T → Type 0) → Type 0
-AmongOthersMatches T U IsDefault = (types : MessageTypeDetails) (buffer : ℕ) (names : ℕ → Naming)
+abbrev pub AmongOthersMatches : (T U : Type 0) → Choices T → Type 0
+AmongOthersMatches T U choices = (types : MessageTypeDetails) (buffer : ℕ) (names : ℕ → Naming)
     (lent lent_then : List (ℕ × (ℕ × LentSlot))) (held held_then : List (ℕ × (ℕ × Taken))) (before behind : List (ℕ × ServicePorts T U))
     (domain : ℕ) (old new : ServicePorts T U) (state : State T) (asked : Command T) (answer : Reply T) (names_then : Naming)
     → DomainsStandFor names lent held buffer (before ++ (domain, old) ∷ behind) state.services
@@ -63,7 +64,7 @@ AmongOthersMatches T U IsDefault = (types : MessageTypeDetails) (buffer : ℕ) (
     → ChangesAt domain lent lent_then → ChangesAt domain held held_then
     → ((first : List (Service T)) (service : Service T) (last : List (Service T)) → state.services ≡ first ++ service ∷ last
     → StandsFor (names domain) (those_of domain lent) (those_of domain held) buffer old service
-    → Matches T U IsDefault types buffer asked answer state service names_then (those_of domain lent_then) (those_of domain held_then) new)
+    → Matches T U choices types buffer asked answer state service names_then (those_of domain lent_then) (those_of domain held_then) new)
     → (services : List (Service T))
-    × Step types IsDefault buffer asked state answer (record state { made = counted answer state.made; services = services })
+    × Step types choices buffer asked state answer (record state { made = counted answer state.made; services = services })
     × DomainsStandFor (with_name domain names_then names) lent_then held_then buffer (before ++ (domain, new) ∷ behind) services

@@ -17,6 +17,7 @@ use Rattle.iox_domain_machine.specs.Laws.{Matches}
 use Rattle.iox_domain_machine.specs.Naming.{Naming}
 use Rattle.iox_domain_machine.specs.Standing.{StandsFor}
 use Rattle.iox_domain_machine.specs.Tables.{LentSlot}
+use Rattle.iox_machine.specs.Choices.{Choices}
 use Rattle.iox_machine.specs.Service.{Service, Subscriber}
 use Rattle.iox_machine.specs.State.{State}
 use Rattle.iox_machine.specs.Table.{at}
@@ -27,19 +28,19 @@ updated_or_skipped None = reply.Skipped
 updated_or_skipped (Some (Ok done)) = reply.Done
 updated_or_skipped (Some (Err failure)) = reply.Refused (refusal.Connection failure)
 
--- what is done where a connection fails is what a subscriber of the machine is to do then, by its name, if it stands
-abbrev pub ActsAs : {T : Type 0} → (DegradationInfo → DegradationAction → Type 0) → ℕ → Service T → Type 0
-ActsAs may name service =
+-- Whatever is done where a connection fails may be chosen for a subscriber of the machine, by its name, if it stands.
+abbrev pub ActsAs : {T : Type 0} → Choices T → (DegradationInfo → DegradationAction → Type 0) → ℕ → Service T → Type 0
+ActsAs choices may name service =
     (subscriber : Subscriber) → at name service.subscribers ≡ Some subscriber → subscriber.stands ≡ true
-    → (info : DegradationInfo) (action : DegradationAction) → may info action → action ≡ subscriber.degradation
+    → (info : DegradationInfo) (action : DegradationAction) → may info action → choices.subscriber_acts name subscriber.degradation action
 
 -- A subscriber follows the list of publishers: the connections of those that left end or expire, and those that are listed are connected.
 -- The ports are roomy: so they are after any calls, as `SamplesLeft` says. Connections that are made have names then.
-abbrev pub SubscriberUpdateMatches : (T U : Type 0) → (T → Type 0) → (DegradationInfo → DegradationAction → Type 0) → Type 0
-SubscriberUpdateMatches T U IsDefault may = (types : MessageTypeDetails) (buffer : ℕ) (names : Naming) (lent : List (ℕ × LentSlot))
+abbrev pub SubscriberUpdateMatches : (T U : Type 0) → Choices T → (DegradationInfo → DegradationAction → Type 0) → Type 0
+SubscriberUpdateMatches T U choices may = (types : MessageTypeDetails) (buffer : ℕ) (names : Naming) (lent : List (ℕ × LentSlot))
     (held : List (ℕ × Taken)) (old new : ServicePorts T U) (service : Service T) (state : State T) (number : ℕ)
     (answer : Option (Result (Unit {0}) ConnectionFailure))
     → StandsFor names lent held buffer old service → AreRoomy old → names.subscriber number ≢ 0
-    → ActsAs may (names.subscriber number) service → FollowsBy may number old answer new
-    → (reader : ℕ → ℕ → ℕ) × Matches T U IsDefault types buffer (command.Update (port.Subscriber (names.subscriber number)))
+    → ActsAs choices may (names.subscriber number) service → FollowsBy may number old answer new
+    → (reader : ℕ → ℕ → ℕ) × Matches T U choices types buffer (command.Update (port.Subscriber (names.subscriber number)))
     (updated_or_skipped answer) state service (record names { reader = reader }) lent held new

@@ -27,6 +27,7 @@ pub mod Closing
 pub mod Lives
 pub mod Stepped
 pub mod LocalityNegotiated
+pub mod Preparing
 pub mod Opening
 pub mod Opened
 pub mod Keeping

@@ -29,8 +29,8 @@ use Rattle.iox_hub_laws.specs.HubCommands.DomainValues.declared.degradation.Degr
 use Rattle.iox_hub_laws.specs.HubCommands.DomainValues.declared.degradation.DegradationInfo.{DegradationInfo}
 use Rattle.iox_hub_laws.specs.HubCommands.Replies.{factory_reply}
 use Rattle.iox_hub_laws.specs.HubCommands.Asking.{hash_of, agreed_of, required_agreement}
-use Rattle.iox_hub_laws.specs.HubCommands.Creating.{CreatesAs, CreatesNumbered, create_lacking}
-use Rattle.iox_hub_laws.specs.HubCommands.Either.{EitherAs, EitherNumbered, either_lacking}
+use Rattle.iox_hub_laws.specs.HubCommands.Creating.{CreatesAs, CreatesPrepared, CreatesNumbered, create_lacking}
+use Rattle.iox_hub_laws.specs.HubCommands.Either.{EitherAs, EitherPrepared, EitherNumbered, either_lacking}
 use Rattle.iox_hub_laws.specs.HubCommands.HubBase.Hubs.{factories_of, with_factory, one_more, is_node}
 use Rattle.iox_hub_laws.specs.HubCommands.HubBase.Opening.{Made, Enters, Settles, OpensInHub}
 use Rattle.iox_hub_laws.specs.HubCommands.HubBase.declared.hub.Hub.{Hub}
@@ -41,7 +41,7 @@ use Rattle.iox_hub_laws.specs.HubCommands.Domain.Domains.{IsNewDomain}
 use Rattle.iox_hub_laws.specs.HubCommands.HubBase.declared.presence.Presence.TheVariants.{Here}
 use Rattle.iox_hub_laws.specs.HubCommands.Container.NumberTable.{Rises, inserted}
 use Rattle.iox_hub_laws.specs.HubCommands.ServicesNumbering.{Numbers, GetsNumber}
-use Rattle.iox_hub_laws.specs.HubCommands.Opening.{OpensAs, OpensNumbered, open_lacking}
+use Rattle.iox_hub_laws.specs.HubCommands.Opening.{OpensAs, OpensPrepared, OpensNumbered, open_lacking}
 use Rattle.iox_hub_laws.specs.HubCommands.ServicesTables.{FactoryTable}
 use Rattle.iox_hub_laws.specs.HubCommands.declared.services.asked.ServiceAsked.{ServiceAsked}
 use Rattle.iox_hub_laws.specs.HubCommands.AgreementLaws.{service_of}
@@ -68,6 +68,7 @@ use Rattle.iox_hub_laws.proofs.Lives.{IsFrom, past_rises, past_follows}
 use Rattle.iox_hub_laws.proofs.Made.{made_still, roomier_same, rises_as}
 use Rattle.iox_hub_laws.proofs.LocalityNames.{went_alike}
 use Rattle.iox_hub_laws.proofs.LocalityNegotiated.{IsNegotiation, StandsAs, of_hash, creating, opening, either}
+use Rattle.iox_hub_laws.proofs.Preparing.{DonePrepared}
 use Rattle.iox_hub_laws.proofs.Stepped.{stepped-went-table}
 use Rattle.iox_hub_laws.proofs.LocalityTables.{inserted_both}
 
@@ -336,106 +337,98 @@ module _ {T U B D : Type 0} (hash : ServiceHash) (mine : ℕ → Bool) (payload 
           (either node _ (required_agreement name (options.RequestResponse named) types attributes) _ _ _)) lists _ _ answer table
           after other_table same rises other_rises gets
 
-    create_numbered : (is_node : Bool) (types : MessageTypeDetails) (asked : ServiceAsked) (attributes : List Attribute)
+    -- ---- the node is looked for, and lists and room are made
+
+    -- what is done so under a hash goes so in the other hub, where no memory was wanting before the first access
+    abbrev NumberedAlike : {A : Type 0} → (ServiceOptions → Refusal)
+        → (Bool → MessageTypeDetails → ServiceAsked → A → List StepBefore → FactoryTable → Hub T U B D → Option (Result ℕ Refusal)
+        → FactoryTable → Hub T U B D → Type 0) → Type 0
+    NumberedAlike {A} lacking does = (is_node : Bool) (types : MessageTypeDetails) (asked : ServiceAsked) (attributes : A)
         (steps : List StepBefore) (answer : Option (Result ℕ Refusal)) (table after other_table : FactoryTable)
         → hash_of asked.name asked.options ≡ hash
-        → (answer ≡ Some (Err (create_lacking asked.options)) → ⊥) → SameOf service_of mine table other_table
+        → (answer ≡ Some (Err (lacking asked.options)) → ⊥) → SameOf service_of mine table other_table
         → Rises 1 table.entries table.next → Rises 1 other_table.entries other_table.next
-        → CreatesNumbered is_node payload user_header types asked attributes steps table one answer after new
-        → GoesSo hash mine (λ t old a h. CreatesNumbered is_node payload user_header types asked attributes steps t old answer a h)
-        other_table other after new
+        → does is_node types asked attributes steps table one answer after new
+        → GoesSo hash mine (λ t old a h. does is_node types asked attributes steps t old answer a h) other_table other after new
+
+    -- nothing happens
+    unchanged_alike : (table after other_table : FactoryTable) → SameOf service_of mine table other_table → after ≡ table → new ≡ one
+        → SameOf service_of mine after other_table × HubsAgree hash mine new other
+    unchanged_alike table after other_table same unchanged still =
+        (subst (λ it. SameOf service_of mine it other_table) (sym unchanged) same, agree_still hash mine one new other agree still)
+
+    prepared_alike : (name : List ℕ) (types : MessageTypeDetails) (steps : List StepBefore)
+        (does : Result (List (List ForeignStep)) AllocError → FactoryTable → Hub T U B D → Result ℕ Refusal → FactoryTable
+        → Hub T U B D → Type 0)
+        (answer : Option (Result ℕ Refusal)) (table after other_table : FactoryTable)
+        → ((lacking : AllocError) (roomier : FactoryTable) (reply : Result ℕ Refusal) → does (Err lacking) roomier one reply after new
+        → answer ≡ Some reply → ⊥)
+        → ((lists : List (List ForeignStep)) (reply : Result ℕ Refusal) (roomier roomy : FactoryTable)
+        → SameOf service_of mine roomier roomy → Rises 1 roomier.entries roomier.next → Rises 1 roomy.entries roomy.next
+        → does (Ok lists) roomier one reply after new
+        → GoesSo hash mine (λ t old a h. does (Ok lists) t old reply a h) roomy other after new)
+        → SameOf service_of mine table other_table → Rises 1 table.entries table.next
+        → Rises 1 other_table.entries other_table.next → DonePrepared name types steps does table one answer after new
+        → GoesSo hash mine (λ t old a h. DonePrepared name types steps does t old answer a h) other_table other after new
+    prepared_alike name types steps does answer table after other_table never alike same rises other_rises
+        (Err lacking, roomier, reply, prepares, done, is) =
+        absurd (never lacking roomier reply done is)
+    prepared_alike name types steps does answer table after other_table never alike same rises other_rises
+        (Ok lists, roomier, reply, (numbers, is_lists, room, forms), done, is) =
+        let roomy = roomy_table other_table in
+        let (there, hub, goes, tables, hubs) =
+        alike lists reply roomier roomy (roomier_same service_of mine table roomier roomy numbers.0 numbers.1 same)
+        (rises_as table roomier numbers.0 numbers.1 rises) other_rises done in
+        (there, hub, (Ok lists, roomy, reply, ((refl, refl), is_lists, inl (has_room other_table), forms), goes, is), tables, hubs)
+
+    create_numbered : NumberedAlike create_lacking
+        (λ is_node types asked attributes steps t old answer a h.
+        CreatesNumbered is_node payload user_header types asked attributes steps t old answer a h)
     create_numbered false types asked attributes steps answer table after other_table under wanted same rises other_rises
-        (is, unchanged, still) = (
-          other_table,
-          other,
-          (is, refl, refl),
-          subst (λ it. SameOf service_of mine it other_table) (sym unchanged) same,
-          agree_still hash
-              mine one new other agree still,
-        )
+        (is, unchanged, still) =
+        let (tables, hubs) = unchanged_alike table after other_table same unchanged still in
+        (other_table, other, (is, refl, refl), tables, hubs)
     create_numbered true types asked attributes steps answer table after other_table under wanted same rises other_rises
-        (Some failure, unfit, (is, unchanged, still)) = (
-          other_table,
-          other,
-          (Some failure, unfit, (is, refl, refl)),
-          subst (λ it. SameOf service_of mine it other_table) (sym unchanged) same,
-          agree_still hash
-              mine one new other agree still,
-        )
+        (Some failure, unfit, (is, unchanged, still)) =
+        let (tables, hubs) = unchanged_alike table after other_table same unchanged still in
+        (other_table, other, (Some failure, unfit, (is, refl, refl)), tables, hubs)
     create_numbered true types asked attributes steps answer table after other_table under wanted same rises other_rises
-        (None, fit, (Err lacking, roomier, reply, prepares, (is_reply, unchanged, still), is)) =
-        absurd (wanted (is ∙ ap (λ r. Some r) is_reply))
-    create_numbered true types asked attributes steps answer table after other_table under wanted same rises other_rises
-        (None, fit, (Ok lists, roomier, reply, (numbers, is_lists, room, forms), does, is)) =
-        let roomy = roomy_table other_table in
-        let (there, hub, done, tables, hubs) =
-        create_as roomier after roomy (roomier_same service_of mine table roomier roomy numbers.0 numbers.1 same)
-        (rises_as table roomier numbers.0 numbers.1 rises) other_rises asked.options types asked.node asked.name attributes lists
-        reply under does in (
-          there,
-          hub,
-          (None, fit, (Ok lists, roomy, reply, ((refl, refl), is_lists, inl (has_room other_table), forms), done, is)),
-          tables,
-          hubs,
-        )
+        (None, fit, done) =
+        let (there, hub, goes, tables, hubs) =
+        prepared_alike asked.name types steps
+        (λ prepared t old reply a h. CreatesPrepared prepared payload user_header types asked attributes t old reply a h) answer table
+        after other_table (λ lacking roomier reply told is. wanted (is ∙ ap (λ r. Some r) told.0))
+        (λ lists reply roomier roomy there goes_on goes_there goes. create_as roomier after roomy there goes_on goes_there asked.options
+        types asked.node asked.name attributes lists reply under goes) same rises other_rises done in
+        (there, hub, (None, fit, goes), tables, hubs)
 
-    open_numbered : (is_node : Bool) (types : MessageTypeDetails) (asked : ServiceAsked) (attributes : Required)
-        (steps : List StepBefore) (answer : Option (Result ℕ Refusal)) (table after other_table : FactoryTable)
-        → hash_of asked.name asked.options ≡ hash
-        → (answer ≡ Some (Err (open_lacking asked.options)) → ⊥) → SameOf service_of mine table other_table
-        → Rises 1 table.entries table.next → Rises 1 other_table.entries other_table.next
-        → OpensNumbered is_node payload user_header types asked attributes steps table one answer after new
-        → GoesSo hash mine (λ t old a h. OpensNumbered is_node payload user_header types asked attributes steps t old answer a h)
-        other_table other after new
+    open_numbered : NumberedAlike open_lacking
+        (λ is_node types asked attributes steps t old answer a h.
+        OpensNumbered is_node payload user_header types asked attributes steps t old answer a h)
     open_numbered false types asked attributes steps answer table after other_table under wanted same rises other_rises
-        (is, unchanged, still) = (
-          other_table,
-          other,
-          (is, refl, refl),
-          subst (λ it. SameOf service_of mine it other_table) (sym unchanged) same,
-          agree_still hash
-              mine one new other agree still,
-        )
-    open_numbered true types asked attributes steps answer table after other_table under wanted same rises other_rises
-        (Err lacking, roomier, reply, prepares, (is_reply, unchanged, still), is) =
-        absurd (wanted (is ∙ ap (λ r. Some r) is_reply))
-    open_numbered true types asked attributes steps answer table after other_table under wanted same rises other_rises
-        (Ok lists, roomier, reply, (numbers, is_lists, room, forms), does, is) =
-        let roomy = roomy_table other_table in
-        let (there, hub, done, tables, hubs) =
-        open_as roomier after roomy (roomier_same service_of mine table roomier roomy numbers.0 numbers.1 same)
-        (rises_as table roomier numbers.0 numbers.1 rises) other_rises asked.options types asked.node asked.name attributes lists
-        reply under does in
-        (there, hub, (Ok lists, roomy, reply, ((refl, refl), is_lists, inl (has_room other_table), forms), done, is), tables, hubs)
+        (is, unchanged, still) =
+        let (tables, hubs) = unchanged_alike table after other_table same unchanged still in
+        (other_table, other, (is, refl, refl), tables, hubs)
+    open_numbered true types asked attributes steps answer table after other_table under wanted same rises other_rises done =
+        prepared_alike asked.name types steps
+        (λ prepared t old reply a h. OpensPrepared prepared payload user_header types asked attributes t old reply a h) answer table after
+        other_table (λ lacking roomier reply told is. wanted (is ∙ ap (λ r. Some r) told.0))
+        (λ lists reply roomier roomy there goes_on goes_there goes. open_as roomier after roomy there goes_on goes_there asked.options
+        types asked.node asked.name attributes lists reply under goes) same rises other_rises done
 
-    either_numbered : (is_node : Bool) (types : MessageTypeDetails) (asked : ServiceAsked) (attributes : Required)
-        (steps : List StepBefore) (answer : Option (Result ℕ Refusal)) (table after other_table : FactoryTable)
-        → hash_of asked.name asked.options ≡ hash
-        → (answer ≡ Some (Err (either_lacking asked.options)) → ⊥) → SameOf service_of mine table other_table
-        → Rises 1 table.entries table.next → Rises 1 other_table.entries other_table.next
-        → EitherNumbered is_node payload user_header types asked attributes steps table one answer after new
-        → GoesSo hash mine (λ t old a h. EitherNumbered is_node payload user_header types asked attributes steps t old answer a h)
-        other_table other after new
+    either_numbered : NumberedAlike either_lacking
+        (λ is_node types asked attributes steps t old answer a h.
+        EitherNumbered is_node payload user_header types asked attributes steps t old answer a h)
     either_numbered false types asked attributes steps answer table after other_table under wanted same rises other_rises
-        (is, unchanged, still) = (
-          other_table,
-          other,
-          (is, refl, refl),
-          subst (λ it. SameOf service_of mine it other_table) (sym unchanged) same,
-          agree_still hash
-              mine one new other agree still,
-        )
-    either_numbered true types asked attributes steps answer table after other_table under wanted same rises other_rises
-        (Err lacking, roomier, reply, prepares, (is_reply, unchanged, still), is) =
-        absurd (wanted (is ∙ ap (λ r. Some r) is_reply))
-    either_numbered true types asked attributes steps answer table after other_table under wanted same rises other_rises
-        (Ok lists, roomier, reply, (numbers, is_lists, room, forms), does, is) =
-        let roomy = roomy_table other_table in
-        let (there, hub, done, tables, hubs) =
-        either_as roomier after roomy (roomier_same service_of mine table roomier roomy numbers.0 numbers.1 same)
-        (rises_as table roomier numbers.0 numbers.1 rises) other_rises asked.options types asked.node asked.name attributes lists
-        reply under does in
-        (there, hub, (Ok lists, roomy, reply, ((refl, refl), is_lists, inl (has_room other_table), forms), done, is), tables, hubs)
+        (is, unchanged, still) =
+        let (tables, hubs) = unchanged_alike table after other_table same unchanged still in
+        (other_table, other, (is, refl, refl), tables, hubs)
+    either_numbered true types asked attributes steps answer table after other_table under wanted same rises other_rises done =
+        prepared_alike asked.name types steps
+        (λ prepared t old reply a h. EitherPrepared prepared payload user_header types asked attributes t old reply a h) answer table after
+        other_table (λ lacking roomier reply told is. wanted (is ∙ ap (λ r. Some r) told.0))
+        (λ lists reply roomier roomy there goes_on goes_there goes. either_as roomier after roomy there goes_on goes_there asked.options
+        types asked.node asked.name attributes lists reply under goes) same rises other_rises done
 
 -- ---- each command
 

@@ -3,6 +3,7 @@ use Rattle.std.proofs.Common.{◌≡◌, ◌∙◌, ◌+◌, ◌-◌, ◌<◌, �
 use Rattle.std.proofs.Common.{None, Some, option_map, Result, Ok, Err, inl, inr, refl, sym, ap, subst, arith, if◌then◌else◌}
 use Rattle.std.specs.BTreeMap.{is_at}
 use Rattle.std.specs.Ordering.{nat_cmp}
+use Rattle.std.specs.declared.alloc.AllocError.{AllocError}
 use Rattle.std.specs.Prelude.{is_some, nat_le}
 use Rattle.iox_hub_laws.specs.Renaming.{Renaming, renamed_ports}
 use Rattle.iox_hub_laws.proofs.Calls.{reads_alike}
@@ -22,9 +23,9 @@ use Rattle.iox_hub_laws.specs.HubCommands.DescribeBase.declared.pattern.Messagin
 use Rattle.iox_hub_laws.specs.HubCommands.DescribeSettings.declared.static_config.Settings.{Settings}
 use Rattle.iox_hub_laws.specs.HubCommands.Asking.{hash_of, agreed_of, required_agreement}
 use Rattle.iox_hub_laws.specs.HubCommands.Closing.{Leaves, ClosesUnless, ClosesIfOf, ClosesNumbered}
-use Rattle.iox_hub_laws.specs.HubCommands.Creating.{CreatesAs, CreatesNumbered, create_lacking}
+use Rattle.iox_hub_laws.specs.HubCommands.Creating.{CreatesAs, CreatesPrepared, CreatesNumbered, create_lacking}
 use Rattle.iox_hub_laws.specs.HubCommands.Domain.Kept.{kept, forgotten}
-use Rattle.iox_hub_laws.specs.HubCommands.Either.{EitherAs, EitherNumbered, either_lacking}
+use Rattle.iox_hub_laws.specs.HubCommands.Either.{EitherAs, EitherPrepared, EitherNumbered, either_lacking}
 use Rattle.iox_hub_laws.specs.HubCommands.Foreign.{ActsNamed}
 use Rattle.iox_hub_laws.specs.HubCommands.HubBase.Closing.{is_last, who_counts, lives_in, in_use, less_one}
 use Rattle.iox_hub_laws.specs.HubCommands.HubBase.Foreign.{ActsOn}
@@ -37,7 +38,7 @@ use Rattle.iox_hub_laws.specs.HubCommands.HubBase.declared.presence.Presence.{Pr
 use Rattle.iox_hub_laws.specs.HubCommands.HubBase.declared.presence.Presence.TheVariants.{Here, Out}
 use Rattle.iox_hub_laws.specs.HubCommands.Container.NumberTable.{value_at}
 use Rattle.iox_hub_laws.specs.HubCommands.ServicesNumbering.{GetsNumber, IsSkipped, IsRefusedWith}
-use Rattle.iox_hub_laws.specs.HubCommands.Opening.{OpensAs, OpensNumbered, open_lacking}
+use Rattle.iox_hub_laws.specs.HubCommands.Opening.{OpensAs, OpensPrepared, OpensNumbered, open_lacking}
 use Rattle.iox_hub_laws.specs.HubCommands.ServicesTables.{FactoryTable, parts_of}
 use Rattle.iox_hub_laws.specs.HubCommands.declared.services.asked.ServiceAsked.{ServiceAsked}
 use Rattle.iox_hub_laws.specs.HubCommands.declared.services.made.MadeFactory.{MadeFactory}
@@ -54,6 +55,7 @@ use Rattle.iox_hub_laws.specs.NegotiateRenamedRenaming.{renamed_steps}
 use Rattle.iox_hub_laws.proofs.Acting.{acts_all_as, past_rises, low_on}
 use Rattle.iox_hub_laws.proofs.Calling.{does_alone_as}
 use Rattle.iox_hub_laws.proofs.Numbers.{same_life, moved_gone, moved_come}
+use Rattle.iox_hub_laws.proofs.Preparing.{DonePrepared}
 use Rattle.iox_hub_laws.proofs.Rounds.{opens, closes}
 use Rattle.iox_hub_laws.proofs.Tables.{live_at}
 use Rattle.iox_hub_laws.proofs.LocalityNegotiated.{IsNegotiation, creating, opening, either}
@@ -369,156 +371,91 @@ module _ {T U B D : Type 0} (by : Renaming) (order : AreInOrder by.services) (ow
     refused refusal answer table after all (is, unchanged, same)
         = stays table after all same unchanged (is, ap (table_there by order) unchanged, ap (there next count) same)
 
-    pub creates_numbered : (is_node : Bool) (types : MessageTypeDetails) (asked : ServiceAsked) (attributes : List Attribute)
+    -- what is done behind lists and room, so or so, is done there, too
+    abbrev GoesBehindLists : (FactoryTable → Hub T U B D → Result ℕ Refusal → FactoryTable → Hub T U B D → Type 0) → FactoryTable → Type 0
+    GoesBehindLists does after = (reply : Result ℕ Refusal) (roomier : FactoryTable) → AllNumbered by order roomier
+        → does roomier old reply after new
+        → Goes (λ later counted. does (table_there by order roomier) (there next count old) reply (table_there by order after)
+        (there later counted new)) after
+
+    each_goes : (does : Result (List (List ForeignStep)) AllocError → FactoryTable → Hub T U B D → Result ℕ Refusal
+        → FactoryTable → Hub T U B D → Type 0) (after : FactoryTable)
+        → ((lacking : AllocError) → GoesBehindLists (does (Err lacking)) after)
+        → ((lists : List (List ForeignStep)) → GoesBehindLists (does (Ok lists)) after)
+        → (prepared : Result (List (List ForeignStep)) AllocError) → GoesBehindLists (does prepared) after
+    each_goes does after refuses goes_on (Err lacking) = refuses lacking
+    each_goes does after refuses goes_on (Ok lists) = goes_on lists
+
+    done_prepared : (name : List ℕ) (types : MessageTypeDetails) (steps : List StepBefore)
+        (does : Result (List (List ForeignStep)) AllocError → FactoryTable → Hub T U B D → Result ℕ Refusal
+        → FactoryTable → Hub T U B D → Type 0) (answer : Option (Result ℕ Refusal)) (table after : FactoryTable)
+        → AllNumbered by order table
+        → ((lacking : AllocError) → GoesBehindLists (does (Err lacking)) after)
+        → ((lists : List (List ForeignStep)) → GoesBehindLists (does (Ok lists)) after)
+        → DonePrepared name types steps does table old answer after new
+        → Goes (λ later counted. DonePrepared name types steps does (table_there by order table) (there next count old) answer
+        (table_there by order after) (there later counted new)) after
+    done_prepared name types steps does answer table after all refuses goes_on (prepared, roomier, reply, prepares, done, is) =
+        let ((later, counted, done_there, goes_there), all_after)
+        = each_goes does after refuses goes_on prepared reply roomier
+        (prepared_all by order name types steps table roomier prepared all prepares) done in (
+          (
+            later,
+            counted,
+            (
+              prepared,
+              table_there by order roomier,
+              reply,
+              prepares_as by order name types steps table roomier prepared prepares,
+              done_there,
+              is,
+            ),
+            goes_there,
+          ),
+          all_after,
+        )
+
+    -- a node makes a service so, or isn't there
+    abbrev NumberedGoes : {A : Type 0}
+        → (Bool → MessageTypeDetails → ServiceAsked → A → List StepBefore → FactoryTable → Hub T U B D → Option (Result ℕ Refusal)
+        → FactoryTable → Hub T U B D → Type 0) → Type 0
+    NumberedGoes {A} does = (is_node : Bool) (types : MessageTypeDetails) (asked : ServiceAsked) (attributes : A)
         (steps : List StepBefore) (answer : Option (Result ℕ Refusal)) (table after : FactoryTable) → AllNumbered by order table
-        → CreatesNumbered is_node payload user_header types asked attributes steps table old answer after new
-        → Goes (λ later counted. CreatesNumbered is_node payload user_header types asked attributes steps (table_there by order table)
-        (there next count old) answer (table_there by order after) (there later counted new)) after
+        → does is_node types asked attributes steps table old answer after new
+        → Goes (λ later counted. does is_node types asked attributes steps (table_there by order table) (there next count old) answer
+        (table_there by order after) (there later counted new)) after
+
+    pub creates_numbered : NumberedGoes (λ is_node types asked attributes steps t o a after_it h.
+        CreatesNumbered is_node payload user_header types asked attributes steps t o a after_it h)
     creates_numbered false types asked attributes steps answer table after all does = skipped answer table after all does
     creates_numbered true types asked attributes steps answer table after all (Some failure, unfit, (is, unchanged, same)) =
         stays table after all same unchanged
         (Some failure, unfit, (is, ap (table_there by order) unchanged, ap (there next count) same))
-    creates_numbered true types asked attributes steps answer table after all
-        (None, fit, (Err lacking, roomier, reply, prepares, does, is)) =
+    creates_numbered true types asked attributes steps answer table after all (None, fit, does) =
         let ((later, counted, done, go_on), all_after)
-        = refused (create_lacking asked.options) reply roomier after
-        (prepared_all by order asked.name types steps table roomier (Err lacking) all prepares) does in (
-          (
-            later,
-            counted,
-            (
-              None,
-              fit,
-              (
-                Err lacking,
-                table_there by order roomier,
-                reply,
-                prepares_as by order asked.name types steps table roomier (Err lacking) prepares,
-                done,
-                is,
-              ),
-            ),
-            go_on,
-          ),
-          all_after,
-        )
-    creates_numbered true types asked attributes steps answer table after all (None, fit, (Ok lists, roomier, reply, prepares, does, is)) =
-        let ((later, counted, done, go_on), all_after)
-        = creates asked.options types asked.node asked.name attributes lists reply roomier after
-        (prepared_all by order asked.name types steps table roomier (Ok lists) all prepares) does in (
-          (
-            later,
-            counted,
-            (
-              None,
-              fit,
-              (
-                Ok lists,
-                table_there by order roomier,
-                reply,
-                prepares_as by order asked.name types steps table roomier (Ok lists) prepares,
-                done,
-                is,
-              ),
-            ),
-            go_on,
-          ),
-          all_after,
-        )
+        = done_prepared asked.name types steps
+        (λ prepared t o r a h. CreatesPrepared prepared payload user_header types asked attributes t o r a h) answer table after all
+        (λ lacking reply roomier. refused (create_lacking asked.options) reply roomier after)
+        (λ lists reply roomier. creates asked.options types asked.node asked.name attributes lists reply roomier after) does in
+        ((later, counted, (None, fit, done), go_on), all_after)
 
-    pub opens_numbered : (is_node : Bool) (types : MessageTypeDetails) (asked : ServiceAsked) (attributes : Required)
-        (steps : List StepBefore) (answer : Option (Result ℕ Refusal)) (table after : FactoryTable) → AllNumbered by order table
-        → OpensNumbered is_node payload user_header types asked attributes steps table old answer after new
-        → Goes (λ later counted. OpensNumbered is_node payload user_header types asked attributes steps (table_there by order table)
-        (there next count old) answer (table_there by order after) (there later counted new)) after
+    pub opens_numbered : NumberedGoes (λ is_node types asked attributes steps t o a after_it h.
+        OpensNumbered is_node payload user_header types asked attributes steps t o a after_it h)
     opens_numbered false types asked attributes steps answer table after all does = skipped answer table after all does
-    opens_numbered true types asked attributes steps answer table after all (Err lacking, roomier, reply, prepares, does, is) =
-        let ((later, counted, done, go_on), all_after)
-        = refused (open_lacking asked.options) reply roomier after
-        (prepared_all by order asked.name types steps table roomier (Err lacking) all prepares) does in (
-          (
-            later,
-            counted,
-            (
-              Err lacking,
-              table_there by order roomier,
-              reply,
-              prepares_as by order asked.name types steps table roomier
-                  (Err lacking) prepares,
-              done,
-              is,
-            ),
-            go_on,
-          ),
-          all_after,
-        )
-    opens_numbered true types asked attributes steps answer table after all (Ok lists, roomier, reply, prepares, does, is) =
-        let ((later, counted, done, go_on), all_after)
-        = opens_named asked.options types asked.node asked.name attributes lists reply roomier after
-        (prepared_all by order asked.name types steps table roomier (Ok lists) all prepares) does in (
-          (
-            later,
-            counted,
-            (
-              Ok lists,
-              table_there by order roomier,
-              reply,
-              prepares_as by order asked.name types steps table roomier
-                  (Ok lists) prepares,
-              done,
-              is,
-            ),
-            go_on,
-          ),
-          all_after,
-        )
+    opens_numbered true types asked attributes steps answer table after all does =
+        done_prepared asked.name types steps
+        (λ prepared t o r a h. OpensPrepared prepared payload user_header types asked attributes t o r a h) answer table after all
+        (λ lacking reply roomier. refused (open_lacking asked.options) reply roomier after)
+        (λ lists reply roomier. opens_named asked.options types asked.node asked.name attributes lists reply roomier after) does
 
-    pub either_numbered : (is_node : Bool) (types : MessageTypeDetails) (asked : ServiceAsked) (attributes : Required)
-        (steps : List StepBefore) (answer : Option (Result ℕ Refusal)) (table after : FactoryTable) → AllNumbered by order table
-        → EitherNumbered is_node payload user_header types asked attributes steps table old answer after new
-        → Goes (λ later counted. EitherNumbered is_node payload user_header types asked attributes steps (table_there by order table)
-        (there next count old) answer (table_there by order after) (there later counted new)) after
+    pub either_numbered : NumberedGoes (λ is_node types asked attributes steps t o a after_it h.
+        EitherNumbered is_node payload user_header types asked attributes steps t o a after_it h)
     either_numbered false types asked attributes steps answer table after all does = skipped answer table after all does
-    either_numbered true types asked attributes steps answer table after all (Err lacking, roomier, reply, prepares, does, is) =
-        let ((later, counted, done, go_on), all_after)
-        = refused (either_lacking asked.options) reply roomier after
-        (prepared_all by order asked.name types steps table roomier (Err lacking) all prepares) does in (
-          (
-            later,
-            counted,
-            (
-              Err lacking,
-              table_there by order roomier,
-              reply,
-              prepares_as by order asked.name types steps table roomier
-                  (Err lacking) prepares,
-              done,
-              is,
-            ),
-            go_on,
-          ),
-          all_after,
-        )
-    either_numbered true types asked attributes steps answer table after all (Ok lists, roomier, reply, prepares, does, is) =
-        let ((later, counted, done, go_on), all_after)
-        = either_named asked.options types asked.node asked.name attributes lists reply roomier after
-        (prepared_all by order asked.name types steps table roomier (Ok lists) all prepares) does in (
-          (
-            later,
-            counted,
-            (
-              Ok lists,
-              table_there by order roomier,
-              reply,
-              prepares_as by order asked.name types steps table roomier
-                  (Ok lists) prepares,
-              done,
-              is,
-            ),
-            go_on,
-          ),
-          all_after,
-        )
+    either_numbered true types asked attributes steps answer table after all does =
+        done_prepared asked.name types steps
+        (λ prepared t o r a h. EitherPrepared prepared payload user_header types asked attributes t o r a h) answer table after all
+        (λ lacking reply roomier. refused (either_lacking asked.options) reply roomier after)
+        (λ lists reply roomier. either_named asked.options types asked.node asked.name attributes lists reply roomier after) does
 
   -- ---- a factory is closed
 

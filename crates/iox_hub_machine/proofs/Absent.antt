@@ -25,6 +25,7 @@ use Rattle.iox_hub_commands.specs.declared.numbered_hub.NumberedHub.{NumberedHub
 use Rattle.iox_hub_machine.specs.Standing.{PortsStandFor, lent_in, held_in}
 use Rattle.iox_hub_machine.proofs.Parting.{ports_under}
 use Rattle.iox_hub_machine.proofs.Placed.{publisher_up, publisher_as}
+use Rattle.iox_machine.specs.Choices.{Choices}
 use Rattle.iox_machine.specs.Ports.{publisher_in}
 use Rattle.iox_machine.specs.Service.{Service, Publisher}
 use Rattle.iox_machine.specs.State.{State}
@@ -70,11 +71,11 @@ module _ {V : Type 0} (whole : List (ℕ × V)) where
       apart : (number : ℕ) → 0 < how_often number (keys_of table) → number ≡ entry.0 → ⊥
       apart number some is = omega (arith, some, once number, ap (ticked number) (sym is), ticks number)
 
-module _ {T U B D : Type 0} (degrades : B → DegradationCause → DegradationInfo → DegradationAction → Type 0)
+module _ {T U B D : Type 0} (choices : Choices T) (degrades : B → DegradationCause → DegradationInfo → DegradationAction → Type 0)
     (decides : B → BackpressureInfo → BackpressureDecision → Type 0)
     (reader_degrades : D → DegradationCause → DegradationInfo → DegradationAction → Type 0) (naming : ℕ → Naming)
     (order : List (ℕ × ServicePorts T U)) (old : NumberedHub T U B D) (state : State T)
-    (stands : PortsStandFor degrades decides reader_degrades naming order old state)
+    (stands : PortsStandFor choices degrades decides reader_degrades naming order old state)
     (number : ℕ) where
   abbrev own_id : ℕ → DomainId
   own_id service = record { hub = old.hub.services.hub; service = service }

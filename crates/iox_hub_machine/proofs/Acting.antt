@@ -25,6 +25,7 @@ use Rattle.iox_hub_machine.specs.Standing.{PortsStandFor, lent_in, held_in}
 use Rattle.iox_hub_machine.proofs.Amidst.{among_one}
 use Rattle.iox_hub_machine.proofs.Deciders.{housed}
 use Rattle.iox_hub_machine.proofs.Placed.{comes_alone, no_subscriber, subscriber_up, subscriber_as}
+use Rattle.iox_machine.specs.Choices.{Choices}
 use Rattle.iox_machine.specs.Service.{Service, Subscriber}
 use Rattle.iox_machine.specs.State.{State}
 use Rattle.iox_machine.specs.Table.{at}
@@ -49,11 +50,11 @@ subscriber_in_place {T} names lent held buffer domains first service last all do
     (no_subscriber names lent held buffer domain number all.subscribers place.behind last
     (ap (λ (n : ℕ). how_often n (keys_of place.behind)) same ∙ alone.1) place.later) ∙ there
 
-module _ {T U B D : Type 0} (degrades : B → DegradationCause → DegradationInfo → DegradationAction → Type 0)
+module _ {T U B D : Type 0} (choices : Choices T) (degrades : B → DegradationCause → DegradationInfo → DegradationAction → Type 0)
     (decides : B → BackpressureInfo → BackpressureDecision → Type 0)
     (reader_degrades : D → DegradationCause → DegradationInfo → DegradationAction → Type 0) (naming : ℕ → Naming)
     (order : List (ℕ × ServicePorts T U)) (old : NumberedHub T U B D) (state : State T)
-    (stands : PortsStandFor degrades decides reader_degrades naming order old state) (id : DomainId) (ports : ServicePorts T U)
+    (stands : PortsStandFor choices degrades decides reader_degrades naming order old state) (id : DomainId) (ports : ServicePorts T U)
     (found : hub_ports id old.hub ≡ Some ports) (first : List (Service T)) (service : Service T) (last : List (Service T))
     (are : state.services ≡ first ++ service ∷ last)
     (its : StandsFor (naming id.service) (those_of id.service (lent_in old.made)) (those_of id.service (held_in old.made))
@@ -62,7 +63,7 @@ module _ {T U B D : Type 0} (degrades : B → DegradationCause → DegradationIn
   name = (naming id.service).subscriber number
 
   -- where a connection fails
-  pub reader_acts_as : ActsAs (subscriber_may_degrade reader_degrades id number old.hub) name service
+  pub reader_acts_as : ActsAs choices (subscriber_may_degrade reader_degrades id number old.hub) name service
   reader_acts_as subscriber there standing =
       let buffer = old.hub.expired_connection_buffer in
       let (port, named, some) = its.named_subscribers.each name (ap is_some there) in

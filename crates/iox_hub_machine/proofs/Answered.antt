@@ -37,6 +37,7 @@ use Rattle.iox_hub_machine.proofs.Entering.{IsEntered, KeepsHeld}
 use Rattle.iox_hub_machine.proofs.FittingThen.{FitsHere}
 use Rattle.iox_hub_machine.proofs.PhaseThen.{hub_after, roomier_stands}
 use Rattle.iox_hub_machine.specs.Services.{HubStandsFor}
+use Rattle.iox_machine.specs.Choices.{Choices}
 use Rattle.iox_machine.proofs.Names.{phase-there}
 use Rattle.iox_machine.specs.Agreement.{Agreement}
 use Rattle.iox_machine.specs.Factories as machine
@@ -58,13 +59,13 @@ use Rattle.iox_negotiate_table.specs.NegotiateBase.Runs.{Does}
 use Rattle.iox_negotiate_table.specs.Sights.{Sight}
 
 module _ {T U B D : Type 0} (payload user_header : Detail)
-    (degrades : B → DegradationCause → DegradationInfo → DegradationAction → Type 0)
+    (choices : Choices T) (degrades : B → DegradationCause → DegradationInfo → DegradationAction → Type 0)
     (decides : B → BackpressureInfo → BackpressureDecision → Type 0)
     (reader_degrades : D → DegradationCause → DegradationInfo → DegradationAction → Type 0)
     (names : List (List ℕ)) (own : HaveOwnHashes names) (pattern : MessagingPattern) (name : List ℕ) (asked : IsAmong names name)
     (taken : MessagingPattern → List ℕ → List ℕ) (naming : ℕ → Naming) (order : List (ℕ × ServicePorts T U)) (node : ℕ)
     (old new : NumberedHub T U B D) (state : State T)
-    (stands : HubStandsFor degrades decides reader_degrades names taken naming order old state) where
+    (stands : HubStandsFor choices degrades decides reader_degrades names taken naming order old state) where
   -- the factory that the node gets
   abbrev pub factory : Factory
   factory = record { pattern = pattern; name = name; node = node }
@@ -112,7 +113,7 @@ module _ {T U B D : Type 0} (payload user_header : Detail)
   abbrev pub StandsEntered : Type 0
   StandsEntered = (phase : Phase) (service : Opened) (roomier : FactoryTable) → HasEntered phase service roomier
       → (since : MessagingPattern → List ℕ → List ℕ) × (naming_then : ℕ → Naming) × (order_then : List (ℕ × ServicePorts T U))
-      × HubStandsFor degrades decides reader_degrades names since naming_then order_then new (with_factory_in phase)
+      × HubStandsFor choices degrades decides reader_degrades names since naming_then order_then new (with_factory_in phase)
 
   module _ {F : Type 0} (Calls : Call → Answer F → Call → Type 0) (told : F → Refusal) (lacks : Bool → F) where
     -- What a machine's call comes to, of whose node it is known that it was made.
@@ -131,7 +132,7 @@ module _ {T U B D : Type 0} (payload user_header : Detail)
       pub order_then : List (ℕ × ServicePorts T U)
       pub after : State T
       pub came : Came answer after
-      pub stands_then : HubStandsFor degrades decides reader_degrades names taken_then naming_then order_then new after
+      pub stands_then : HubStandsFor choices degrades decides reader_degrades names taken_then naming_then order_then new after
 
     hub_is : (hub : Hub T U B D) → new.hub ≡ hub → new.made ≡ old.made → SameNumbers old.factories.made new.factories.made
         → record old {
@@ -162,9 +163,11 @@ module _ {T U B D : Type 0} (payload user_header : Detail)
       order_then = order;
       after = state;
       came = inl (ap (λ (r : Result ℕ Refusal). factory_reply {T = T} (Some r)) refused, refl);
-      stands_then = subst (λ (hub : NumberedHub T U B D). HubStandsFor degrades decides reader_degrades names taken naming order hub state)
+      stands_then = subst (λ (hub : NumberedHub T U B D). HubStandsFor choices degrades decides reader_degrades names taken naming order
+          hub state)
           (hub_is old.hub same_hub same_made (numbers_stay roomier same is))
-          (roomier_stands degrades decides reader_degrades names taken naming order old new.factories.made.room new.pledged state stands);
+          (roomier_stands choices degrades decides reader_degrades names taken naming order old new.factories.made.room new.pledged state
+          stands);
     }
 
     -- a phase that keeps what the hub has
@@ -173,12 +176,12 @@ module _ {T U B D : Type 0} (payload user_header : Detail)
         (stands_then : TableStands names since end (with_phase pattern name phase state)) (roomier : FactoryTable)
         (same : SameNumbers old.factories.made roomier) (is : new.factories.made ≡ roomier) (same_made : new.made ≡ old.made)
         (same_hub : new.hub ≡ record old.hub { table = end }) where
-      kept_stands : HubStandsFor degrades decides reader_degrades names since naming order new (with_phase pattern name phase state)
+      kept_stands : HubStandsFor choices degrades decides reader_degrades names since naming order new (with_phase pattern name phase state)
       kept_stands =
-          subst (λ (hub : NumberedHub T U B D). HubStandsFor degrades decides reader_degrades names since naming order hub
+          subst (λ (hub : NumberedHub T U B D). HubStandsFor choices degrades decides reader_degrades names since naming order hub
           (with_phase pattern name phase state))
           (hub_is (record old.hub { table = end }) same_hub same_made (numbers_stay roomier same is))
-          (hub_after names own pattern name asked taken state phase held degrades decides reader_degrades naming order old end
+          (hub_after names own pattern name asked taken state phase held choices degrades decides reader_degrades naming order old end
           new.factories.made.room new.pledged stands id since goes_on stands_then)
 
     -- ---- what is closed again

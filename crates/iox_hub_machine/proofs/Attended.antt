@@ -51,6 +51,7 @@ use Rattle.iox_hub_machine.proofs.Moving.{IsMatched}
 use Rattle.iox_hub_machine.proofs.Readers.{reader_goes, no_subscriber_goes}
 use Rattle.iox_hub_machine.proofs.Renaming.{ports_alone_named}
 use Rattle.iox_hub_machine.proofs.Rooming.{roomy_there}
+use Rattle.iox_machine.specs.Choices.{Choices}
 use Rattle.iox_machine.specs.Ports.{subscriber_in}
 use Rattle.iox_machine.specs.Receiving.{has_samples}
 use Rattle.iox_machine.specs.Run.{Step}
@@ -60,31 +61,32 @@ use Rattle.iox_machine.specs.SubscriberUpdate.{UpdatesFirst}
 use Rattle.iox_machine.specs.Table.{at}
 
 -- the machine's subscriber brings its connections up to date
-abbrev ReaderUpdates : {T : Type 0} → ℕ → ℕ → Subscriber → Service T → Reply T → Service T → Type 0
-ReaderUpdates buffer number = UpdatesFirst buffer number refusal.Connection
+abbrev ReaderUpdates : {T : Type 0} → Choices T → ℕ → ℕ → Subscriber → Service T → Reply T → Service T → Type 0
+ReaderUpdates choices buffer number = UpdatesFirst choices buffer number refusal.Connection
     (λ one service answered after. (answered ≡ reply.Done) × (after ≡ service))
 
-following_alike : {T : Type 0} (buffer number : ℕ) (state new : State T) (answer : Reply T)
-    → AtOne (subscriber_in number) (ReaderUpdates buffer number) state answer new → DecideAlike state.services new.services
-following_alike {T} buffer number state new answer did =
-    at_one_decides (subscriber_in number) (ReaderUpdates buffer number) state new answer
+following_alike : {T : Type 0} (choices : Choices T) (buffer number : ℕ) (state new : State T) (answer : Reply T)
+    → AtOne (subscriber_in number) (ReaderUpdates choices buffer number) state answer new → DecideAlike state.services new.services
+following_alike {T} choices buffer number state new answer did =
+    at_one_decides (subscriber_in number) (ReaderUpdates choices buffer number) state new answer
     (λ one service after is does.
-    attending_alike buffer number refusal.Connection (λ other mid answered later. (answered ≡ reply.Done) × (later ≡ mid)) one service after
+    attending_alike choices buffer number refusal.Connection (λ other mid answered later. (answered ≡ reply.Done) × (later ≡ mid)) one
+    service after
     answer
     (standing_found (λ (it : Subscriber). it.stands) (at number service.subscribers) one is)
     (λ other mid attends done. answered_alike number service mid after other attends done.1) does) did
 
 -- it is told whether some connection of it has data
-abbrev ReaderTells : {T : Type 0} → ℕ → ℕ → Subscriber → Service T → Reply T → Service T → Type 0
-ReaderTells buffer number = UpdatesFirst buffer number refusal.Connection
+abbrev ReaderTells : {T : Type 0} → Choices T → ℕ → ℕ → Subscriber → Service T → Reply T → Service T → Type 0
+ReaderTells choices buffer number = UpdatesFirst choices buffer number refusal.Connection
     (λ one service answered after. (answered ≡ reply.Has (has_samples number one service)) × (after ≡ service))
 
-telling_alike : {T : Type 0} (buffer number : ℕ) (state new : State T) (answer : Reply T)
-    → AtOne (subscriber_in number) (ReaderTells buffer number) state answer new → DecideAlike state.services new.services
-telling_alike {T} buffer number state new answer did =
-    at_one_decides (subscriber_in number) (ReaderTells buffer number) state new answer
+telling_alike : {T : Type 0} (choices : Choices T) (buffer number : ℕ) (state new : State T) (answer : Reply T)
+    → AtOne (subscriber_in number) (ReaderTells choices buffer number) state answer new → DecideAlike state.services new.services
+telling_alike {T} choices buffer number state new answer did =
+    at_one_decides (subscriber_in number) (ReaderTells choices buffer number) state new answer
     (λ one service after is does.
-    attending_alike buffer number refusal.Connection
+    attending_alike choices buffer number refusal.Connection
     (λ other mid answered later. (answered ≡ reply.Has (has_samples number other mid)) × (later ≡ mid)) one service after answer
     (standing_found (λ (it : Subscriber). it.stands) (at number service.subscribers) one is)
     (λ other mid attends done. answered_alike number service mid after other attends done.1) does) did
@@ -111,12 +113,12 @@ has_counts T None made = refl
 has_counts T (Some (Ok has)) made = refl
 has_counts T (Some (Err failure)) made = refl
 
-module _ {T U B D : Type 0} (is_default : T → Type 0) (is_default_header : U → Type 0)
+module _ {T U B D : Type 0} (choices : Choices T) (is_default_header : U → Type 0)
     (degrades : B → DegradationCause → DegradationInfo → DegradationAction → Type 0)
     (decides : B → BackpressureInfo → BackpressureDecision → Type 0)
     (reader_degrades : D → DegradationCause → DegradationInfo → DegradationAction → Type 0) where
   module _ (types : MessageTypeDetails) (naming : ℕ → Naming) (order : List (ℕ × ServicePorts T U)) (old new : NumberedHub T U B D)
-      (state : State T) (stands : PortsStandFor degrades decides reader_degrades naming order old state) (number : ℕ)
+      (state : State T) (stands : PortsStandFor choices degrades decides reader_degrades naming order old state) (number : ℕ)
       (grown : HaveGrown old.hub.services.domains) (same : new ≡ record old { hub = new.hub }) where
     -- what a command on a subscriber does at its domain, how that is replied, and how the machine matches it
     module _ {A : Type 0} (asked : ℕ → Command T)
@@ -126,35 +128,35 @@ module _ {T U B D : Type 0} (is_default : T → Type 0) (is_default_header : U �
         (names_reader : (domain : ℕ) → IsNamed (naming domain).subscriber number
         → NamesOf domain (naming domain) (lent_in old.made) (held_in old.made) (asked number))
         (skips : find (λ (service : Service T). is_some (subscriber_in number service)) state.services ≡ None
-        → Step types is_default old.hub.expired_connection_buffer (asked number) state reply.Skipped state)
+        → Step types choices old.hub.expired_connection_buffer (asked number) state reply.Skipped state)
         (alike : (answer : Reply T) (services : List (Service T))
-        → Step types is_default old.hub.expired_connection_buffer (asked number) state answer (answered_with answer services state)
+        → Step types choices old.hub.expired_connection_buffer (asked number) state answer (answered_with answer services state)
         → DecideAlike state.services services)
         (matches : (may : DegradationInfo → DegradationAction → Type 0) (names : Naming) (lent : List (ℕ × LentSlot))
         (held : List (ℕ × Taken)) (before after : ServicePorts T U) (service : Service T) (reader : ℕ) (outcome : Option A)
         → StandsFor names lent held old.hub.expired_connection_buffer before service → AreRoomy before → names.subscriber reader ≢ 0
-        → ActsAs may (names.subscriber reader) service → does_by may reader before outcome after
-        → (later : ℕ → ℕ → ℕ) × Matches T U is_default types old.hub.expired_connection_buffer (asked (names.subscriber reader))
+        → ActsAs choices may (names.subscriber reader) service → does_by may reader before outcome after
+        → (later : ℕ → ℕ → ℕ) × Matches T U choices types old.hub.expired_connection_buffer (asked (names.subscriber reader))
         (told outcome) state service (record names { reader = later }) lent held after) where
       does_at : (outcome : Option A) (found : Option PortId) → value_at old.made.subscribers number ≡ found
           → AtPort (λ (id : PortId) (home : Hub T U B D) (answer : Option A) (home_then : Hub T U B D).
           AtDomain (λ after. with_hub_ports id.domain after home)
           (does_by (subscriber_may_degrade reader_degrades id.domain id.number home) id.number)
           (hub_ports id.domain home) home answer home_then) found old.hub outcome new.hub
-          → IsMatched degrades decides reader_degrades types is_default naming order old state (asked number) (told outcome) stands new
+          → IsMatched degrades decides reader_degrades types choices naming order old state (asked number) (told outcome) stands new
       does_at outcome None none (nothing, changes) =
-          subst (λ (it : Reply T). IsMatched degrades decides reader_degrades types is_default naming order old state (asked number) it
+          subst (λ (it : Reply T). IsMatched degrades decides reader_degrades types choices naming order old state (asked number) it
           stands new) (sym (ap told nothing ∙ skipped)) (
             naming,
             order,
             state.services,
             refl,
-            skips (no_subscriber_goes degrades decides reader_degrades naming order old state stands number none),
-            same_stands degrades decides reader_degrades naming order old state stands number new changes
+            skips (no_subscriber_goes choices degrades decides reader_degrades naming order old state stands number none),
+            same_stands choices degrades decides reader_degrades naming order old state stands number new changes
                 (ap (λ (it : NumberedHub T U B D). it.made) same),
           )
       does_at outcome (Some it) there does =
-          let goes = reader_goes degrades decides reader_degrades naming order old state stands number it there in
+          let goes = reader_goes choices degrades decides reader_degrades naming order old state stands number it there in
           let id = it.domain in
           let names : Naming = naming id.service in
           let lent = those_of id.service (lent_in old.made) in
@@ -164,57 +166,58 @@ module _ {T U B D : Type 0} (is_default : T → Type 0) (is_default_header : U �
           let (after, does_there, changes) = subst (λ (ports : Option (ServicePorts T U)). AtDomain
           (λ (one : ServicePorts T U). with_hub_ports id one old.hub) (does_by may it.number) ports old.hub outcome new.hub)
           goes.found does in
-          ports_alone_named degrades decides reader_degrades types is_default naming order old new state (asked number) (told outcome) id
+          ports_alone_named degrades decides reader_degrades types choices naming order old new state (asked number) (told outcome) id
           goes.ports after stands goes.found (same ∙ ap (λ (hub : Hub T U B D). record old { hub = hub }) changes) (counts outcome)
           (names_reader id.service (it.number, goes.named, λ zero. goes.some (goes.named ∙ zero)))
           (λ first service last are stood.
           let (later, matched) = matches may names lent held goes.ports after service it.number outcome stood
           (roomy_there id goes.ports old.hub grown goes.found) goes.some
-          (reader_acts_as degrades decides reader_degrades naming order old state stands id goes.ports goes.found first service last are
+          (reader_acts_as choices degrades decides reader_degrades naming order old state stands id goes.ports goes.found first service
+          last are
           stood
           it.number) does_there in (
             record names { reader = later },
             refl,
             refl,
-            subst (λ (name : ℕ). Matches T U is_default types buffer (asked name) (told outcome) state service
+            subst (λ (name : ℕ). Matches T U choices types buffer (asked name) (told outcome) state service
                 (record names { reader = later }) lent held after) goes.named matched,
           ))
           (λ services did. alike (told outcome) services did)
 
-  pub subscriber_update_simulated : SubscriberUpdateIsSimulated is_default is_default_header degrades decides reader_degrades
+  pub subscriber_update_simulated : SubscriberUpdateIsSimulated choices is_default_header degrades decides reader_degrades
   subscriber_update_simulated number old grown payload user_header types fixed fixed_reader naming order new state answer stands
       ((outcome, does, told), same) =
       let buffer = old.hub.expired_connection_buffer in
-      subst (λ (it : Reply T). IsMatched degrades decides reader_degrades types is_default naming order old state
+      subst (λ (it : Reply T). IsMatched degrades decides reader_degrades types choices naming order old state
       (command.Update (port.Subscriber number)) it stands new) (sym told)
       (does_at types naming order old new state stands number grown same (λ (name : ℕ). command.Update (port.Subscriber name)) FollowsBy
       updated_reply refl (λ told. updated_counts T told state.made) (λ domain named. named)
-      (λ none. at_one_skips (subscriber_in number) (ReaderUpdates buffer number) state none)
-      (λ told services did. following_alike buffer number state (answered_with told services state) told did)
+      (λ none. at_one_skips (subscriber_in number) (ReaderUpdates choices buffer number) state none)
+      (λ told services did. following_alike choices buffer number state (answered_with told services state) told did)
       (λ may names lent held before after service reader told its roomy named acts follows.
-      let (later, matched) = subscriber_update_matches T U is_default may types buffer names lent held before after service state reader
+      let (later, matched) = subscriber_update_matches T U choices may types buffer names lent held before after service state reader
       told its roomy named acts follows in (
         later,
-        subst (λ (it : Reply T). Matches T U is_default types buffer (command.Update (port.Subscriber (names.subscriber reader))) it state
+        subst (λ (it : Reply T). Matches T U choices types buffer (command.Update (port.Subscriber (names.subscriber reader))) it state
             service (record names { reader = later }) lent held after) (updated_so told) matched,
       ))
       outcome (value_at old.made.subscribers number) refl does)
 
-  pub has_simulated : HasIsSimulated is_default is_default_header degrades decides reader_degrades
+  pub has_simulated : HasIsSimulated choices is_default_header degrades decides reader_degrades
   has_simulated number old grown payload user_header types fixed fixed_reader naming order new state answer stands
       ((outcome, does, told), same) =
       let buffer = old.hub.expired_connection_buffer in
-      subst (λ (it : Reply T). IsMatched degrades decides reader_degrades types is_default naming order old state (command.Has number) it
+      subst (λ (it : Reply T). IsMatched degrades decides reader_degrades types choices naming order old state (command.Has number) it
       stands new) (sym told)
       (does_at types naming order old new state stands number grown same (λ (name : ℕ). command.Has name) TellsBy
       has_reply refl (λ told. has_counts T told state.made) (λ domain named. named)
-      (λ none. at_one_skips (subscriber_in number) (ReaderTells buffer number) state none)
-      (λ told services did. telling_alike buffer number state (answered_with told services state) told did)
+      (λ none. at_one_skips (subscriber_in number) (ReaderTells choices buffer number) state none)
+      (λ told services did. telling_alike choices buffer number state (answered_with told services state) told did)
       (λ may names lent held before after service reader told its roomy named acts tells.
-      let (later, matched) = has_matches T U is_default may types buffer names lent held before after service state reader told its roomy
+      let (later, matched) = has_matches T U choices may types buffer names lent held before after service state reader told its roomy
       named acts tells in (
         later,
-        subst (λ (it : Reply T). Matches T U is_default types buffer (command.Has (names.subscriber reader)) it state service
+        subst (λ (it : Reply T). Matches T U choices types buffer (command.Has (names.subscriber reader)) it state service
             (record names { reader = later }) lent held after) (has_so told) matched,
       ))
       outcome (value_at old.made.subscribers number) refl does)

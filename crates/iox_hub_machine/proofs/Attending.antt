@@ -4,21 +4,21 @@ use Rattle.std.proofs.Common.{inl, inr, ◌∙◌}
 use Rattle.std.proofs.Math.Logic.{⊎_elim}
 use Rattle.std.proofs.lemmas.Bool.Decides.{eqb_tells}
 use Rattle.std.specs.Option.{option_map}
-use Rattle.std.specs.Prelude.{◌==◌, is_some, option_and_then, fold, MatchResult}
+use Rattle.std.specs.Prelude.{◌==◌, is_some, option_and_then, fold, zip}
 use Rattle.iox_command.specs.DomainValues.declared.connection_failure.ConnectionFailure.{ConnectionFailure}
 use Rattle.iox_command.specs.declared.refusal.Refusal.{Refusal}
 use Rattle.iox_command.specs.declared.reply.Reply.{Reply}
 use Rattle.iox_domain_machine.proofs.AloneDid.{by_bool}
 use Rattle.iox_domain_machine.proofs.Found.{never_some, at_changed, at_changed_other}
 use Rattle.iox_hub_machine.proofs.Deciding.{DecidesAlike, acting, same_ports}
-use Rattle.iox_hub_machine.proofs.Turning.{by_result}
 use Rattle.iox_machine.specs.PortList.{those}
-use Rattle.iox_machine.specs.PublisherUpdate.{update_answer}
 use Rattle.iox_machine.specs.Receiving.{Receives, lasting}
 use Rattle.iox_machine.specs.Replies.{IsRefused}
 use Rattle.iox_machine.specs.Service.{Service, Subscriber, with_subscriber, with_mailbox, connect}
 use Rattle.iox_machine.specs.SubscriberUpdate.{Follows, UpdatesFirst}
 use Rattle.iox_machine.specs.Table.{at, changed}
+use Rattle.iox_machine.specs.Choices.{Choices}
+use Rattle.iox_machine.proofs.Delivering.{Outcomes, by-outcome}
 
 -- a port that stands is there
 pub standing_found : {V : Type 0} (stands : V → Bool) (found : Option V) (one : V)
@@ -104,29 +104,29 @@ module _ {T : Type 0} where
       (connected_all subscriber.buffer_size number (those connected) (with_subscriber number after mid)))
 
   -- a subscriber brings its connections up to date, and does something then, or is refused
-  pub attending_alike : (buffer number : ℕ) (told : ConnectionFailure → Refusal)
+  pub attending_alike : (choices : Choices T) (buffer number : ℕ) (told : ConnectionFailure → Refusal)
       (Does : Subscriber → Service T → Reply T → Service T → Type 0) (subscriber : Subscriber) (old new : Service T) (answer : Reply T)
       → at number old.subscribers ≡ Some subscriber
       → ((one : Subscriber) (mid : Service T) → Attends number old mid one → Does one mid answer new → DecidesAlike old new)
-      → UpdatesFirst buffer number told Does subscriber old answer new → DecidesAlike old new
-  attending_alike buffer number told Does subscriber old new answer there does updates =
+      → UpdatesFirst choices buffer number told Does subscriber old answer new → DecidesAlike old new
+  attending_alike choices buffer number told Does subscriber old new answer there does updates =
       elim (by_bool ((subscriber.seen == old.publisher_list.changes) && not subscriber.again) (Does subscriber old answer new)
       ((after : Subscriber) × (mid : Service T) × Follows buffer number subscriber old after mid
-      × MatchResult (update_answer subscriber.degradation old.publisher_list.places after.connected)
+      × Outcomes (choices.subscriber_acts number subscriber.degradation) (zip old.publisher_list.places after.connected)
       (λ done. Does after mid answer new) (λ failure. IsRefused (told failure) mid answer new)) updates) [
         | inl at_once ↦ does subscriber old (attends_there number old subscriber there) at_once.1
         | inr first ↦ followed first.1.0 first.1.1 first.1.2 first.1.3
       ]
     where
       followed : (after : Subscriber) (mid : Service T) → Follows buffer number subscriber old after mid
-          → MatchResult (update_answer subscriber.degradation old.publisher_list.places after.connected)
+          → Outcomes (choices.subscriber_acts number subscriber.degradation) (zip old.publisher_list.places after.connected)
           (λ done. Does after mid answer new) (λ failure. IsRefused (told failure) mid answer new) → DecidesAlike old new
       followed after mid follows goes =
           let attends = attends_following buffer number old old mid subscriber after (attends_there number old subscriber there) follows in
-          elim (by_result (update_answer subscriber.degradation old.publisher_list.places after.connected)
+          elim (by-outcome (choices.subscriber_acts number subscriber.degradation) (zip old.publisher_list.places after.connected)
           (λ done. Does after mid answer new) (λ failure. IsRefused (told failure) mid answer new) goes) [
-            | inl done ↦ does after mid attends done.1
-            | inr failed ↦ subst (DecidesAlike old) (sym failed.1.1) attends.alike
+            | inl done ↦ does after mid attends done.2
+            | inr failed ↦ subst (DecidesAlike old) (sym failed.2.1) attends.alike
           ]
 
   -- a subscriber is answered, and nothing else happens

@@ -10,17 +10,18 @@ use Rattle.iox_domain_machine.specs.Naming.{nameless}
 use Rattle.iox_hub_machine.proofs.NewHub.{new_hub_stands}
 use Rattle.iox_hub_machine.proofs.RunsOn.{new_runs_on}
 use Rattle.iox_hub_machine.specs.GoingOnLaws.{NewHubBegins}
+use Rattle.iox_machine.specs.Choices.{Choices}
 
-module _ {T U B D : Type 0} (types : MessageTypeDetails) (is_default : T → Type 0)
+module _ {T U B D : Type 0} (types : MessageTypeDetails) (choices : Choices T)
     (degrades : B → DegradationCause → DegradationInfo → DegradationAction → Type 0)
     (decides : B → BackpressureInfo → BackpressureDecision → Type 0)
     (reader_degrades : D → DegradationCause → DegradationInfo → DegradationAction → Type 0) where
-  pub hub_begins : NewHubBegins U types is_default degrades decides reader_degrades
+  pub hub_begins : NewHubBegins U types choices degrades decides reader_degrades
   hub_begins names config old is_new = record {
     taken = λ pattern name. [];
     naming = λ service. nameless;
     order = [];
-    stands = new_hub_stands T U degrades decides reader_degrades names config old is_new;
+    stands = new_hub_stands T U choices degrades decides reader_degrades names config old is_new;
     came = ([], [], (refl, refl));
     ran = new_runs_on config old is_new;
   }

@@ -46,6 +46,7 @@ use Rattle.iox_hub_machine.proofs.Used.{all_go, both_pass, one_passes, some_pass
 use Rattle.iox_hub_machine.specs.Seats.{seats_in, seats_for, factories_of_node, is_factory_of_node}
 use Rattle.iox_hub_machine.specs.Services.{AreServedInTurn, FactoryStands, HubStandsFor, IsServedBy, factories_as, factory_as, services_in}
 use Rattle.iox_hub_machine.specs.Standing.{PortsStandFor}
+use Rattle.iox_machine.specs.Choices.{Choices}
 use Rattle.iox_machine.proofs.Names.{name-is, name-itself, pattern-is, pattern-itself}
 use Rattle.iox_machine.specs.Agreement.{Agreement}
 use Rattle.iox_machine.specs.Phase.{Node, Own, Phase, Published, closed_by, is_in, left, same_pattern}
@@ -88,16 +89,16 @@ none_out {V} number (entry ∷ entries) none = out_by (is_at (nat_cmp number) en
     out_by false none rest = ap (λ (more : List (ℕ × V)). entry ∷ more) (rest none)
 
 -- the ports of a hub stand where its table, its counts and its factories, or the phases and factories of the machine are others
-pub ports_still : {T U B D : Type 0} (degrades : B → DegradationCause → DegradationInfo → DegradationAction → Type 0)
+pub ports_still : {T U B D : Type 0} (choices : Choices T) (degrades : B → DegradationCause → DegradationInfo → DegradationAction → Type 0)
     (decides : B → BackpressureInfo → BackpressureDecision → Type 0)
     (reader_degrades : D → DegradationCause → DegradationInfo → DegradationAction → Type 0) (naming : ℕ → Naming)
     (order : List (ℕ × ServicePorts T U)) (hub : NumberedHub T U B D) (state : State T) (table : Contents) (counts : List (ℕ × ℕ))
     (factories : Factories) (pledged : Pledged) (phases : MessagingPattern → List ℕ → Phase) (those : List (ℕ × Factory))
-    → PortsStandFor degrades decides reader_degrades naming order hub state
-    → PortsStandFor degrades decides reader_degrades naming order
+    → PortsStandFor choices degrades decides reader_degrades naming order hub state
+    → PortsStandFor choices degrades decides reader_degrades naming order
     (record hub { hub = record hub.hub { table = table; factory_counts = counts }; factories = factories; pledged = pledged })
     (record state { phases = phases; factories = those })
-ports_still degrades decides reader_degrades naming order hub state table counts factories pledged phases those stands = record {
+ports_still choices degrades decides reader_degrades naming order hub state table counts factories pledged phases those stands = record {
   here = stands.here;
   same = stands.same;
   domains = stands.domains;
@@ -113,12 +114,12 @@ ports_still degrades decides reader_degrades naming order hub state table counts
   subscribers_handled = stands.subscribers_handled;
 }
 
-module _ {T U B D : Type 0} (degrades : B → DegradationCause → DegradationInfo → DegradationAction → Type 0)
+module _ {T U B D : Type 0} (choices : Choices T) (degrades : B → DegradationCause → DegradationInfo → DegradationAction → Type 0)
     (decides : B → BackpressureInfo → BackpressureDecision → Type 0)
     (reader_degrades : D → DegradationCause → DegradationInfo → DegradationAction → Type 0)
     (names : List (List ℕ)) (taken : MessagingPattern → List ℕ → List ℕ) (naming : ℕ → Naming) (order : List (ℕ × ServicePorts T U))
     (old : NumberedHub T U B D) (state : State T)
-    (stands : HubStandsFor degrades decides reader_degrades names taken naming order old state)
+    (stands : HubStandsFor choices degrades decides reader_degrades names taken naming order old state)
     (agree : FactoriesAgree old.factories.made) (number : ℕ) (made : MadeFactory)
     (there : value_at old.factories.made number ≡ Some made) (once : ComesOnce state.factories) where
   abbrev kind : MessagingPattern
@@ -309,7 +310,7 @@ module _ {T U B D : Type 0} (degrades : B → DegradationCause → DegradationIn
 
     another_kind : pattern_in another.1 ≡ kind
     another_kind =
-        same_kind degrades decides reader_degrades names taken naming order old state stands agree another.0 number another.1 made
+        same_kind choices degrades decides reader_degrades names taken naming order old state stands agree another.0 number another.1 made
         (was_there another.0 another.1 another.2).0 there another.3
 
     pub others_left : list_any (λ (entry : ℕ × Factory). same_pattern entry.1.pattern kind && same_name entry.1.name name) left_factories
@@ -373,7 +374,8 @@ module _ {T U B D : Type 0} (degrades : B → DegradationCause → DegradationIn
         let both = both_pass (same_pattern factory.pattern kind) (same_name factory.name name) passes in
         let was = was_there other which has in
         was.1 (alone other which was.0
-        (same_number degrades decides reader_degrades names taken naming order old state stands agree other number which made was.0 there
+        (same_number choices degrades decides reader_degrades names taken naming order old state stands agree other number which made
+        was.0 there
         (ap (λ (one : Factory). one.pattern) same ∙ pattern-is factory.pattern kind both.0)
         (ap (λ (one : Factory). one.name) same ∙ name-is factory.name name both.1))))
 

@@ -53,6 +53,7 @@ use Rattle.iox_hub_machine.proofs.Skipping.{by_false, by_none, stands_still}
 use Rattle.iox_hub_machine.specs.ClosingLaws.{ClosingMatches, HasEachOnce, IsCome}
 use Rattle.iox_hub_machine.specs.ServiceLaws.{IsFollowed}
 use Rattle.iox_hub_machine.specs.Services.{HubStandsFor, IsServedBy, factory_as}
+use Rattle.iox_machine.specs.Choices.{Choices}
 use Rattle.iox_machine.proofs.Counted.{numbers-name-one}
 use Rattle.iox_machine.proofs.LenderSteps.{use-is-owned}
 use Rattle.iox_machine.specs.Agreement.{Agreement}
@@ -98,7 +99,7 @@ by_true P Q false is p = absurd (differ is)
 by_some : {V : Type 0} (P : Type 0) (Q : V → Type 0) (found : Option V) (v : V) → found ≡ Some v → Q v → MatchOption found P Q
 by_some {V} P Q found v is q = subst (λ (it : Option V). MatchOption it P Q) (sym is) q
 
-module _ {T U B D : Type 0} (payload user_header : Detail) (types : MessageTypeDetails) (is_default : T → Type 0)
+module _ {T U B D : Type 0} (payload user_header : Detail) (types : MessageTypeDetails) (choices : Choices T)
     (is_default_header : U → Type 0) (fixed : BackpressureStrategy → Option BackpressureAction → DegradationAction → B)
     (degrades : B → DegradationCause → DegradationInfo → DegradationAction → Type 0)
     (decides : B → BackpressureInfo → BackpressureDecision → Type 0) (fixed_reader : DegradationAction → D)
@@ -106,26 +107,26 @@ module _ {T U B D : Type 0} (payload user_header : Detail) (types : MessageTypeD
   module _ (names : List (List ℕ)) (number : ℕ) (taken : MessagingPattern → List ℕ → List ℕ) (naming : ℕ → Naming)
       (order : List (ℕ × ServicePorts T U)) (old new : NumberedHub T U B D) (state : State T) (answer : Reply T)
       (own : HaveOwnHashes names) (agree : FactoriesAgree old.factories.made) (each_once : HasEachOnce old.hub)
-      (come : IsCome types is_default old.hub.expired_connection_buffer state)
-      (stands : HubStandsFor degrades decides reader_degrades names taken naming order old state) (same : new.made ≡ old.made) where
+      (come : IsCome types choices old.hub.expired_connection_buffer state)
+      (stands : HubStandsFor choices degrades decides reader_degrades names taken naming order old state) (same : new.made ≡ old.made) where
     abbrev IsClosed : Type 0
-    IsClosed = IsFollowed payload user_header types is_default is_default_header fixed degrades decides fixed_reader reader_degrades names
+    IsClosed = IsFollowed payload user_header types choices is_default_header fixed degrades decides fixed_reader reader_degrades names
         (command.Close number) old new state answer
 
     -- all that is in use is of open factories
     owned : AllByRecursion (IsOfOpenFactories state.factories) state.services
-    owned = use-is-owned is_default types old.hub.expired_connection_buffer come.0 come.1 state come.2
+    owned = use-is-owned choices types old.hub.expired_connection_buffer come.0 come.1 state come.2
 
     publishers : IsDistinct (λ one other. one == other) (flat_map (λ (one : Service T). numbers_in one.publishers) state.services)
-    publishers = (numbers-name-one is_default types old.hub.expired_connection_buffer come.0 come.1 state come.2).1.0
+    publishers = (numbers-name-one choices types old.hub.expired_connection_buffer come.0 come.1 state come.2).1.0
 
     subscribers : IsDistinct (λ one other. one == other) (flat_map (λ (one : Service T). numbers_in one.subscribers) state.services)
-    subscribers = (numbers-name-one is_default types old.hub.expired_connection_buffer come.0 come.1 state come.2).2.0
+    subscribers = (numbers-name-one choices types old.hub.expired_connection_buffer come.0 come.1 state come.2).2.0
 
     once : ComesOnce state.factories
     once =
         distinct_once (numbers_in state.factories)
-        (numbers-name-one is_default types old.hub.expired_connection_buffer come.0 come.1 state come.2).0.0
+        (numbers-name-one choices types old.hub.expired_connection_buffer come.0 come.1 state come.2).0.0
 
     module _ (made : MadeFactory) (there : value_at old.factories.made number ≡ Some made) where
       machine_has : at number state.factories ≡ Some (factory_as made)
@@ -140,9 +141,10 @@ module _ {T U B D : Type 0} (payload user_header : Detail) (types : MessageTypeD
         order = order;
         after = state;
         step = by_some _ _ (at number state.factories) (factory_as made) machine_has
-            (by_true _ _ _ (used_so degrades decides reader_degrades names taken naming order old state stands agree owned publishers
+            (by_true _ _ _ (used_so choices degrades decides reader_degrades names taken naming order old state stands agree owned
+            publishers
             subscribers number made there used) (told, refl));
-        stands = stands_still payload user_header types is_default is_default_header fixed degrades decides fixed_reader reader_degrades
+        stands = stands_still payload user_header types choices is_default_header fixed degrades decides fixed_reader reader_degrades
             names taken naming order old new state stands same_hub same_factories same;
       }
 
@@ -155,7 +157,8 @@ module _ {T U B D : Type 0} (payload user_header : Detail) (types : MessageTypeD
           (spare : in_use (service_of made) (parts_of made).1 old.hub ≡ false) (told : answer ≡ reply.Done)
           (gone : new.factories.made ≡ removed old.factories.made number) where
         abbrev then : List (Service T) → State T
-        then services = after degrades decides reader_degrades names taken naming order old state stands agree number made there once life
+        then services = after choices degrades decides reader_degrades names taken naming order old state stands agree number made there
+            once life
             agreed nodes phase_is seated new.hub.table id table_then new.pledged services
 
         abbrev others : Bool
@@ -169,14 +172,16 @@ module _ {T U B D : Type 0} (payload user_header : Detail) (types : MessageTypeD
             → machine.Closes number state answer (then services)
         closes services are =
             by_some _ _ (at number state.factories) (factory_as made) machine_has
-            (by_false _ _ _ (unused_so degrades decides reader_degrades names taken naming order old state stands agree owned publishers
+            (by_false _ _ _ (unused_so choices degrades decides reader_degrades names taken naming order old state stands agree owned
+            publishers
             subscribers number made there spare) (told, ap then are))
 
         follows : (services : List (Service T)) (order_then : List (ℕ × ServicePorts T U)) (counts : List (ℕ × ℕ))
             (open_then : OpenServices T U B D)
             → new.hub ≡ record old.hub { table = new.hub.table; factory_counts = counts; services = open_then }
             → services ≡ cond others state.services remaining
-            → HubStandsFor degrades decides reader_degrades names taken naming order_then (less_hub degrades decides reader_degrades names
+            → HubStandsFor choices degrades decides reader_degrades names taken naming order_then
+            (less_hub choices degrades decides reader_degrades names
             taken naming order old state stands agree number made there once life agreed nodes phase_is seated new.hub.table id table_then
             new.pledged counts open_then) (then services)
             → IsClosed
@@ -186,7 +191,8 @@ module _ {T U B D : Type 0} (payload user_header : Detail) (types : MessageTypeD
           order = order_then;
           after = then services;
           step = closes services are;
-          stands = subst (λ (hub : NumberedHub T U B D). HubStandsFor degrades decides reader_degrades names taken naming order_then hub
+          stands = subst (λ (hub : NumberedHub T U B D). HubStandsFor choices degrades decides reader_degrades names taken naming
+              order_then hub
               (then services))
               (sym (λ i. record {
                 hub = same_hub i;
@@ -215,10 +221,12 @@ module _ {T U B D : Type 0} (payload user_header : Detail) (types : MessageTypeD
         stays_open more same_hub =
             follows state.services order fewer old.hub.services (same_hub ∙ ap hub_by more)
             (sym (ap (λ (b : Bool). cond b state.services remaining)
-            (others_left degrades decides reader_degrades names taken naming order old state stands agree number made there once
-            (some degrades decides reader_degrades names taken naming order old state stands agree number made there once life agreed nodes
+            (others_left choices degrades decides reader_degrades names taken naming order old state stands agree number made there once
+            (some choices degrades decides reader_degrades names taken naming order old state stands agree number made there once life
+            agreed nodes
             phase_is seated new.hub.table id table_then new.pledged more))))
-            (goes_on degrades decides reader_degrades names taken naming order old state stands agree number made there once life agreed
+            (goes_on choices degrades decides reader_degrades names taken naming order old state stands agree number made there once life
+            agreed
             nodes phase_is seated new.hub.table id table_then new.pledged more)
 
         -- it was the last
@@ -229,12 +237,14 @@ module _ {T U B D : Type 0} (payload user_header : Detail) (types : MessageTypeD
             alone : (other : ℕ) (which : MadeFactory) → value_at old.factories.made other ≡ Some which
                 → service_of which ≡ service_of made → other ≡ number
             alone other which found is =
-                only degrades decides reader_degrades names taken naming order old state stands agree owned publishers subscribers number
+                only choices degrades decides reader_degrades names taken naming order old state stands agree owned publishers subscribers
+                number
                 made there last other which found is
 
             none_is : others ≡ false
             none_is =
-                none_left degrades decides reader_degrades names taken naming order old state stands agree number made there once alone
+                none_left choices degrades decides reader_degrades names taken naming order old state stands agree number made there once
+                alone
 
             now_hub : new.hub ≡ hub_by true
             now_hub = same_hub ∙ ap hub_by last
@@ -245,7 +255,8 @@ module _ {T U B D : Type 0} (payload user_header : Detail) (types : MessageTypeD
                 follows state.services order none without now_hub
                 (sym (ap (λ (b : Bool). cond b state.services remaining) none_is
                 ∙ all_kept (is_service_of (factory_as made)) state.services (none_at state.services)))
-                (ends_elsewhere degrades decides reader_degrades names taken naming order old state stands agree number made there once life
+                (ends_elsewhere choices degrades decides reader_degrades names taken naming order old state stands agree number made there
+                once life
                 agreed nodes phase_is seated new.hub.table id table_then new.pledged last each_once.0 each_once.1 alone off)
               where
                 none_at : (services : List (Service T)) → list_any (is_service_of (factory_as made)) services ≡ false
@@ -259,7 +270,8 @@ module _ {T U B D : Type 0} (payload user_header : Detail) (types : MessageTypeD
             here kind =
                 let (domain, found) = here_found (service_of made) old.hub.services.domains stands.ports.here
                 (stands.factories.opened number made there kind) in
-                let mine = its_own degrades decides reader_degrades names taken naming order old state stands agree number made there once
+                let mine = its_own choices degrades decides reader_degrades names taken naming order old state stands agree number made
+                there once
                 life agreed nodes phase_is seated new.hub.table id table_then new.pledged last each_once.0 each_once.1 alone domain found
                 spare in
                 follows (mine.first ++ mine.last) (mine.before ++ mine.behind) none without now_hub
@@ -268,18 +280,20 @@ module _ {T U B D : Type 0} (payload user_header : Detail) (types : MessageTypeD
                 ∙ one_dropped (is_service_of (factory_as made)) mine.first mine.service mine.last
                 (none_passing old.factories.made old.hub.services (is_service_of (factory_as made)) (service_of made) (other_is kind)
                 mine.before mine.first mine.off_before mine.served_before)
-                (is_its_own degrades decides reader_degrades names taken naming order old state stands agree number made there kind
+                (is_its_own choices degrades decides reader_degrades names taken naming order old state stands agree number made there kind
                 mine.service mine.served)
                 (none_passing old.factories.made old.hub.services (is_service_of (factory_as made)) (service_of made) (other_is kind)
                 mine.behind mine.last mine.off_behind mine.served_behind)))
-                (ends degrades decides reader_degrades names taken naming order old state stands agree number made there once life agreed
+                (ends choices degrades decides reader_degrades names taken naming order old state stands agree number made there once life
+                agreed
                 nodes phase_is seated new.hub.table id table_then new.pledged last each_once.0 each_once.1 alone domain found spare)
               where
                 other_is : pattern_in made ≡ pattern.PublishSubscribe → (other : ℕ) (service : Service T)
                     → (other ≡ service_of made → ⊥) → IsServedBy old.factories.made old.hub.services other service
                     → is_service_of (factory_as made) service ≡ false
                 other_is its other service off served =
-                    is_another degrades decides reader_degrades names taken naming order old state stands agree number made there its other
+                    is_another choices degrades decides reader_degrades names taken naming order old state stands agree number made there
+                    its other
                     service off served
 
             kind_by : (which : MessagingPattern) → pattern_in made ≡ which → IsClosed
@@ -342,7 +356,7 @@ module _ {T U B D : Type 0} (payload user_header : Detail) (types : MessageTypeD
       order = order;
       after = state;
       step = subst (λ (it : Reply T). machine.Closes number state it state) (sym (told ∙ ap closed_reply does.0)) skipped;
-      stands = stands_still payload user_header types is_default is_default_header fixed degrades decides fixed_reader reader_degrades
+      stands = stands_still payload user_header types choices is_default_header fixed degrades decides fixed_reader reader_degrades
           names taken naming order old new state stands does.2 does.1 same;
     }
       where
@@ -353,7 +367,7 @@ module _ {T U B D : Type 0} (payload user_header : Detail) (types : MessageTypeD
     close_by (Some made) closed there does told =
         of_by made there _ closed (eq-eqb _ _ (stands.factories.each number made there).storage) does told
 
-  pub closing_follows : ClosingMatches payload user_header types is_default is_default_header fixed degrades decides fixed_reader
+  pub closing_follows : ClosingMatches payload user_header types choices is_default_header fixed degrades decides fixed_reader
       reader_degrades
   closing_follows names number taken naming order old new state answer own agreed each_once come stands (closed, does, same, told) =
       close_by names number taken naming order old new state answer own (agreement_is_one old.factories.made old.hub agreed).0 each_once

@@ -18,6 +18,7 @@ use Rattle.iox_domain_machine.proofs.Services.{joined, others_stand}
 use Rattle.iox_hub_machine.proofs.Amidst.{is_none}
 use Rattle.iox_hub_machine.proofs.ComesNamed.{named_aside, named_there}
 use Rattle.iox_hub_machine.specs.Ports.{among}
+use Rattle.iox_machine.specs.Choices.{Choices}
 use Rattle.iox_machine.proofs.Among.{steps-among}
 use Rattle.iox_machine.specs.Named.{has_named, is_on_ports}
 use Rattle.iox_machine.specs.Run.{Step}
@@ -25,20 +26,20 @@ use Rattle.iox_machine.specs.Service.{Service, Publisher, Subscriber}
 use Rattle.iox_machine.specs.State.{State, counted}
 use Rattle.iox_machine.specs.Table.{at}
 
-module _ {T : Type 0} (is_default : T → Type 0) (types : MessageTypeDetails) (buffer : ℕ) (state : State T) (asked : Command T)
+module _ {T : Type 0} (choices : Choices T) (types : MessageTypeDetails) (buffer : ℕ) (state : State T) (asked : Command T)
     (answer : Reply T) (first : List (Service T)) (service after : Service T)
     (last : List (Service T)) (are : state.services ≡ first ++ service ∷ last) (on : is_on_ports asked ≡ true)
     (none_before : list_any (has_named state.factories asked) first ≡ false)
     (none_behind : list_any (has_named state.factories asked) last ≡ false)
-    (does : Step types is_default buffer asked (with_alone service state) answer
+    (does : Step types choices buffer asked (with_alone service state) answer
     (record (with_alone after state) { made = counted answer state.made })) where
   -- what one service does alone all do
-  pub all_do : Step types is_default buffer asked state answer
+  pub all_do : Step types choices buffer asked state answer
       (record state { made = counted answer state.made; services = first ++ after ∷ last })
   all_do =
-      subst (λ (services : List (Service T)). Step types is_default buffer asked (record state { services = services }) answer
+      subst (λ (services : List (Service T)). Step types choices buffer asked (record state { services = services }) answer
       (record state { made = counted answer state.made; services = first ++ after ∷ last })) (sym are)
-      (steps-among is_default types buffer asked state answer first last service after on none_before none_behind does)
+      (steps-among choices types buffer asked state answer first last service after on none_before none_behind does)
 
 module _ {T U : Type 0} (buffer : ℕ) (naming : ℕ → Naming) (lent : List (ℕ × (ℕ × LentSlot))) (held : List (ℕ × (ℕ × Taken)))
     (before behind : List (ℕ × ServicePorts T U)) (number : ℕ) (first last : List (Service T)) (after : Service T)

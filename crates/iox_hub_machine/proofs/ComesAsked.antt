@@ -51,9 +51,10 @@ use Rattle.iox_hub_machine.proofs.ComesHouse.{changed_again}
 use Rattle.iox_hub_machine.proofs.ComesRoomier.{hub_roomier}
 use Rattle.iox_hub_machine.proofs.ComesSubscriber.{follows_so, found, ports, refused_so}
 use Rattle.iox_hub_machine.proofs.Numbered.{goes_so}
-use Rattle.iox_hub_machine.specs.ArrivalLaws.{AnswersAsFixed, MayCome, SubscriberComingIsFollowed}
+use Rattle.iox_hub_machine.specs.ArrivalLaws.{AnswersAsChosen, MayCome, SubscriberComingIsFollowed}
 use Rattle.iox_hub_machine.specs.ServiceLaws.{IsFollowed}
 use Rattle.iox_hub_machine.specs.Services.{HubStandsFor, factory_as}
+use Rattle.iox_machine.specs.Choices.{Choices}
 use Rattle.iox_machine.specs.Arriving.{SubscriberArrives, new_subscriber}
 use Rattle.iox_machine.specs.Replies.{IsSkipped}
 use Rattle.iox_machine.specs.Run as machine
@@ -104,24 +105,27 @@ none_of_others factory off (service ∷ services) =
     (find (λ (one : Service _). is_some (cond (is_service_of factory one) (Some one) None)) services)) (off service)
     ∙ none_of_others factory off services
 
-module _ {T U B D : Type 0} (payload user_header : Detail) (types : MessageTypeDetails) (is_default : T → Type 0)
+module _ {T U B D : Type 0} (payload user_header : Detail) (types : MessageTypeDetails) (choices : Choices T)
     (is_default_header : U → Type 0) (fixed : BackpressureStrategy → Option BackpressureAction → DegradationAction → B)
     (degrades : B → DegradationCause → DegradationInfo → DegradationAction → Type 0)
     (decides : B → BackpressureInfo → BackpressureDecision → Type 0) (fixed_reader : DegradationAction → D)
     (reader_degrades : D → DegradationCause → DegradationInfo → DegradationAction → Type 0)
-    (answers : AnswersAsFixed fixed_reader reader_degrades) (names : List (List ℕ)) (factory : ℕ) (options : SubscriberOptions)
+    (names : List (List ℕ)) (factory : ℕ)
+    (options : SubscriberOptions)
     (taken : MessagingPattern → List ℕ → List ℕ) (naming : ℕ → Naming) (order : List (ℕ × ServicePorts T U))
     (old new : NumberedHub T U B D) (state : State T) (answer : Reply T) (may_come : MayCome old)
-    (stands : HubStandsFor degrades decides reader_degrades names taken naming order old state) where
+    (stands : HubStandsFor choices degrades decides reader_degrades names taken naming order old state)
+    (answers : answer ≡ reply.SubscriberMade (state.made.subscribers + 1)
+    → AnswersAsChosen choices reader_degrades (subscriber_handler fixed_reader options) (state.made.subscribers + 1) options) where
   abbrev asked : Command T
   asked = command.Subscriber factory options
 
   abbrev Followed : Reply T → NumberedHub T U B D → Type 0
-  Followed told later = IsFollowed payload user_header types is_default is_default_header fixed degrades decides fixed_reader
+  Followed told later = IsFollowed payload user_header types choices is_default_header fixed degrades decides fixed_reader
       reader_degrades names asked old later state told
 
   -- where nothing happens, and the machine skips the command
-  skipped : machine.Step types is_default old.hub.expired_connection_buffer asked state reply.Skipped state → Followed reply.Skipped old
+  skipped : machine.Step types choices old.hub.expired_connection_buffer asked state reply.Skipped state → Followed reply.Skipped old
   skipped step = record { taken = taken; naming = naming; order = order; after = state; step = step; stands = stands }
 
   machine_has : at factory state.factories ≡ option_map factory_as (value_at old.factories.made factory)
@@ -134,7 +138,7 @@ module _ {T U B D : Type 0} (payload user_header : Detail) (types : MessageTypeD
   -- a factory of another pattern has no service that takes ports
   skipped_of : (made_one : MadeFactory) → value_at old.factories.made factory ≡ Some made_one
       → ((service : Service T) → is_service_of (factory_as made_one) service ≡ false)
-      → machine.Step types is_default old.hub.expired_connection_buffer asked state reply.Skipped state
+      → machine.Step types choices old.hub.expired_connection_buffer asked state reply.Skipped state
   skipped_of made_one there off =
       subst (λ (found : Option Factory). MatchOption found (IsSkipped {T = T} state reply.Skipped state)
       (λ one. AtOne (λ (service : Service T). cond (is_service_of one service) (Some service) None) Does state reply.Skipped state))
@@ -143,7 +147,7 @@ module _ {T U B D : Type 0} (payload user_header : Detail) (types : MessageTypeD
       (none_of_others (factory_as made_one) off state.services))
 
   skipped_none : value_at old.factories.made factory ≡ None
-      → machine.Step types is_default old.hub.expired_connection_buffer asked state reply.Skipped state
+      → machine.Step types choices old.hub.expired_connection_buffer asked state reply.Skipped state
   skipped_none none =
       subst (λ (found : Option Factory). MatchOption found (IsSkipped {T = T} state reply.Skipped state)
       (λ one. AtOne (λ (service : Service T). cond (is_service_of one service) (Some service) None) Does state reply.Skipped state))
@@ -167,19 +171,19 @@ module _ {T U B D : Type 0} (payload user_header : Detail) (types : MessageTypeD
     abbrev mid : NumberedHub T U B D
     mid = record old { made = roomier; pledged = new.pledged }
 
-    stands_mid : HubStandsFor degrades decides reader_degrades names taken naming order mid state
-    stands_mid = hub_roomier degrades decides reader_degrades names taken naming order old state stands roomier new.pledged room
+    stands_mid : HubStandsFor choices degrades decides reader_degrades names taken naming order mid state
+    stands_mid = hub_roomier choices degrades decides reader_degrades names taken naming order old state stands roomier new.pledged room
 
     may_mid : MayCome mid
     may_mid = record { grown = may_come.grown; agreed = may_come.agreed; counted = may_come.counted }
 
     abbrev its_ports : ServicePorts T U
-    its_ports = ports degrades decides reader_degrades names taken naming order mid state stands_mid may_mid factory made_one there kind
-        is_default types options fixed_reader answers
+    its_ports = ports choices degrades decides reader_degrades names taken naming order mid state stands_mid may_mid factory made_one
+        there kind types options fixed_reader
 
     its_found : hub_ports its_id old.hub ≡ Some its_ports
-    its_found = found degrades decides reader_degrades names taken naming order mid state stands_mid may_mid factory made_one there kind
-        is_default types options fixed_reader answers
+    its_found = found choices degrades decides reader_degrades names taken naming order mid state stands_mid may_mid factory made_one
+        there kind types options fixed_reader
 
     abbrev Creates : Result ℕ SubscriberCreateError → ServicePorts T U → Type 0
     Creates told after = CreatesSubscriber (reader_degrades handler FailedToEstablishConnection) config.owner
@@ -197,26 +201,27 @@ module _ {T U B D : Type 0} (payload user_header : Detail) (types : MessageTypeD
       naming = naming;
       order = order;
       after = state;
-      step = refused_so degrades decides reader_degrades names taken naming order mid state stands_mid may_mid factory made_one there kind
-          is_default types options fixed_reader answers why creates;
+      step = refused_so choices degrades decides reader_degrades names taken naming order mid state stands_mid may_mid factory made_one
+          there kind types options fixed_reader why creates;
       stands = stands_mid;
     }
 
     came_then : (after : ServicePorts T U) → Creates (Ok its_ports.next_port) after
+        → answer ≡ reply.SubscriberMade (state.made.subscribers + 1)
         → Followed (reply.SubscriberMade (state.made.subscribers + 1)) (record mid {
           hub = with_hub_subscriber its_id its_ports.next_port handler (with_hub_ports its_id after old.hub);
           made = with_subscriber its_id its_ports.next_port roomier;
         })
-    came_then after creates =
+    came_then after creates came =
         let (naming_then, order_then, state_then, step, so) =
-        follows_so degrades decides reader_degrades names taken naming order mid state stands_mid may_mid factory made_one there kind
-        is_default types options fixed_reader answers after creates in record {
+        follows_so choices degrades decides reader_degrades names taken naming order mid state stands_mid may_mid factory made_one there
+        kind types options fixed_reader after creates (answers came) in record {
           taken = taken;
           naming = naming_then;
           order = order_then;
           after = state_then;
           step = step;
-          stands = subst (λ (it : Hub T U B D). HubStandsFor degrades decides reader_degrades names taken naming_then order_then
+          stands = subst (λ (it : Hub T U B D). HubStandsFor choices degrades decides reader_degrades names taken naming_then order_then
               (record mid { hub = it; made = with_subscriber its_id its_ports.next_port roomier }) state_then)
               (sym (changed_again its_id (with_ports after) (subscriber_kept its_ports.next_port handler) old.hub)) so;
         }
@@ -240,14 +245,16 @@ module _ {T U B D : Type 0} (payload user_header : Detail) (types : MessageTypeD
           let next : number ≡ its_ports.next_port =
           came_number (reader_degrades handler FailedToEstablishConnection) config.owner (buffer_of config.buffer_size its_ports.sizes)
           (subscriber_place its_ports) its_ports after number creates in
+          let was : answer ≡ reply.SubscriberMade (state.made.subscribers + 1) =
+          told ∙ ap subscriber_reply replied ∙ ap (λ (it : ℕ). reply.SubscriberMade it) stands.ports.numbers.subscribers in
           subst (λ (it : Reply T). Followed it new)
-          (sym (told ∙ ap subscriber_reply replied ∙ ap (λ (it : ℕ). reply.SubscriberMade it) stands.ports.numbers.subscribers))
+          (sym was)
           (subst (Followed (reply.SubscriberMade (state.made.subscribers + 1)))
           (sym (is_so (with_hub_subscriber its_id its_ports.next_port handler (with_hub_ports its_id after old.hub))
           (with_subscriber its_id its_ports.next_port roomier)
           (hub_is ∙ ap (λ (it : ℕ). with_hub_subscriber its_id it handler (with_hub_ports its_id after old.hub)) next)
           (made_is ∙ ap (λ (it : ℕ). with_subscriber its_id it roomier) next)))
-          (came_then after (subst (λ (it : ℕ). Creates (Ok it) after) next creates)))
+          (came_then after (subst (λ (it : ℕ). Creates (Ok it) after) next creates) was))
 
       by_home : (first came : Option (Result ℕ SubscriberCreateError)) → Makes (hub_ports its_id old.hub) first new.hub
           → NumbersPort (with_subscriber its_id) old.made.subscribers.next first roomier came new.made → answer ≡ subscriber_reply came
@@ -268,13 +275,16 @@ module _ {T U B D : Type 0} (payload user_header : Detail) (types : MessageTypeD
       subst (λ (it : Reply T). Followed it new) (sym told)
       (subst (Followed reply.Skipped) (sym same) (skipped (skipped_of (made.RequestResponse one) there (λ service. refl))))
 
-pub subscriber_coming_followed : {T U B D : Type 0} (payload user_header : Detail) (types : MessageTypeDetails) (is_default : T → Type 0)
+pub subscriber_coming_followed : {T U B D : Type 0} (payload user_header : Detail) (types : MessageTypeDetails) (choices : Choices T)
     (is_default_header : U → Type 0) (fixed : BackpressureStrategy → Option BackpressureAction → DegradationAction → B)
     (degrades : B → DegradationCause → DegradationInfo → DegradationAction → Type 0)
     (decides : B → BackpressureInfo → BackpressureDecision → Type 0) (fixed_reader : DegradationAction → D)
     (reader_degrades : D → DegradationCause → DegradationInfo → DegradationAction → Type 0)
-    → SubscriberComingIsFollowed payload user_header types is_default is_default_header fixed degrades decides fixed_reader reader_degrades
-subscriber_coming_followed payload user_header types is_default is_default_header fixed degrades decides fixed_reader reader_degrades names
-    factory options answers taken naming order old new state answer may_come stands does =
-    by_factory payload user_header types is_default is_default_header fixed degrades decides fixed_reader reader_degrades answers names
-    factory options taken naming order old new state answer may_come stands (value_at old.factories.made factory) refl does
+    → SubscriberComingIsFollowed payload user_header types choices is_default_header fixed degrades decides fixed_reader reader_degrades
+subscriber_coming_followed payload user_header types choices is_default_header fixed degrades decides fixed_reader reader_degrades names
+    factory options taken naming order old new state answer (may_come, answers) stands does =
+    by_factory payload user_header types choices is_default_header fixed degrades decides fixed_reader reader_degrades names factory options
+    taken naming order old new state answer may_come stands
+    (subst (λ (n : ℕ). answer ≡ reply.SubscriberMade n
+    → AnswersAsChosen choices reader_degrades (subscriber_handler fixed_reader options) n options)
+    stands.ports.numbers.subscribers answers) (value_at old.factories.made factory) refl does

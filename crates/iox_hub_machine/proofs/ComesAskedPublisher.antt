@@ -50,9 +50,10 @@ use Rattle.iox_hub_machine.proofs.ComesHouse.{changed_again}
 use Rattle.iox_hub_machine.proofs.ComesRoomier.{hub_roomier}
 use Rattle.iox_hub_machine.proofs.ComesPublisher.{follows_so, found, ports, refused_so}
 use Rattle.iox_hub_machine.proofs.Numbered.{goes_so}
-use Rattle.iox_hub_machine.specs.ArrivalLaws.{DecidesAsFixed, MayCome, PublisherComingIsFollowed}
+use Rattle.iox_hub_machine.specs.ArrivalLaws.{DecidesAsChosen, MayCome, PublisherComingIsFollowed}
 use Rattle.iox_hub_machine.specs.ServiceLaws.{IsFollowed}
 use Rattle.iox_hub_machine.specs.Services.{HubStandsFor, factory_as}
+use Rattle.iox_machine.specs.Choices.{Choices}
 use Rattle.iox_machine.specs.Arriving.{PublisherArrives, new_publisher}
 use Rattle.iox_machine.specs.Replies.{IsSkipped}
 use Rattle.iox_machine.specs.Run as machine
@@ -97,24 +98,27 @@ module _ {T U : Type 0} (overrides : ℕ → ℕ → Type 0) (may : DegradationI
   why_refused some_slots allowed (Some needed) (Some place) old =
       (some_slots (max needed 1), allowed (max needed 1), Err (record {}), refl, refl)
 
-module _ {T U B D : Type 0} (payload user_header : Detail) (types : MessageTypeDetails) (is_default : T → Type 0)
+module _ {T U B D : Type 0} (payload user_header : Detail) (types : MessageTypeDetails) (choices : Choices T)
     (is_default_header : U → Type 0) (fixed : BackpressureStrategy → Option BackpressureAction → DegradationAction → B)
     (degrades : B → DegradationCause → DegradationInfo → DegradationAction → Type 0)
     (decides : B → BackpressureInfo → BackpressureDecision → Type 0) (fixed_reader : DegradationAction → D)
     (reader_degrades : D → DegradationCause → DegradationInfo → DegradationAction → Type 0)
-    (answers : DecidesAsFixed fixed degrades decides) (names : List (List ℕ)) (factory : ℕ) (options : PublisherOptions)
+    (names : List (List ℕ)) (factory : ℕ)
+    (options : PublisherOptions)
     (taken : MessagingPattern → List ℕ → List ℕ) (naming : ℕ → Naming) (order : List (ℕ × ServicePorts T U))
     (old new : NumberedHub T U B D) (state : State T) (answer : Reply T) (may_come : MayCome old)
-    (stands : HubStandsFor degrades decides reader_degrades names taken naming order old state) where
+    (stands : HubStandsFor choices degrades decides reader_degrades names taken naming order old state)
+    (answers : answer ≡ reply.PublisherMade (state.made.publishers + 1)
+    → DecidesAsChosen choices degrades decides (publisher_handlers fixed options) (state.made.publishers + 1) options) where
   abbrev asked : Command T
   asked = command.Publisher factory options
 
   abbrev Followed : Reply T → NumberedHub T U B D → Type 0
-  Followed told later = IsFollowed payload user_header types is_default is_default_header fixed degrades decides fixed_reader
+  Followed told later = IsFollowed payload user_header types choices is_default_header fixed degrades decides fixed_reader
       reader_degrades names asked old later state told
 
   -- where nothing happens, and the machine skips the command
-  skipped : machine.Step types is_default old.hub.expired_connection_buffer asked state reply.Skipped state → Followed reply.Skipped old
+  skipped : machine.Step types choices old.hub.expired_connection_buffer asked state reply.Skipped state → Followed reply.Skipped old
   skipped step = record { taken = taken; naming = naming; order = order; after = state; step = step; stands = stands }
 
   machine_has : at factory state.factories ≡ option_map factory_as (value_at old.factories.made factory)
@@ -126,7 +130,7 @@ module _ {T U B D : Type 0} (payload user_header : Detail) (types : MessageTypeD
   -- a factory of another pattern has no service that takes ports
   skipped_of : (made_one : MadeFactory) → value_at old.factories.made factory ≡ Some made_one
       → ((service : Service T) → is_service_of (factory_as made_one) service ≡ false)
-      → machine.Step types is_default old.hub.expired_connection_buffer asked state reply.Skipped state
+      → machine.Step types choices old.hub.expired_connection_buffer asked state reply.Skipped state
   skipped_of made_one there off =
       subst (λ (found : Option Factory). MatchOption found (IsSkipped {T = T} state reply.Skipped state)
       (λ one. AtOne (λ (service : Service T). cond (is_service_of one service) (Some service) None) Does state reply.Skipped state))
@@ -135,7 +139,7 @@ module _ {T U B D : Type 0} (payload user_header : Detail) (types : MessageTypeD
       (none_of_others (factory_as made_one) off state.services))
 
   skipped_none : value_at old.factories.made factory ≡ None
-      → machine.Step types is_default old.hub.expired_connection_buffer asked state reply.Skipped state
+      → machine.Step types choices old.hub.expired_connection_buffer asked state reply.Skipped state
   skipped_none none =
       subst (λ (found : Option Factory). MatchOption found (IsSkipped {T = T} state reply.Skipped state)
       (λ one. AtOne (λ (service : Service T). cond (is_service_of one service) (Some service) None) Does state reply.Skipped state))
@@ -163,19 +167,19 @@ module _ {T U B D : Type 0} (payload user_header : Detail) (types : MessageTypeD
     abbrev mid : NumberedHub T U B D
     mid = record old { made = roomier; pledged = new.pledged }
 
-    stands_mid : HubStandsFor degrades decides reader_degrades names taken naming order mid state
-    stands_mid = hub_roomier degrades decides reader_degrades names taken naming order old state stands roomier new.pledged room
+    stands_mid : HubStandsFor choices degrades decides reader_degrades names taken naming order mid state
+    stands_mid = hub_roomier choices degrades decides reader_degrades names taken naming order old state stands roomier new.pledged room
 
     may_mid : MayCome mid
     may_mid = record { grown = may_come.grown; agreed = may_come.agreed; counted = may_come.counted }
 
     abbrev its_ports : ServicePorts T U
-    its_ports = ports degrades decides reader_degrades names taken naming order mid state stands_mid may_mid factory made_one there kind
-        is_default types options fixed answers header
+    its_ports = ports choices degrades decides reader_degrades names taken naming order mid state stands_mid may_mid factory made_one
+        there kind types options fixed header
 
     its_found : hub_ports its_id old.hub ≡ Some its_ports
-    its_found = found degrades decides reader_degrades names taken naming order mid state stands_mid may_mid factory made_one there kind
-        is_default types options fixed answers header
+    its_found = found choices degrades decides reader_degrades names taken naming order mid state stands_mid may_mid factory made_one
+        there kind types options fixed header
 
     abbrev Creates : Result ℕ PublisherCreateError → ServicePorts T U → Type 0
     Creates told after = CreatesPublisher named_slots (degrades handler FailedToEstablishConnection) config header
@@ -193,26 +197,27 @@ module _ {T U B D : Type 0} (payload user_header : Detail) (types : MessageTypeD
       naming = naming;
       order = order;
       after = state;
-      step = refused_so degrades decides reader_degrades names taken naming order mid state stands_mid may_mid factory made_one there kind
-          is_default types options fixed answers header why creates;
+      step = refused_so choices degrades decides reader_degrades names taken naming order mid state stands_mid may_mid factory made_one
+          there kind types options fixed header why creates;
       stands = stands_mid;
     }
 
     came_then : (after : ServicePorts T U) → Creates (Ok its_ports.next_port) after
+        → answer ≡ reply.PublisherMade (state.made.publishers + 1)
         → Followed (reply.PublisherMade (state.made.publishers + 1)) (record mid {
           hub = with_hub_publisher its_id its_ports.next_port handler (with_hub_ports its_id after old.hub);
           made = with_publisher its_id true its_ports.next_port roomier;
         })
-    came_then after creates =
+    came_then after creates came =
         let (naming_then, order_then, state_then, step, so) =
-        follows_so degrades decides reader_degrades names taken naming order mid state stands_mid may_mid factory made_one there kind
-        is_default types options fixed answers header after creates in record {
+        follows_so choices degrades decides reader_degrades names taken naming order mid state stands_mid may_mid factory made_one there
+        kind types options fixed header after creates (answers came) in record {
           taken = taken;
           naming = naming_then;
           order = order_then;
           after = state_then;
           step = step;
-          stands = subst (λ (it : Hub T U B D). HubStandsFor degrades decides reader_degrades names taken naming_then order_then
+          stands = subst (λ (it : Hub T U B D). HubStandsFor choices degrades decides reader_degrades names taken naming_then order_then
               (record mid { hub = it; made = with_publisher its_id true its_ports.next_port roomier }) state_then)
               (sym (changed_again its_id (with_ports after) (publisher_kept its_ports.next_port handler) old.hub)) so;
         }
@@ -237,14 +242,16 @@ module _ {T U B D : Type 0} (payload user_header : Detail) (types : MessageTypeD
           let next : number ≡ its_ports.next_port =
           came_number named_slots (degrades handler FailedToEstablishConnection) config header (slots_needed config its_ports)
           (publisher_place its_ports) its_ports after number creates in
+          let was : answer ≡ reply.PublisherMade (state.made.publishers + 1) =
+          told ∙ ap publisher_reply replied ∙ ap (λ (it : ℕ). reply.PublisherMade it) stands.ports.numbers.publishers in
           subst (λ (it : Reply T). Followed it new)
-          (sym (told ∙ ap publisher_reply replied ∙ ap (λ (it : ℕ). reply.PublisherMade it) stands.ports.numbers.publishers))
+          (sym was)
           (subst (Followed (reply.PublisherMade (state.made.publishers + 1)))
           (sym (is_so (with_hub_publisher its_id its_ports.next_port handler (with_hub_ports its_id after old.hub))
           (with_publisher its_id true its_ports.next_port roomier)
           (hub_is ∙ ap (λ (it : ℕ). with_hub_publisher its_id it handler (with_hub_ports its_id after old.hub)) next)
           (made_is ∙ ap (λ (it : ℕ). with_publisher its_id true it roomier) next)))
-          (came_then after (subst (λ (it : ℕ). Creates (Ok it) after) next creates)))
+          (came_then after (subst (λ (it : ℕ). Creates (Ok it) after) next creates) was))
 
       by_home : (first came : Option (Result ℕ PublisherCreateError)) → Makes (hub_ports its_id old.hub) first new.hub
           → NumbersPort (with_publisher its_id true) old.made.publishers.next first roomier came new.made → answer ≡ publisher_reply came
@@ -266,13 +273,16 @@ module _ {T U B D : Type 0} (payload user_header : Detail) (types : MessageTypeD
       subst (λ (it : Reply T). Followed it new) (sym told)
       (subst (Followed reply.Skipped) (sym same) (skipped (skipped_of (made.RequestResponse one) there (λ service. refl))))
 
-pub publisher_coming_followed : {T U B D : Type 0} (payload user_header : Detail) (types : MessageTypeDetails) (is_default : T → Type 0)
+pub publisher_coming_followed : {T U B D : Type 0} (payload user_header : Detail) (types : MessageTypeDetails) (choices : Choices T)
     (is_default_header : U → Type 0) (fixed : BackpressureStrategy → Option BackpressureAction → DegradationAction → B)
     (degrades : B → DegradationCause → DegradationInfo → DegradationAction → Type 0)
     (decides : B → BackpressureInfo → BackpressureDecision → Type 0) (fixed_reader : DegradationAction → D)
     (reader_degrades : D → DegradationCause → DegradationInfo → DegradationAction → Type 0)
-    → PublisherComingIsFollowed payload user_header types is_default is_default_header fixed degrades decides fixed_reader reader_degrades
-publisher_coming_followed payload user_header types is_default is_default_header fixed degrades decides fixed_reader reader_degrades names
-    factory options answers taken naming order old new state answer may_come stands does =
-    by_factory payload user_header types is_default is_default_header fixed degrades decides fixed_reader reader_degrades answers names
-    factory options taken naming order old new state answer may_come stands (value_at old.factories.made factory) refl does
+    → PublisherComingIsFollowed payload user_header types choices is_default_header fixed degrades decides fixed_reader reader_degrades
+publisher_coming_followed payload user_header types choices is_default_header fixed degrades decides fixed_reader reader_degrades names
+    factory options taken naming order old new state answer (may_come, answers) stands does =
+    by_factory payload user_header types choices is_default_header fixed degrades decides fixed_reader reader_degrades names factory options
+    taken naming order old new state answer may_come stands
+    (subst (λ (n : ℕ). answer ≡ reply.PublisherMade n
+    → DecidesAsChosen choices degrades decides (publisher_handlers fixed options) n options)
+    stands.ports.numbers.publishers answers) (value_at old.factories.made factory) refl does

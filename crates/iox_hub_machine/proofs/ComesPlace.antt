@@ -28,6 +28,7 @@ use Rattle.iox_hub_machine.proofs.ComesServed.{is_another, none_passing, served_
 use Rattle.iox_hub_machine.proofs.Placed.{comes_alone}
 use Rattle.iox_hub_machine.specs.Services.{AreServedInTurn, HubStandsFor, IsServedBy, factory_as}
 use Rattle.iox_hub_machine.specs.Standing.{held_in, lent_in}
+use Rattle.iox_machine.specs.Choices.{Choices}
 use Rattle.iox_machine.specs.Named.{has_named}
 use Rattle.iox_machine.specs.Service.{Service}
 use Rattle.iox_machine.specs.State.{State, is_service_of}
@@ -51,12 +52,12 @@ pub record IsPlacedAmong {T U B D : Type 0} (naming : ℕ → Naming) (lent : Li
   pub none_before : list_any (has_named state.factories asked) first ≡ false
   pub none_behind : list_any (has_named state.factories asked) last ≡ false
 
-module _ {T U B D : Type 0} (degrades : B → DegradationCause → DegradationInfo → DegradationAction → Type 0)
+module _ {T U B D : Type 0} (choices : Choices T) (degrades : B → DegradationCause → DegradationInfo → DegradationAction → Type 0)
     (decides : B → BackpressureInfo → BackpressureDecision → Type 0)
     (reader_degrades : D → DegradationCause → DegradationInfo → DegradationAction → Type 0)
     (names : List (List ℕ)) (taken : MessagingPattern → List ℕ → List ℕ) (naming : ℕ → Naming) (order : List (ℕ × ServicePorts T U))
     (old : NumberedHub T U B D) (state : State T)
-    (stands : HubStandsFor degrades decides reader_degrades names taken naming order old state)
+    (stands : HubStandsFor choices degrades decides reader_degrades names taken naming order old state)
     (agree : FactoriesAgree old.factories.made) (number : ℕ) (made : MadeFactory)
     (there : value_at old.factories.made number ≡ Some made) (kind : pattern_in made ≡ PublishSubscribe) (asked : Command T)
     (has : (service : Service T) → has_named state.factories asked service ≡ is_service_of (factory_as made) service)
@@ -78,7 +79,8 @@ module _ {T U B D : Type 0} (degrades : B → DegradationCause → DegradationIn
       → has_named state.factories asked service ≡ false
   fails other service off served =
       has service
-      ∙ is_another degrades decides reader_degrades names taken naming order old state stands agree number made there kind other service off
+      ∙ is_another choices degrades decides reader_degrades names taken naming order old state stands agree number made there kind other
+      service off
       served
 
   pub placed_among : IsPlacedAmong naming lent held buffer table old.hub.services before behind state asked (service_of made) ports

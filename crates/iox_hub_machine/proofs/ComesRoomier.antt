@@ -15,16 +15,18 @@ use Rattle.iox_hub_commands.specs.declared.room.Pledged.{Pledged}
 use Rattle.iox_hub_machine.proofs.PortsStay.{ports_stay}
 use Rattle.iox_hub_machine.proofs.Roomier.{roomier_stands}
 use Rattle.iox_hub_machine.specs.Services.{HubStandsFor}
+use Rattle.iox_machine.specs.Choices.{Choices}
 use Rattle.iox_machine.specs.State.{State}
 
-module _ {T U B D : Type 0} (degrades : B → DegradationCause → DegradationInfo → DegradationAction → Type 0)
+module _ {T U B D : Type 0} (choices : Choices T) (degrades : B → DegradationCause → DegradationInfo → DegradationAction → Type 0)
     (decides : B → BackpressureInfo → BackpressureDecision → Type 0)
     (reader_degrades : D → DegradationCause → DegradationInfo → DegradationAction → Type 0)
     (names : List (List ℕ)) (taken : MessagingPattern → List ℕ → List ℕ) (naming : ℕ → Naming) (order : List (ℕ × ServicePorts T U))
     (old : NumberedHub T U B D) (state : State T)
-    (stands : HubStandsFor degrades decides reader_degrades names taken naming order old state) where
+    (stands : HubStandsFor choices degrades decides reader_degrades names taken naming order old state) where
   pub hub_roomier : (roomier : Made) (pledged : Pledged) → IsRoomier old.made roomier
-      → HubStandsFor degrades decides reader_degrades names taken naming order (record old { made = roomier; pledged = pledged }) state
+      → HubStandsFor choices degrades decides reader_degrades names taken naming order (record old { made = roomier; pledged = pledged })
+      state
   hub_roomier roomier pledged is = record {
     nodes = stands.nodes;
     table = stands.table;
@@ -39,7 +41,8 @@ module _ {T U B D : Type 0} (degrades : B → DegradationCause → DegradationIn
       opened = stands.factories.opened;
     };
     served = stands.served;
-    ports = ports_stay degrades decides reader_degrades naming order (record old { made = roomier }) state old.hub.table old.hub.nodes
+    ports = ports_stay choices degrades decides reader_degrades naming order (record old { made = roomier }) state old.hub.table
+        old.hub.nodes
         state.made.nodes old.factories pledged state.phases
-        (roomier_stands degrades decides reader_degrades naming order old state roomier is stands.ports);
+        (roomier_stands choices degrades decides reader_degrades naming order old state roomier is stands.ports);
   }

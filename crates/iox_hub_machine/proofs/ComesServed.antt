@@ -44,6 +44,7 @@ use Rattle.iox_hub_commands.specs.declared.services.made.MadeFactory.{MadeFactor
 use Rattle.iox_hub_machine.proofs.Numbered.{goes_so}
 use Rattle.iox_hub_machine.specs.Ports.{AreHere}
 use Rattle.iox_hub_machine.specs.Services.{AreServedInTurn, FactoryStands, HubStandsFor, IsServedBy, factory_as}
+use Rattle.iox_machine.specs.Choices.{Choices}
 use Rattle.iox_machine.specs.Phase.{Phase, Published, same_pattern}
 use Rattle.iox_machine.specs.Service.{Service}
 use Rattle.iox_machine.specs.State.{State, is_service_of, same_name}
@@ -104,12 +105,12 @@ here_found number (service ∷ services) are there =
 
 -- ---- the service of a factory
 
-module _ {T U B D : Type 0} (degrades : B → DegradationCause → DegradationInfo → DegradationAction → Type 0)
+module _ {T U B D : Type 0} (choices : Choices T) (degrades : B → DegradationCause → DegradationInfo → DegradationAction → Type 0)
     (decides : B → BackpressureInfo → BackpressureDecision → Type 0)
     (reader_degrades : D → DegradationCause → DegradationInfo → DegradationAction → Type 0)
     (names : List (List ℕ)) (taken : MessagingPattern → List ℕ → List ℕ) (naming : ℕ → Naming) (order : List (ℕ × ServicePorts T U))
     (old : NumberedHub T U B D) (state : State T)
-    (stands : HubStandsFor degrades decides reader_degrades names taken naming order old state)
+    (stands : HubStandsFor choices degrades decides reader_degrades names taken naming order old state)
     (agree : FactoriesAgree old.factories.made) (number : ℕ) (made : MadeFactory)
     (there : value_at old.factories.made number ≡ Some made) (kind : pattern_in made ≡ PublishSubscribe) where
   abbrev pub id : DomainId

@@ -20,6 +20,7 @@ use Rattle.iox_domain_machine.proofs.FollowMachine.{all_welcomed}
 use Rattle.iox_domain_machine.proofs.TableEnds.{at_end}
 use Rattle.iox_domain_machine.proofs.UpdateMachine.{connects, only_boxes}
 use Rattle.iox_hub_machine.specs.Ports.{among}
+use Rattle.iox_machine.specs.Choices.{Choices}
 use Rattle.iox_machine.specs.Arriving.{PublisherArrives, SubscriberArrives, worst_case}
 use Rattle.iox_machine.specs.PortList.{registered, those}
 use Rattle.iox_machine.specs.PublisherUpdate as publishing
@@ -33,7 +34,7 @@ use Rattle.iox_machine.specs.Table.{at, changed, contains}
 
 -- ---- at the service of a factory
 
-module _ {T : Type 0} (types : MessageTypeDetails) (is_default : T → Type 0) (buffer number : ℕ)
+module _ {T : Type 0} (types : MessageTypeDetails) (choices : Choices T) (buffer number : ℕ)
     (Does : Service T → Reply T → Service T → Type 0) (state : State T) (made : Factory) (service after : Service T) (answer : Reply T)
     (there : at number state.factories ≡ Some made) (its : is_service_of made service ≡ true) where
   abbrev state_then : State T
@@ -43,7 +44,7 @@ module _ {T : Type 0} (types : MessageTypeDetails) (is_default : T → Type 0) (
   found factory one = cond (is_service_of factory one) (Some one) None
 
   -- what a command does at a factory's service it does at the one that there is
-  pub at_factory_did : AtFactory types is_default buffer number Does (with_alone service state) answer state_then
+  pub at_factory_did : AtFactory types choices buffer number Does (with_alone service state) answer state_then
       → Does service answer after
   at_factory_did did = elim (by_option (at number state.factories) (IsSkipped (with_alone service state) answer state_then)
       (λ factory. AtOne (found factory) (λ one. Does) (with_alone service state) answer state_then) did) [

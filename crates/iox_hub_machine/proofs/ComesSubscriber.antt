@@ -62,6 +62,7 @@ use Rattle.iox_hub_commands.specs.ServicesTables.{parts_of, pattern_in}
 use Rattle.iox_hub_commands.specs.Tables.{port_under}
 use Rattle.iox_hub_commands.specs.declared.numbered_hub.NumberedHub.{NumberedHub}
 use Rattle.iox_hub_commands.specs.declared.services.made.MadeFactory.{MadeFactory}
+use Rattle.iox_hub_machine.proofs.Handled.{handled_on}
 use Rattle.iox_hub_machine.proofs.Amidst.{is_none}
 use Rattle.iox_hub_machine.proofs.ComesAmong.{all_do, all_stand, no_subscriber_so}
 use Rattle.iox_hub_machine.proofs.ComesHouse.{aside, everywhere, everywhere_else, found_there, or_there, put_there}
@@ -76,7 +77,7 @@ use Rattle.iox_hub_machine.proofs.Parting.{OrderChanges, order_changes, stay_her
 use Rattle.iox_hub_machine.proofs.Placed.{publisher_as, publisher_up, subscriber_as, subscriber_up}
 use Rattle.iox_hub_machine.proofs.Rooming.{roomy_there}
 use Rattle.iox_hub_machine.proofs.TableMore.{new_goes, still_goes, went_or_new}
-use Rattle.iox_hub_machine.specs.ArrivalLaws.{AnswersAsFixed, CanBeCounted, MayCome}
+use Rattle.iox_hub_machine.specs.ArrivalLaws.{AnswersAsChosen, CanBeCounted, MayCome}
 use Rattle.iox_hub_machine.specs.Ports.{AreHere, among, ports_here}
 use Rattle.iox_hub_machine.specs.Services.{HubStandsFor, IsServedBy, factory_as}
 use Rattle.iox_hub_machine.specs.Standing.{GoByNames, PortsStandFor, PublisherIsHandled, SubscriberIsHandled, held_in, lent_in}
@@ -87,16 +88,17 @@ use Rattle.iox_machine.specs.Run.{Step}
 use Rattle.iox_machine.specs.Service.{Service, Publisher, Subscriber}
 use Rattle.iox_machine.specs.State.{Factory, State, counted, is_service_of}
 use Rattle.iox_machine.specs.Table.{at}
+use Rattle.iox_machine.specs.Choices.{Choices}
 
-module _ {T U B D : Type 0} (degrades : B → DegradationCause → DegradationInfo → DegradationAction → Type 0)
+module _ {T U B D : Type 0} (choices : Choices T) (degrades : B → DegradationCause → DegradationInfo → DegradationAction → Type 0)
     (decides : B → BackpressureInfo → BackpressureDecision → Type 0)
     (reader_degrades : D → DegradationCause → DegradationInfo → DegradationAction → Type 0)
     (names : List (List ℕ)) (taken : MessagingPattern → List ℕ → List ℕ) (naming : ℕ → Naming) (order : List (ℕ × ServicePorts T U))
     (old : NumberedHub T U B D) (state : State T)
-    (stands : HubStandsFor degrades decides reader_degrades names taken naming order old state) (may_come : MayCome old)
+    (stands : HubStandsFor choices degrades decides reader_degrades names taken naming order old state) (may_come : MayCome old)
     (factory : ℕ) (made : MadeFactory) (there : value_at old.factories.made factory ≡ Some made)
-    (kind : pattern_in made ≡ PublishSubscribe) (is_default : T → Type 0) (types : MessageTypeDetails) (options : SubscriberOptions)
-    (fixed_reader : DegradationAction → D) (answers : AnswersAsFixed fixed_reader reader_degrades) where
+    (kind : pattern_in made ≡ PublishSubscribe) (types : MessageTypeDetails) (options : SubscriberOptions)
+    (fixed_reader : DegradationAction → D) where
   abbrev pub id : DomainId
   id = record { hub = (parts_of made).0.storage; service = service_of made }
 
@@ -113,9 +115,10 @@ module _ {T U B D : Type 0} (degrades : B → DegradationCause → DegradationIn
   pub home : (domain : Domain T U B D) × (domain_at id old.hub.services ≡ Some domain)
       × (presence_of id.service old.hub.services.domains ≡ Some (Here domain))
   home =
-      let found = presence degrades decides reader_degrades names taken naming order old state stands agree factory made there kind in (
+      let found = presence choices degrades decides reader_degrades names taken naming order old state stands agree factory made there
+      kind in (
         found.0,
-        domain_there degrades decides reader_degrades names taken naming order old state stands agree factory made there kind,
+        domain_there choices degrades decides reader_degrades names taken naming order old state stands agree factory made there kind,
         found.1,
       )
 
@@ -150,7 +153,7 @@ module _ {T U B D : Type 0} (degrades : B → DegradationCause → DegradationIn
 
   has : (service : Service T) → has_named state.factories asked service ≡ is_service_of (factory_as made) service
   has service = ap (λ (one : Option Factory). option_map_or (λ it. is_service_of it service) one false)
-      (machine_has degrades decides reader_degrades names taken naming order old state stands agree factory made there kind)
+      (machine_has choices degrades decides reader_degrades names taken naming order old state stands agree factory made there kind)
 
   counted_there : CanBeCounted ports
   counted_there = may_come.counted id ports found
@@ -161,7 +164,8 @@ module _ {T U B D : Type 0} (degrades : B → DegradationCause → DegradationIn
 
   module _ (before behind : List (ℕ × ServicePorts T U)) (ordered : order ≡ before ++ (id.service, ports) ∷ behind) where
     place : IsPlacedAmong naming lent held buffer old.factories.made old.hub.services before behind state asked id.service ports
-    place = placed_among degrades decides reader_degrades names taken naming order old state stands agree factory made there kind asked has
+    place = placed_among choices degrades decides reader_degrades names taken naming order old state stands agree factory made there kind
+        asked has
         ports before behind ordered
 
     fresh : at name place.service.subscribers ≡ None
@@ -169,44 +173,47 @@ module _ {T U B D : Type 0} (degrades : B → DegradationCause → DegradationIn
         (λ is. let it = place.stands.named_subscribers.each name is in new id.service it.0 it.1)
 
     its_own : is_service_of (factory_as made) place.service ≡ true
-    its_own = is_its_own degrades decides reader_degrades names taken naming order old state stands agree factory made there kind
+    its_own = is_its_own choices degrades decides reader_degrades names taken naming order old state stands agree factory made there kind
         place.service place.served
 
     -- what one domain alone does the machine does alone
     alone : (after : ServicePorts T U) (answer : Result ℕ SubscriberCreateError)
         → CreatesSubscriber (reader_degrades handler FailedToEstablishConnection) config.owner
         (buffer_of config.buffer_size ports.sizes) (subscriber_place ports) ports answer after
-        → (reader : ℕ → ℕ → ℕ) × Matches T U is_default types buffer asked (came_or_refused name answer) state place.service
+        → (reader : ℕ → ℕ → ℕ) × Matches T U choices types buffer asked (came_or_refused name answer) state place.service
         (record (with_came ports.next_port name answer (naming id.service)) { reader = reader }) (those_of id.service lent)
         (those_of id.service held) after
     alone after answer creates =
-        subscriber_comes_matches T U is_default (reader_degrades handler FailedToEstablishConnection) types buffer (naming id.service)
+        subscriber_comes_matches T U choices (reader_degrades handler FailedToEstablishConnection) types buffer (naming id.service)
         (those_of id.service lent) (those_of id.service held) ports after place.service state factory (factory_as made) options config
         answer place.stands (roomy_there id ports old.hub may_come.grown found)
-        (machine_has degrades decides reader_degrades names taken naming order old state stands agree factory made there kind) its_own
+        (machine_has choices degrades decides reader_degrades names taken naming order old state stands agree factory made there kind)
+        its_own
         (record {
           owner = (stands.factories.each factory made there).owner;
           buffer_size = refl;
-          acts = λ info action may. answers named_action action info may;
         })
-        (some_room degrades decides reader_degrades names taken naming order old state stands agree factory made there kind place.service
+        (some_room choices degrades decides reader_degrades names taken naming order old state stands agree factory made there kind
+        place.service
         place.served)
         fresh counted_there.0 counted_there.2 creates
 
     arrives : (after : Service T) (answer : Reply T)
-        → Step types is_default buffer asked (with_alone place.service state) answer
+        → Step types choices buffer asked (with_alone place.service state) answer
         (record (with_alone after state) { made = counted answer state.made })
         → SubscriberArrives buffer name (new_subscriber factory options place.service.settings) place.service answer after
-    arrives after answer did = at_factory_did types is_default buffer factory
+    arrives after answer did = at_factory_did types choices buffer factory
         (λ service. SubscriberArrives buffer name (new_subscriber factory options service.settings) service) state (factory_as made)
         place.service after answer
-        (machine_has degrades decides reader_degrades names taken naming order old state stands agree factory made there kind) its_own did
+        (machine_has choices degrades decides reader_degrades names taken naming order old state stands agree factory made there kind)
+        its_own did
 
   -- ---- it came
 
   module _ (after : ServicePorts T U)
       (creates : CreatesSubscriber (reader_degrades handler FailedToEstablishConnection) config.owner
-      (buffer_of config.buffer_size ports.sizes) (subscriber_place ports) ports (Ok ports.next_port) after) where
+      (buffer_of config.buffer_size ports.sizes) (subscriber_place ports) ports (Ok ports.next_port) after)
+      (answers : AnswersAsChosen choices reader_degrades handler name options) where
     abbrev next : ℕ
     next = ports.next_port
 
@@ -235,7 +242,7 @@ module _ {T U B D : Type 0} (degrades : B → DegradationCause → DegradationIn
     abbrev service : Service T
     service = at_place.service
 
-    matched : (reader : ℕ → ℕ → ℕ) × Matches T U is_default types buffer asked (reply.SubscriberMade name) state service
+    matched : (reader : ℕ → ℕ → ℕ) × Matches T U choices types buffer asked (reply.SubscriberMade name) state service
         (record (naming id.service) { subscriber = with_name next name (naming id.service).subscriber; reader = reader })
         (those_of id.service lent) (those_of id.service held) after
     matched = alone changes.before changes.behind changes.now after (Ok next) creates
@@ -266,8 +273,8 @@ module _ {T U B D : Type 0} (degrades : B → DegradationCause → DegradationIn
     abbrev state_then : State T
     state_then = record state { made = counted {T = T} (reply.SubscriberMade name) state.made; services = services_then }
 
-    does : Step types is_default buffer asked state (reply.SubscriberMade name) state_then
-    does = all_do is_default types buffer state asked (reply.SubscriberMade name)
+    does : Step types choices buffer asked state (reply.SubscriberMade name) state_then
+    does = all_do choices types buffer state asked (reply.SubscriberMade name)
         at_place.first service service_then at_place.last at_place.are refl at_place.none_before at_place.none_behind matched.1.1
 
     -- ---- names
@@ -377,7 +384,7 @@ module _ {T U B D : Type 0} (degrades : B → DegradationCause → DegradationIn
 
     handled : (other : DomainId) (number : ℕ) (publisher : Publisher T) → publisher_is_up hub_then other number ≡ true
         → among (λ (it : Service T). it.publishers) ((naming_then other.service).publisher number) services_then ≡ Some publisher
-        → PublisherIsHandled degrades decides hub_then other number publisher
+        → PublisherIsHandled choices degrades decides hub_then other number ((naming_then other.service).publisher number) publisher
     handled other number publisher up is =
         let was = stands.ports.publishers_handled other number publisher (sym (publishers_up other number) ∙ up)
         (ap (among (λ (it : Service T). it.publishers) ((naming other.service).publisher number)) at_place.are
@@ -385,10 +392,11 @@ module _ {T U B D : Type 0} (degrades : B → DegradationCause → DegradationIn
         at_place.last (ap (at ((naming other.service).publisher number)) is_new.publishers))
         ∙ ap (λ (it : ℕ → ℕ). among (λ (one : Service T). one.publishers) (it number) services_then) (sym (same_name other.service)) ∙ is)
         in
-        let same = everywhere id step old.hub domain home.1 (publisher_handlers_in number) refl other in record {
-          full = λ info decision may. was.full info decision (subst (λ (it : Option B). kept_decides decides it info decision) same may);
-          failed = λ info action may. was.failed info action (subst (λ (it : Option B). kept_degrades degrades it info action) same may);
-        }
+        let same = everywhere id step old.hub domain home.1 (publisher_handlers_in number) refl other in
+        handled_on choices old.hub hub_then other number ((naming other.service).publisher number)
+        ((naming_then other.service).publisher number) (ap (λ (it : ℕ → ℕ). it number) (sym (same_name other.service))) degrades decides
+        publisher publisher refl (λ info decision may. subst (λ (it : Option B). kept_decides decides it info decision) same may)
+        (λ info action may. subst (λ (it : Option B). kept_degrades degrades it info action) same may) was
 
     kept_beside : (number : ℕ) → number ≢ next
         → kept_under number (kept next handler domain.state.subscriber_handlers) ≡ kept_under number domain.state.subscriber_handlers
@@ -396,7 +404,7 @@ module _ {T U B D : Type 0} (degrades : B → DegradationCause → DegradationIn
 
     came_handled : (other : DomainId) (number : ℕ) (subscriber : Subscriber) → other ≡ id → number ≡ next
         → among (λ (it : Service T). it.subscribers) ((naming_then other.service).subscriber number) services_then ≡ Some subscriber
-        → SubscriberIsHandled reader_degrades hub_then other number subscriber
+        → SubscriberIsHandled choices reader_degrades hub_then other number ((naming_then other.service).subscriber number) subscriber
     came_handled other number subscriber same also is info action may =
         let its_name : (naming_then other.service).subscriber number ≡ name =
         ap (λ (it : DomainId). (naming_then it.service).subscriber number) same
@@ -411,25 +419,28 @@ module _ {T U B D : Type 0} (degrades : B → DegradationCause → DegradationIn
         ∙ ap (λ (it : ℕ). subscriber_handler_in it (domain_at id hub_then.services)) also
         ∙ ap (subscriber_handler_in next) (found_there id step old.hub domain home.1)
         ∙ kept_is_there next handler domain.state.subscriber_handlers in
-        answers named_action action info (subst (λ (it : Option D). kept_degrades reader_degrades it info action) kept_there may)
-        ∙ sym is_new.acts ∙ ap (λ (it : Subscriber). it.degradation) one_is
+        subst (λ (it : ℕ). choices.subscriber_acts it subscriber.degradation action) (sym its_name)
+        (subst (λ (it : DegradationAction). choices.subscriber_acts name it action)
+        (sym is_new.acts ∙ ap (λ (it : Subscriber). it.degradation) one_is)
+        (answers info action (subst (λ (it : Option D). kept_degrades reader_degrades it info action) kept_there may)))
 
     other_handled : (other : DomainId) (number : ℕ) (subscriber : Subscriber) → IsAside id.service next other.service number
         → subscriber_is_up hub_then other number ≡ true
         → among (λ (it : Service T). it.subscribers) ((naming_then other.service).subscriber number) services_then ≡ Some subscriber
-        → SubscriberIsHandled reader_degrades hub_then other number subscriber
+        → SubscriberIsHandled choices reader_degrades hub_then other number ((naming_then other.service).subscriber number) subscriber
     other_handled other number subscriber off up is info action may =
         let old_name = (naming other.service).subscriber number in
-        stands.ports.subscribers_handled other number subscriber (sym (readers_up other number off) ∙ up)
+        subst (λ (it : ℕ). choices.subscriber_acts it subscriber.degradation action) (sym (named.aside other.service number off))
+        (stands.ports.subscribers_handled other number subscriber (sym (readers_up other number off) ∙ up)
         (ap (among (λ (it : Service T). it.subscribers) old_name) at_place.are
         ∙ sym (among_alike (λ (it : Service T). it.subscribers) old_name at_place.first service_then service at_place.last
         (is_new.others old_name (new other.service number)))
         ∙ ap (λ (it : ℕ). among (λ (one : Service T). one.subscribers) it services_then) (sym (named.aside other.service number off)) ∙ is)
         info action
         (subst (λ (it : Option D). kept_degrades reader_degrades it info action)
-        (everywhere_else id step old.hub domain home.1 subscriber_handler_in next kept_beside other number off) may)
+        (everywhere_else id step old.hub domain home.1 subscriber_handler_in next kept_beside other number off) may))
 
-    ports_then : PortsStandFor degrades decides reader_degrades naming_then order_then later state_then
+    ports_then : PortsStandFor choices degrades decides reader_degrades naming_then order_then later state_then
     ports_then = record {
       here = subst (λ (these : OpenServices T U B D). AreHere these.domains) (sym (put_there id step old.hub domain home.1))
           (stay_here id.service old.hub.services.domains domain_then stands.ports.here);
@@ -472,7 +483,7 @@ module _ {T U B D : Type 0} (degrades : B → DegradationCause → DegradationIn
     }
 
     -- the hub stands for what the machine is then
-    stands_so : HubStandsFor degrades decides reader_degrades names taken naming_then order_then later state_then
+    stands_so : HubStandsFor choices degrades decides reader_degrades names taken naming_then order_then later state_then
     stands_so = record {
       nodes = stands.nodes;
       table = record { reached = stands.table.reached; phases = stands.table.phases };
@@ -504,8 +515,8 @@ module _ {T U B D : Type 0} (degrades : B → DegradationCause → DegradationIn
 
     -- so the machine follows
     pub follows_so : (naming_then : ℕ → Naming) × (order_then : List (ℕ × ServicePorts T U)) × (after : State T)
-        × Step types is_default buffer asked state (reply.SubscriberMade name) after
-        × HubStandsFor degrades decides reader_degrades names taken naming_then order_then later after
+        × Step types choices buffer asked state (reply.SubscriberMade name) after
+        × HubStandsFor choices degrades decides reader_degrades names taken naming_then order_then later after
     follows_so = (naming_then, order_then, state_then, does, stands_so)
 
   -- ---- it is refused
@@ -524,7 +535,7 @@ module _ {T U B D : Type 0} (degrades : B → DegradationCause → DegradationIn
     abbrev told : Reply T
     told = reply.Refused (refusal.Subscriber why)
 
-    refused : (reader : ℕ → ℕ → ℕ) × Matches T U is_default types buffer asked told state at_rest.service
+    refused : (reader : ℕ → ℕ → ℕ) × Matches T U choices types buffer asked told state at_rest.service
         (record (naming id.service) { reader = reader }) (those_of id.service lent) (those_of id.service held) ports
     refused = alone rests.before rests.behind rests.now ports (Err why) creates
 
@@ -536,9 +547,9 @@ module _ {T U B D : Type 0} (degrades : B → DegradationCause → DegradationIn
     same_services = ap (λ (it : Service T). at_rest.first ++ it ∷ at_rest.last) nothing_comes ∙ sym at_rest.are
 
     -- so the machine refuses it
-    pub refused_so : Step types is_default buffer asked state told state
+    pub refused_so : Step types choices buffer asked state told state
     refused_so =
-        subst (λ (services : List (Service T)). Step types is_default buffer asked state told (record state { services = services }))
+        subst (λ (services : List (Service T)). Step types choices buffer asked state told (record state { services = services }))
         same_services
-        (all_do is_default types buffer state asked told at_rest.first
+        (all_do choices types buffer state asked told at_rest.first
         at_rest.service refused.1.0 at_rest.last at_rest.are refl at_rest.none_before at_rest.none_behind refused.1.1)

@@ -15,7 +15,7 @@ use Rattle.iox_command.specs.NegotiateBase.DescribeBase.Detail.{Detail}
 use Rattle.iox_command.specs.NegotiateBase.DescribeBase.declared.attribute.Attribute.{Attribute}
 use Rattle.iox_command.specs.NegotiateBase.DescribeBase.declared.message_type.MessageTypeDetails.{MessageTypeDetails}
 use Rattle.iox_command.specs.NegotiateBase.DescribeBase.declared.pattern.MessagingPattern.{MessagingPattern}
-use Rattle.iox_command.specs.NegotiateBase.DescribeBase.declared.type_detail.TypeVariant.TheVariants.{Dynamic}
+use Rattle.iox_command.specs.NegotiateBase.DescribeBase.declared.type_detail.TypeVariant.{TypeVariant}
 use Rattle.iox_command.specs.NegotiateBase.DescribeSettings.Agreement.{AreWithinLimits, agreement}
 use Rattle.iox_command.specs.NegotiateBase.DescribeSettings.declared.static_config.Settings.{Settings}
 use Rattle.iox_command.specs.NegotiateBase.DescribeSettings.declared.static_config.Settings.TheVariants as settings
@@ -60,6 +60,7 @@ use Rattle.iox_hub_machine.specs.CreateLaws.{CreateMatches}
 use Rattle.iox_hub_machine.specs.OpenLaws.{HasNumbersFor}
 use Rattle.iox_hub_machine.specs.ServiceLaws.{IsFollowed}
 use Rattle.iox_hub_machine.specs.Services.{HubStandsFor}
+use Rattle.iox_machine.specs.Choices.{Choices}
 use Rattle.iox_machine.proofs.Calls.{creates-go}
 use Rattle.iox_machine.specs.Agreement.{Agreement, unfit}
 use Rattle.iox_machine.specs.Asked.{settings_of}
@@ -129,24 +130,24 @@ by_some P Q found v is q = subst (λ o. MatchOption o P Q) (sym is) q
 by_true : (P Q : Type 0) (b : Bool) → b ≡ true → P → MatchBool b P Q
 by_true P Q b is p = subst (λ (it : Bool). MatchBool it P Q) (sym is) p
 
-module _ (payload user_header : Detail) where
+module _ (payload user_header : Detail) (variant : TypeVariant) where
   -- the types of the messages of a hub
-  abbrev slices : MessageTypeDetails
-  slices = asked_types Dynamic payload user_header
+  abbrev types : MessageTypeDetails
+  types = asked_types variant payload user_header
 
   -- the settings of a service that is created fit
-  fits_so : (named : ServiceOptions) → FitsHere payload user_header (settings_of slices named)
-  fits_so (options.PublishSubscribe named) = new_fits payload user_header named
+  fits_so : (named : ServiceOptions) → FitsHere payload user_header (settings_of types named)
+  fits_so (options.PublishSubscribe named) = new_fits payload user_header variant named
   fits_so (options.Event named) = λ c is. absurd (differ c is)
     where
-      differ : (c : StaticConfig) → settings_of slices (options.Event named) ≡ settings.PublishSubscribe c → ⊥
+      differ : (c : StaticConfig) → settings_of types (options.Event named) ≡ settings.PublishSubscribe c → ⊥
       differ c e = cc
   fits_so (options.RequestResponse named) = λ c is. absurd (differ c is)
     where
-      differ : (c : StaticConfig) → settings_of slices (options.RequestResponse named) ≡ settings.PublishSubscribe c → ⊥
+      differ : (c : StaticConfig) → settings_of types (options.RequestResponse named) ≡ settings.PublishSubscribe c → ⊥
       differ c e = cc
 
-  module _ {T U B D : Type 0} (is_default : T → Type 0) (is_default_header : U → Type 0)
+  module _ {T U B D : Type 0} (choices : Choices T) (is_default_header : U → Type 0)
       (fixed : BackpressureStrategy → Option BackpressureAction → DegradationAction → B)
       (degrades : B → DegradationCause → DegradationInfo → DegradationAction → Type 0)
       (decides : B → BackpressureInfo → BackpressureDecision → Type 0) (fixed_reader : DegradationAction → D)
@@ -155,84 +156,87 @@ module _ (payload user_header : Detail) where
       (asked : IsAmong names name)
       (taken : MessagingPattern → List ℕ → List ℕ) (naming : ℕ → Naming) (order : List (ℕ × ServicePorts T U))
       (old new : NumberedHub T U B D) (state : State T) (own : HaveOwnHashes names) (ready : HasNumbersFor (length steps + 1) old)
-      (stands : HubStandsFor degrades decides reader_degrades names taken naming order old state) where
+      (stands : HubStandsFor choices degrades decides reader_degrades names taken naming order old state) where
     -- what is to be agreed on
     abbrev agreed_on : Agreement
-    agreed_on = record { settings = settings_of slices named; attributes = attributes }
+    agreed_on = record { settings = settings_of types named; attributes = attributes }
 
     -- what the machine does over its phase
     abbrev Calls : Call → Option (Result Bool CreateFailure) → Call → Type 0
-    Calls = Creates slices (pattern_of named) steps (Own node) agreed_on
+    Calls = Creates types (pattern_of named) steps (Own node) agreed_on
 
     abbrev Replied : Reply T → Type 0
-    Replied = IsAnswered payload user_header degrades decides reader_degrades names own (pattern_of named) name asked taken naming order
+    Replied = IsAnswered payload user_header choices degrades decides reader_degrades names own (pattern_of named) name asked taken naming
+        order
         node old new state stands Calls (create_refusal named) (λ is_new. uncreated.OutOfMemory)
 
     module _ {E : Type 0} (error : CreateFailure → E) where
       -- what the hub asks for is what the machine asks for
       same_asked : (storage : ℕ) (before : Steps) (came : Result Membership E) (end : Steps)
-          → built.Creates SteppedSight storage (hash_of name named) node (agreed_of name named slices attributes)
-          (AreWithinLimits (agreed_of name named slices attributes).settings)
-          (IsHistoryTooLong (agreed_of name named slices attributes).settings) error before came end
+          → built.Creates SteppedSight storage (hash_of name named) node (agreed_of name named types attributes)
+          (AreWithinLimits (agreed_of name named types attributes).settings)
+          (IsHistoryTooLong (agreed_of name named types attributes).settings) error before came end
           → built.Creates SteppedSight storage (hash_of name named) node (description_of (pattern_of named) name agreed_on)
-          (AreWithinLimits (settings_of slices named)) (HasNoRoomForHistory (settings_of slices named)) error before came end
+          (AreWithinLimits (settings_of types named)) (HasNoRoomForHistory (settings_of types named)) error before came end
       same_asked storage before came end creates =
           subst (λ (long : Type 0). built.Creates SteppedSight storage (hash_of name named) node
-          (description_of (pattern_of named) name agreed_on) (AreWithinLimits (settings_of slices named)) long error before came end)
-          (same_history (settings_of slices named))
+          (description_of (pattern_of named) name agreed_on) (AreWithinLimits (settings_of types named)) long error before came end)
+          (same_history (settings_of types named))
           (subst (λ (s : Settings). built.Creates SteppedSight storage (hash_of name named) node
           (agreement name (hash_of name named) s attributes) (AreWithinLimits s) (IsHistoryTooLong s) error before came end)
-          (same_settings slices named) creates)
+          (same_settings types named) creates)
 
       module _ (told : E → Refusal) (tells : (why : CreateFailure) → told (error why) ≡ create_refusal named why)
-          (lists : List (List TableStep)) (listed : AreMade slices name steps lists) (roomier : FactoryTable)
+          (lists : List (List TableStep)) (listed : AreMade types name steps lists) (roomier : FactoryTable)
           (same : SameNumbers old.factories.made roomier) (same_made : new.made ≡ old.made) (result : Result ℕ Refusal) where
         -- a creation over the table of the hub is answered as one of the machine
         created_so : GetsNumber (pattern_of named) told
-            (CreatesAgreed payload user_header error (hash_of name named) node (agreed_of name named slices attributes) lists) roomier
+            (CreatesAgreed payload user_header error (hash_of name named) node (agreed_of name named types attributes) lists) roomier
             old.hub result new.factories.made new.hub
             → Replied (factory_reply (Some result))
         created_so (opened, opens, numbers) =
-            answered payload user_header degrades decides reader_degrades names own (pattern_of named) name asked taken naming order node
+            answered payload user_header choices degrades decides reader_degrades names own (pattern_of named) name asked taken naming
+            order node
             old new state stands Calls (create_refusal named) (λ is_new. uncreated.OutOfMemory) error told tells
             (λ was_new. error uncreated.OutOfMemory) (λ fresh. refl)
             (λ why last calls. uncreated_keeps (pattern_of named) name (taken (pattern_of named) name)
-            (state.phases (pattern_of named) name) slices steps node agreed_on last why calls)
+            (state.phases (pattern_of named) name) types steps node agreed_on last why calls)
             (λ fresh last calls. created_enters (pattern_of named) name (taken (pattern_of named) name)
-            (state.phases (pattern_of named) name) slices steps node agreed_on last fresh calls)
+            (state.phases (pattern_of named) name) types steps node agreed_on last fresh calls)
             (λ fresh last calls kind life other nodes is. subst (λ (a : Agreement). FitsHere payload user_header a.settings)
-            (sym (created_agreed slices (pattern_of named) steps (Own node) agreed_on
+            (sym (created_agreed types (pattern_of named) steps (Own node) agreed_on
             (record { phase = state.phases (pattern_of named) name; accesses = 0 }) last fresh calls life other nodes is))
             (fits_so named))
             stands.factories.numbers
-            (stands_entered payload user_header degrades decides reader_degrades names own (pattern_of named) name asked taken naming order
+            (stands_entered payload user_header choices degrades decides reader_degrades names own (pattern_of named) name asked taken
+            naming order
             node old new state stands ready.rise ready.factories)
             roomier same same_made opens.mid.table
             (went-keeps opens.negotiated.negotiated.done.made (record { table = old.hub.table; lists = lists }) opens.mid
             opens.negotiated.negotiated.done.went)
             result opens.answer opened
-            (create-matches T E names slices name node old.hub.table.id named attributes steps lists taken old.hub.table opens.mid error
-            opens.answer state own asked (formed_so slices name steps lists listed) (let locks = ready.locks in omega (arith, locks))
-            (listed_so slices name steps lists listed) stands.table
+            (create-matches T E names types name node old.hub.table.id named attributes steps lists taken old.hub.table opens.mid error
+            opens.answer state own asked (formed_so types name steps lists listed) (let locks = ready.locks in omega (arith, locks))
+            (listed_so types name steps lists listed) stands.table
             (same_asked old.hub.table.id (record { table = old.hub.table; lists = lists }) opens.answer opens.mid opens.negotiated))
             opens.settled numbers
 
     -- ---- the reply
 
     abbrev Numbered : Option (Result ℕ Refusal) → Bool → Type 0
-    Numbered made is_there = CreatesNumbered is_there payload user_header slices (record { node = node; name = name; options = named })
+    Numbered made is_there = CreatesNumbered is_there payload user_header types (record { node = node; name = name; options = named })
         attributes steps old.factories.made old.hub made new.factories.made new.hub
 
     module _ (roomier : FactoryTable) (same : SameNumbers old.factories.made roomier) (same_made : new.made ≡ old.made)
         (result : Result ℕ Refusal) where
       abbrev GetsBy : {E : Type 0} → (E → Refusal) → (CreateFailure → E) → List (List TableStep) → ServiceOptions → Type 0
       GetsBy told error lists it = GetsNumber (pattern_of it) told
-          (CreatesAgreed payload user_header error (hash_of name it) node (agreed_of name it slices attributes) lists) roomier old.hub
+          (CreatesAgreed payload user_header error (hash_of name it) node (agreed_of name it types attributes) lists) roomier old.hub
           result
           new.factories.made new.hub
 
-      by_options : (it : ServiceOptions) → it ≡ named → (lists : List (List TableStep)) → AreMade slices name steps lists
-          → CreatesAs it payload user_header slices node name attributes lists roomier old.hub result new.factories.made new.hub
+      by_options : (it : ServiceOptions) → it ≡ named → (lists : List (List TableStep)) → AreMade types name steps lists
+          → CreatesAs it payload user_header types node name attributes lists roomier old.hub result new.factories.made new.hub
           → Replied (factory_reply (Some result))
       by_options (options.PublishSubscribe one) is lists listed creates =
           created_so publish_subscribe.create_error refusal.PublishSubscribeCreate
@@ -248,23 +252,25 @@ module _ (payload user_header : Detail) where
           (subst (GetsBy refusal.RequestResponseCreate request_response.create_error lists) is creates)
 
     by_prepared : (prepared : Result (List (List TableStep)) AllocError) (roomier : FactoryTable) (result : Result ℕ Refusal)
-        → new.made ≡ old.made → Prepares name slices steps old.factories.made prepared roomier
-        → CreatesPrepared prepared payload user_header slices (record { node = node; name = name; options = named }) attributes roomier
+        → new.made ≡ old.made → Prepares name types steps old.factories.made prepared roomier
+        → CreatesPrepared prepared payload user_header types (record { node = node; name = name; options = named }) attributes roomier
         old.hub result new.factories.made new.hub
         → Replied (factory_reply (Some result))
     by_prepared (Err lacking) roomier result same_made prepares creates =
-        lacking_answered payload user_header degrades decides reader_degrades names own (pattern_of named) name asked taken naming order
+        lacking_answered payload user_header choices degrades decides reader_degrades names own (pattern_of named) name asked taken naming
+        order
         node old new state stands Calls (create_refusal named) (λ is_new. uncreated.OutOfMemory) roomier result prepares.0 same_made
         (subst (λ (why : Refusal). IsRefusedWith why roomier old.hub result new.factories.made new.hub) (lacking_is named) creates)
     by_prepared (Ok lists) roomier result same_made prepares creates =
         by_options roomier prepares.0 same_made result named refl lists (prepares.1, prepares.3) creates
 
     abbrev Followed : Reply T → Type 0
-    Followed answer = IsFollowed payload user_header slices is_default is_default_header fixed degrades decides fixed_reader reader_degrades
+    Followed answer = IsFollowed payload user_header types choices is_default_header fixed degrades decides fixed_reader reader_degrades
         names (command.Create node name named attributes steps) old new state answer
 
     abbrev StepsTo : Reply T → Type 0
-    StepsTo answer = hub.Step payload user_header slices is_default is_default_header fixed degrades decides fixed_reader reader_degrades
+    StepsTo answer = hub.Step payload user_header types choices.is_default is_default_header fixed degrades decides fixed_reader
+        reader_degrades
         (command.Create node name named attributes steps) old (Ok answer) new
 
     by_node : (is_there : Bool) → is_node node old.hub.nodes ≡ is_there → (made : Option (Result ℕ Refusal)) → Numbered made is_there
@@ -274,14 +280,14 @@ module _ (payload user_header : Detail) where
       naming = naming;
       order = order;
       after = state;
-      step = by_some _ (λ failure. RefusesNode node (create_refusal named failure) state answer state) (unfit (settings_of slices named))
-          failure (unfit_so slices named (Some failure) unfitting)
+      step = by_some _ (λ failure. RefusesNode node (create_refusal named failure) state answer state) (unfit (settings_of types named))
+          failure (unfit_so types named (Some failure) unfitting)
           (by_true _ _ (nat_le 1 node && nat_le node state.made.nodes)
           (ap (λ (n : ℕ). nat_le 1 node && nat_le node n) (sym stands.nodes) ∙ is) (
             replied ∙ ap factory_reply made_is ∙ ap (λ (why : Refusal). factory_reply {T = T} (Some (Err why))) (refusal_is named failure),
             refl,
           ));
-      stands = stands_still payload user_header slices is_default is_default_header fixed degrades decides fixed_reader reader_degrades
+      stands = stands_still payload user_header types choices is_default_header fixed degrades decides fixed_reader reader_degrades
           names
           taken naming order old new state stands still same same_made;
     }
@@ -292,18 +298,18 @@ module _ (payload user_header : Detail) where
           naming = it.naming_then;
           order = it.order_then;
           after = it.after;
-          step = subst (λ (a : Reply T). machine.Step slices is_default old.hub.expired_connection_buffer
+          step = subst (λ (a : Reply T). machine.Step types choices old.hub.expired_connection_buffer
               (command.Create node name named attributes steps) state a it.after)
               (sym (replied ∙ ap factory_reply made_is))
               (by_none (λ failure. RefusesNode node (create_refusal named failure) state (factory_reply (Some result)) it.after)
-              (unfit (settings_of slices named)) (unfit_so slices named None fit)
+              (unfit (settings_of types named)) (unfit_so types named None fit)
               (by_true _ _ (nat_le 1 node && nat_le node state.made.nodes)
               (ap (λ (n : ℕ). nat_le 1 node && nat_le node n) (sym stands.nodes) ∙ is) it.came));
           stands = it.stands_then;
         }
     by_node false is made skipped same_made answer replied does =
         let is_skipped : answer ≡ reply.Skipped = replied ∙ ap factory_reply skipped.0 in
-        let it = skipped_matches payload user_header slices is_default is_default_header fixed degrades decides fixed_reader
+        let it = skipped_matches payload user_header types choices is_default_header fixed degrades decides fixed_reader
         reader_degrades names (command.Create node name named attributes steps) taken naming order old new state tt stands
         (subst StepsTo is_skipped does) in
         record {
@@ -311,7 +317,7 @@ module _ (payload user_header : Detail) where
           naming = naming;
           order = order;
           after = state;
-          step = subst (λ (a : Reply T). machine.Step slices is_default old.hub.expired_connection_buffer
+          step = subst (λ (a : Reply T). machine.Step types choices old.hub.expired_connection_buffer
               (command.Create node name named attributes steps) state a state) (sym is_skipped) it.0;
           stands = it.1;
         }
@@ -320,13 +326,13 @@ module _ (payload user_header : Detail) where
     followed answer (made, numbered, same_made, replied) =
         by_node (is_node node old.hub.nodes) refl made numbered same_made answer replied (made, numbered, same_made, replied)
 
-  pub create_matches : {T U B D : Type 0} (is_default : T → Type 0) (is_default_header : U → Type 0)
+  pub create_matches : {T U B D : Type 0} (choices : Choices T) (is_default_header : U → Type 0)
       (fixed : BackpressureStrategy → Option BackpressureAction → DegradationAction → B)
       (degrades : B → DegradationCause → DegradationInfo → DegradationAction → Type 0)
       (decides : B → BackpressureInfo → BackpressureDecision → Type 0) (fixed_reader : DegradationAction → D)
       (reader_degrades : D → DegradationCause → DegradationInfo → DegradationAction → Type 0)
-      → CreateMatches payload user_header slices is_default is_default_header fixed degrades decides fixed_reader reader_degrades
-  create_matches is_default is_default_header fixed degrades decides fixed_reader reader_degrades names node name named attributes steps
+      → CreateMatches payload user_header types choices is_default_header fixed degrades decides fixed_reader reader_degrades
+  create_matches choices is_default_header fixed degrades decides fixed_reader reader_degrades names node name named attributes steps
       asked own taken naming order old new state answer ready stands does =
-      followed is_default is_default_header fixed degrades decides fixed_reader reader_degrades names node name named attributes steps
+      followed choices is_default_header fixed degrades decides fixed_reader reader_degrades names node name named attributes steps
       asked taken naming order old new state own ready stands answer does

@@ -1,11 +1,10 @@
 -- Who decides for a publisher of a hub does so as the machine's publisher, at the service in its place.
-use Rattle.std.proofs.Common.{◌≡◌, ◌≢◌, ◌≤◌, ℕ, true, List, [], ◌∷◌, ◌++◌, Option, None, Some, refl, sym, ap, subst, ◌∙◌}
+use Rattle.std.proofs.Common.{◌≡◌, ◌≢◌, ◌≤◌, ℕ, true, List, [], ◌∷◌, ◌++◌, Some, refl, sym, ap, subst, ◌∙◌}
 use Rattle.std.specs.Map.{keys_of}
 use Rattle.std.specs.Prelude.{is_some}
 use Rattle.iox_command.specs.DomainValues.declared.backpressure.BackpressureDecision.{BackpressureDecision}
 use Rattle.iox_command.specs.DomainValues.declared.backpressure.BackpressureInfo.{BackpressureInfo}
 use Rattle.iox_command.specs.DomainValues.declared.degradation.DegradationAction.{DegradationAction}
-use Rattle.iox_command.specs.DomainValues.declared.degradation.DegradationAction.TheVariants.{Ignore}
 use Rattle.iox_command.specs.DomainValues.declared.degradation.DegradationCause.{DegradationCause}
 use Rattle.iox_command.specs.DomainValues.declared.degradation.DegradationInfo.{DegradationInfo}
 use Rattle.iox_delivery.specs.Holding.{publisher_stands}
@@ -26,6 +25,7 @@ use Rattle.iox_hub_machine.specs.Ports.{among}
 use Rattle.iox_hub_machine.specs.Standing.{PortsStandFor, PublisherIsHandled, lent_in, held_in}
 use Rattle.iox_hub_machine.proofs.Amidst.{among_one}
 use Rattle.iox_hub_machine.proofs.Placed.{comes_alone, no_publisher, publisher_up, publisher_as}
+use Rattle.iox_machine.specs.Choices.{Choices}
 use Rattle.iox_machine.specs.Service.{Service, Publisher}
 use Rattle.iox_machine.specs.State.{State}
 use Rattle.iox_machine.specs.Table.{at}
@@ -81,16 +81,11 @@ module _ {T U : Type 0} (names : ℕ → Naming) (lent : List (ℕ × (ℕ × Le
       (no_publisher names lent held buffer domain number all.publishers place.behind last
       (ap (λ (n : ℕ). how_often n (keys_of place.behind)) same ∙ alone.1) place.later) ∙ there
 
--- what a publisher does where a connection fails; anything where there is none
-abbrev pub degradation_in : {T : Type 0} → Option (Publisher T) → DegradationAction
-degradation_in None = Ignore
-degradation_in (Some publisher) = publisher.degradation
-
-module _ {T U B D : Type 0} (degrades : B → DegradationCause → DegradationInfo → DegradationAction → Type 0)
+module _ {T U B D : Type 0} (choices : Choices T) (degrades : B → DegradationCause → DegradationInfo → DegradationAction → Type 0)
     (decides : B → BackpressureInfo → BackpressureDecision → Type 0)
     (reader_degrades : D → DegradationCause → DegradationInfo → DegradationAction → Type 0) (naming : ℕ → Naming)
     (order : List (ℕ × ServicePorts T U)) (old : NumberedHub T U B D) (state : State T)
-    (stands : PortsStandFor degrades decides reader_degrades naming order old state)
+    (stands : PortsStandFor choices degrades decides reader_degrades naming order old state)
     (id : DomainId) (ports : ServicePorts T U) (found : hub_ports id old.hub ≡ Some ports) (first : List (Service T))
     (service : Service T) (last : List (Service T)) (are : state.services ≡ first ++ service ∷ last)
     (its : StandsFor (naming id.service) (those_of id.service (lent_in old.made)) (those_of id.service (held_in old.made))
@@ -99,7 +94,7 @@ module _ {T U B D : Type 0} (degrades : B → DegradationCause → DegradationIn
   name = (naming id.service).publisher number
 
   is_handled : (publisher : Publisher T) → at name service.publishers ≡ Some publisher → publisher.stands ≡ true
-      → PublisherIsHandled degrades decides old.hub id number publisher
+      → PublisherIsHandled choices degrades decides old.hub id number name publisher
   is_handled publisher there standing =
       let lent = those_of id.service (lent_in old.made) in
       let held = those_of id.service (held_in old.made) in
@@ -115,11 +110,9 @@ module _ {T U B D : Type 0} (degrades : B → DegradationCause → DegradationIn
 
   -- at a full mailbox
   pub decides_as : (publisher : Publisher T) → at name service.publishers ≡ Some publisher → publisher.stands ≡ true
-      → DecidesAs (publisher_may_decide decides id number old.hub) publisher
+      → DecidesAs choices (publisher_may_decide decides id number old.hub) name publisher
   decides_as publisher there standing = (is_handled publisher there standing).full
 
   -- where a connection fails
-  pub degrades_as : DegradesAs (publisher_may_degrade degrades id number old.hub) (degradation_in (at name service.publishers)) name service
-  degrades_as publisher there standing =
-      let same : publisher.degradation ≡ degradation_in (at name service.publishers) = sym (ap degradation_in there) in
-      (λ info action may. (is_handled publisher there standing).failed info action may ∙ same, same)
+  pub degrades_as : DegradesAs choices (publisher_may_degrade degrades id number old.hub) name service
+  degrades_as publisher there standing info action may = (is_handled publisher there standing).failed info action may

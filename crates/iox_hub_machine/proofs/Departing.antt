@@ -5,7 +5,6 @@ use Rattle.std.proofs.lemmas.Bool.Decides.{eqb_tells}
 use Rattle.std.specs.Map.{keys_of}
 use Rattle.std.specs.Option.{option_map}
 use Rattle.std.specs.Prelude.{is_some, if◌then◌else◌}
-use Rattle.iox_command.specs.DomainValues.Actions.{decision_of}
 use Rattle.iox_command.specs.DomainValues.declared.backpressure.BackpressureDecision.{BackpressureDecision}
 use Rattle.iox_command.specs.DomainValues.declared.backpressure.BackpressureInfo.{BackpressureInfo}
 use Rattle.iox_command.specs.DomainValues.declared.degradation.DegradationAction.{DegradationAction}
@@ -43,9 +42,11 @@ use Rattle.iox_hub_commands.specs.declared.ports.made.MadePublisher.{MadePublish
 use Rattle.iox_hub_machine.specs.Laws.{answered_with}
 use Rattle.iox_hub_machine.specs.Ports.{ports_here, AreHere, among}
 use Rattle.iox_hub_machine.specs.Standing.{GoByNames, PortsStandFor, lent_in, held_in, publisher_is_up, subscriber_is_up}
-use Rattle.iox_hub_machine.proofs.Deciding.{Deciding, deciding, Acting, acting}
+use Rattle.iox_hub_machine.proofs.Handled.{handled_on, reader_handled_on}
+use Rattle.iox_hub_machine.proofs.Deciding.{deciding, acting}
 use Rattle.iox_hub_machine.proofs.Housed.{one_or_other, some_ports, stands_here}
 use Rattle.iox_hub_machine.proofs.Parting.{OrderChanges, order_changes, stay_here}
+use Rattle.iox_machine.specs.Choices.{Choices}
 use Rattle.iox_machine.specs.Run.{Step}
 use Rattle.iox_machine.specs.Service.{Service, Publisher, Subscriber}
 use Rattle.iox_machine.specs.State.{State}
@@ -155,11 +156,12 @@ module _ {T U B D : Type 0} (id : DomainId) (after : ServicePorts T U) (handlers
 
 -- ---- a hub from which a port went
 
-module _ {T U B D : Type 0} (degrades : B → DegradationCause → DegradationInfo → DegradationAction → Type 0)
+module _ {T U B D : Type 0} (choices : Choices T) (degrades : B → DegradationCause → DegradationInfo → DegradationAction → Type 0)
     (decides : B → BackpressureInfo → BackpressureDecision → Type 0)
     (reader_degrades : D → DegradationCause → DegradationInfo → DegradationAction → Type 0) (naming : ℕ → Naming)
     (order : List (ℕ × ServicePorts T U)) (old : NumberedHub T U B D) (state : State T)
-    (stands : PortsStandFor degrades decides reader_degrades naming order old state) (id : DomainId) (ports after : ServicePorts T U)
+    (stands : PortsStandFor choices degrades decides reader_degrades naming order old state) (id : DomainId)
+    (ports after : ServicePorts T U)
     (found : hub_ports id old.hub ≡ Some ports) (handlers : List (ℕ × B) → List (ℕ × B)) (readers : List (ℕ × D) → List (ℕ × D)) where
   abbrev pub changed : Hub T U B D
   changed = hub_with_deciders id after handlers readers old.hub
@@ -232,18 +234,18 @@ module _ {T U B D : Type 0} (degrades : B → DegradationCause → DegradationIn
       (found_elsewhere id after handlers readers old.hub its.0 its.1 other off)
 
   -- what the machine does
-  pub machine_left : (types : MessageTypeDetails) (is_default : T → Type 0) (asked : Command T)
+  pub machine_left : (types : MessageTypeDetails) (asked : Command T)
       → NamesOf id.service (naming id.service) (lent_in old.made) (held_in old.made) asked
       → ((service : Service T)
       → StandsFor (naming id.service) (those_of id.service (lent_in old.made)) (those_of id.service (held_in old.made))
       old.hub.expired_connection_buffer ports service
-      → Matches T U is_default types old.hub.expired_connection_buffer asked reply.Done state service (naming id.service)
+      → Matches T U choices types old.hub.expired_connection_buffer asked reply.Done state service (naming id.service)
       (those_of id.service (lent_in old.made)) (those_of id.service (held_in old.made)) after)
       → (services : List (Service T))
-      × Step types is_default old.hub.expired_connection_buffer asked state reply.Done (answered_with reply.Done services state)
+      × Step types choices old.hub.expired_connection_buffer asked state reply.Done (answered_with reply.Done services state)
       × DomainsStandFor naming (lent_in old.made) (held_in old.made) old.hub.expired_connection_buffer order_then services
-  machine_left types is_default asked named matches =
-      let (services, does, all) = among_others T U is_default (steps-among is_default) types old.hub.expired_connection_buffer naming
+  machine_left types asked named matches =
+      let (services, does, all) = among_others T U choices (steps-among choices) types old.hub.expired_connection_buffer naming
       (lent_in old.made) (lent_in old.made) (held_in old.made) (held_in old.made) between.before between.behind id.service ports after state
       asked reply.Done (naming id.service)
       (subst (λ (domains : List (ℕ × ServicePorts T U)). DomainsStandFor naming (lent_in old.made) (held_in old.made)
@@ -286,7 +288,7 @@ module _ {T U B D : Type 0} (degrades : B → DegradationCause → DegradationIn
         ≡ option_map acting (subscribers_in state.services ((naming other.service).subscriber place)))
         × (subscriber_handler_in place (domain_at other changed.services)
         ≡ subscriber_handler_in place (domain_at other old.hub.services)))
-        → PortsStandFor degrades decides reader_degrades naming order_then became_hub (answered_with reply.Done services state)
+        → PortsStandFor choices degrades decides reader_degrades naming order_then became_hub (answered_with reply.Done services state)
     stands_without all publishers_next subscribers_next goes reader_goes were stay readers_stay = record {
       here = subst (λ (these : OpenServices T U B D). AreHere these.domains)
           (sym (put_there id after handlers readers old.hub its.0 its.1))
@@ -313,20 +315,17 @@ module _ {T U B D : Type 0} (degrades : B → DegradationCause → DegradationIn
           let (was_up, alike, same_kept) = stay other place up in
           let (one, was, same) = mapped_back deciding (publishers_in state.services ((naming other.service).publisher place))
           (deciding publisher) (sym alike ∙ ap (option_map deciding) there) in
-          let before = stands.publishers_handled other place one was_up was in record {
-            full = λ info decision may. before.full info decision
-                (subst (λ (it : Option B). kept_decides decides it info decision) same_kept may)
-                ∙ ap (λ (it : Deciding). decision_of it.strategy it.handler) same;
-            failed = λ info action may. before.failed info action
-                (subst (λ (it : Option B). kept_degrades degrades it info action) same_kept may)
-                ∙ ap (λ (it : Deciding). it.degradation) same;
-          };
+          let its_name = (naming other.service).publisher place in
+          handled_on choices old.hub became_hub.hub other place its_name its_name refl degrades decides one publisher same
+          (λ info decision may. subst (λ (it : Option B). kept_decides decides it info decision) same_kept may)
+          (λ info action may. subst (λ (it : Option B). kept_degrades degrades it info action) same_kept may)
+          (stands.publishers_handled other place one was_up was);
       subscribers_handled = λ other place subscriber up there.
           let (was_up, alike, same_kept) = readers_stay other place up in
           let (one, was, same) = mapped_back acting (subscribers_in state.services ((naming other.service).subscriber place))
           (acting subscriber) (sym alike ∙ ap (option_map acting) there) in
-          let before = stands.subscribers_handled other place one was_up was in
-          (λ info action may. before info action
-          (subst (λ (it : Option D). kept_degrades reader_degrades it info action) same_kept may)
-          ∙ ap (λ (it : Acting). it.degradation) same);
+          let its_name = (naming other.service).subscriber place in
+          reader_handled_on choices old.hub became_hub.hub other place its_name its_name refl reader_degrades one subscriber same
+          (λ info action may. subst (λ (it : Option D). kept_degrades reader_degrades it info action) same_kept may)
+          (stands.subscribers_handled other place one was_up was);
     }

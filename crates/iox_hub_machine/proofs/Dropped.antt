@@ -41,6 +41,7 @@ use Rattle.iox_hub_machine.proofs.Lessened.{one_removed, its_removed, changes_le
 use Rattle.iox_hub_machine.proofs.Loans.{changed_so}
 use Rattle.iox_hub_machine.proofs.Moving.{IsMatched, machine_does}
 use Rattle.iox_hub_machine.proofs.Rooming.{roomy_there}
+use Rattle.iox_machine.specs.Choices.{Choices}
 use Rattle.iox_machine.specs.Message as machine
 use Rattle.iox_machine.specs.Service.{Service}
 use Rattle.iox_machine.specs.State.{State, AtOne}
@@ -57,16 +58,16 @@ giving_up_alike {T} loan state new answer did =
     (λ one service after is does.
     same_ports service after (ap (λ (it : Service T). it.publishers) does.1) (ap (λ (it : Service T). it.subscribers) does.1)) did
 
-module _ {T U B D : Type 0} (is_default : T → Type 0) (is_default_header : U → Type 0)
+module _ {T U B D : Type 0} (choices : Choices T) (is_default_header : U → Type 0)
     (degrades : B → DegradationCause → DegradationInfo → DegradationAction → Type 0)
     (decides : B → BackpressureInfo → BackpressureDecision → Type 0)
     (reader_degrades : D → DegradationCause → DegradationInfo → DegradationAction → Type 0) where
   module _ (types : MessageTypeDetails) (naming : ℕ → Naming) (order : List (ℕ × ServicePorts T U)) (old new : NumberedHub T U B D)
       (state : State T)
-      (stands : PortsStandFor degrades decides reader_degrades naming order old state) (loan : ℕ)
+      (stands : PortsStandFor choices degrades decides reader_degrades naming order old state) (loan : ℕ)
       (grown : HaveGrown old.hub.services.domains) where
     abbrev Result : Reply T → NumberedHub T U B D → Type 0
-    Result answer later = IsMatched degrades decides reader_degrades types is_default naming order old state (command.Drop loan) answer
+    Result answer later = IsMatched degrades decides reader_degrades types choices naming order old state (command.Drop loan) answer
         stands
         later
 
@@ -90,7 +91,7 @@ module _ {T U B D : Type 0} (is_default : T → Type 0) (is_default_header : U �
       drop_there ports found goes mine =
           let after : ServicePorts T U = gave_up_in made.port.number made.slot ports in
           let (order_then, services, keys, does, stands_then)
-          = machine_does degrades decides reader_degrades types is_default naming order old (later id after)
+          = machine_does degrades decides reader_degrades types choices naming order old (later id after)
           state
           (command.Drop loan) reply.Done id ports after (naming id.service) stands found refl refl refl (out, goes)
           (subst (λ (it : List (ℕ × (ℕ × LentSlot))). ChangesAt id.service (lent_in old.made) it) (sym one_less)
@@ -101,14 +102,14 @@ module _ {T U B D : Type 0} (is_default : T → Type 0) (is_default_header : U �
           let lent = those_of id.service (lent_in old.made) in
           let held = those_of id.service (held_in old.made) in
           let buffer = old.hub.expired_connection_buffer in
-          subst (λ (it : List (ℕ × LentSlot)). Matches T U is_default types buffer (command.Drop loan) reply.Done state service names it
+          subst (λ (it : List (ℕ × LentSlot)). Matches T U choices types buffer (command.Drop loan) reply.Done state service names it
           held
           after)
           (sym (ap (those_of id.service) one_less ∙ its_removed loan id.service (lent_in old.made)))
-          (subst (λ (done : Bool). Matches T U is_default types buffer (command.Drop loan) (done_or_skipped done) state service names
+          (subst (λ (done : Bool). Matches T U choices types buffer (command.Drop loan) (done_or_skipped done) state service names
           (removed loan lent) held after)
           (is_given_up names lent held buffer ports service loan out its mine)
-          (drop_matches T U is_default types buffer names lent held ports service state loan out its
+          (drop_matches T U choices types buffer names lent held ports service state loan out its
           (roomy_there id ports old.hub grown found).sound mine)))
           (λ services did. giving_up_alike loan state (answered_with reply.Done services state) reply.Done did)
           refl refl
@@ -123,10 +124,11 @@ module _ {T U B D : Type 0} (is_default : T → Type 0) (is_default_header : U �
           (with_name id.service (naming id.service) naming, order_then, services, keys, does, stands_then)
 
       -- the loan is there
-      is_out : (ports : ServicePorts T U) → hub_ports id old.hub ≡ Some ports → at loan (those_of id.service (lent_in old.made)) ≡ Some out
+      pub is_out : (ports : ServicePorts T U) → hub_ports id old.hub ≡ Some ports → at loan (those_of id.service (lent_in old.made))
+          ≡ Some out
           → is_some (loan_under hub_ports (Some made) old.hub) ≡ true
       is_out ports found mine =
-          let (service, its) = some_service degrades decides reader_degrades naming order old state stands id ports found in
+          let (service, its) = some_service choices degrades decides reader_degrades naming order old state stands id ports found in
           ap (λ (it : Option (ServicePorts T U)). is_some (loan_there made.port.number made.slot it)) found
           ∙ ap is_some (loan_found (naming id.service) (those_of id.service (lent_in old.made)) (those_of id.service (held_in old.made))
           old.hub.expired_connection_buffer ports service loan out its mine)
@@ -142,14 +144,14 @@ module _ {T U B D : Type 0} (is_default : T → Type 0) (is_default_header : U �
       state.services,
       refl,
       at_one_skips (λ (service : Service T). at loan service.loans) (GivesUp loan) state
-          (no_loan_goes degrades decides reader_degrades naming order old state stands loan none),
-      same_stands degrades decides reader_degrades naming order old state stands loan new changes less,
+          (no_loan_goes choices degrades decides reader_degrades naming order old state stands loan none),
+      same_stands choices degrades decides reader_degrades naming order old state stands loan new changes less,
     )
     drop_by false (Some made) there is changes less =
-        let goes = loan_goes degrades decides reader_degrades naming order old state stands loan made there in
+        let goes = loan_goes choices degrades decides reader_degrades naming order old state stands loan made there in
         absurd (true≢false (sym (is ∙ is_out made there goes.ports goes.found goes.mine)))
     drop_by true (Some made) there is changes less =
-        let goes = loan_goes degrades decides reader_degrades naming order old state stands loan made there in
+        let goes = loan_goes choices degrades decides reader_degrades naming order old state stands loan made there in
         subst (λ (it : Hub T U B D). Result reply.Done (record new { hub = it }))
         (sym (changes ∙ changed_so gave_up_in made old.hub goes.ports goes.found true))
         (subst (λ (it : Made). Result reply.Done (record new {
@@ -157,10 +159,10 @@ module _ {T U B D : Type 0} (is_default : T → Type 0) (is_default_header : U �
           made = it;
         })) (sym less) (drop_there made there goes.ports goes.found goes.goes goes.mine))
 
-  pub drop_simulated : DropIsSimulated is_default is_default_header degrades decides reader_degrades
+  pub drop_simulated : DropIsSimulated choices is_default_header degrades decides reader_degrades
   drop_simulated loan old grown payload user_header types fixed fixed_reader naming order new state answer stands
       ((done, is, changes, less, told), same) =
-      subst (λ (it : Reply T). IsMatched degrades decides reader_degrades types is_default naming order old state (command.Drop loan) it
+      subst (λ (it : Reply T). IsMatched degrades decides reader_degrades types choices naming order old state (command.Drop loan) it
       stands
       new)
       (sym told) (drop_by types naming order old new state stands loan grown done (value_at old.made.loans loan) refl is changes less)

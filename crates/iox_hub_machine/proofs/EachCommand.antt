@@ -10,7 +10,7 @@ use Rattle.iox_command.specs.DomainValues.declared.degradation.DegradationInfo.{
 use Rattle.iox_command.specs.NegotiateBase.DescribeBase.Detail.{Detail}
 use Rattle.iox_command.specs.NegotiateBase.DescribeBase.declared.message_type.MessageTypeDetails.{MessageTypeDetails}
 use Rattle.iox_command.specs.NegotiateBase.DescribeBase.declared.pattern.MessagingPattern.{MessagingPattern}
-use Rattle.iox_command.specs.NegotiateBase.DescribeBase.declared.type_detail.TypeVariant.TheVariants.{Dynamic}
+use Rattle.iox_command.specs.NegotiateBase.DescribeBase.declared.type_detail.TypeVariant.{TypeVariant}
 use Rattle.iox_command.specs.declared.command.Command.{Command}
 use Rattle.iox_command.specs.declared.command.Command.TheVariants as command
 use Rattle.iox_command.specs.declared.port.PortNumber.TheVariants as port
@@ -21,14 +21,15 @@ use Rattle.iox_domain.specs.Fitting.{asked_types}
 use Rattle.iox_hub_commands.specs.CommandSteps as hub
 use Rattle.iox_hub_commands.specs.declared.numbered_hub.NumberedHub.{NumberedHub}
 use Rattle.iox_hub_machine.proofs.Lifted.{lifted}
-use Rattle.iox_hub_machine.proofs.Running.{EachFollows, MayBeAsked}
+use Rattle.iox_hub_machine.proofs.Running.{MayBeAsked}
 use Rattle.iox_hub_machine.proofs.RunsOn.{can_count, each_once}
-use Rattle.iox_hub_machine.specs.ArrivalLaws.{AnswersAsFixed, DecidesAsFixed, MayCome, PublisherComingIsFollowed}
+use Rattle.iox_hub_machine.specs.ArrivalLaws.{MayCome, PublisherComingIsFollowed}
 use Rattle.iox_hub_machine.specs.ArrivalLaws.{SubscriberComingIsFollowed}
 use Rattle.iox_hub_machine.specs.ClosingLaws.{ClosingMatches, IsCome}
 use Rattle.iox_hub_machine.specs.CreateLaws.{CreateMatches}
 use Rattle.iox_hub_machine.specs.Laws.{DropIsSimulated, FillIsSimulated, GiveUpIsSimulated, ReadIsSimulated}
 use Rattle.iox_hub_machine.specs.Laws.{ReleaseIsSimulated, SetIsSimulated}
+use Rattle.iox_hub_machine.specs.GoingOnLaws.{ComesAsChosen}
 use Rattle.iox_hub_machine.specs.LeavingLaws.{ListsCanChange, PublisherLeaveIsSimulated, SubscriberLeaveIsSimulated}
 use Rattle.iox_hub_machine.specs.LoanLaws.{LendIsSimulated, LendUninitIsSimulated}
 use Rattle.iox_hub_machine.specs.OpenLaws.{OpeningMatches, OpeningOrCreatingMatches}
@@ -37,10 +38,12 @@ use Rattle.iox_hub_machine.specs.RunLaws.{AsksAmong, steps_named}
 use Rattle.iox_hub_machine.specs.SendLaws.{PutIsSimulated, RetryIsSimulated, SendIsSimulated}
 use Rattle.iox_hub_machine.specs.ServiceLaws.{ForeignMatches, IsFollowed, NodeMatches}
 use Rattle.iox_hub_machine.specs.Services.{HubStandsFor}
+use Rattle.iox_machine.specs.Choices.{Choices}
 use Rattle.iox_machine.specs.State.{State}
 use Rattle.iox_negotiate_machine.specs.Laws.{HaveOwnHashes}
 
-module _ {T U B D : Type 0} (payload user_header : Detail) (is_default : T → Type 0) (is_default_header : U → Type 0)
+module _ {T U B D : Type 0} (payload user_header : Detail) (variant : TypeVariant) (choices : Choices T)
+    (is_default_header : U → Type 0)
     (fixed : BackpressureStrategy → Option BackpressureAction → DegradationAction → B)
     (degrades : B → DegradationCause → DegradationInfo → DegradationAction → Type 0)
     (decides : B → BackpressureInfo → BackpressureDecision → Type 0)
@@ -48,56 +51,55 @@ module _ {T U B D : Type 0} (payload user_header : Detail) (is_default : T → T
     (reader_degrades : D → DegradationCause → DegradationInfo → DegradationAction → Type 0) where
   -- the types of the messages
   abbrev types : MessageTypeDetails
-  types = asked_types Dynamic payload user_header
+  types = asked_types variant payload user_header
 
   -- The laws of the commands.
   pub record CommandLaws : Type 0 where
-    pub node : NodeMatches payload user_header types is_default is_default_header fixed degrades decides fixed_reader reader_degrades
-    pub create : CreateMatches payload user_header types is_default is_default_header fixed degrades decides fixed_reader reader_degrades
-    pub opening : OpeningMatches payload user_header is_default is_default_header fixed degrades decides fixed_reader reader_degrades
-    pub either : OpeningOrCreatingMatches payload user_header is_default is_default_header fixed degrades decides fixed_reader
+    pub node : NodeMatches payload user_header types choices is_default_header fixed degrades decides fixed_reader reader_degrades
+    pub create : CreateMatches payload user_header types choices is_default_header fixed degrades decides fixed_reader reader_degrades
+    pub opening : OpeningMatches payload user_header types choices is_default_header fixed degrades decides fixed_reader reader_degrades
+    pub either : OpeningOrCreatingMatches payload user_header types choices is_default_header fixed degrades decides fixed_reader
         reader_degrades
-    pub foreign : ForeignMatches payload user_header types is_default is_default_header fixed degrades decides fixed_reader reader_degrades
-    pub close : ClosingMatches payload user_header types is_default is_default_header fixed degrades decides fixed_reader reader_degrades
-    pub publisher : PublisherComingIsFollowed payload user_header types is_default is_default_header fixed degrades decides fixed_reader
+    pub foreign : ForeignMatches payload user_header types choices is_default_header fixed degrades decides fixed_reader reader_degrades
+    pub close : ClosingMatches payload user_header types choices is_default_header fixed degrades decides fixed_reader reader_degrades
+    pub publisher : PublisherComingIsFollowed payload user_header types choices is_default_header fixed degrades decides fixed_reader
         reader_degrades
-    pub subscriber : SubscriberComingIsFollowed payload user_header types is_default is_default_header fixed degrades decides fixed_reader
+    pub subscriber : SubscriberComingIsFollowed payload user_header types choices is_default_header fixed degrades decides fixed_reader
         reader_degrades
-    pub loan : LendIsSimulated is_default is_default_header degrades decides reader_degrades
-    pub loan_uninit : LendUninitIsSimulated is_default is_default_header degrades decides reader_degrades
-    pub set : SetIsSimulated is_default is_default_header degrades decides reader_degrades
-    pub fill : FillIsSimulated is_default is_default_header degrades decides reader_degrades
-    pub drop : DropIsSimulated is_default is_default_header degrades decides reader_degrades
-    pub send : SendIsSimulated is_default is_default_header degrades decides reader_degrades
-    pub put : PutIsSimulated is_default is_default_header degrades decides reader_degrades
-    pub retry : RetryIsSimulated is_default is_default_header degrades decides reader_degrades
-    pub give_up : GiveUpIsSimulated is_default is_default_header degrades decides reader_degrades
-    pub receive : ReceiveIsSimulated is_default is_default_header degrades decides reader_degrades
-    pub read : ReadIsSimulated is_default is_default_header degrades decides reader_degrades
-    pub release : ReleaseIsSimulated is_default is_default_header degrades decides reader_degrades
-    pub update_publisher : PublisherUpdateIsSimulated is_default is_default_header degrades decides reader_degrades
-    pub update_subscriber : SubscriberUpdateIsSimulated is_default is_default_header degrades decides reader_degrades
-    pub publisher_leaves : PublisherLeaveIsSimulated is_default is_default_header degrades decides reader_degrades
-    pub subscriber_leaves : SubscriberLeaveIsSimulated is_default is_default_header degrades decides reader_degrades
-    pub has : HasIsSimulated is_default is_default_header degrades decides reader_degrades
+    pub loan : LendIsSimulated choices is_default_header degrades decides reader_degrades
+    pub loan_uninit : LendUninitIsSimulated choices is_default_header degrades decides reader_degrades
+    pub set : SetIsSimulated choices is_default_header degrades decides reader_degrades
+    pub fill : FillIsSimulated choices is_default_header degrades decides reader_degrades
+    pub drop : DropIsSimulated choices is_default_header degrades decides reader_degrades
+    pub send : SendIsSimulated choices is_default_header degrades decides reader_degrades
+    pub put : PutIsSimulated choices is_default_header degrades decides reader_degrades
+    pub retry : RetryIsSimulated choices is_default_header degrades decides reader_degrades
+    pub give_up : GiveUpIsSimulated choices is_default_header degrades decides reader_degrades
+    pub receive : ReceiveIsSimulated choices is_default_header degrades decides reader_degrades
+    pub read : ReadIsSimulated choices is_default_header degrades decides reader_degrades
+    pub release : ReleaseIsSimulated choices is_default_header degrades decides reader_degrades
+    pub update_publisher : PublisherUpdateIsSimulated choices is_default_header degrades decides reader_degrades
+    pub update_subscriber : SubscriberUpdateIsSimulated choices is_default_header degrades decides reader_degrades
+    pub publisher_leaves : PublisherLeaveIsSimulated choices is_default_header degrades decides reader_degrades
+    pub subscriber_leaves : SubscriberLeaveIsSimulated choices is_default_header degrades decides reader_degrades
+    pub has : HasIsSimulated choices is_default_header degrades decides reader_degrades
 
-  module _ (laws : CommandLaws) (decides_so : DecidesAsFixed fixed degrades decides)
-      (answers_so : AnswersAsFixed fixed_reader reader_degrades) (names : List (List ℕ))
+  module _ (laws : CommandLaws) (names : List (List ℕ))
       (taken : MessagingPattern → List ℕ → List ℕ) (naming : ℕ → Naming) (order : List (ℕ × ServicePorts T U))
       (old new : NumberedHub T U B D) (state : State T) (answer : Reply T) (own : HaveOwnHashes names)
-      (stands : HubStandsFor degrades decides reader_degrades names taken naming order old state) where
+      (stands : HubStandsFor choices degrades decides reader_degrades names taken naming order old state) where
     abbrev Did : Command T → Type 0
-    Did asked = hub.Step payload user_header types is_default is_default_header fixed degrades decides fixed_reader reader_degrades asked
+    Did asked = hub.Step payload user_header types choices.is_default is_default_header fixed degrades decides fixed_reader
+        reader_degrades asked
         old
         (Ok answer) new
 
     abbrev Followed : Command T → Type 0
-    Followed asked = IsFollowed payload user_header types is_default is_default_header fixed degrades decides fixed_reader reader_degrades
+    Followed asked = IsFollowed payload user_header types choices is_default_header fixed degrades decides fixed_reader reader_degrades
         names asked old new state answer
 
     abbrev May : ℕ → Type 0
-    May steps = MayBeAsked payload user_header types is_default is_default_header fixed degrades decides fixed_reader reader_degrades steps
-        old
+    May steps = MayBeAsked steps old
 
     lists_change : May 0 → ListsCanChange old.hub
     lists_change (most, on, few) id ports found =
@@ -110,104 +112,114 @@ module _ {T U B D : Type 0} (payload user_header : Detail) (is_default : T → T
       counted = λ id ports found. can_count most old on (omega (arith, few)) id ports found;
     }
 
-    each : (asked : Command T) → AsksAmong names asked → May (steps_named asked)
-        → IsCome types is_default old.hub.expired_connection_buffer state → Did asked → Followed asked
-    each command.Node asks (most, on, few) came step =
+    each : (asked : Command T) → AsksAmong names asked
+        → ComesAsChosen types choices degrades decides reader_degrades asked fixed fixed_reader old answer → May (steps_named asked)
+        → IsCome types choices old.hub.expired_connection_buffer state → Did asked → Followed asked
+    each command.Node asks chosen (most, on, few) came step =
         let nodes = on.nodes in
         laws.node names taken naming order old new state answer (omega (arith, few, nodes)) stands step
-    each (command.Create node name options attributes steps) asks (most, on, few) came step =
+    each (command.Create node name options attributes steps) asks chosen (most, on, few) came step =
         let locks = on.locks in let numbers = on.numbers in
         laws.create names node name options attributes steps asks own taken naming order old new state answer (record {
           rise = on.rise.0;
           factories = omega (arith, few, numbers);
           locks = omega (arith, few, locks);
         }) stands step
-    each (command.Open node name options required steps) asks (most, on, few) came step =
+    each (command.Open node name options required steps) asks chosen (most, on, few) came step =
         let locks = on.locks in let numbers = on.numbers in
         laws.opening names node name options required steps asks own taken naming order old new state answer (record {
           rise = on.rise.0;
           factories = omega (arith, few, numbers);
           locks = omega (arith, few, locks);
         }) stands step
-    each (command.OpenOrCreate node name options required steps) asks (most, on, few) came step =
+    each (command.OpenOrCreate node name options required steps) asks chosen (most, on, few) came step =
         let locks = on.locks in let numbers = on.numbers in
         laws.either names node name options required steps asks own taken naming order old new state answer (record {
           rise = on.rise.0;
           factories = omega (arith, few, numbers);
           locks = omega (arith, few, locks);
         }) stands step
-    each (command.Foreign pattern name steps) asks (most, on, few) came step =
+    each (command.Foreign pattern name steps) asks chosen (most, on, few) came step =
         let locks = on.locks in
         laws.foreign names pattern name steps asks own taken naming order old new state answer (omega (arith, few, locks)) stands step
-    each (command.Close factory) asks (most, on, few) came step =
+    each (command.Close factory) asks chosen (most, on, few) came step =
         laws.close names factory taken naming order old new state answer own on.agreed (each_once most old on) came
         stands step
-    each (command.Publisher factory options) asks may came step =
-        laws.publisher names factory options decides_so taken naming order old new state answer (may_come may) stands step
-    each (command.Subscriber factory options) asks may came step =
-        laws.subscriber names factory options answers_so taken naming order old new state answer (may_come may) stands step
-    each (command.Loan publisher elements) asks (most, on, few) came step =
-        lifted payload user_header types is_default is_default_header fixed degrades decides fixed_reader reader_degrades names
+    each (command.Publisher factory options) asks chosen may came step =
+        laws.publisher names factory options taken naming order old new state answer (may_come may, chosen) stands step
+    each (command.Subscriber factory options) asks chosen may came step =
+        laws.subscriber names factory options taken naming order old new state answer (may_come may, chosen) stands step
+    each (command.Loan publisher elements) asks chosen (most, on, few) came step =
+        lifted payload user_header types choices is_default_header fixed degrades decides fixed_reader reader_degrades names
         (command.Loan publisher elements) refl taken naming order old new state answer
         (laws.loan publisher elements old on.grown on.rise) stands step
-    each (command.LoanUninit publisher elements) asks (most, on, few) came step =
-        lifted payload user_header types is_default is_default_header fixed degrades decides fixed_reader reader_degrades names
+    each (command.LoanUninit publisher elements) asks chosen (most, on, few) came step =
+        lifted payload user_header types choices is_default_header fixed degrades decides fixed_reader reader_degrades names
         (command.LoanUninit publisher elements) refl taken naming order old new state answer
         (laws.loan_uninit publisher elements old on.grown on.rise) stands step
-    each (command.Set loan place value) asks may came step =
-        lifted payload user_header types is_default is_default_header fixed degrades decides fixed_reader reader_degrades names
+    each (command.Set loan place value) asks chosen may came step =
+        lifted payload user_header types choices is_default_header fixed degrades decides fixed_reader reader_degrades names
         (command.Set loan place value) refl taken naming order old new state answer (laws.set loan place value old) stands step
-    each (command.Fill loan values) asks may came step =
-        lifted payload user_header types is_default is_default_header fixed degrades decides fixed_reader reader_degrades names
+    each (command.Fill loan values) asks chosen may came step =
+        lifted payload user_header types choices is_default_header fixed degrades decides fixed_reader reader_degrades names
         (command.Fill loan values) refl taken naming order old new state answer (laws.fill loan values old) stands step
-    each (command.Drop loan) asks (most, on, few) came step =
-        lifted payload user_header types is_default is_default_header fixed degrades decides fixed_reader reader_degrades names
+    each (command.Drop loan) asks chosen (most, on, few) came step =
+        lifted payload user_header types choices is_default_header fixed degrades decides fixed_reader reader_degrades names
         (command.Drop loan) refl taken naming order old new state answer (laws.drop loan old on.grown) stands step
-    each (command.Send loan) asks (most, on, few) came step =
-        lifted payload user_header types is_default is_default_header fixed degrades decides fixed_reader reader_degrades names
+    each (command.Send loan) asks chosen (most, on, few) came step =
+        lifted payload user_header types choices is_default_header fixed degrades decides fixed_reader reader_degrades names
         (command.Send loan) refl taken naming order old new state answer (laws.send loan old on.grown) stands step
-    each (command.Put publisher values) asks (most, on, few) came step =
-        lifted payload user_header types is_default is_default_header fixed degrades decides fixed_reader reader_degrades names
+    each (command.Put publisher values) asks chosen (most, on, few) came step =
+        lifted payload user_header types choices is_default_header fixed degrades decides fixed_reader reader_degrades names
         (command.Put publisher values) refl taken naming order old new state answer (laws.put publisher values old on.grown) stands step
-    each (command.Retry publisher nanoseconds) asks (most, on, few) came step =
-        lifted payload user_header types is_default is_default_header fixed degrades decides fixed_reader reader_degrades names
+    each (command.Retry publisher nanoseconds) asks chosen (most, on, few) came step =
+        lifted payload user_header types choices is_default_header fixed degrades decides fixed_reader reader_degrades names
         (command.Retry publisher nanoseconds) refl taken naming order old new state answer
         (laws.retry publisher nanoseconds old on.grown) stands step
-    each (command.GiveUp publisher) asks may came step =
-        lifted payload user_header types is_default is_default_header fixed degrades decides fixed_reader reader_degrades names
+    each (command.GiveUp publisher) asks chosen may came step =
+        lifted payload user_header types choices is_default_header fixed degrades decides fixed_reader reader_degrades names
         (command.GiveUp publisher) refl taken naming order old new state answer (laws.give_up publisher old) stands step
-    each (command.Receive subscriber) asks (most, on, few) came step =
+    each (command.Receive subscriber) asks chosen (most, on, few) came step =
         let numbers = on.numbers in
-        lifted payload user_header types is_default is_default_header fixed degrades decides fixed_reader reader_degrades names
+        lifted payload user_header types choices is_default_header fixed degrades decides fixed_reader reader_degrades names
         (command.Receive subscriber) refl taken naming order old new state answer
         (laws.receive subscriber old on.grown on.rise (omega (arith, few, numbers))) stands step
-    each (command.Read sample) asks may came step =
-        lifted payload user_header types is_default is_default_header fixed degrades decides fixed_reader reader_degrades names
+    each (command.Read sample) asks chosen may came step =
+        lifted payload user_header types choices is_default_header fixed degrades decides fixed_reader reader_degrades names
         (command.Read sample) refl taken naming order old new state answer (laws.read sample old) stands step
-    each (command.Release sample) asks (most, on, few) came step =
-        lifted payload user_header types is_default is_default_header fixed degrades decides fixed_reader reader_degrades names
+    each (command.Release sample) asks chosen (most, on, few) came step =
+        lifted payload user_header types choices is_default_header fixed degrades decides fixed_reader reader_degrades names
         (command.Release sample) refl taken naming order old new state answer (laws.release sample old on.grown) stands step
-    each (command.Update (port.Publisher number)) asks (most, on, few) came step =
-        lifted payload user_header types is_default is_default_header fixed degrades decides fixed_reader reader_degrades names
+    each (command.Update (port.Publisher number)) asks chosen (most, on, few) came step =
+        lifted payload user_header types choices is_default_header fixed degrades decides fixed_reader reader_degrades names
         (command.Update (port.Publisher number)) refl taken naming order old new state answer
         (laws.update_publisher number old on.grown) stands step
-    each (command.Update (port.Subscriber number)) asks (most, on, few) came step =
-        lifted payload user_header types is_default is_default_header fixed degrades decides fixed_reader reader_degrades names
+    each (command.Update (port.Subscriber number)) asks chosen (most, on, few) came step =
+        lifted payload user_header types choices is_default_header fixed degrades decides fixed_reader reader_degrades names
         (command.Update (port.Subscriber number)) refl taken naming order old new state answer
         (laws.update_subscriber number old on.grown) stands step
-    each (command.Leave (port.Publisher number)) asks (most, on, few) came step =
-        lifted payload user_header types is_default is_default_header fixed degrades decides fixed_reader reader_degrades names
+    each (command.Leave (port.Publisher number)) asks chosen (most, on, few) came step =
+        lifted payload user_header types choices is_default_header fixed degrades decides fixed_reader reader_degrades names
         (command.Leave (port.Publisher number)) refl taken naming order old new state answer
         (laws.publisher_leaves number old on.grown on.rise (lists_change (most, on, few))) stands step
-    each (command.Leave (port.Subscriber number)) asks (most, on, few) came step =
-        lifted payload user_header types is_default is_default_header fixed degrades decides fixed_reader reader_degrades names
+    each (command.Leave (port.Subscriber number)) asks chosen (most, on, few) came step =
+        lifted payload user_header types choices is_default_header fixed degrades decides fixed_reader reader_degrades names
         (command.Leave (port.Subscriber number)) refl taken naming order old new state answer
         (laws.subscriber_leaves number old on.grown on.rise (lists_change (most, on, few))) stands step
-    each (command.Has subscriber) asks (most, on, few) came step =
-        lifted payload user_header types is_default is_default_header fixed degrades decides fixed_reader reader_degrades names
+    each (command.Has subscriber) asks chosen (most, on, few) came step =
+        lifted payload user_header types choices is_default_header fixed degrades decides fixed_reader reader_degrades names
         (command.Has subscriber) refl taken naming order old new state answer (laws.has subscriber old on.grown) stands step
 
-  pub each_follows : CommandLaws → DecidesAsFixed fixed degrades decides → AnswersAsFixed fixed_reader reader_degrades
-      → EachFollows payload user_header types is_default is_default_header fixed degrades decides fixed_reader reader_degrades
-  each_follows laws decides_so answers_so names asked taken naming order old new state answer own asks may came stands step =
-      each laws decides_so answers_so names taken naming order old new state answer own stands asked asks may came step
+  pub each_followed : CommandLaws → (names : List (List ℕ)) (asked : Command T) (taken : MessagingPattern → List ℕ → List ℕ)
+      (naming : ℕ → Naming) (order : List (ℕ × ServicePorts T U)) (old new : NumberedHub T U B D) (state : State T) (answer : Reply T)
+      → HaveOwnHashes names → AsksAmong names asked
+      → ComesAsChosen types choices degrades decides reader_degrades asked fixed fixed_reader old answer
+      → MayBeAsked (steps_named asked) old
+      → IsCome types choices old.hub.expired_connection_buffer state
+      → HubStandsFor choices degrades decides reader_degrades names taken naming order old state
+      → hub.Step payload user_header types choices.is_default is_default_header fixed degrades decides fixed_reader reader_degrades asked
+      old (Ok answer) new
+      → IsFollowed payload user_header types choices is_default_header fixed degrades decides fixed_reader reader_degrades names asked
+      old new state answer
+  each_followed laws names asked taken naming order old new state answer own asks chosen may came stands step =
+      each laws names taken naming order old new state answer own stands asked asks chosen may came step

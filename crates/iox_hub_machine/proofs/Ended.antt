@@ -47,6 +47,7 @@ use Rattle.iox_hub_machine.proofs.Used.{Lives, lent_lives, held_lives, one_if}
 use Rattle.iox_hub_machine.specs.Ports.{ports_here, AreHere, among}
 use Rattle.iox_hub_machine.specs.Standing.{PortsStandFor, PublisherIsHandled, SubscriberIsHandled, publisher_is_up, subscriber_is_up}
 use Rattle.iox_hub_machine.specs.Standing.{lent_in, held_in}
+use Rattle.iox_machine.specs.Choices.{Choices}
 use Rattle.iox_machine.specs.Service.{Service, Publisher, Subscriber}
 use Rattle.iox_machine.specs.State.{State}
 use Rattle.iox_machine.specs.Table.{at}
@@ -123,11 +124,11 @@ module _ {T U B D : Type 0} where
       here_by true rest = here.1
       here_by false rest = (here.0, rest)
 
-  module _ (degrades : B → DegradationCause → DegradationInfo → DegradationAction → Type 0)
+  module _ (choices : Choices T) (degrades : B → DegradationCause → DegradationInfo → DegradationAction → Type 0)
       (decides : B → BackpressureInfo → BackpressureDecision → Type 0)
       (reader_degrades : D → DegradationCause → DegradationInfo → DegradationAction → Type 0) (naming : ℕ → Naming)
       (order : List (ℕ × ServicePorts T U)) (old : NumberedHub T U B D) (state : State T)
-      (stands : PortsStandFor degrades decides reader_degrades naming order old state) (number : ℕ) (domain : Domain T U B D)
+      (stands : PortsStandFor choices degrades decides reader_degrades naming order old state) (number : ℕ) (domain : Domain T U B D)
       (found : presence_of number old.hub.services.domains ≡ Some (Here domain)) (once : ComesOnce old.hub.services.domains)
       (before behind : List (ℕ × ServicePorts T U)) (now : order ≡ before ++ (number, domain.state.ports) ∷ behind)
       (first : List (Service T)) (service : Service T) (last : List (Service T)) (are : state.services ≡ first ++ service ∷ last)
@@ -240,7 +241,7 @@ module _ {T U B D : Type 0} where
     -- no loan is one of the service, nor a sample
     not_lent : (loan : ℕ) (made : MadeLoan) → value_at old.made.loans loan ≡ Some made → made.port.domain.service ≡ number → ⊥
     not_lent loan made there same =
-        let goes = loan_goes degrades decides reader_degrades naming order old state stands loan made there in
+        let goes = loan_goes choices degrades decides reader_degrades naming order old state stands loan made there in
         let (owner, lives) = lent_lives (naming number) (those_of number (lent_in old.made)) (those_of number (held_in old.made))
         old.hub.expired_connection_buffer domain.state.ports service it loan _
         (ap (λ (n : ℕ). at loan (those_of n (lent_in old.made))) (sym same) ∙ goes.mine) in
@@ -248,7 +249,7 @@ module _ {T U B D : Type 0} where
 
     not_held : (sample : ℕ) (made : MadeSample) → value_at old.made.samples sample ≡ Some made → made.port.domain.service ≡ number → ⊥
     not_held sample made there same =
-        let goes = sample_goes degrades decides reader_degrades naming order old state stands sample made there in
+        let goes = sample_goes choices degrades decides reader_degrades naming order old state stands sample made there in
         let (owner, lives) = held_lives (naming number) (those_of number (lent_in old.made)) (those_of number (held_in old.made))
         old.hub.expired_connection_buffer domain.state.ports service it sample _
         (ap (λ (n : ℕ). at sample (those_of n (held_in old.made))) (sym same) ∙ goes.mine) in
@@ -288,22 +289,23 @@ module _ {T U B D : Type 0} where
 
     handled : (id : DomainId) (port : ℕ) (publisher : Publisher T) → publisher_is_up ended_hub id port ≡ true
         → publishers_in (first ++ last) ((naming id.service).publisher port) ≡ Some publisher
-        → PublisherIsHandled degrades decides ended_hub id port publisher
+        → PublisherIsHandled choices degrades decides ended_hub id port ((naming id.service).publisher port) publisher
     handled id port publisher up there =
         let off = of_other id port up in
         let was = stands.publishers_handled id port publisher (sym (up_still id port off) ∙ up)
         (ap (λ (these : List (Service T)). publishers_in these ((naming id.service).publisher port)) are
         ∙ among_without (λ (one : Service T). one.publishers) ((naming id.service).publisher port) first service last
         (unnamed id.service port off) ∙ there) in record {
-          full = λ info decision may. was.full info decision
-              (subst (λ (kept : Option B). kept_decides decides kept info decision) (ap (publisher_handlers_in port) (same_at id off)) may);
+          full = λ info decision retries may told. was.full info decision retries
+              (subst (λ (kept : Option B). kept_decides decides kept info decision) (ap (publisher_handlers_in port) (same_at id off)) may)
+              told;
           failed = λ info action may. was.failed info action
               (subst (λ (kept : Option B). kept_degrades degrades kept info action) (ap (publisher_handlers_in port) (same_at id off)) may);
         }
 
     reader_handled : (id : DomainId) (port : ℕ) (subscriber : Subscriber) → subscriber_is_up ended_hub id port ≡ true
         → subscribers_in (first ++ last) ((naming id.service).subscriber port) ≡ Some subscriber
-        → SubscriberIsHandled reader_degrades ended_hub id port subscriber
+        → SubscriberIsHandled choices reader_degrades ended_hub id port ((naming id.service).subscriber port) subscriber
     reader_handled id port subscriber up there =
         let off = reader_of_other id port up in
         let was = stands.subscribers_handled id port subscriber (sym (reader_up_still id port off) ∙ up)
@@ -315,7 +317,7 @@ module _ {T U B D : Type 0} where
         may))
 
     -- all other ports stand
-    pub others_stay : PortsStandFor degrades decides reader_degrades naming (before ++ behind) (record old { hub = ended_hub })
+    pub others_stay : PortsStandFor choices degrades decides reader_degrades naming (before ++ behind) (record old { hub = ended_hub })
         (record state { services = first ++ last })
     others_stay = record {
       here = still_here number old.hub.services.domains stands.here;

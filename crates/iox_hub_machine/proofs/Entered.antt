@@ -47,6 +47,7 @@ use Rattle.iox_hub_machine.proofs.ServedMore.{served_more, served_still}
 use Rattle.iox_hub_machine.proofs.TableMore.{counted_more, new_goes, often_few, rising_few, still_goes, went_or_new}
 use Rattle.iox_hub_machine.specs.Seats.{factories_of_node, seats_for, seats_in}
 use Rattle.iox_hub_machine.specs.Services.{FactoriesStandFor, FactoryStands, HubStandsFor, IsServedBy, factory_as, services_in}
+use Rattle.iox_machine.specs.Choices.{Choices}
 use Rattle.iox_machine.specs.Factories.{with_open}
 use Rattle.iox_machine.specs.Phase.{Phase, Published, same_pattern}
 use Rattle.iox_machine.specs.Service.{Service, new_service}
@@ -83,13 +84,13 @@ not_publish_subscribe : {X : Type 0} (all : Settings) (c : StaticConfig) → all
     → pattern_of all ≢ PublishSubscribe → X
 not_publish_subscribe all c is off = absurd (off (ap pattern_of is))
 
-module _ {T U B D : Type 0} (degrades : B → DegradationCause → DegradationInfo → DegradationAction → Type 0)
+module _ {T U B D : Type 0} (choices : Choices T) (degrades : B → DegradationCause → DegradationInfo → DegradationAction → Type 0)
     (decides : B → BackpressureInfo → BackpressureDecision → Type 0)
     (reader_degrades : D → DegradationCause → DegradationInfo → DegradationAction → Type 0)
     (names : List (List ℕ)) (own : HaveOwnHashes names) (pattern : MessagingPattern) (name : List ℕ) (asked : IsAmong names name)
     (taken since : MessagingPattern → List ℕ → List ℕ) (goes_on : GoOn taken since) (naming : ℕ → Naming)
     (order : List (ℕ × ServicePorts T U)) (hub : NumberedHub T U B D) (state : State T)
-    (stands : HubStandsFor degrades decides reader_degrades names taken naming order hub state) (phase : Phase) (node : ℕ)
+    (stands : HubStandsFor choices degrades decides reader_degrades names taken naming order hub state) (phase : Phase) (node : ℕ)
     (opened : Opened) (table : Contents) (id : table.id ≡ hub.hub.table.id)
     (enters : IsEntered pattern name (taken pattern name) (state.phases pattern name) node phase)
     (serves : IsServiceIn node pattern name phase (since pattern name) opened)
@@ -306,9 +307,9 @@ module _ {T U B D : Type 0} (degrades : B → DegradationCause → DegradationIn
 
   same_services : (these : List (Service T)) → these ≡ state.services
       → (pattern ≡ PublishSubscribe → is_open opened.number hub.hub.services ≡ true)
-      → HubStandsFor degrades decides reader_degrades names since naming order (entered_hub hub.hub.services) (entered_state these)
+      → HubStandsFor choices degrades decides reader_degrades names since naming order (entered_hub hub.hub.services) (entered_state these)
   same_services these same new =
-      subst (λ (l : List (Service T)). HubStandsFor degrades decides reader_degrades names since naming order
+      subst (λ (l : List (Service T)). HubStandsFor choices degrades decides reader_degrades names since naming order
       (entered_hub hub.hub.services) (entered_state l)) (sym same)
       (record {
         nodes = stands.nodes;
@@ -317,7 +318,8 @@ module _ {T U B D : Type 0} (degrades : B → DegradationCause → DegradationIn
         factories = factories_then hub.hub.services state.services (λ other is. is) new;
         served = served_still hub.factories.made table_then hub.hub.services hub.hub.services still_by order (λ number is. refl)
             state.services stands.served;
-        ports = other_factories degrades decides reader_degrades naming order hub state stands.ports table (one_more hub.hub.factories)
+        ports = other_factories choices degrades decides reader_degrades naming order hub state stands.ports table
+            (one_more hub.hub.factories)
             (state.made.factories + 1) (with_factory opened.number hub.hub.factory_counts) (record { made = table_then }) pledged
             (with_phase pattern name phase state).phases
             (state.factories ++ (state.made.factories + 1, factory_got pattern name node) ∷ []);
@@ -346,7 +348,8 @@ module _ {T U B D : Type 0} (degrades : B → DegradationCause → DegradationIn
     elsewhere number is =
         ap here_if (others_there opened.number domain hub.hub.services closed number
         (λ same. true≢false (sym is ∙ ap (λ (n : ℕ). is_some (at n order)) same
-        ∙ ap is_some (not_ordered degrades decides reader_degrades naming order hub state stands.ports opened.number domain name c closed
+        ∙ ap is_some (not_ordered choices degrades decides reader_degrades naming order hub state stands.ports opened.number domain name c
+        closed
         is_new.ports agreed_is))))
 
     serves_new : IsServedBy table_then services_then opened.number (new_service {T = T} name c)
@@ -364,7 +367,7 @@ module _ {T U B D : Type 0} (degrades : B → DegradationCause → DegradationIn
           (sym (ap here_if (new_there opened.number domain hub.hub.services closed)) ∙ found))) ∙ agreed_is;
     }
 
-    new_service_stands : HubStandsFor degrades decides reader_degrades names since (with_name opened.number nameless naming)
+    new_service_stands : HubStandsFor choices degrades decides reader_degrades names since (with_name opened.number nameless naming)
         (order ++ (opened.number, domain.state.ports) ∷ []) (entered_hub services_then) (entered_state these_then)
     new_service_stands = record {
       nodes = stands.nodes;
@@ -376,7 +379,7 @@ module _ {T U B D : Type 0} (degrades : B → DegradationCause → DegradationIn
           state.services (new_service name c)
           (served_still hub.factories.made table_then hub.hub.services services_then still_by order elsewhere state.services stands.served)
           serves_new;
-      ports = one_more_domain degrades decides reader_degrades naming order
+      ports = one_more_domain choices degrades decides reader_degrades naming order
           (record hub {
             hub = record hub.hub {
               factories = one_more hub.hub.factories;
@@ -387,7 +390,7 @@ module _ {T U B D : Type 0} (degrades : B → DegradationCause → DegradationIn
             pledged = pledged;
           })
           (entered_state state.services)
-          (other_factories degrades decides reader_degrades naming order hub state stands.ports table (one_more hub.hub.factories)
+          (other_factories choices degrades decides reader_degrades naming order hub state stands.ports table (one_more hub.hub.factories)
           (state.made.factories + 1) (with_factory opened.number hub.hub.factory_counts) (record { made = table_then }) pledged
           (with_phase pattern name phase state).phases
           (state.factories ++ (state.made.factories + 1, factory_got pattern name node) ∷ []))
@@ -432,14 +435,15 @@ module _ {T U B D : Type 0} (degrades : B → DegradationCause → DegradationIn
     -- the hub stands for the machine with these services
     abbrev StandsWith : OpenServices T U B D → List (Service T) → Type 0
     StandsWith services these = (names_then : ℕ → Naming) × (order_then : List (ℕ × ServicePorts T U))
-        × HubStandsFor degrades decides reader_degrades names since names_then order_then (entered_hub services) (entered_state these)
+        × HubStandsFor choices degrades decides reader_degrades names since names_then order_then (entered_hub services)
+        (entered_state these)
 
     same_hub : (services : OpenServices T U B D) (these : List (Service T)) → services ≡ hub.hub.services → these ≡ state.services
         → (pattern ≡ PublishSubscribe → is_open opened.number hub.hub.services ≡ true) → StandsWith services these
     same_hub services these same unchanged new = (
       naming,
       order,
-      subst (λ (s : OpenServices T U B D). HubStandsFor degrades decides reader_degrades names since naming order (entered_hub s)
+      subst (λ (s : OpenServices T U B D). HubStandsFor choices degrades decides reader_degrades names since naming order (entered_hub s)
           (entered_state these)) (sym same) (same_services these unchanged new),
     )
 
@@ -465,10 +469,10 @@ module _ {T U B D : Type 0} (degrades : B → DegradationCause → DegradationIn
     settles (settings.PublishSubscribe c) is services (inr (closed, fit, (domain, is_new, same))) = (
       with_name opened.number nameless naming,
       order ++ (opened.number, domain.state.ports) ∷ [],
-      subst (λ (s : OpenServices T U B D). HubStandsFor degrades decides reader_degrades names since
+      subst (λ (s : OpenServices T U B D). HubStandsFor choices degrades decides reader_degrades names since
           (with_name opened.number nameless naming) (order ++ (opened.number, domain.state.ports) ∷ []) (entered_hub s)
           (entered_state (these_by (settings.PublishSubscribe c)))) (sym same)
-          (subst (λ (b : Bool). HubStandsFor degrades decides reader_degrades names since (with_name opened.number nameless naming)
+          (subst (λ (b : Bool). HubStandsFor choices degrades decides reader_degrades names since (with_name opened.number nameless naming)
           (order ++ (opened.number, domain.state.ports) ∷ []) (entered_hub (services_then c is domain is_new closed))
           (entered_state (cond b state.services (state.services ++ new_service name c ∷ []))))
           (sym (sym (open_there (sym described.0 ∙ ap pattern_of is)) ∙ closed))
@@ -490,7 +494,7 @@ module _ {T U B D : Type 0} (degrades : B → DegradationCause → DegradationIn
         → Opens payload user_header hub.hub.expired_connection_buffer opened.number opened.description.settings hub.hub.services (Ok tt)
         services
         → (names_then : ℕ → Naming) × (order_then : List (ℕ × ServicePorts T U))
-        × HubStandsFor degrades decides reader_degrades names since names_then order_then (entered_hub services)
+        × HubStandsFor choices degrades decides reader_degrades names since names_then order_then (entered_hub services)
         (entered_state (with_open name phase state.services))
     entered_stands services opens =
         subst (λ (these : List (Service T)). StandsWith services these) (sym (these_open phase serves))

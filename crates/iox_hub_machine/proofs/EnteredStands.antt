@@ -19,22 +19,24 @@ use Rattle.iox_hub_machine.proofs.Answered.{HasEntered, StandsEntered, with_fact
 use Rattle.iox_hub_machine.proofs.Entered.{entered_stands}
 use Rattle.iox_hub_machine.proofs.FittingThen.{FitsHere}
 use Rattle.iox_hub_machine.specs.Services.{HubStandsFor}
+use Rattle.iox_machine.specs.Choices.{Choices}
 use Rattle.iox_machine.specs.Phase.{Own, Phase, Published, entered}
 use Rattle.iox_machine.specs.State.{State}
 use Rattle.iox_negotiate_machine.specs.CallLaws.{IsServiceIn}
 use Rattle.iox_negotiate_machine.specs.Laws.{HaveOwnHashes}
 
 module _ {T U B D : Type 0} (payload user_header : Detail)
-    (degrades : B → DegradationCause → DegradationInfo → DegradationAction → Type 0)
+    (choices : Choices T) (degrades : B → DegradationCause → DegradationInfo → DegradationAction → Type 0)
     (decides : B → BackpressureInfo → BackpressureDecision → Type 0)
     (reader_degrades : D → DegradationCause → DegradationInfo → DegradationAction → Type 0)
     (names : List (List ℕ)) (own : HaveOwnHashes names) (pattern : MessagingPattern) (name : List ℕ) (asked : IsAmong names name)
     (taken : MessagingPattern → List ℕ → List ℕ) (naming : ℕ → Naming) (order : List (ℕ × ServicePorts T U)) (node : ℕ)
     (old new : NumberedHub T U B D) (state : State T)
-    (stands : HubStandsFor degrades decides reader_degrades names taken naming order old state)
+    (stands : HubStandsFor choices degrades decides reader_degrades names taken naming order old state)
     (rises : Rises 1 old.factories.made.entries old.factories.made.next) (few : old.factories.made.next + 1 < 2 ^ 64) where
   abbrev Entered : Phase → Opened → FactoryTable → Type 0
-  Entered phase service roomier = HasEntered payload user_header degrades decides reader_degrades names own pattern name asked taken naming
+  Entered phase service roomier
+      = HasEntered payload user_header choices degrades decides reader_degrades names own pattern name asked taken naming
       order node old new state stands phase service roomier
 
   fits_there : (phase : Phase) (service : Opened) (roomier : FactoryTable) → Entered phase service roomier
@@ -53,18 +55,21 @@ module _ {T U B D : Type 0} (payload user_header : Detail)
       (λ i. record { entries = it.numbered.0 i; next = it.numbered.1 i; room = roomier.room })
 
   -- the hub stands for the machine with the factory
-  pub stands_entered : StandsEntered payload user_header degrades decides reader_degrades names own pattern name asked taken naming order
+  pub stands_entered : StandsEntered payload user_header choices degrades decides reader_degrades names own pattern name asked taken
+      naming order
       node old new state stands
   stands_entered phase service roomier it =
-      let all = entered_stands degrades decides reader_degrades names own pattern name asked taken it.since it.goes_on naming order old
+      let all = entered_stands choices degrades decides reader_degrades names own pattern name asked taken it.since it.goes_on naming
+      order old
       state stands phase node service it.end it.id it.enters it.serves it.stands_then rises few roomier.room new.pledged it.made it.kind
       it.parts payload user_header (fits_there phase service roomier it) new.hub.services it.opens in
       let table = table_is phase service roomier it in (
         it.since,
         all.0,
         all.1,
-        subst (λ (hub : NumberedHub T U B D). HubStandsFor degrades decides reader_degrades names it.since all.0 all.1 hub
-            (with_factory_in payload user_header degrades decides reader_degrades names own pattern name asked taken naming order node old
+        subst (λ (hub : NumberedHub T U B D). HubStandsFor choices degrades decides reader_degrades names it.since all.0 all.1 hub
+            (with_factory_in payload user_header choices degrades decides reader_degrades names own pattern name asked taken naming order
+            node old
             new state stands phase))
             (sym (λ i. record {
               hub = it.is i;

@@ -1,11 +1,12 @@
 -- A service that is opened, or created, has messages of the types of the hub.
-use Rattle.std.proofs.Common.{◌≡◌, Bool, true, false, cond, List, ◌∷◌, Result, Ok, Err, refl, ap, subst}
+use Rattle.std.proofs.Common.{◌≡◌, Bool, true, false, cond, List, ◌∷◌, Result, Ok, Err, refl, ap, subst, sym, inl}
 use Rattle.std.proofs.Common.{inr, arith}
 use Rattle.iox_command.specs.NegotiateBase.DescribeBase.Attributes.{Required}
 use Rattle.iox_command.specs.NegotiateBase.DescribeBase.Detail.{Detail}
 use Rattle.iox_command.specs.NegotiateBase.DescribeBase.declared.attribute.Attribute.{Attribute}
 use Rattle.iox_command.specs.NegotiateBase.DescribeBase.declared.message_type.MessageTypeDetails.{MessageTypeDetails}
-use Rattle.iox_command.specs.NegotiateBase.DescribeBase.declared.type_detail.TypeVariant.TheVariants.{Dynamic}
+use Rattle.iox_command.specs.NegotiateBase.DescribeBase.declared.type_detail.TypeVariant.{TypeVariant}
+use Rattle.iox_command.specs.NegotiateBase.DescribeBase.declared.type_detail.TypeVariant.TheVariants.{Dynamic, FixedSize}
 use Rattle.iox_command.specs.NegotiateBase.DescribeSettings.Agreement.{AreWithinLimits}
 use Rattle.iox_command.specs.NegotiateBase.DescribeSettings.declared.static_config.Settings.{Settings}
 use Rattle.iox_command.specs.NegotiateBase.DescribeSettings.declared.static_config.Settings.TheVariants as settings
@@ -30,11 +31,17 @@ second_met {E} first error false rest is = absurd (differ is)
     differ e = cc
 
 module _ (payload user_header : Detail) where
-  abbrev slices : MessageTypeDetails
-  slices = asked_types Dynamic payload user_header
+  -- Publish-subscribe settings fit the hub, where they are within the limits.
+  abbrev pub FitsHere : Settings → Type 0
+  FitsHere all = (c : StaticConfig) → all ≡ settings.PublishSubscribe c → AreWithinLimits all → Fits payload user_header all
 
-  stood_for_so : (given : MessageTypeDetails) (any_value any_header : Bool) → IsCompatible slices given
-      → IsCompatible (asked_types Dynamic (cond any_value given.payload payload) (cond any_header given.user_header user_header)) given
+module _ (payload user_header : Detail) (variant : TypeVariant) where
+  -- the types that are asked for
+  abbrev types : MessageTypeDetails
+  types = asked_types variant payload user_header
+
+  stood_for_so : (given : MessageTypeDetails) (any_value any_header : Bool) → IsCompatible types given
+      → IsCompatible (asked_types variant (cond any_value given.payload payload) (cond any_header given.user_header user_header)) given
   stood_for_so given true true fit = record {
     header = fit.header;
     user_header = refl;
@@ -68,16 +75,24 @@ module _ (payload user_header : Detail) where
     alignment = fit.alignment;
   }
 
-  -- types that a builder over slices finds compatible fit
-  types_fit : (given : MessageTypeDetails) → IsCompatible slices given → FitTypes payload user_header given
-  types_fit given fit =
-      inr (compatible-from _ _ (stood_for_so given (same_detail payload any_payload) (same_detail user_header any_user_header) fit))
+  -- types that a builder over values or over slices finds compatible fit
+  types_fit : (given : MessageTypeDetails) → IsCompatible types given → FitTypes payload user_header given
+  types_fit given fit = by_variant variant refl
+    where
+      of : TypeVariant → MessageTypeDetails
+      of one = asked_types one (cond (same_detail payload any_payload) given.payload payload)
+          (cond (same_detail user_header any_user_header) given.user_header user_header)
 
-  -- Publish-subscribe settings fit the hub, where they are within the limits.
-  abbrev pub FitsHere : Settings → Type 0
-  FitsHere all = (c : StaticConfig) → all ≡ settings.PublishSubscribe c → AreWithinLimits all → Fits payload user_header all
+      by_variant : (one : TypeVariant) → one ≡ variant → FitTypes payload user_header given
+      by_variant FixedSize is =
+          inl (compatible-from _ _ (subst (λ (it : TypeVariant). IsCompatible (of it) given) (sym is)
+          (stood_for_so given (same_detail payload any_payload) (same_detail user_header any_user_header) fit)))
+      by_variant Dynamic is =
+          inr (compatible-from _ _ (subst (λ (it : TypeVariant). IsCompatible (of it) given) (sym is)
+          (stood_for_so given (same_detail payload any_payload) (same_detail user_header any_user_header) fit)))
 
-  fits_there : (all : Settings) → ((c : StaticConfig) → all ≡ settings.PublishSubscribe c → IsCompatible slices c.types) → FitsHere all
+  fits_there : (all : Settings) → ((c : StaticConfig) → all ≡ settings.PublishSubscribe c → IsCompatible types c.types)
+      → FitsHere payload user_header all
   fits_there all compatible c is within = (c, is, within, types_fit c.types (compatible c is))
 
   met_types : (types : MessageTypeDetails) (required : Required) (named : PublishSubscribeOptions) (attributes : List Attribute)
@@ -88,22 +103,22 @@ module _ (payload user_header : Detail) where
 
   -- what is opened fits
   pub met_fits : (required : Required) (named : PublishSubscribeOptions) (agreed : Agreement)
-      → publish_subscribe_verdict slices required named agreed ≡ Ok tt → FitsHere agreed.settings
+      → publish_subscribe_verdict types required named agreed ≡ Ok tt → FitsHere payload user_header agreed.settings
   met_fits required named agreed met = fits_there agreed.settings
-      (λ c is. compatible-true slices c.types (met_types slices required named agreed.attributes c
-      (subst (λ (s : Settings). publish_subscribe_verdict slices required named (record { settings = s; attributes = agreed.attributes })
+      (λ c is. compatible-true types c.types (met_types types required named agreed.attributes c
+      (subst (λ (s : Settings). publish_subscribe_verdict types required named (record { settings = s; attributes = agreed.attributes })
       ≡ Ok tt) is met)))
 
   types_of_new : (named : PublishSubscribeOptions) (c : StaticConfig)
-      → settings_of slices (options.PublishSubscribe named) ≡ settings.PublishSubscribe c → slices ≡ c.types
+      → settings_of types (options.PublishSubscribe named) ≡ settings.PublishSubscribe c → types ≡ c.types
   types_of_new named c is = ap types_in is
     where
       types_in : Settings → MessageTypeDetails
       types_in (settings.PublishSubscribe other) = other.types
-      types_in other = slices
+      types_in other = types
 
   -- what is new fits
-  pub new_fits : (named : PublishSubscribeOptions) → FitsHere (settings_of slices (options.PublishSubscribe named))
-  new_fits named = fits_there (settings_of slices (options.PublishSubscribe named))
-      (λ c is. subst (λ (t : MessageTypeDetails). IsCompatible slices t) (types_of_new named c is)
+  pub new_fits : (named : PublishSubscribeOptions) → FitsHere payload user_header (settings_of types (options.PublishSubscribe named))
+  new_fits named = fits_there (settings_of types (options.PublishSubscribe named))
+      (λ c is. subst (λ (t : MessageTypeDetails). IsCompatible types t) (types_of_new named c is)
       (record { header = refl; user_header = refl; variant = refl; name = refl; size = refl; alignment = omega arith }))

@@ -41,6 +41,7 @@ use Rattle.iox_hub_base.proofs.SameTable.{acts-keep}
 use Rattle.iox_hub_machine.specs.Seats.{seats_in}
 use Rattle.iox_hub_machine.specs.ServiceLaws.{ForeignMatches, IsFollowed}
 use Rattle.iox_hub_machine.specs.Services.{FactoryStands, HubStandsFor}
+use Rattle.iox_machine.specs.Choices.{Choices}
 use Rattle.iox_machine.specs.AgreementLaws.{life_of}
 use Rattle.iox_machine.specs.Phase.{Phase, acted, same_pattern}
 use Rattle.iox_machine.specs.Run as machine
@@ -96,11 +97,11 @@ module _ {T : Type 0} (names : List (List ℕ)) (own : HaveOwnHashes names) (typ
 
   -- ---- the hub
 
-  module _ {U B D : Type 0} (degrades : B → DegradationCause → DegradationInfo → DegradationAction → Type 0)
+  module _ {U B D : Type 0} (choices : Choices T) (degrades : B → DegradationCause → DegradationInfo → DegradationAction → Type 0)
       (decides : B → BackpressureInfo → BackpressureDecision → Type 0)
       (reader_degrades : D → DegradationCause → DegradationInfo → DegradationAction → Type 0)
       (naming : ℕ → Naming) (order : List (ℕ × ServicePorts T U)) (hub : NumberedHub T U B D) (table : Contents)
-      (stands : HubStandsFor degrades decides reader_degrades names taken naming order hub state) (id : table.id ≡ hub.hub.table.id)
+      (stands : HubStandsFor choices degrades decides reader_degrades names taken naming order hub state) (id : table.id ≡ hub.hub.table.id)
       (since : MessagingPattern → List ℕ → List ℕ) (goes_on : GoOn taken since)
       (stands_then : TableStands names since table after_steps) where
     factory_then : (number : ℕ) (made : MadeFactory) → FactoryStands names taken hub.hub.table state number made
@@ -121,7 +122,7 @@ module _ {T : Type 0} (names : List (List ℕ)) (own : HaveOwnHashes names) (typ
               is.1;
         }
 
-    pub hub_then : HubStandsFor degrades decides reader_degrades names since naming order
+    pub hub_then : HubStandsFor choices degrades decides reader_degrades names since naming order
         (record hub { hub = record hub.hub { table = table } }) after_steps
     hub_then = record {
       nodes = stands.nodes;
@@ -137,7 +138,7 @@ module _ {T : Type 0} (names : List (List ℕ)) (own : HaveOwnHashes names) (typ
         opened = stands.factories.opened;
       };
       served = stands.served;
-      ports = ports_stay degrades decides reader_degrades naming order hub state table hub.hub.nodes state.made.nodes hub.factories
+      ports = ports_stay choices degrades decides reader_degrades naming order hub state table hub.hub.nodes state.made.nodes hub.factories
           hub.pledged
           after_steps.phases stands.ports;
     }
@@ -146,7 +147,7 @@ some_steps : (steps : List ForeignStep) → (steps ≡ [] → ⊥) → nat_lt 0 
 some_steps [] some = absurd (some refl)
 some_steps (one ∷ steps) some = lt-ltb 0 (length (one ∷ steps)) (omega arith)
 
-module _ {T U B D : Type 0} (payload user_header : Detail) (types : MessageTypeDetails) (is_default : T → Type 0)
+module _ {T U B D : Type 0} (payload user_header : Detail) (types : MessageTypeDetails) (choices : Choices T)
     (is_default_header : U → Type 0) (fixed : BackpressureStrategy → Option BackpressureAction → DegradationAction → B)
     (degrades : B → DegradationCause → DegradationInfo → DegradationAction → Type 0)
     (decides : B → BackpressureInfo → BackpressureDecision → Type 0) (fixed_reader : DegradationAction → D)
@@ -155,7 +156,7 @@ module _ {T U B D : Type 0} (payload user_header : Detail) (types : MessageTypeD
       (taken : MessagingPattern → List ℕ → List ℕ) (naming : ℕ → Naming)
       (order : List (ℕ × ServicePorts T U)) (old new : NumberedHub T U B D) (state : State T) (answer : Reply T) (own : HaveOwnHashes names)
       (room : old.hub.table.next + length steps < 2 ^ 64)
-      (stands : HubStandsFor degrades decides reader_degrades names taken naming order old state) where
+      (stands : HubStandsFor choices degrades decides reader_degrades names taken naming order old state) where
     -- the machine after some of the steps
     abbrev after : List ForeignStep → State T
     after some = after_steps names own types pattern name asked taken some state
@@ -164,8 +165,8 @@ module _ {T U B D : Type 0} (payload user_header : Detail) (types : MessageTypeD
     settled : (table : Contents) (some : List ForeignStep) → new ≡ record old { hub = record old.hub { table = table } }
         → table.id ≡ old.hub.table.id
         → (since : MessagingPattern → List ℕ → List ℕ) → GoOn taken since → TableStands names since table (after some)
-        → machine.Step types is_default old.hub.expired_connection_buffer (command.Foreign pattern name steps) state answer (after some)
-        → IsFollowed payload user_header types is_default is_default_header fixed degrades decides fixed_reader reader_degrades names
+        → machine.Step types choices old.hub.expired_connection_buffer (command.Foreign pattern name steps) state answer (after some)
+        → IsFollowed payload user_header types choices is_default_header fixed degrades decides fixed_reader reader_degrades names
         (command.Foreign pattern name steps) old new state answer
     settled table some is id since goes_on stands_then step = record {
       taken = since;
@@ -173,10 +174,11 @@ module _ {T U B D : Type 0} (payload user_header : Detail) (types : MessageTypeD
       order = order;
       after = after some;
       step = step;
-      stands = subst (λ (hub : NumberedHub T U B D). HubStandsFor degrades decides reader_degrades names since naming order hub
+      stands = subst (λ (hub : NumberedHub T U B D). HubStandsFor choices degrades decides reader_degrades names since naming order hub
           (after some))
           (sym is)
-          (hub_then names own types pattern name asked taken some state degrades decides reader_degrades naming order old table stands id
+          (hub_then names own types pattern name asked taken some state choices degrades decides reader_degrades naming order old table
+          stands id
           since
           goes_on stands_then);
     }
@@ -185,7 +187,7 @@ module _ {T U B D : Type 0} (payload user_header : Detail) (types : MessageTypeD
         → AllByRecursion (HasStepForm types name) steps
         → ActsAll (service_hash_of pattern name) (map (table_step_of types name) steps) old.hub.table happened new.hub.table
         → new ≡ record old { hub = record old.hub { table = new.hub.table } }
-        → IsFollowed payload user_header types is_default is_default_header fixed degrades decides fixed_reader reader_degrades names
+        → IsFollowed payload user_header types choices is_default_header fixed degrades decides fixed_reader reader_degrades names
         (command.Foreign pattern name steps) old new state answer
     acted_then (Ok done) replied form did is =
         let all = steps-match T names types pattern name steps taken old.hub.table new.hub.table (Ok done) state own asked form room
@@ -199,7 +201,7 @@ module _ {T U B D : Type 0} (payload user_header : Detail) (types : MessageTypeD
 
     -- where no memory was found for the list of steps none is done
     none_done : (steps ≡ [] → ⊥) → answer ≡ reply.Refused (refusal.Hub OutOfMemory) → new ≡ old
-        → IsFollowed payload user_header types is_default is_default_header fixed degrades decides fixed_reader reader_degrades names
+        → IsFollowed payload user_header types choices is_default_header fixed degrades decides fixed_reader reader_degrades names
         (command.Foreign pattern name steps) old new state answer
     none_done some replied is =
         settled old.hub.table [] is refl (later names own pattern name asked taken []) (goes-on names own pattern name asked taken [])
@@ -208,9 +210,10 @@ module _ {T U B D : Type 0} (payload user_header : Detail) (types : MessageTypeD
         (stands.table.phases pattern name asked))
         (inr (0, some_steps steps some, (replied, refl)))
 
-    pub followed : hub.Step payload user_header types is_default is_default_header fixed degrades decides fixed_reader reader_degrades
+    pub followed : hub.Step payload user_header types choices.is_default is_default_header fixed degrades decides fixed_reader
+        reader_degrades
         (command.Foreign pattern name steps) old (Ok answer) new
-        → IsFollowed payload user_header types is_default is_default_header fixed degrades decides fixed_reader reader_degrades names
+        → IsFollowed payload user_header types choices is_default_header fixed degrades decides fixed_reader reader_degrades names
         (command.Foreign pattern name steps) old new state answer
     followed (acted, inl (((happened, did, is), same), forms), other, replied) =
         acted_then happened (replied ∙ ap foreign_reply is)
@@ -221,7 +224,7 @@ module _ {T U B D : Type 0} (payload user_header : Detail) (types : MessageTypeD
     followed (acted, inr (some, is, same), other, replied) =
         none_done some (replied ∙ ap foreign_reply is) (other ∙ ap (λ (h : Hub T U B D). record old { hub = h }) same)
 
-  pub foreign_matches : ForeignMatches payload user_header types is_default is_default_header fixed degrades decides fixed_reader
+  pub foreign_matches : ForeignMatches payload user_header types choices is_default_header fixed degrades decides fixed_reader
       reader_degrades
   foreign_matches names pattern name steps asked own taken naming order old new state answer room stands does =
       followed names pattern name steps asked taken naming order old new state answer own room stands does

@@ -36,6 +36,7 @@ use Rattle.iox_hub_machine.proofs.Deciding.{DecideAlike, DecidesAlike, same_port
 use Rattle.iox_hub_machine.proofs.Going.{same_stands, some_service}
 use Rattle.iox_hub_machine.proofs.Moving.{IsMatched, ports_alone}
 use Rattle.iox_hub_machine.proofs.Placed.{publisher_up, publisher_as}
+use Rattle.iox_machine.specs.Choices.{Choices}
 use Rattle.iox_machine.specs.Ports.{publisher_in}
 use Rattle.iox_machine.specs.Replies.{IsSkipped}
 use Rattle.iox_machine.specs.Service.{Service, Publisher, Send, with_publisher}
@@ -89,23 +90,23 @@ pub is_found : {T : Type 0} (found : Option (Publisher T)) → publisher_up foun
 is_found None up = absurd (true≢false (sym up))
 is_found (Some publisher) up = refl
 
-module _ {T U B D : Type 0} (is_default : T → Type 0) (is_default_header : U → Type 0)
+module _ {T U B D : Type 0} (choices : Choices T) (is_default_header : U → Type 0)
     (degrades : B → DegradationCause → DegradationInfo → DegradationAction → Type 0)
     (decides : B → BackpressureInfo → BackpressureDecision → Type 0)
     (reader_degrades : D → DegradationCause → DegradationInfo → DegradationAction → Type 0) where
   module _ (types : MessageTypeDetails) (naming : ℕ → Naming) (order : List (ℕ × ServicePorts T U)) (old new : NumberedHub T U B D)
       (state : State T)
-      (stands : PortsStandFor degrades decides reader_degrades naming order old state) (number : ℕ)
+      (stands : PortsStandFor choices degrades decides reader_degrades naming order old state) (number : ℕ)
       (same : new ≡ record old { hub = new.hub })
     where
       give_up_by : (count : Option ℕ) (found : Option PortId) → port_under (value_at old.made.publishers number) ≡ found
           → AtPort (GivesUp hub_ports with_hub_ports) found old.hub count new.hub
-          → IsMatched degrades decides reader_degrades types is_default naming order old state (command.GiveUp number)
+          → IsMatched degrades decides reader_degrades types choices naming order old state (command.GiveUp number)
           (given_up_reply count)
           stands
           new
       give_up_by count None none (nothing, changes) =
-          subst (λ (it : Option ℕ). IsMatched degrades decides reader_degrades types is_default naming order old state
+          subst (λ (it : Option ℕ). IsMatched degrades decides reader_degrades types choices naming order old state
           (command.GiveUp number)
           (given_up_reply it) stands new) (sym nothing) (
             naming,
@@ -113,8 +114,8 @@ module _ {T U B D : Type 0} (is_default : T → Type 0) (is_default_header : U �
             state.services,
             refl,
             at_one_skips (publisher_in number) (GivesAt number) state
-                (no_publisher_goes degrades decides reader_degrades naming order old state stands number none),
-            same_stands degrades decides reader_degrades naming order old state stands number new changes
+                (no_publisher_goes choices degrades decides reader_degrades naming order old state stands number none),
+            same_stands choices degrades decides reader_degrades naming order old state stands number new changes
                 (ap (λ (it : NumberedHub T U B D). it.made) same),
           )
       give_up_by count (Some port) there gives =
@@ -126,30 +127,30 @@ module _ {T U B D : Type 0} (is_default : T → Type 0) (is_default_header : U �
           let buffer = old.hub.expired_connection_buffer in
           let (after, does, changes) = subst (λ (it : Option (ServicePorts T U)). AtDomain
           (λ (one : ServicePorts T U). with_hub_ports id one old.hub) (GivesUpBy port.number) it old.hub count new.hub) found gives in
-          let (one, its) = some_service degrades decides reader_degrades naming order old state stands id ports found in
+          let (one, its) = some_service choices degrades decides reader_degrades naming order old state stands id ports found in
           let up = sym (publisher_as (naming id.service) lent held buffer ports one its port.number)
           ∙ sym (ap (publisher_stands port.number) found) ∙ known.1 in
           let some : (naming id.service).publisher port.number ≢ 0 =
           (its.named_publishers.each ((naming id.service).publisher port.number)
           (is_found (at ((naming id.service).publisher port.number) one.publishers) up)).2 in
-          ports_alone degrades decides reader_degrades types is_default naming order old state (command.GiveUp number)
+          ports_alone degrades decides reader_degrades types choices naming order old state (command.GiveUp number)
           (given_up_reply count)
           stands
           new id ports after found (same ∙ ap (λ (hub : Hub T U B D). record old { hub = hub }) changes) (gave_counts T count state.made)
           (port.number, known.0, λ zero. some (known.0 ∙ zero))
           (λ first service last are stood.
-          subst (λ (it : Reply T). Matches T U is_default types buffer (command.GiveUp number) it state service (naming id.service) lent
+          subst (λ (it : Reply T). Matches T U choices types buffer (command.GiveUp number) it state service (naming id.service) lent
           held
           after) (sym (gave_so count))
-          (subst (λ (name : ℕ). Matches T U is_default types buffer (command.GiveUp name) (gave_up_or_skipped count) state service
+          (subst (λ (name : ℕ). Matches T U choices types buffer (command.GiveUp name) (gave_up_or_skipped count) state service
           (naming id.service) lent held after) known.0
-          (give_up_matches T U is_default types buffer (naming id.service) lent held ports after service state port.number count stood some
+          (give_up_matches T U choices types buffer (naming id.service) lent held ports after service state port.number count stood some
           does)))
           (λ services did. giving_alike number state (answered_with (given_up_reply count) services state) (given_up_reply count) did)
 
-  pub give_up_simulated : GiveUpIsSimulated is_default is_default_header degrades decides reader_degrades
+  pub give_up_simulated : GiveUpIsSimulated choices is_default_header degrades decides reader_degrades
   give_up_simulated number old payload user_header types fixed fixed_reader naming order new state answer stands
       ((count, gives, told), same) =
-      subst (λ (it : Reply T). IsMatched degrades decides reader_degrades types is_default naming order old state (command.GiveUp number) it
+      subst (λ (it : Reply T). IsMatched degrades decides reader_degrades types choices naming order old state (command.GiveUp number) it
       stands new) (sym told)
       (give_up_by types naming order old new state stands number same count (port_under (value_at old.made.publishers number)) refl gives)

@@ -25,6 +25,7 @@ use Rattle.iox_hub_machine.proofs.Housed.{some_here, some_ports, stands_here}
 use Rattle.iox_hub_machine.proofs.Numbered.{goes_so, is_its_own, no_loan, no_sample}
 use Rattle.iox_hub_machine.proofs.Parting.{is_parted, order_has}
 use Rattle.iox_hub_machine.proofs.Placed.{is_placed}
+use Rattle.iox_machine.specs.Choices.{Choices}
 use Rattle.iox_machine.specs.Service.{Service}
 use Rattle.iox_machine.specs.State.{State}
 use Rattle.iox_machine.specs.Table.{at}
@@ -48,11 +49,11 @@ module _ {T U B D : Type 0} where
         mine = is_its_own id.service number value table goes;
       }
 
-  module _ (degrades : B → DegradationCause → DegradationInfo → DegradationAction → Type 0)
+  module _ (choices : Choices T) (degrades : B → DegradationCause → DegradationInfo → DegradationAction → Type 0)
       (decides : B → BackpressureInfo → BackpressureDecision → Type 0)
       (reader_degrades : D → DegradationCause → DegradationInfo → DegradationAction → Type 0) (naming : ℕ → Naming)
       (order : List (ℕ × ServicePorts T U)) (old : NumberedHub T U B D) (state : State T)
-      (stands : PortsStandFor degrades decides reader_degrades naming order old state)
+      (stands : PortsStandFor choices degrades decides reader_degrades naming order old state)
       (number : ℕ) where
     pub loan_goes : (made : MadeLoan) → value_at old.made.loans number ≡ Some made
         → GoesThere old made.port.domain number (lent_slot made).1 (lent_in old.made)
@@ -82,10 +83,12 @@ module _ {T U B D : Type 0} where
 
     -- a hub that has the same services and numbers
     pub same_stands : (new : NumberedHub T U B D) → new.hub ≡ old.hub → new.made ≡ old.made
-        → PortsStandFor degrades decides reader_degrades naming order new state
+        → PortsStandFor choices degrades decides reader_degrades naming order new state
     same_stands new same made =
-        subst (λ (it : Hub T U B D). PortsStandFor degrades decides reader_degrades naming order (record new { hub = it }) state) (sym same)
-        (subst (λ (it : Made). PortsStandFor degrades decides reader_degrades naming order (record new { hub = old.hub; made = it }) state)
+        subst (λ (it : Hub T U B D). PortsStandFor choices degrades decides reader_degrades naming order (record new { hub = it }) state)
+        (sym same)
+        (subst (λ (it : Made). PortsStandFor choices degrades decides reader_degrades naming order
+        (record new { hub = old.hub; made = it }) state)
         (sym made) record {
           here = stands.here;
           same = stands.same;
@@ -101,11 +104,11 @@ module _ {T U B D : Type 0} where
           subscribers_handled = stands.subscribers_handled;
         })
 
-  module _ (degrades : B → DegradationCause → DegradationInfo → DegradationAction → Type 0)
+  module _ (choices : Choices T) (degrades : B → DegradationCause → DegradationInfo → DegradationAction → Type 0)
       (decides : B → BackpressureInfo → BackpressureDecision → Type 0)
       (reader_degrades : D → DegradationCause → DegradationInfo → DegradationAction → Type 0) (naming : ℕ → Naming)
       (order : List (ℕ × ServicePorts T U)) (old : NumberedHub T U B D) (state : State T)
-      (stands : PortsStandFor degrades decides reader_degrades naming order old state) where
+      (stands : PortsStandFor choices degrades decides reader_degrades naming order old state) where
     -- the ports of a domain stand for some service of the machine
     pub some_service : (id : DomainId) (ports : ServicePorts T U) → hub_ports id old.hub ≡ Some ports
         → (service : Service T) × StandsFor (naming id.service) (those_of id.service (lent_in old.made))

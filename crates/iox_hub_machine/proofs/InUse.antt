@@ -46,6 +46,7 @@ use Rattle.iox_hub_machine.proofs.Placed.{comes_alone}
 use Rattle.iox_hub_machine.proofs.Used.{Lives, both_pass, lives_counts, lives_uses, some_lives, used_lives, Uses, uses_used, one_if}
 use Rattle.iox_hub_machine.specs.Services.{AreServedInTurn, FactoryStands, HubStandsFor, IsServedBy, factory_as}
 use Rattle.iox_hub_machine.specs.Standing.{lent_in, held_in}
+use Rattle.iox_machine.specs.Choices.{Choices}
 use Rattle.iox_machine.proofs.Names.{name-is, pattern-is}
 use Rattle.iox_machine.specs.Closing.{is_used_by}
 use Rattle.iox_machine.specs.NumberLaws.{numbers_in}
@@ -193,12 +194,12 @@ kind_of node pattern name table taken other opened lies is = absurd is
 
 -- ---- the factories of a hub
 
-module _ {T U B D : Type 0} (degrades : B → DegradationCause → DegradationInfo → DegradationAction → Type 0)
+module _ {T U B D : Type 0} (choices : Choices T) (degrades : B → DegradationCause → DegradationInfo → DegradationAction → Type 0)
     (decides : B → BackpressureInfo → BackpressureDecision → Type 0)
     (reader_degrades : D → DegradationCause → DegradationInfo → DegradationAction → Type 0)
     (names : List (List ℕ)) (taken : MessagingPattern → List ℕ → List ℕ) (naming : ℕ → Naming) (order : List (ℕ × ServicePorts T U))
     (old : NumberedHub T U B D) (state : State T)
-    (stands : HubStandsFor degrades decides reader_degrades names taken naming order old state)
+    (stands : HubStandsFor choices degrades decides reader_degrades names taken naming order old state)
     (agree : FactoriesAgree old.factories.made) where
   abbrev IsTaken : ℕ → MessagingPattern → List ℕ → Type 0
   IsTaken which pattern name = IsLast (λ (last : ℕ). which ≡ last) (taken pattern name)
@@ -382,7 +383,8 @@ module _ {T U B D : Type 0} (degrades : B → DegradationCause → DegradationIn
           ap (list_any is_used) mine.are
           ∙ any_among is_used mine.first mine.service mine.last
           (and_from (is_service_of (factory_as made) mine.service) (is_used_by number mine.service)
-          (is_its_own degrades decides reader_degrades names taken naming order old state stands agree number made there kind mine.service
+          (is_its_own choices degrades decides reader_degrades names taken naming order old state stands agree number made there kind
+          mine.service
           mine.served)
           (uses_used number mine.service (subst (λ (n : ℕ). Uses n mine.service) same uses)))
 
@@ -440,7 +442,8 @@ module _ {T U B D : Type 0} (degrades : B → DegradationCause → DegradationIn
               → IsServedBy old.factories.made old.hub.services other service → is_used service ≡ false
           others other service off served =
               ap (λ (b : Bool). b && is_used_by number service)
-              (is_another degrades decides reader_degrades names taken naming order old state stands agree number made there kind other
+              (is_another choices degrades decides reader_degrades names taken naming order old state stands agree number made there kind
+              other
               service off served)
 
     -- a factory that is in use the machine uses

@@ -23,6 +23,7 @@ use Rattle.iox_hub_machine.specs.Standing.{PortsStandFor, lent_in, held_in}
 use Rattle.iox_hub_machine.proofs.Going.{some_service}
 use Rattle.iox_hub_machine.proofs.GivenUp.{some_found, is_found}
 use Rattle.iox_hub_machine.proofs.Placed.{publisher_as}
+use Rattle.iox_machine.specs.Choices.{Choices}
 use Rattle.iox_machine.specs.State.{State, Made, counted}
 use Rattle.iox_machine.specs.Table.{at}
 
@@ -38,11 +39,11 @@ sent_counts T (Some (Ok (sent.Delivered count))) made = refl
 sent_counts T (Some (Ok sent.Blocked)) made = refl
 sent_counts T (Some (Err why)) made = refl
 
-module _ {T U B D : Type 0} (degrades : B → DegradationCause → DegradationInfo → DegradationAction → Type 0)
+module _ {T U B D : Type 0} (choices : Choices T) (degrades : B → DegradationCause → DegradationInfo → DegradationAction → Type 0)
     (decides : B → BackpressureInfo → BackpressureDecision → Type 0)
     (reader_degrades : D → DegradationCause → DegradationInfo → DegradationAction → Type 0) (naming : ℕ → Naming)
     (order : List (ℕ × ServicePorts T U)) (old : NumberedHub T U B D) (state : State T)
-    (stands : PortsStandFor degrades decides reader_degrades naming order old state) (number : ℕ) (port : PortId) where
+    (stands : PortsStandFor choices degrades decides reader_degrades naming order old state) (number : ℕ) (port : PortId) where
   -- The ports of a publisher's domain are here, and the publisher stands; its name is the number.
   pub record GoesByNumber : Type 0 where
     pub ports : ServicePorts T U
@@ -56,7 +57,7 @@ module _ {T U B D : Type 0} (degrades : B → DegradationCause → DegradationIn
       let known = stands.publishers.known number port there in
       let (ports, found) = some_found port.number (hub_ports port.domain old.hub) known.1 in
       let id = port.domain in
-      let (one, its) = some_service degrades decides reader_degrades naming order old state stands id ports found in
+      let (one, its) = some_service choices degrades decides reader_degrades naming order old state stands id ports found in
       let standing = sym (ap (publisher_stands port.number) found) ∙ known.1 in
       let up = sym (publisher_as (naming id.service) (those_of id.service (lent_in old.made)) (those_of id.service (held_in old.made))
       old.hub.expired_connection_buffer ports one its port.number) ∙ standing in

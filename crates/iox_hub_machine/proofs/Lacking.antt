@@ -34,9 +34,10 @@ use Rattle.iox_hub_commands.specs.declared.ports.made.Made.{Made}
 use Rattle.iox_delivery.specs.declared.port_id.PortId.{PortId}
 use Rattle.iox_domain.specs.DomainPorts.declared.attached.Taken.{Taken}
 use Rattle.iox_hub_machine.specs.GoingOnLaws.{NewestFits}
+use Rattle.iox_machine.specs.Choices.{Choices}
 
 -- a vector of values, where they fit
-abbrev vector_of : {T : Type 0} (values : List T) → length values < 2 ^ 63 → Vec T
+abbrev pub vector_of : {T : Type 0} (values : List T) → length values < 2 ^ 63 → Vec T
 vector_of values fits = record {
   ptr = null_ptr;
   len = length values;
@@ -74,7 +75,7 @@ is_newest (Some port) (Some (Ok (Some taken))) roomier after sample (is, same) =
         → sample ≡ roomier.samples.next
     first_of e = cc
 
-module _ {T U B D : Type 0} (payload user_header : Detail) (types : MessageTypeDetails) (is_default : T → Type 0)
+module _ {T U B D : Type 0} (payload user_header : Detail) (types : MessageTypeDetails) (choices : Choices T)
     (is_default_header : U → Type 0)
     (fixed : BackpressureStrategy → Option BackpressureAction → DegradationAction → B)
     (degrades : B → DegradationCause → DegradationInfo → DegradationAction → Type 0)
@@ -83,16 +84,18 @@ module _ {T U B D : Type 0} (payload user_header : Detail) (types : MessageTypeD
     (reader_degrades : D → DegradationCause → DegradationInfo → DegradationAction → Type 0) (old new : NumberedHub T U B D)
     (lacking : AllocError) where
   abbrev Steps : Command T → Result (Reply T) AllocError → Type 0
-  Steps asked answer = hub.Step payload user_header types is_default is_default_header fixed degrades decides fixed_reader reader_degrades
+  Steps asked answer = hub.Step payload user_header types choices.is_default is_default_header fixed degrades decides fixed_reader
+      reader_degrades
       asked old answer new
 
   -- nothing changed but what is pledged
   abbrev pub OnlyPledges : Type 0
   OnlyPledges = new ≡ record old { pledged = new.pledged }
 
-  -- what was done might have been replied to
+  -- a sample was received, and what was done might have been replied to
   abbrev pub MightReply : Command T → Type 0
-  MightReply asked = NewestFits new → (answer : Reply T) × Steps asked (Ok answer)
+  MightReply asked =
+      (subscriber : ℕ) × (asked ≡ command.Receive subscriber) × (NewestFits new → (answer : Reply T) × Steps asked (Ok answer))
 
   unmoved : new.made ≡ old.made → new.hub ≡ old.hub → new.factories ≡ old.factories → OnlyPledges
   unmoved made hub factories = λ i. record { hub = hub i; factories = factories i; made = made i; pledged = new.pledged }
@@ -109,19 +112,22 @@ module _ {T U B D : Type 0} (payload user_header : Detail) (types : MessageTypeD
     -- no memory was found for the values of a sample that came
     came : (sample : ℕ) → Grows (Ok (Some (Ok (Some sample)))) → sample ≡ new.made.samples.next - 1 → (found : Option (List T))
         → read sample ≡ found → SomeValues found → MightReply (command.Receive number)
-    came sample grows last None is some fit = absurd some
-    came sample grows last (Some values) is some fit =
-        let told : Vec T = vector_of values (fit values (ap read (sym last) ∙ is)) in (
-          reply.Received sample told,
+    came sample grows last None is some = absurd some
+    came sample grows last (Some values) is some = (
+      number,
+      refl,
+      λ fit. let told : Vec T = vector_of values (fit values (ap read (sym last) ∙ is)) in (
+        reply.Received sample told,
+        (
           (
-            (
-              Ok (Some (Ok (Some sample))),
-              grows,
-              subst (λ (found : Option (List T)). IsArrival sample found (reply.Received sample told)) (sym is) (told, refl, refl),
-            ),
-            factories,
+            Ok (Some (Ok (Some sample))),
+            grows,
+            subst (λ (found : Option (List T)). IsArrival sample found (reply.Received sample told)) (sym is) (told, refl, refl),
           ),
-        )
+          factories,
+        ),
+      ),
+    )
 
     receives : (received : Result (Option (Result (Option ℕ) ReceiveError)) AllocError) → Grows received
         → IsTold read received (Err lacking) → OnlyPledges ⊎ MightReply (command.Receive number)

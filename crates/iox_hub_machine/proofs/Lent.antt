@@ -82,6 +82,7 @@ use Rattle.iox_hub_machine.proofs.Roomier.{roomier_stands}
 use Rattle.iox_hub_machine.proofs.Rooming.{roomy_there}
 use Rattle.iox_hub_machine.proofs.Turning.{lends_decides}
 use Rattle.iox_hub_machine.proofs.WrittenWhole.{written_whole}
+use Rattle.iox_machine.specs.Choices.{Choices}
 use Rattle.iox_machine.specs.Ports.{AtFree, LendsLoan, publisher_in}
 use Rattle.iox_machine.specs.Replies.{IsSkipped}
 use Rattle.iox_machine.specs.Run.{Step}
@@ -136,7 +137,7 @@ module _ {T U B D : Type 0} where
   is_here id ports hub found = let (domain, is, same) = some_ports (domain_at id hub.services) ports found in ap is_some is
 
 -- whoever goes by a number may lend slices
-lender_is : (values : ℕ) (found : Option MadePublisher) → ((made : MadePublisher) → found ≡ Some made → made.holds_slices ≡ true)
+pub lender_is : (values : ℕ) (found : Option MadePublisher) → ((made : MadePublisher) → found ≡ Some made → made.holds_slices ≡ true)
     → lender values found ≡ port_under found
 lender_is values None slices = refl
 lender_is values (Some made) slices =
@@ -151,12 +152,12 @@ busy_lends number values ports (Some port) up blocked = (port, rw up (rw blocked
 
 -- ---- the laws
 
-module _ {T U B D : Type 0} (is_default : T → Type 0) (is_default_header : U → Type 0)
+module _ {T U B D : Type 0} (choices : Choices T) (is_default_header : U → Type 0)
     (degrades : B → DegradationCause → DegradationInfo → DegradationAction → Type 0)
     (decides : B → BackpressureInfo → BackpressureDecision → Type 0)
     (reader_degrades : D → DegradationCause → DegradationInfo → DegradationAction → Type 0) where
   module _ (types : MessageTypeDetails) (naming : ℕ → Naming) (order : List (ℕ × ServicePorts T U)) (old new : NumberedHub T U B D)
-      (state : State T) (stands : PortsStandFor degrades decides reader_degrades naming order old state) (number values : ℕ)
+      (state : State T) (stands : PortsStandFor choices degrades decides reader_degrades naming order old state) (number values : ℕ)
       (grown : HaveGrown old.hub.services.domains) (fresh : at (state.made.loans + 1) (lent_in old.made) ≡ None) where
     abbrev buffer : ℕ
     buffer = old.hub.expired_connection_buffer
@@ -167,11 +168,11 @@ module _ {T U B D : Type 0} (is_default : T → Type 0) (is_default_header : U �
 
     abbrev Result_of : Command T → Reply T → NumberedHub T U B D → Type 0
     Result_of asked answer later =
-        IsMatched degrades decides reader_degrades types is_default naming order old state asked answer stands later
+        IsMatched degrades decides reader_degrades types choices naming order old state asked answer stands later
 
     -- nothing happens where no publisher goes by the number
     lends_none : (asked : Command T) (lent told : Option (Result ℕ LoanError))
-        → Step types is_default buffer asked state reply.Skipped state → lent ≡ None → new.hub ≡ old.hub
+        → Step types choices buffer asked state reply.Skipped state → lent ≡ None → new.hub ≡ old.hub
         → NumbersLoan None lent old.made told new.made → Result_of asked (loan_reply told) new
     lends_none asked lent told does nothing same numbers =
         let (not_told, made) = subst (λ (it : Option (Result ℕ LoanError)). NumbersLoan None it old.made told new.made) nothing numbers in
@@ -181,13 +182,13 @@ module _ {T U B D : Type 0} (is_default : T → Type 0) (is_default_header : U �
           state.services,
           refl,
           does,
-          same_stands degrades decides reader_degrades naming order old state stands number new same made,
+          same_stands choices degrades decides reader_degrades naming order old state stands number new same made,
         )
 
     module _ (asked : Command T) (port : PortId) (ports after : ServicePorts T U) (found : hub_ports port.domain old.hub ≡ Some ports)
         (named : NamesOf port.domain.service (naming port.domain.service) (lent_in old.made) (held_in old.made) asked)
         (alike : (services : List (Service T)) (answer : Reply T)
-        → Step types is_default buffer asked state answer (answered_with answer services state) → DecideAlike state.services services)
+        → Step types choices buffer asked state answer (answered_with answer services state) → DecideAlike state.services services)
         (changes : new.hub ≡ with_hub_ports port.domain after old.hub) where
       abbrev id : DomainId
       id = port.domain
@@ -197,7 +198,7 @@ module _ {T U B D : Type 0} (is_default : T → Type 0) (is_default_header : U �
       LentSo lent = (service : Service T)
           → StandsFor (naming id.service) (those_of id.service (lent_in old.made)) (those_of id.service (held_in old.made)) buffer ports
           service
-          → (name : ℕ) × Matches T U is_default types buffer asked (lent_or_not next lent) state service
+          → (name : ℕ) × Matches T U choices types buffer asked (lent_or_not next lent) state service
           (with_lent_name port.number name lent (naming id.service))
           (with_lent next port.number lent (those_of id.service (lent_in old.made))) (those_of id.service (held_in old.made)) after
 
@@ -205,12 +206,12 @@ module _ {T U B D : Type 0} (is_default : T → Type 0) (is_default_header : U �
           → ((service : Service T)
           → StandsFor (naming id.service) (those_of id.service (lent_in old.made)) (those_of id.service (held_in old.made)) buffer ports
           service
-          → Matches T U is_default types buffer asked answer state service (naming id.service)
+          → Matches T U choices types buffer asked answer state service (naming id.service)
           (those_of id.service (lent_in old.made)) (those_of id.service (held_in old.made)) after)
           → new.made ≡ old.made → Result_of asked answer new
       unmade answer same_count matches same =
           subst (λ (it : Made). Result_of asked answer (record new { made = it })) (sym same)
-          (machine_does_named degrades decides reader_degrades types is_default naming order old (record new { made = old.made }) state
+          (machine_does_named degrades decides reader_degrades types choices naming order old (record new { made = old.made }) state
           asked
           answer id ports after stands found changes named (λ other off. refl, stands.domains.loans)
           (λ other off. refl, stands.domains.samples)
@@ -238,7 +239,7 @@ module _ {T U B D : Type 0} (is_default : T → Type 0) (is_default_header : U �
         made_so : LentSo (Some (Ok slot)) → new.made ≡ with_loan port slot old.made → Result_of asked (reply.LoanMade next) new
         made_so matches same =
             subst (λ (it : Made). Result_of asked (reply.LoanMade next) (record new { made = it })) (sym same)
-            (machine_does_named degrades decides reader_degrades types is_default naming order old
+            (machine_does_named degrades decides reader_degrades types choices naming order old
             (record new { made = with_loan port slot old.made }) state asked (reply.LoanMade next) id ports after stands found changes named
             (subst (λ (it : List (ℕ × (ℕ × LentSlot))). ChangesAt id.service (lent_in old.made) it) (sym one_more)
             (changes_more next out id.service (lent_in old.made) stands.domains.loans fresh))
@@ -248,7 +249,7 @@ module _ {T U B D : Type 0} (is_default : T → Type 0) (is_default_header : U �
               with_lent_name port.number name (Some (Ok slot)) (naming id.service),
               refl,
               refl,
-              subst (λ (it : List (ℕ × LentSlot)). Matches T U is_default types buffer asked (reply.LoanMade next) state service
+              subst (λ (it : List (ℕ × LentSlot)). Matches T U choices types buffer asked (reply.LoanMade next) state service
                   (with_lent_name port.number name (Some (Ok slot)) (naming id.service)) it (those_of id.service (held_in old.made)) after)
                   (sym (ap (those_of id.service) one_more ∙ its_added next out id.service (lent_in old.made))) does,
             ))
@@ -272,7 +273,7 @@ module _ {T U B D : Type 0} (is_default : T → Type 0) (is_default_header : U �
           subst (λ (it : Reply T). Result_of asked it new)
           (sym (ap loan_reply is_told ∙ ap (λ (n : ℕ). reply.LoanMade n) stands.numbers.loans)) (made_so slot matches same)
 
-    module _ (port : PortId) (it : GoesByNumber degrades decides reader_degrades naming order old state stands number port) where
+    module _ (port : PortId) (it : GoesByNumber choices degrades decides reader_degrades naming order old state stands number port) where
       abbrev its_id : DomainId
       its_id = port.domain
 
@@ -289,30 +290,30 @@ module _ {T U B D : Type 0} (is_default : T → Type 0) (is_default_header : U �
       uninit_matches : (lent : Option (Result ℕ LoanError)) (after : ServicePorts T U)
           → LoansBy port.number values values it.ports lent after
           → (service : Service T) → Stands service
-          → (name : ℕ) × Matches T U is_default types buffer (command.LoanUninit number values) (lent_or_not next lent) state service
+          → (name : ℕ) × Matches T U choices types buffer (command.LoanUninit number values) (lent_or_not next lent) state service
           (with_lent_name port.number name lent (naming its_id.service))
           (with_lent next port.number lent (those_of its_id.service (lent_in old.made))) (those_of its_id.service (held_in old.made)) after
       uninit_matches lent after lends service its =
-          subst (λ (name : ℕ). (name_of : ℕ) × Matches T U is_default types buffer (command.LoanUninit name values) (lent_or_not next lent)
+          subst (λ (name : ℕ). (name_of : ℕ) × Matches T U choices types buffer (command.LoanUninit name values) (lent_or_not next lent)
           state service (with_lent_name port.number name_of lent (naming its_id.service))
           (with_lent next port.number lent (those_of its_id.service (lent_in old.made))) (those_of its_id.service (held_in old.made)) after)
           it.named
-          (lend_uninit_matches T U is_default types buffer (naming its_id.service) (those_of its_id.service (lent_in old.made))
+          (lend_uninit_matches T U choices types buffer (naming its_id.service) (those_of its_id.service (lent_in old.made))
           (those_of its_id.service (held_in old.made)) it.ports after service state port.number values lent its sound it.some none_lent
           lends)
 
-      written_matches : (value : T) → is_default value → (lent : Option (Result ℕ LoanError)) (made : ServicePorts T U)
+      written_matches : (value : T) → choices.is_default value → (lent : Option (Result ℕ LoanError)) (made : ServicePorts T U)
           → LoansBy port.number values values it.ports lent made → (service : Service T) → Stands service
-          → (name : ℕ) × Matches T U is_default types buffer (command.Loan number values) (lent_or_not next lent) state service
+          → (name : ℕ) × Matches T U choices types buffer (command.Loan number values) (lent_or_not next lent) state service
           (with_lent_name port.number name lent (naming its_id.service))
           (with_lent next port.number lent (those_of its_id.service (lent_in old.made))) (those_of its_id.service (held_in old.made))
           (with_lent_values port.number (replicate values value) lent made)
       written_matches value default lent made lends service its =
-          subst (λ (name : ℕ). (name_of : ℕ) × Matches T U is_default types buffer (command.Loan name values) (lent_or_not next lent)
+          subst (λ (name : ℕ). (name_of : ℕ) × Matches T U choices types buffer (command.Loan name values) (lent_or_not next lent)
           state service (with_lent_name port.number name_of lent (naming its_id.service))
           (with_lent next port.number lent (those_of its_id.service (lent_in old.made))) (those_of its_id.service (held_in old.made))
           (with_lent_values port.number (replicate values value) lent made)) it.named
-          (lend_matches T U is_default types buffer (naming its_id.service) (those_of its_id.service (lent_in old.made))
+          (lend_matches T U choices types buffer (naming its_id.service) (those_of its_id.service (lent_in old.made))
           (those_of its_id.service (held_in old.made)) it.ports made service state port.number values value lent its sound it.some none_lent
           default lends)
 
@@ -342,9 +343,9 @@ module _ {T U B D : Type 0} (is_default : T → Type 0) (is_default_header : U �
     uninit_by lent told None none (nothing, same) numbers =
         lends_none (command.LoanUninit number values) lent told
         (at_one_skips (publisher_in number) (DoesLend number values next None) state
-        (no_publisher_goes degrades decides reader_degrades naming order old state stands number none)) nothing same numbers
+        (no_publisher_goes choices degrades decides reader_degrades naming order old state stands number none)) nothing same numbers
     uninit_by lent told (Some port) there lends numbers =
-        let it = goes_by_number degrades decides reader_degrades naming order old state stands number port there in
+        let it = goes_by_number choices degrades decides reader_degrades naming order old state stands number port there in
         let (after, loans, changes) = subst (λ (ports : Option (ServicePorts T U)). AtDomain
         (λ (one : ServicePorts T U). with_hub_ports port.domain one old.hub) (LoansBy port.number values values) ports old.hub lent new.hub)
         it.found lends in
@@ -353,18 +354,18 @@ module _ {T U B D : Type 0} (is_default : T → Type 0) (is_default_header : U �
         (λ services answer does. lending_alike number values next None state (answered_with answer services state) answer does) changes
         lent told (λ service its. uninit_matches port it lent after loans service its) numbers
 
-    module _ (value : T) (default : is_default value) where
+    module _ (value : T) (default : choices.is_default value) where
       abbrev written_asked : Command T
       written_asked = command.Loan number values
 
       written_alike : (services : List (Service T)) (answer : Reply T)
-          → Step types is_default buffer written_asked state answer (answered_with answer services state)
+          → Step types choices buffer written_asked state answer (answered_with answer services state)
           → DecideAlike state.services services
       written_alike services answer (some, is, does) =
           lending_alike number values next (Some some) state (answered_with answer services state) answer does
 
       -- one that may lend, or of which a send waits
-      module _ (port : PortId) (it : GoesByNumber degrades decides reader_degrades naming order old state stands number port)
+      module _ (port : PortId) (it : GoesByNumber choices degrades decides reader_degrades naming order old state stands number port)
           (lent told : Option (Result ℕ LoanError)) where
         abbrev Written : Type 0
         Written = Result_of written_asked (loan_reply told) new
@@ -406,7 +407,7 @@ module _ {T U B D : Type 0} (is_default : T → Type 0) (is_default_header : U �
             lends_by written_asked port it.ports (filled slot made) it.found (port.number, it.named, λ zero. it.some (it.named ∙ zero))
             written_alike (wrote slot made middle is writes) (Some (Ok slot)) told
             (λ service its.
-            subst (λ (after : ServicePorts T U). (name : ℕ) × Matches T U is_default types buffer written_asked
+            subst (λ (after : ServicePorts T U). (name : ℕ) × Matches T U choices types buffer written_asked
             (lent_or_not next (Some (Ok slot))) state service
             (with_lent_name port.number name (Some (Ok slot)) (naming port.domain.service))
             (with_lent next port.number (Some (Ok slot)) (those_of port.domain.service (lent_in old.made)))
@@ -446,23 +447,23 @@ module _ {T U B D : Type 0} (is_default : T → Type 0) (is_default_header : U �
             value,
             default,
             at_one_skips (publisher_in number) (DoesLend number values next (Some value)) state
-                (no_publisher_goes degrades decides reader_degrades naming order old state stands number none),
+                (no_publisher_goes choices degrades decides reader_degrades naming order old state stands number none),
           ) nothing same numbers
       written_by lent told (Some port) there goes numbers =
-          let it = goes_by_number degrades decides reader_degrades naming order old state stands number port there in
+          let it = goes_by_number choices degrades decides reader_degrades naming order old state stands number port there in
           let blocked : Bool = publisher_blocked port.number (hub_ports port.domain old.hub) in
           by_blocked port it lent told blocked refl (ready hub_ports (Some port) old.hub)
           (ap (λ (up : Bool). cond (up && not blocked) (Some port) None) (stands.publishers.known number port there).1) goes numbers
 
   module _ (types : MessageTypeDetails) (naming : ℕ → Naming) (order : List (ℕ × ServicePorts T U)) (old : NumberedHub T U B D)
-      (state : State T) (stands : PortsStandFor degrades decides reader_degrades naming order old state) (number values : ℕ)
+      (state : State T) (stands : PortsStandFor choices degrades decides reader_degrades naming order old state) (number values : ℕ)
       (rises : Rises 1 old.made.loans.entries old.made.loans.next) (roomier : Made) (is : IsRoomier old.made roomier) where
     -- the hub, with more room for numbers
     abbrev roomy : NumberedHub T U B D
     roomy = record old { made = roomier }
 
-    roomy_stands : PortsStandFor degrades decides reader_degrades naming order roomy state
-    roomy_stands = roomier_stands degrades decides reader_degrades naming order old state roomier is stands
+    roomy_stands : PortsStandFor choices degrades decides reader_degrades naming order roomy state
+    roomy_stands = roomier_stands choices degrades decides reader_degrades naming order old state roomier is stands
 
     -- no loan goes by the next number
     next_is_free : at (state.made.loans + 1) (lent_in roomier) ≡ None
@@ -490,13 +491,13 @@ module _ {T U B D : Type 0} (is_default : T → Type 0) (is_default_header : U �
       result_or (Ok reply) other = reply
       result_or (Err lacking) other = other
 
-  pub lend_uninit_simulated : LendUninitIsSimulated is_default is_default_header degrades decides reader_degrades
+  pub lend_uninit_simulated : LendUninitIsSimulated choices is_default_header degrades decides reader_degrades
   lend_uninit_simulated number values old grown rise payload user_header types fixed fixed_reader naming order new state answer stands
       ((Err lacking, grows, told), same) = no_reply answer lacking told
   lend_uninit_simulated number values old grown rise payload user_header types fixed fixed_reader naming order new state answer stands
       ((Ok replied, (roomier, is, (lent, lends, numbers)), told), same) =
       let goes = lender_goes types naming order old state stands number values rise.3 roomier is in
-      subst (λ (it : Reply T). IsMatched degrades decides reader_degrades types is_default naming order old state
+      subst (λ (it : Reply T). IsMatched degrades decides reader_degrades types choices naming order old state
       (command.LoanUninit number values) it stands new) (sym (ok_reply answer (loan_reply replied) told))
       (uninit_by types naming order (roomy types naming order old state stands number values rise.3 roomier is) new state
       (roomy_stands types naming order old state stands number values rise.3 roomier is) number values grown
@@ -505,13 +506,13 @@ module _ {T U B D : Type 0} (is_default : T → Type 0) (is_default_header : U �
       (subst (λ (port : Option PortId). AtPort (LendsAt hub_ports with_hub_ports values) port old.hub lent new.hub) goes lends)
       (subst (λ (port : Option PortId). NumbersLoan port lent roomier replied new.made) goes numbers))
 
-  pub lend_simulated : LendIsSimulated is_default is_default_header degrades decides reader_degrades
+  pub lend_simulated : LendIsSimulated choices is_default_header degrades decides reader_degrades
   lend_simulated number values old grown rise payload user_header types fixed fixed_reader naming order new state answer stands
       ((value, default, Err lacking, grows, told), same) = no_reply answer lacking told
   lend_simulated number values old grown rise payload user_header types fixed fixed_reader naming order new state answer stands
       ((value, default, Ok replied, (roomier, is, (lent, lends, numbers)), told), same) =
       let goes = lender_goes types naming order old state stands number values rise.3 roomier is in
-      subst (λ (it : Reply T). IsMatched degrades decides reader_degrades types is_default naming order old state
+      subst (λ (it : Reply T). IsMatched degrades decides reader_degrades types choices naming order old state
       (command.Loan number values) it stands new) (sym (ok_reply answer (loan_reply replied) told))
       (written_by types naming order (roomy types naming order old state stands number values rise.3 roomier is) new state
       (roomy_stands types naming order old state stands number values rise.3 roomier is) number values grown

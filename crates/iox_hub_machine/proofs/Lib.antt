@@ -3,6 +3,7 @@ pub mod Amidst
 pub mod Placed
 pub mod Housed
 pub mod Deciding
+mod Handled
 pub mod Within
 pub mod Moving
 pub mod Numbered
@@ -25,6 +26,7 @@ pub mod Released
 pub mod Absent
 pub mod GivenUp
 pub mod ComesNamed
+mod NamedLater
 pub mod ComesServed
 pub mod Used
 pub mod InUse
@@ -94,3 +96,11 @@ pub mod Created
 pub mod FewHeld
 pub mod Openings
 pub mod OpeningsOrCreations
+pub mod TypedSteps
+pub mod TypedPublishing
+pub mod TypedSubscribing
+pub mod TypedLending
+pub mod TypedServices
+pub mod TypedReading
+pub mod TypedOpening
+pub mod TypedRuns

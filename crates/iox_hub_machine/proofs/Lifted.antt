@@ -38,6 +38,7 @@ use Rattle.iox_hub_machine.proofs.Resting.{shown}
 use Rattle.iox_hub_machine.specs.Laws.{IsSimulatedFrom, answered_with}
 use Rattle.iox_hub_machine.specs.ServiceLaws.{IsFollowed}
 use Rattle.iox_hub_machine.specs.Services.{AreServedInTurn, HubStandsFor, IsServedBy, factories_as, services_in}
+use Rattle.iox_machine.specs.Choices.{Choices}
 use Rattle.iox_machine.proofs.Ported.{IsBeside, is_of_ports, ports-move}
 use Rattle.iox_machine.specs.Service.{Service}
 use Rattle.iox_machine.specs.State.{State, replaced}
@@ -146,7 +147,7 @@ module _ {T U B D : Type 0} where
 
 -- ---- the hub
 
-module _ {T U B D : Type 0} (payload user_header : Detail) (types : MessageTypeDetails) (is_default : T → Type 0)
+module _ {T U B D : Type 0} (payload user_header : Detail) (types : MessageTypeDetails) (choices : Choices T)
     (is_default_header : U → Type 0) (fixed : BackpressureStrategy → Option BackpressureAction → DegradationAction → B)
     (degrades : B → DegradationCause → DegradationInfo → DegradationAction → Type 0)
     (decides : B → BackpressureInfo → BackpressureDecision → Type 0) (fixed_reader : DegradationAction → D)
@@ -154,16 +155,17 @@ module _ {T U B D : Type 0} (payload user_header : Detail) (types : MessageTypeD
   pub lifted : (names : List (List ℕ)) (asked : Command T) → is_of_ports asked ≡ true
       → (taken : MessagingPattern → List ℕ → List ℕ) (naming : ℕ → Naming) (order : List (ℕ × ServicePorts T U))
       (old new : NumberedHub T U B D) (state : State T) (answer : Reply T)
-      → IsSimulatedFrom is_default is_default_header degrades decides reader_degrades old asked
-      → HubStandsFor degrades decides reader_degrades names taken naming order old state
-      → hub.Step payload user_header types is_default is_default_header fixed degrades decides fixed_reader reader_degrades asked old
+      → IsSimulatedFrom choices is_default_header degrades decides reader_degrades old asked
+      → HubStandsFor choices degrades decides reader_degrades names taken naming order old state
+      → hub.Step payload user_header types choices.is_default is_default_header fixed degrades decides fixed_reader reader_degrades asked
+      old
       (Ok answer) new
-      → IsFollowed payload user_header types is_default is_default_header fixed degrades decides fixed_reader reader_degrades names asked
+      → IsFollowed payload user_header types choices is_default_header fixed degrades decides fixed_reader reader_degrades names asked
       old new state answer
   lifted names asked is taken naming order old new state answer simulated stands step =
       let (naming_then, order_then, services, keys, did, ports) = simulated payload user_header types fixed fixed_reader naming order new
       state answer stands.ports step in
-      let leaves = port_leaves payload user_header types is_default is_default_header fixed degrades decides fixed_reader reader_degrades
+      let leaves = port_leaves payload user_header types choices is_default_header fixed degrades decides fixed_reader reader_degrades
       old new answer asked is step in
       let rest = leaves.hub.rest in
       let still = leaves.hub.services in
@@ -208,7 +210,7 @@ module _ {T U B D : Type 0} (payload user_header : Detail) (types : MessageTypeD
           };
           served = in_turn new.factories.made old.hub.services new.hub.services still order order_then state.services services keys
               (beside_alike asked state answer services
-              (ports-move types is_default old.hub.expired_connection_buffer asked state answer after is did))
+              (ports-move types choices old.hub.expired_connection_buffer asked state answer after is did))
               (subst (λ (table : FactoryTable). AreServedInTurn table old.hub.services order state.services) (sym same_made)
               stands.served);
           ports = ports;

@@ -40,7 +40,7 @@ use Rattle.iox_hub_machine.specs.Laws.{answered_with}
 use Rattle.iox_hub_machine.specs.SendLaws.{SendIsSimulated}
 use Rattle.iox_hub_machine.specs.Standing.{PortsStandFor, AreAsMany, lent_slot, lent_in, held_in}
 use Rattle.iox_hub_machine.proofs.Amidst.{at_one_skips}
-use Rattle.iox_hub_machine.proofs.Deciders.{degradation_in, decides_as, degrades_as}
+use Rattle.iox_hub_machine.proofs.Deciders.{decides_as, degrades_as}
 use Rattle.iox_hub_machine.proofs.Deciding.{DecideAlike, at_one_decides}
 use Rattle.iox_hub_machine.proofs.Going.{loan_goes, no_loan_goes, same_stands}
 use Rattle.iox_hub_machine.proofs.Known.{sent_so, sent_counts}
@@ -49,26 +49,27 @@ use Rattle.iox_hub_machine.proofs.Moving.{IsMatched}
 use Rattle.iox_hub_machine.proofs.Renaming.{machine_does_named}
 use Rattle.iox_hub_machine.proofs.Rooming.{roomy_there}
 use Rattle.iox_hub_machine.proofs.Turning.{sends_loan_alike}
+use Rattle.iox_machine.specs.Choices.{Choices}
 use Rattle.iox_machine.specs.Ports.{SendsLoan}
 use Rattle.iox_machine.specs.Service.{Service}
 use Rattle.iox_machine.specs.State.{State, AtOne}
 use Rattle.iox_machine.specs.Table.{at, removed}
 
-sending_alike : {T : Type 0} (loan : ℕ) (state new : State T) (answer : Reply T)
-    → AtOne (λ (one : Service T). at loan one.loans) (SendsLoan loan) state answer new → DecideAlike state.services new.services
-sending_alike {T} loan state new answer did =
-    at_one_decides (λ (one : Service T). at loan one.loans) (SendsLoan loan) state new answer
-    (λ one service after is does. sends_loan_alike loan one service after answer does) did
+sending_alike : {T : Type 0} (choices : Choices T) (loan : ℕ) (state new : State T) (answer : Reply T)
+    → AtOne (λ (one : Service T). at loan one.loans) (SendsLoan choices loan) state answer new → DecideAlike state.services new.services
+sending_alike {T} choices loan state new answer did =
+    at_one_decides (λ (one : Service T). at loan one.loans) (SendsLoan choices loan) state new answer
+    (λ one service after is does. sends_loan_alike choices loan one service after answer does) did
 
-module _ {T U B D : Type 0} (is_default : T → Type 0) (is_default_header : U → Type 0)
+module _ {T U B D : Type 0} (choices : Choices T) (is_default_header : U → Type 0)
     (degrades : B → DegradationCause → DegradationInfo → DegradationAction → Type 0)
     (decides : B → BackpressureInfo → BackpressureDecision → Type 0)
     (reader_degrades : D → DegradationCause → DegradationInfo → DegradationAction → Type 0) where
   module _ (types : MessageTypeDetails) (naming : ℕ → Naming) (order : List (ℕ × ServicePorts T U)) (old new : NumberedHub T U B D)
-      (state : State T) (stands : PortsStandFor degrades decides reader_degrades naming order old state) (loan : ℕ)
+      (state : State T) (stands : PortsStandFor choices degrades decides reader_degrades naming order old state) (loan : ℕ)
       (grown : HaveGrown old.hub.services.domains) where
     abbrev Replied : Option (Result Sent SendError) → NumberedHub T U B D → Type 0
-    Replied sent later = IsMatched degrades decides reader_degrades types is_default naming order old state (command.Send loan)
+    Replied sent later = IsMatched degrades decides reader_degrades types choices naming order old state (command.Send loan)
         (sent_reply sent) stands later
 
     -- the loan's number is spent
@@ -137,32 +138,32 @@ module _ {T U B D : Type 0} (is_default : T → Type 0) (is_default_header : U �
             let lent = those_of id.service (lent_in old.made) in
             let held = those_of id.service (held_in old.made) in
             let buffer = old.hub.expired_connection_buffer in
-            machine_does_named degrades decides reader_degrades types is_default naming order old later state (command.Send loan)
+            machine_does_named degrades decides reader_degrades types choices naming order old later state (command.Send loan)
             (sent_reply sent) id ports after stands found refl (out, goes) spent.changes
             (subst (λ (it : List (ℕ × (ℕ × Taken))). ChangesAt id.service (held_in old.made) it) (sym spent.held)
             (λ other off. refl, stands.domains.samples))
             (λ first service last are its.
-            let sends = send_matches T U is_default (publisher_may_decide decides id made.port.number old.hub)
+            let sends = send_matches T U choices (publisher_may_decide decides id made.port.number old.hub)
             (publisher_may_degrade degrades id made.port.number old.hub) types buffer names lent held ports after service state loan out
-            (degradation_in (at (names.publisher made.port.number) service.publishers)) sent its
+            sent its
             (roomy_there id ports old.hub grown found) mine
-            (decides_as degrades decides reader_degrades naming order old state stands id ports found first service last are its
+            (decides_as choices degrades decides reader_degrades naming order old state stands id ports found first service last are its
             made.port.number)
-            (degrades_as degrades decides reader_degrades naming order old state stands id ports found first service last are its
+            (degrades_as choices degrades decides reader_degrades naming order old state stands id ports found first service last are its
             made.port.number) does in
             let names_then : Naming = record names { reader = with_name made.port.number sends.0 names.reader } in (
               names_then,
               refl,
               refl,
-              subst (λ (it : Reply T). Matches T U is_default types buffer (command.Send loan) it state service names_then
+              subst (λ (it : Reply T). Matches T U choices types buffer (command.Send loan) it state service names_then
                   (those_of id.service (lent_in then)) (those_of id.service (held_in then)) after) (sent_so sent)
-                  (subst (λ (it : List (ℕ × LentSlot)). Matches T U is_default types buffer (command.Send loan)
+                  (subst (λ (it : List (ℕ × LentSlot)). Matches T U choices types buffer (command.Send loan)
                   (sent_or_skipped sent) state service names_then it (those_of id.service (held_in then)) after) (sym spent.lent)
-                  (subst (λ (it : List (ℕ × (ℕ × Taken))). Matches T U is_default types buffer (command.Send loan)
+                  (subst (λ (it : List (ℕ × (ℕ × Taken))). Matches T U choices types buffer (command.Send loan)
                   (sent_or_skipped sent) state service names_then (lent_after_send loan sent lent) (those_of id.service it) after)
                   (sym spent.held) sends.1)),
             ))
-            (λ services did. sending_alike loan state (answered_with (sent_reply sent) services state) (sent_reply sent) did)
+            (λ services did. sending_alike choices loan state (answered_with (sent_reply sent) services state) (sent_reply sent) did)
             spent.publishers spent.subscribers (subst (AreAsMany then) (sym (sent_counts T sent state.made)) spent.numbers)
             (λ number one was. stands.loans number one (spent.loans number one was))
             (λ number one was. stands.samples number one (spent.samples number one was))
@@ -176,13 +177,13 @@ module _ {T U B D : Type 0} (is_default : T → Type 0) (is_default_header : U �
           order,
           state.services,
           refl,
-          at_one_skips (λ (service : Service T). at loan service.loans) (SendsLoan loan) state
-              (no_loan_goes degrades decides reader_degrades naming order old state stands loan none),
-          same_stands degrades decides reader_degrades naming order old state stands loan new changes
+          at_one_skips (λ (service : Service T). at loan service.loans) (SendsLoan choices loan) state
+              (no_loan_goes choices degrades decides reader_degrades naming order old state stands loan none),
+          same_stands choices degrades decides reader_degrades naming order old state stands loan new changes
               (less ∙ ap (λ (it : Option (Result Sent SendError)). removed_if (is_some it) (without_loan loan) old.made) nothing),
         )
     send_by sent (Some made) there sends less =
-        let goes = loan_goes degrades decides reader_degrades naming order old state stands loan made there in
+        let goes = loan_goes choices degrades decides reader_degrades naming order old state stands loan made there in
         let it = made.port.domain in
         let (after, does, changes) = subst (λ (found : Option (ServicePorts T U)). AtDomain
         (λ (one : ServicePorts T U). with_hub_ports it one old.hub)
@@ -193,9 +194,9 @@ module _ {T U B D : Type 0} (is_default : T → Type 0) (is_default_header : U �
         (send_there made there goes.ports after goes.found goes.goes goes.mine sent
         (removed_if (is_some sent) (without_loan loan) old.made) (is_spent made there sent goes.goes) does))
 
-  pub send_simulated : SendIsSimulated is_default is_default_header degrades decides reader_degrades
+  pub send_simulated : SendIsSimulated choices is_default_header degrades decides reader_degrades
   send_simulated loan old grown payload user_header types fixed fixed_reader naming order new state answer stands
       ((sent, sends, less, told), same) =
-      subst (λ (it : Reply T). IsMatched degrades decides reader_degrades types is_default naming order old state (command.Send loan) it
+      subst (λ (it : Reply T). IsMatched degrades decides reader_degrades types choices naming order old state (command.Send loan) it
       stands new) (sym told)
       (send_by types naming order old new state stands loan grown sent (value_at old.made.loans loan) refl sends less)

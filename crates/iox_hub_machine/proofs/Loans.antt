@@ -43,6 +43,7 @@ use Rattle.iox_hub_machine.proofs.Deciding.{DecideAlike, DecidesAlike, same_port
 use Rattle.iox_hub_machine.proofs.Going.{loan_goes, no_loan_goes, same_stands}
 use Rattle.iox_hub_machine.proofs.Housed.{put_again}
 use Rattle.iox_hub_machine.proofs.Moving.{IsMatched, ports_alone}
+use Rattle.iox_machine.specs.Choices.{Choices}
 use Rattle.iox_machine.specs.Message as machine
 use Rattle.iox_machine.specs.Ports.{Writes}
 use Rattle.iox_machine.specs.Replies.{IsSkipped}
@@ -163,13 +164,13 @@ module _ {T U : Type 0} (names : Naming) (lent : List (ℕ × LentSlot)) (held :
 
 -- ---- the laws
 
-module _ {T U B D : Type 0} (is_default : T → Type 0) (is_default_header : U → Type 0)
+module _ {T U B D : Type 0} (choices : Choices T) (is_default_header : U → Type 0)
     (degrades : B → DegradationCause → DegradationInfo → DegradationAction → Type 0)
     (decides : B → BackpressureInfo → BackpressureDecision → Type 0)
     (reader_degrades : D → DegradationCause → DegradationInfo → DegradationAction → Type 0) where
   module _ (types : MessageTypeDetails) (naming : ℕ → Naming) (order : List (ℕ × ServicePorts T U)) (old new : NumberedHub T U B D)
       (state : State T)
-      (stands : PortsStandFor degrades decides reader_degrades naming order old state) (loan : ℕ)
+      (stands : PortsStandFor choices degrades decides reader_degrades naming order old state) (loan : ℕ)
       (same : new ≡ record old { hub = new.hub })
     where
       abbrev moved : Hub T U B D → NumberedHub T U B D
@@ -178,7 +179,7 @@ module _ {T U B D : Type 0} (is_default : T → Type 0) (is_default_header : U �
       set_by : (place : ℕ) (value : T) (done : Bool) (found : Option MadeLoan) → value_at old.made.loans loan ≡ found
           → done ≡ is_set place (loan_under hub_ports found old.hub)
           → new.hub ≡ (if done then changed_under hub_ports with_hub_ports (set_in place value) found old.hub else old.hub)
-          → IsMatched degrades decides reader_degrades types is_default naming order old state (command.Set loan place value)
+          → IsMatched degrades decides reader_degrades types choices naming order old state (command.Set loan place value)
           (done_reply done)
           stands
           new
@@ -194,18 +195,18 @@ module _ {T U B D : Type 0} (is_default : T → Type 0) (is_default_header : U �
         at_one_skips (λ (service : Service T). at loan service.loans)
             (WritesSo (λ one. list_all is_some one.values && nat_lt place (length one.values)) (λ one. set one.values place (Some value))
             loan)
-            state (no_loan_goes degrades decides reader_degrades naming order old state stands loan none),
-        same_stands degrades decides reader_degrades naming order old state stands loan new changes
+            state (no_loan_goes choices degrades decides reader_degrades naming order old state stands loan none),
+        same_stands choices degrades decides reader_degrades naming order old state stands loan new changes
             (ap (λ (it : NumberedHub T U B D). it.made) same),
       )
       set_by place value done (Some made) there is changes =
-          let goes = loan_goes degrades decides reader_degrades naming order old state stands loan made there in
+          let goes = loan_goes choices degrades decides reader_degrades naming order old state stands loan made there in
           let id = made.port.domain in
           let out = (lent_slot made).1 in
           let ports = goes.ports in
           let written : ServicePorts T U = set_in place value made.port.number made.slot ports in
           let after : ServicePorts T U = if done then written else ports in
-          ports_alone degrades decides reader_degrades types is_default naming order old state (command.Set loan place value)
+          ports_alone degrades decides reader_degrades types choices naming order old state (command.Set loan place value)
           (done_reply done)
           stands
           new id ports after goes.found
@@ -219,22 +220,22 @@ module _ {T U B D : Type 0} (is_default : T → Type 0) (is_default_header : U �
           let fit : done ≡ fits names lent held buffer ports service loan place value out its goes.mine =
           is ∙ ap (λ (it : Option (ServicePorts T U)). is_set place (loan_there made.port.number made.slot it)) goes.found
           ∙ fits_so names lent held buffer ports service loan place value out its goes.mine in
-          subst (λ (it : ServicePorts T U). Matches T U is_default types buffer (command.Set loan place value) (done_reply done) state
+          subst (λ (it : ServicePorts T U). Matches T U choices types buffer (command.Set loan place value) (done_reply done) state
           service
           names lent held it)
           (set_so names lent held buffer ports service loan place value out its goes.mine
           ∙ ap (λ (b : Bool). if b then written else ports) (sym fit))
-          (subst (λ (it : Reply T). Matches T U is_default types buffer (command.Set loan place value) it state service names lent held
+          (subst (λ (it : Reply T). Matches T U choices types buffer (command.Set loan place value) it state service names lent held
           (if is_written_loan (loan_in out.publisher out.slot ports) then written else ports))
           (ap done_or_skipped (sym fit) ∙ sym (done_so done))
-          (set_matches T U is_default types buffer names lent held ports service state loan place value out its goes.mine)))
+          (set_matches T U choices types buffer names lent held ports service state loan place value out its goes.mine)))
           (λ services did. writing_alike (λ one. list_all is_some one.values && nat_lt place (length one.values))
           (λ one. set one.values place (Some value)) loan state (answered_with (done_reply done) services state) (done_reply done) did)
 
       fill_by : (values : List T) (done : Bool) (found : Option MadeLoan) → value_at old.made.loans loan ≡ found
           → done ≡ is_filled hub_ports values found old.hub
           → new.hub ≡ changed_under hub_ports with_hub_ports (filled_in values) found old.hub
-          → IsMatched degrades decides reader_degrades types is_default naming order old state (command.Fill loan values) (done_reply done)
+          → IsMatched degrades decides reader_degrades types choices naming order old state (command.Fill loan values) (done_reply done)
           stands new
       fill_by values true None none is changes = absurd (never is)
         where
@@ -247,44 +248,44 @@ module _ {T U B D : Type 0} (is_default : T → Type 0) (is_default_header : U �
         refl,
         at_one_skips (λ (service : Service T). at loan service.loans)
             (WritesSo (λ one. length values == length one.values) (λ one. map Some values) loan)
-            state (no_loan_goes degrades decides reader_degrades naming order old state stands loan none),
-        same_stands degrades decides reader_degrades naming order old state stands loan new changes
+            state (no_loan_goes choices degrades decides reader_degrades naming order old state stands loan none),
+        same_stands choices degrades decides reader_degrades naming order old state stands loan new changes
             (ap (λ (it : NumberedHub T U B D). it.made) same),
       )
       fill_by values done (Some made) there is changes =
-          let goes = loan_goes degrades decides reader_degrades naming order old state stands loan made there in
+          let goes = loan_goes choices degrades decides reader_degrades naming order old state stands loan made there in
           let id = made.port.domain in
           let out = (lent_slot made).1 in
           let ports = goes.ports in
           let written : ServicePorts T U = filled_in values made.port.number made.slot ports in
-          ports_alone degrades decides reader_degrades types is_default naming order old state (command.Fill loan values)
+          ports_alone degrades decides reader_degrades types choices naming order old state (command.Fill loan values)
           (done_reply done) stands
           new id ports written goes.found
           (same ∙ ap moved (changes ∙ changed_so (filled_in values) made old.hub ports goes.found true))
           (done_counts T done state.made) (out, goes.goes)
           (λ first service last are its.
-          subst (λ (it : Reply T). Matches T U is_default types old.hub.expired_connection_buffer (command.Fill loan values) it state
+          subst (λ (it : Reply T). Matches T U choices types old.hub.expired_connection_buffer (command.Fill loan values) it state
           service
           (naming id.service) (those_of id.service (lent_in old.made)) (those_of id.service (held_in old.made)) written)
           (sym (done_so done ∙ ap done_or_skipped
           (is ∙ ap (λ (it : Option (ServicePorts T U)). fits_in values made.port.number made.slot it) goes.found)))
-          (fill_matches T U is_default types old.hub.expired_connection_buffer (naming id.service) (those_of id.service (lent_in old.made))
+          (fill_matches T U choices types old.hub.expired_connection_buffer (naming id.service) (those_of id.service (lent_in old.made))
           (those_of id.service (held_in old.made)) ports service state loan values out its goes.mine))
           (λ services did. writing_alike (λ one. length values == length one.values) (λ one. map Some values) loan state
           (answered_with (done_reply done) services state) (done_reply done) did)
 
-  pub set_simulated : SetIsSimulated is_default is_default_header degrades decides reader_degrades
+  pub set_simulated : SetIsSimulated choices is_default_header degrades decides reader_degrades
   set_simulated loan place value old payload user_header types fixed fixed_reader naming order new state answer stands
       ((done, is, changes, told), same) =
-      subst (λ (it : Reply T). IsMatched degrades decides reader_degrades types is_default naming order old state (command.Set loan place
+      subst (λ (it : Reply T). IsMatched degrades decides reader_degrades types choices naming order old state (command.Set loan place
       value) it
       stands new) (sym told)
       (set_by types naming order old new state stands loan same place value done (value_at old.made.loans loan) refl is changes)
 
-  pub fill_simulated : FillIsSimulated is_default is_default_header degrades decides reader_degrades
+  pub fill_simulated : FillIsSimulated choices is_default_header degrades decides reader_degrades
   fill_simulated loan values old payload user_header types fixed fixed_reader naming order new state answer stands
       ((done, is, changes, told), same) =
-      subst (λ (it : Reply T). IsMatched degrades decides reader_degrades types is_default naming order old state
+      subst (λ (it : Reply T). IsMatched degrades decides reader_degrades types choices naming order old state
       (command.Fill loan values) it
       stands new) (sym told)
       (fill_by types naming order old new state stands loan same values done (value_at old.made.loans loan) refl is changes)

@@ -5,7 +5,6 @@ use Rattle.std.proofs.lemmas.Bool.Decides.{eqb_tells}
 use Rattle.std.specs.Option.{option_map, option_map_or}
 use Rattle.std.specs.Map.{lookup, keys_of}
 use Rattle.std.specs.Prelude.{is_some, nat_eq}
-use Rattle.iox_command.specs.DomainValues.Actions.{decision_of}
 use Rattle.iox_command.specs.DomainValues.declared.backpressure.BackpressureDecision.{BackpressureDecision}
 use Rattle.iox_command.specs.DomainValues.declared.backpressure.BackpressureInfo.{BackpressureInfo}
 use Rattle.iox_command.specs.DomainValues.declared.degradation.DegradationAction.{DegradationAction}
@@ -39,12 +38,14 @@ use Rattle.iox_hub_machine.specs.Laws.{answered_with}
 use Rattle.iox_hub_machine.specs.Ports.{ports_here, AreHere, among}
 use Rattle.iox_hub_machine.specs.Standing.{PortsStandFor, AreAsMany, PublisherIsHandled, SubscriberIsHandled, publisher_is_up}
 use Rattle.iox_hub_machine.specs.Standing.{subscriber_is_up, lent_in, held_in}
+use Rattle.iox_hub_machine.proofs.Handled.{handled_on, reader_handled_on}
 use Rattle.iox_hub_machine.proofs.Deciding.{Deciding, deciding, Acting, acting, DecideAlike}
 use Rattle.iox_hub_machine.proofs.Housed.{one_or_other, some_ports, became, stands_here, put_there, found_there, found_elsewhere}
 use Rattle.iox_hub_machine.proofs.Housed.{still_here, same_publisher_handlers, same_subscriber_handler}
 use Rattle.iox_hub_machine.proofs.Parting.{OrderChanges, order_changes, stay_here}
 use Rattle.iox_hub_machine.proofs.Placed.{is_placed, publisher_up, subscriber_up, publisher_as, subscriber_as}
 use Rattle.iox_hub_machine.proofs.Within.{stay_within}
+use Rattle.iox_machine.specs.Choices.{Choices}
 use Rattle.iox_machine.proofs.Among.{steps-among}
 use Rattle.iox_machine.specs.Run.{Step}
 use Rattle.iox_machine.specs.Service.{Service, Publisher, Subscriber}
@@ -70,10 +71,10 @@ mapped_some f (Some v) w is = (v, refl, same_some (f v) w is)
 module _ {T U B D : Type 0} (degrades : B → DegradationCause → DegradationInfo → DegradationAction → Type 0)
     (decides : B → BackpressureInfo → BackpressureDecision → Type 0)
     (reader_degrades : D → DegradationCause → DegradationInfo → DegradationAction → Type 0) (types : MessageTypeDetails)
-    (is_default : T → Type 0) (naming : ℕ → Naming) (order : List (ℕ × ServicePorts T U)) (old new : NumberedHub T U B D)
+    (choices : Choices T) (naming : ℕ → Naming) (order : List (ℕ × ServicePorts T U)) (old new : NumberedHub T U B D)
     (state : State T) (asked : Command T)
     (answer : Reply T) (id : DomainId) (ports after : ServicePorts T U) (names_then : Naming)
-    (stands : PortsStandFor degrades decides reader_degrades naming order old state)
+    (stands : PortsStandFor choices degrades decides reader_degrades naming order old state)
     (found : hub_ports id old.hub ≡ Some ports)
     (changes : new.hub ≡ with_hub_ports id after old.hub)
     (same_publishers : names_then.publisher ≡ (naming id.service).publisher)
@@ -186,36 +187,35 @@ module _ {T U B D : Type 0} (degrades : B → DegradationCause → DegradationIn
 
     handled : (other : DomainId) (number : ℕ) (publisher : Publisher T) → publisher_is_up changed other number ≡ true
         → publishers_in services ((naming_then other.service).publisher number) ≡ Some publisher
-        → PublisherIsHandled degrades decides changed other number publisher
+        → PublisherIsHandled choices degrades decides changed other number ((naming_then other.service).publisher number) publisher
     handled other number publisher up there =
         let now : publishers_in services ((naming other.service).publisher number) ≡ Some publisher =
         ap (λ (name : ℕ → ℕ). publishers_in services (name number)) (sym (same_name other.service)) ∙ there in
         let (one, was, same) = mapped_some deciding (publishers_in state.services ((naming other.service).publisher number))
         (deciding publisher) (sym (alike.publishers ((naming other.service).publisher number)) ∙ ap (option_map deciding) now) in
-        let before = stands.publishers_handled other number one (sym (up_still other number) ∙ up) was in record {
-          full = λ info decision may. before.full info decision
-              (subst (λ (it : Option B). kept_decides decides it info decision)
-              (same_publisher_handlers id after old.hub its.0 its.1 other number) may)
-              ∙ ap (λ (it : Deciding). decision_of it.strategy it.handler) same;
-          failed = λ info action may. before.failed info action
-              (subst (λ (it : Option B). kept_degrades degrades it info action)
-              (same_publisher_handlers id after old.hub its.0 its.1 other number) may)
-              ∙ ap (λ (it : Deciding). it.degradation) same;
-        }
+        handled_on choices old.hub changed other number ((naming other.service).publisher number)
+        ((naming_then other.service).publisher number) (ap (λ (it : ℕ → ℕ). it number) (sym (same_name other.service))) degrades decides one
+        publisher same
+        (λ info decision may. subst (λ (it : Option B). kept_decides decides it info decision)
+        (same_publisher_handlers id after old.hub its.0 its.1 other number) may)
+        (λ info action may. subst (λ (it : Option B). kept_degrades degrades it info action)
+        (same_publisher_handlers id after old.hub its.0 its.1 other number) may)
+        (stands.publishers_handled other number one (sym (up_still other number) ∙ up) was)
 
     reader_handled : (other : DomainId) (number : ℕ) (subscriber : Subscriber) → subscriber_is_up changed other number ≡ true
         → subscribers_in services ((naming_then other.service).subscriber number) ≡ Some subscriber
-        → SubscriberIsHandled reader_degrades changed other number subscriber
+        → SubscriberIsHandled choices reader_degrades changed other number ((naming_then other.service).subscriber number) subscriber
     reader_handled other number subscriber up there =
         let now : subscribers_in services ((naming other.service).subscriber number) ≡ Some subscriber =
         ap (λ (name : ℕ → ℕ). subscribers_in services (name number)) (sym (same_reader_name other.service)) ∙ there in
         let (one, was, same) = mapped_some acting (subscribers_in state.services ((naming other.service).subscriber number))
         (acting subscriber) (sym (alike.subscribers ((naming other.service).subscriber number)) ∙ ap (option_map acting) now) in
-        let before = stands.subscribers_handled other number one (sym (reader_up_still other number) ∙ up) was in
-        (λ info action may. before info action
-        (subst (λ (it : Option D). kept_degrades reader_degrades it info action)
+        reader_handled_on choices old.hub changed other number ((naming other.service).subscriber number)
+        ((naming_then other.service).subscriber number) (ap (λ (it : ℕ → ℕ). it number) (sym (same_reader_name other.service)))
+        reader_degrades one subscriber same
+        (λ info action may. subst (λ (it : Option D). kept_degrades reader_degrades it info action)
         (same_subscriber_handler id after old.hub its.0 its.1 other number) may)
-        ∙ ap (λ (it : Acting). it.degradation) same)
+        (stands.subscribers_handled other number one (sym (reader_up_still other number) ∙ up) was)
 
     module _ (publishers : new.made.publishers.entries ≡ old.made.publishers.entries)
         (subscribers : new.made.subscribers.entries ≡ old.made.subscribers.entries)
@@ -224,7 +224,7 @@ module _ {T U B D : Type 0} (degrades : B → DegradationCause → DegradationIn
         → is_some (domain_at made.port.domain old.hub.services) ≡ true)
         (samples : (number : ℕ) (made : MadeSample) → value_at new.made.samples number ≡ Some made
         → (is_some (domain_at made.port.domain old.hub.services) ≡ true) × (made.taken.subscriber ≡ made.port.number)) where
-      stands_changed : PortsStandFor degrades decides reader_degrades naming_then order_then (record new { hub = changed })
+      stands_changed : PortsStandFor choices degrades decides reader_degrades naming_then order_then (record new { hub = changed })
           (answered_with answer services state)
       stands_changed = record {
         here = subst (λ (these : OpenServices T U B D). AreHere these.domains) (sym (put_there id after old.hub its.0 its.1))
@@ -264,8 +264,9 @@ module _ {T U B D : Type 0} (degrades : B → DegradationCause → DegradationIn
         subscribers_handled = reader_handled;
       }
 
-      pub stands_then : PortsStandFor degrades decides reader_degrades naming_then order_then new (answered_with answer services state)
-      stands_then = subst (λ (hub : Hub T U B D). PortsStandFor degrades decides reader_degrades naming_then order_then
+      pub stands_then : PortsStandFor choices degrades decides reader_degrades naming_then order_then new
+          (answered_with answer services state)
+      stands_then = subst (λ (hub : Hub T U B D). PortsStandFor choices degrades decides reader_degrades naming_then order_then
           (record new { hub = hub })
           (answered_with answer services state)) (sym changes) stands_changed
 
@@ -274,9 +275,9 @@ module _ {T U B D : Type 0} (degrades : B → DegradationCause → DegradationIn
       → ChangesAt id.service (lent_in old.made) (lent_in new.made) → ChangesAt id.service (held_in old.made) (held_in new.made)
       → ((first : List (Service T)) (service : Service T) (last : List (Service T)) → state.services ≡ first ++ service ∷ last
       → StandsFor (naming id.service) (those_of id.service (lent_in old.made)) (those_of id.service (held_in old.made)) buffer ports service
-      → Matches T U is_default types buffer asked answer state service names_then (those_of id.service (lent_in new.made))
+      → Matches T U choices types buffer asked answer state service names_then (those_of id.service (lent_in new.made))
       (those_of id.service (held_in new.made)) after)
-      → ((services : List (Service T)) → Step types is_default buffer asked state answer (answered_with answer services state)
+      → ((services : List (Service T)) → Step types choices buffer asked state answer (answered_with answer services state)
       → DecideAlike state.services services)
       → new.made.publishers.entries ≡ old.made.publishers.entries
       → new.made.subscribers.entries ≡ old.made.subscribers.entries
@@ -286,10 +287,10 @@ module _ {T U B D : Type 0} (degrades : B → DegradationCause → DegradationIn
       → ((number : ℕ) (made : MadeSample) → value_at new.made.samples number ≡ Some made
       → (is_some (domain_at made.port.domain old.hub.services) ≡ true) × (made.taken.subscriber ≡ made.port.number))
       → (order_after : List (ℕ × ServicePorts T U)) × (services : List (Service T)) × (keys_of order_after ≡ keys_of order)
-      × Step types is_default buffer asked state answer (answered_with answer services state)
-      × PortsStandFor degrades decides reader_degrades naming_then order_after new (answered_with answer services state)
+      × Step types choices buffer asked state answer (answered_with answer services state)
+      × PortsStandFor choices degrades decides reader_degrades naming_then order_after new (answered_with answer services state)
   machine_does named lent held matches alike publishers subscribers numbers loans samples =
-      let (services, does, all) = among_others T U is_default (steps-among is_default) types buffer naming (lent_in old.made)
+      let (services, does, all) = among_others T U choices (steps-among choices) types buffer naming (lent_in old.made)
       (lent_in new.made) (held_in old.made) (held_in new.made) between.before between.behind id.service ports after state asked answer
       names_then
       (subst (λ (domains : List (ℕ × ServicePorts T U)). DomainsStandFor naming (lent_in old.made) (held_in old.made) buffer domains
@@ -306,15 +307,15 @@ module _ {T U B D : Type 0} (degrades : B → DegradationCause → DegradationIn
 module _ {T U B D : Type 0} (degrades : B → DegradationCause → DegradationInfo → DegradationAction → Type 0)
     (decides : B → BackpressureInfo → BackpressureDecision → Type 0)
     (reader_degrades : D → DegradationCause → DegradationInfo → DegradationAction → Type 0) (types : MessageTypeDetails)
-    (is_default : T → Type 0) (naming : ℕ → Naming) (order : List (ℕ × ServicePorts T U)) (old : NumberedHub T U B D) (state : State T)
+    (choices : Choices T) (naming : ℕ → Naming) (order : List (ℕ × ServicePorts T U)) (old : NumberedHub T U B D) (state : State T)
     (asked : Command T)
-    (answer : Reply T) (stands : PortsStandFor degrades decides reader_degrades naming order old state) where
+    (answer : Reply T) (stands : PortsStandFor choices degrades decides reader_degrades naming order old state) where
   -- the machine replies so, and the ports of a hub stand for what it has then
   abbrev pub IsMatched : NumberedHub T U B D → Type 0
   IsMatched new = (naming_then : ℕ → Naming) × (order_then : List (ℕ × ServicePorts T U)) × (services : List (Service T))
       × (keys_of order_then ≡ keys_of order)
-      × Step types is_default old.hub.expired_connection_buffer asked state answer (answered_with answer services state)
-      × PortsStandFor degrades decides reader_degrades naming_then order_then new (answered_with answer services state)
+      × Step types choices old.hub.expired_connection_buffer asked state answer (answered_with answer services state)
+      × PortsStandFor choices degrades decides reader_degrades naming_then order_then new (answered_with answer services state)
 
   -- the ports of one domain change, and nothing else of the hub
   pub ports_alone : (new : NumberedHub T U B D) (id : DomainId) (ports after : ServicePorts T U) → hub_ports id old.hub ≡ Some ports
@@ -323,14 +324,14 @@ module _ {T U B D : Type 0} (degrades : B → DegradationCause → DegradationIn
       → ((first : List (Service T)) (service : Service T) (last : List (Service T)) → state.services ≡ first ++ service ∷ last
       → StandsFor (naming id.service) (those_of id.service (lent_in old.made)) (those_of id.service (held_in old.made))
       old.hub.expired_connection_buffer ports service
-      → Matches T U is_default types old.hub.expired_connection_buffer asked answer state service (naming id.service)
+      → Matches T U choices types old.hub.expired_connection_buffer asked answer state service (naming id.service)
       (those_of id.service (lent_in old.made)) (those_of id.service (held_in old.made)) after)
       → ((services : List (Service T))
-      → Step types is_default old.hub.expired_connection_buffer asked state answer (answered_with answer services state)
+      → Step types choices old.hub.expired_connection_buffer asked state answer (answered_with answer services state)
       → DecideAlike state.services services)
       → IsMatched new
   ports_alone new id ports after found same count named matches alike =
-      let (order_then, services, keys, does, then) = machine_does degrades decides reader_degrades types is_default naming order old
+      let (order_then, services, keys, does, then) = machine_does degrades decides reader_degrades types choices naming order old
       (record old { hub = with_hub_ports id after old.hub }) state asked answer id ports after (naming id.service) stands found refl refl
       refl
       named (λ other off. refl, stands.domains.loans) (λ other off. refl, stands.domains.samples) matches alike refl refl

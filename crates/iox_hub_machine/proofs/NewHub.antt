@@ -17,6 +17,7 @@ use Rattle.iox_hub_commands.specs.declared.room.Pledged.{Pledged}
 use Rattle.iox_hub_machine.specs.ServiceLaws.{NewHubStands}
 use Rattle.iox_hub_machine.specs.Services.{FactoriesStandFor, HubStandsFor}
 use Rattle.iox_hub_machine.specs.Standing.{PortsStandFor, publisher_is_up, subscriber_is_up}
+use Rattle.iox_machine.specs.Choices.{Choices}
 use Rattle.iox_machine.specs.State.{new_state}
 use Rattle.iox_negotiate_machine.proofs.Beginning.{new-stands}
 use Rattle.iox_negotiate_table.specs.Contents.{empty_table}
@@ -58,10 +59,10 @@ module _ (T U B D : Type 0) (buffer id publishers subscribers loans samples : �
   no_subscriber domain number =
       ap (λ (found : Option (Domain T U B D)). subscriber_stands number (ports_if found)) (no_domain domain)
 
-  module _ (degrades : B → DegradationCause → DegradationInfo → DegradationAction → Type 0)
+  module _ (choices : Choices T) (degrades : B → DegradationCause → DegradationInfo → DegradationAction → Type 0)
       (decides : B → BackpressureInfo → BackpressureDecision → Type 0)
       (reader_degrades : D → DegradationCause → DegradationInfo → DegradationAction → Type 0) where
-    no_ports_stand : PortsStandFor degrades decides reader_degrades (λ service. nameless) [] new_hub new_state
+    no_ports_stand : PortsStandFor choices degrades decides reader_degrades (λ service. nameless) [] new_hub new_state
     no_ports_stand = record {
       here = tt;
       same = λ number. refl;
@@ -102,7 +103,7 @@ module _ (T U B D : Type 0) (buffer id publishers subscribers loans samples : �
     }
 
     new_one_stands : (names : List (List ℕ))
-        → HubStandsFor degrades decides reader_degrades names (λ pattern name. []) (λ service. nameless) [] new_hub new_state
+        → HubStandsFor choices degrades decides reader_degrades names (λ pattern name. []) (λ service. nameless) [] new_hub new_state
     new_one_stands names = record {
       nodes = refl;
       table = new-stands T names id;
@@ -112,12 +113,14 @@ module _ (T U B D : Type 0) (buffer id publishers subscribers loans samples : �
       ports = no_ports_stand;
     }
 
-pub new_hub_stands : (T U : Type 0) {B D : Type 0} (degrades : B → DegradationCause → DegradationInfo → DegradationAction → Type 0)
+pub new_hub_stands : (T U : Type 0) {B D : Type 0} (choices : Choices T)
+    (degrades : B → DegradationCause → DegradationInfo → DegradationAction → Type 0)
     (decides : B → BackpressureInfo → BackpressureDecision → Type 0)
     (reader_degrades : D → DegradationCause → DegradationInfo → DegradationAction → Type 0)
-    → NewHubStands T U degrades decides reader_degrades
-new_hub_stands T U {B} {D} degrades decides reader_degrades names config hub new =
-    subst (λ (one : NumberedHub T U B D). HubStandsFor degrades decides reader_degrades names (λ pattern name. []) (λ service. nameless)
+    → NewHubStands T U choices degrades decides reader_degrades
+new_hub_stands T U {B} {D} choices degrades decides reader_degrades names config hub new =
+    subst (λ (one : NumberedHub T U B D). HubStandsFor choices degrades decides reader_degrades names (λ pattern name. [])
+    (λ service. nameless)
     [] one
     new_state)
     (sym (λ i. record {
@@ -139,4 +142,4 @@ new_hub_stands T U {B} {D} degrades decides reader_degrades names config hub new
       pledged = hub.pledged;
     }))
     (new_one_stands T U B D config.expired_connection_buffer config.id hub.made.publishers.room hub.made.subscribers.room
-    hub.made.loans.room hub.made.samples.room hub.pledged degrades decides reader_degrades names)
+    hub.made.loans.room hub.made.samples.room hub.pledged choices degrades decides reader_degrades names)

@@ -19,19 +19,21 @@ use Rattle.iox_hub_commands.specs.declared.numbered_hub.NumberedHub.{NumberedHub
 use Rattle.iox_hub_machine.proofs.PortsStay.{ports_stay}
 use Rattle.iox_hub_machine.specs.ServiceLaws.{NodeMatches}
 use Rattle.iox_hub_machine.specs.Services.{HubStandsFor}
+use Rattle.iox_machine.specs.Choices.{Choices}
 use Rattle.iox_machine.specs.State.{State, counted}
 
 one_node_more : (nodes : ℕ) → nodes + 1 < 2 ^ 64 → one_more nodes ≡ nodes + 1
 one_node_more nodes few = omega (arith, few)
 
-module _ {T U B D : Type 0} (degrades : B → DegradationCause → DegradationInfo → DegradationAction → Type 0)
+module _ {T U B D : Type 0} (choices : Choices T) (degrades : B → DegradationCause → DegradationInfo → DegradationAction → Type 0)
     (decides : B → BackpressureInfo → BackpressureDecision → Type 0)
     (reader_degrades : D → DegradationCause → DegradationInfo → DegradationAction → Type 0) where
   node_stands : (names : List (List ℕ)) (taken : MessagingPattern → List ℕ → List ℕ) (naming : ℕ → Naming)
       (order : List (ℕ × ServicePorts T U)) (hub : NumberedHub T U B D)
       (state : State T) (nodes nodes_made : ℕ) → nodes ≡ nodes_made
-      → HubStandsFor degrades decides reader_degrades names taken naming order hub state
-      → HubStandsFor degrades decides reader_degrades names taken naming order (record hub { hub = record hub.hub { nodes = nodes } })
+      → HubStandsFor choices degrades decides reader_degrades names taken naming order hub state
+      → HubStandsFor choices degrades decides reader_degrades names taken naming order
+      (record hub { hub = record hub.hub { nodes = nodes } })
       (record state { made = record state.made { nodes = nodes_made } })
   node_stands names taken naming order hub state nodes nodes_made same stands = record {
     nodes = same;
@@ -49,17 +51,18 @@ module _ {T U B D : Type 0} (degrades : B → DegradationCause → DegradationIn
       opened = stands.factories.opened;
     };
     served = stands.served;
-    ports = ports_stay degrades decides reader_degrades naming order hub state hub.hub.table nodes nodes_made hub.factories hub.pledged
+    ports = ports_stay choices degrades decides reader_degrades naming order hub state hub.hub.table nodes nodes_made hub.factories
+        hub.pledged
         state.phases stands.ports;
   }
 
-pub node_matches : {T U B D : Type 0} (payload user_header : Detail) (types : MessageTypeDetails) (is_default : T → Type 0)
+pub node_matches : {T U B D : Type 0} (payload user_header : Detail) (types : MessageTypeDetails) (choices : Choices T)
     (is_default_header : U → Type 0) (fixed : BackpressureStrategy → Option BackpressureAction → DegradationAction → B)
     (degrades : B → DegradationCause → DegradationInfo → DegradationAction → Type 0)
     (decides : B → BackpressureInfo → BackpressureDecision → Type 0) (fixed_reader : DegradationAction → D)
     (reader_degrades : D → DegradationCause → DegradationInfo → DegradationAction → Type 0)
-    → NodeMatches payload user_header types is_default is_default_header fixed degrades decides fixed_reader reader_degrades
-node_matches {T} {U} {B} {D} payload user_header types is_default is_default_header fixed degrades decides fixed_reader reader_degrades
+    → NodeMatches payload user_header types choices is_default_header fixed degrades decides fixed_reader reader_degrades
+node_matches {T} {U} {B} {D} payload user_header types choices is_default_header fixed degrades decides fixed_reader reader_degrades
     names taken naming order old new state answer few stands does =
     let one : one_more old.hub.nodes ≡ state.made.nodes + 1 =
     one_node_more old.hub.nodes few ∙ ap (λ (n : ℕ). n + 1) stands.nodes in
@@ -70,9 +73,10 @@ node_matches {T} {U} {B} {D} payload user_header types is_default is_default_hea
       order = order;
       after = record state { made = record state.made { nodes = state.made.nodes + 1 } };
       step = inl (told, ap (λ (a : Reply T). record state { made = counted a state.made }) (sym told));
-      stands = subst (λ (hub : NumberedHub T U B D). HubStandsFor degrades decides reader_degrades names taken naming order hub
+      stands = subst (λ (hub : NumberedHub T U B D). HubStandsFor choices degrades decides reader_degrades names taken naming order hub
           (record state { made = record state.made { nodes = state.made.nodes + 1 } })) (sym does.1)
-          (node_stands degrades decides reader_degrades names taken naming order old state (one_more old.hub.nodes) (state.made.nodes + 1)
+          (node_stands choices degrades decides reader_degrades names taken naming order old state (one_more old.hub.nodes)
+          (state.made.nodes + 1)
           one
           stands);
     }

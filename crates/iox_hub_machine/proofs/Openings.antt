@@ -27,6 +27,7 @@ use Rattle.iox_command.specs.NegotiateBase.PublishSubscribeErrors as publish_sub
 use Rattle.iox_command.specs.NegotiateBase.RequestResponseErrors as request_response
 use Rattle.iox_command.specs.NegotiateBase.declared.failure.OpenFailure.{OpenFailure}
 use Rattle.iox_command.specs.NegotiateBase.declared.failure.OpenFailure.TheVariants as unopened
+use Rattle.iox_command.specs.NegotiateBase.DescribeBase.declared.type_detail.TypeVariant.{TypeVariant}
 use Rattle.iox_command.specs.declared.command.Command.TheVariants as command
 use Rattle.iox_command.specs.declared.refusal.Refusal.{Refusal}
 use Rattle.iox_command.specs.declared.refusal.Refusal.TheVariants as refusal
@@ -36,6 +37,7 @@ use Rattle.iox_command.specs.declared.service.PublishSubscribeOptions.{PublishSu
 use Rattle.iox_command.specs.declared.service.ServiceOptions.{ServiceOptions}
 use Rattle.iox_command.specs.declared.service.ServiceOptions.TheVariants as options
 use Rattle.iox_command.specs.declared.step.StepBefore.{StepBefore}
+use Rattle.iox_domain.specs.Fitting.{asked_types}
 use Rattle.iox_domain.specs.declared.ports.service_ports.ServicePorts.{ServicePorts}
 use Rattle.iox_domain_machine.proofs.Found.{same_some}
 use Rattle.iox_domain_machine.specs.Naming.{Naming}
@@ -56,9 +58,10 @@ use Rattle.iox_hub_machine.proofs.FittingThen.{FitsHere, met_fits}
 use Rattle.iox_hub_machine.proofs.Formed.{AreMade, formed_so, listed_so}
 use Rattle.iox_hub_machine.proofs.Skipping.{skipped_matches}
 use Rattle.iox_hub_machine.proofs.Verdicts.{same_event_verdict, same_publish_subscribe_verdict, same_request_response_verdict}
-use Rattle.iox_hub_machine.specs.OpenLaws.{HasNumbersFor, OpeningMatches, slice_types}
+use Rattle.iox_hub_machine.specs.OpenLaws.{HasNumbersFor, OpeningMatches}
 use Rattle.iox_hub_machine.specs.ServiceLaws.{IsFollowed}
 use Rattle.iox_hub_machine.specs.Services.{HubStandsFor, factory_as}
+use Rattle.iox_machine.specs.Choices.{Choices}
 use Rattle.iox_machine.proofs.Names.{phase-there}
 use Rattle.iox_machine.proofs.Opened.{opened-meets-asked}
 use Rattle.iox_machine.specs.Agreement.{Agreement, event_verdict, publish_subscribe_verdict, request_response_verdict}
@@ -96,27 +99,29 @@ is_event e = cc
 pub is_request_response : pattern.RequestResponse ≡ pattern.PublishSubscribe → ⊥
 is_request_response e = cc
 
-module _ {T U B D : Type 0} (payload user_header : Detail) (is_default : T → Type 0) (is_default_header : U → Type 0)
+module _ {T U B D : Type 0} (payload user_header : Detail) (variant : TypeVariant) (choices : Choices T)
+    (is_default_header : U → Type 0)
     (fixed : BackpressureStrategy → Option BackpressureAction → DegradationAction → B)
     (degrades : B → DegradationCause → DegradationInfo → DegradationAction → Type 0)
     (decides : B → BackpressureInfo → BackpressureDecision → Type 0) (fixed_reader : DegradationAction → D)
     (reader_degrades : D → DegradationCause → DegradationInfo → DegradationAction → Type 0) where
   abbrev types : MessageTypeDetails
-  types = slice_types {T = T} {U = U} {B = B} {D = D} payload user_header is_default is_default_header fixed degrades decides fixed_reader
-      reader_degrades
+  types = asked_types variant payload user_header
 
   module _ (names : List (List ℕ)) (node : ℕ) (name : List ℕ) (required : Required) (steps : List StepBefore)
       (asked : IsAmong names name)
       (taken : MessagingPattern → List ℕ → List ℕ) (naming : ℕ → Naming) (order : List (ℕ × ServicePorts T U))
       (old new : NumberedHub T U B D) (state : State T) (own : HaveOwnHashes names) (fit : HasNumbersFor (length steps) old)
-      (stands : HubStandsFor degrades decides reader_degrades names taken naming order old state)
+      (stands : HubStandsFor choices degrades decides reader_degrades names taken naming order old state)
       (there : is_node node old.hub.nodes ≡ true) where
     made_node : (nat_le 1 node && nat_le node state.made.nodes) ≡ true
     made_node = ap (λ (n : ℕ). nat_le 1 node && nat_le node n) (sym stands.nodes) ∙ there
 
-    entering : (kind : MessagingPattern) → StandsEntered payload user_header degrades decides reader_degrades names own kind name asked
+    entering : (kind : MessagingPattern)
+        → StandsEntered payload user_header choices degrades decides reader_degrades names own kind name asked
         taken naming order node old new state stands
-    entering kind = stands_entered payload user_header degrades decides reader_degrades names own kind name asked taken naming order node
+    entering kind = stands_entered payload user_header choices degrades decides reader_degrades names own kind name asked taken naming
+        order node
         old new state stands fit.rise fit.factories
 
     module _ (kind : MessagingPattern) {V E : Type 0} (judge : Description → Result (Unit {0}) V)
@@ -132,7 +137,8 @@ module _ {T U B D : Type 0} (payload user_header : Detail) (is_default : T → T
       tell why = refused (error why)
 
       abbrev Is : Reply T → Type 0
-      Is = IsAnswered payload user_header degrades decides reader_degrades names own kind name asked taken naming order node old new state
+      Is = IsAnswered payload user_header choices degrades decides reader_degrades names own kind name asked taken naming order node old
+          new state
           stands Goes tell (λ is_new. unopened.OutOfMemory)
 
       opened_so : (fits : (fresh : Bool) (last : Call)
@@ -148,7 +154,8 @@ module _ {T U B D : Type 0} (payload user_header : Detail) (is_default : T → T
           → Numbers kind refused opened roomier result new.factories.made
           → Is (factory_reply (Some result))
       opened_so fits lists listed roomier same same_made result opened does numbers =
-          answered payload user_header degrades decides reader_degrades names own kind name asked taken naming order node old new state
+          answered payload user_header choices degrades decides reader_degrades names own kind name asked taken naming order node old new
+          state
           stands Goes tell (λ is_new. unopened.OutOfMemory) error refused (λ why. refl) (λ was_new. error unopened.OutOfMemory)
           (λ fresh. refl)
           (λ why last goes. unopened_keeps kind name (taken kind name) (state.phases kind name) types steps node verdict last why goes)
@@ -167,17 +174,19 @@ module _ {T U B D : Type 0} (payload user_header : Detail) (is_default : T → T
     -- ---- by pattern
 
     abbrev Followed : ServiceOptions → Reply T → Type 0
-    Followed named answer = IsFollowed payload user_header types is_default is_default_header fixed degrades decides fixed_reader
+    Followed named answer = IsFollowed payload user_header types choices is_default_header fixed degrades decides fixed_reader
         reader_degrades names (command.Open node name named required steps) old new state answer
 
     module _ (named : ServiceOptions) (kind : MessagingPattern) {F : Type 0} (Calls : Call → Option (Result Bool F) → Call → Type 0)
         (told : F → Refusal) (lacks : Bool → F) (answer : Reply T)
         (steps_so : (after : State T)
-        → Came payload user_header degrades decides reader_degrades names own kind name asked taken naming order node old new state stands
+        → Came payload user_header choices degrades decides reader_degrades names own kind name asked taken naming order node old new
+        state stands
         Calls told lacks answer after
-        → machine.Step types is_default old.hub.expired_connection_buffer (command.Open node name named required steps) state answer after)
+        → machine.Step types choices old.hub.expired_connection_buffer (command.Open node name named required steps) state answer after)
       where
-        followed_by : IsAnswered payload user_header degrades decides reader_degrades names own kind name asked taken naming order node
+        followed_by : IsAnswered payload user_header choices degrades decides reader_degrades names own kind name asked taken naming order
+            node
             old new
             state stands Calls told lacks answer
             → Followed named answer
@@ -197,16 +206,17 @@ module _ {T U B D : Type 0} (payload user_header : Detail) (is_default : T → T
         → pattern.PublishSubscribe ≡ pattern.PublishSubscribe → (life : ℕ) (agreed : Agreement) (nodes : List (Node × ℕ))
         → last.phase ≡ Published life agreed nodes → FitsHere payload user_header agreed.settings
     opened_fits named fresh last goes is life agreed nodes phase_is =
-        met_fits payload user_header required named agreed
+        met_fits payload user_header variant required named agreed
         (agreed_there (λ one. publish_subscribe_verdict types required named one ≡ Ok tt) last.phase life agreed nodes phase_is
         (subst (IsAgreedOn (λ one. publish_subscribe_verdict types required named one ≡ Ok tt))
         (phase-there pattern.PublishSubscribe name last.phase state)
-        ((opened-meets-asked is_default types old.hub.expired_connection_buffer node name (options.PublishSubscribe named) required steps
+        ((opened-meets-asked choices types old.hub.expired_connection_buffer node name (options.PublishSubscribe named) required steps
         state (reply.FactoryMade (state.made.factories + 1)) then
         (by_true _ _ _ made_node (inr (Ok fresh, last, goes, inl (refl, refl))))).0 (state.made.factories + 1) refl)))
       where
         then : State T
-        then = with_factory_in payload user_header degrades decides reader_degrades names own pattern.PublishSubscribe name asked taken
+        then = with_factory_in payload user_header choices degrades decides reader_degrades names own pattern.PublishSubscribe name asked
+            taken
             naming order node old new state stands last.phase
 
     opens_as : (named : ServiceOptions) (lists : List (List TableStep)) → AreMade types name steps lists
@@ -247,7 +257,8 @@ module _ {T U B D : Type 0} (payload user_header : Detail) (is_default : T → T
         (Opens types pattern.PublishSubscribe steps (Own node) (publish_subscribe_verdict types required named))
         (λ why. refusal.PublishSubscribeOpen (publish_subscribe.open_error why)) (λ is_new. unopened.OutOfMemory) _
         (λ after came. by_true _ _ _ made_node came)
-        (lacking_answered payload user_header degrades decides reader_degrades names own pattern.PublishSubscribe name asked taken naming
+        (lacking_answered payload user_header choices degrades decides reader_degrades names own pattern.PublishSubscribe name asked taken
+        naming
         order node old new state stands
         (Opens types pattern.PublishSubscribe steps (Own node) (publish_subscribe_verdict types required named))
         (λ why. refusal.PublishSubscribeOpen (publish_subscribe.open_error why)) (λ is_new. unopened.OutOfMemory) roomier result same
@@ -256,7 +267,8 @@ module _ {T U B D : Type 0} (payload user_header : Detail) (is_default : T → T
         followed_by (options.Event named) pattern.Event (Opens types pattern.Event steps (Own node) (event_verdict required named))
         (λ why. refusal.EventOpen (event.open_error why)) (λ is_new. unopened.OutOfMemory) _
         (λ after came. by_true _ _ _ made_node came)
-        (lacking_answered payload user_header degrades decides reader_degrades names own pattern.Event name asked taken naming order node
+        (lacking_answered payload user_header choices degrades decides reader_degrades names own pattern.Event name asked taken naming
+        order node
         old new state stands (Opens types pattern.Event steps (Own node) (event_verdict required named))
         (λ why. refusal.EventOpen (event.open_error why)) (λ is_new. unopened.OutOfMemory) roomier result same same_made does)
     lacks_as (options.RequestResponse named) lacking roomier same same_made result does =
@@ -264,7 +276,8 @@ module _ {T U B D : Type 0} (payload user_header : Detail) (is_default : T → T
         (Opens types pattern.RequestResponse steps (Own node) (request_response_verdict types required named))
         (λ why. refusal.RequestResponseOpen (request_response.open_error why)) (λ is_new. unopened.OutOfMemory) _
         (λ after came. by_true _ _ _ made_node came)
-        (lacking_answered payload user_header degrades decides reader_degrades names own pattern.RequestResponse name asked taken naming
+        (lacking_answered payload user_header choices degrades decides reader_degrades names own pattern.RequestResponse name asked taken
+        naming
         order node old new state stands
         (Opens types pattern.RequestResponse steps (Own node) (request_response_verdict types required named))
         (λ why. refusal.RequestResponseOpen (request_response.open_error why)) (λ is_new. unopened.OutOfMemory) roomier result same
@@ -281,13 +294,14 @@ module _ {T U B D : Type 0} (payload user_header : Detail) (is_default : T → T
     prepared_so named (Err lacking) roomier same_made result prepares does =
         lacks_as named lacking roomier prepares.0 same_made result does
 
-  pub openings_match : OpeningMatches payload user_header is_default is_default_header fixed degrades decides fixed_reader reader_degrades
+  pub openings_match : OpeningMatches payload user_header types choices is_default_header fixed degrades decides fixed_reader
+      reader_degrades
   openings_match names node name named required steps asked own taken naming order old new state answer fit stands
       (made, does, same_made, told) =
       by_node (is_node node old.hub.nodes) refl does
     where
       Now : Reply T → Type 0
-      Now given = IsFollowed payload user_header types is_default is_default_header fixed degrades decides fixed_reader reader_degrades
+      Now given = IsFollowed payload user_header types choices is_default_header fixed degrades decides fixed_reader reader_degrades
           names
           (command.Open node name named required steps) old new state given
 
@@ -301,7 +315,7 @@ module _ {T U B D : Type 0} (payload user_header : Detail) (is_default : T → T
           same_made result prepares opens)
       by_node false is (none, table_is, hub_is) =
           let replied : answer ≡ reply.Skipped = told ∙ ap factory_reply none in
-          let so = skipped_matches payload user_header types is_default is_default_header fixed degrades decides fixed_reader
+          let so = skipped_matches payload user_header types choices is_default_header fixed degrades decides fixed_reader
           reader_degrades names (command.Open node name named required steps) taken naming order old new state tt stands
           (made, does, same_made, sym replied ∙ told) in
           subst Now (sym replied)

@@ -21,6 +21,7 @@ use Rattle.iox_hub_machine.proofs.Meantime.{same_numbers}
 use Rattle.iox_hub_machine.proofs.PortsStay.{ports_stay}
 use Rattle.iox_hub_machine.specs.Seats.{seats_in}
 use Rattle.iox_hub_machine.specs.Services.{AreServedInTurn, FactoryStands, HubStandsFor}
+use Rattle.iox_machine.specs.Choices.{Choices}
 use Rattle.iox_machine.specs.AgreementLaws.{life_of}
 use Rattle.iox_machine.specs.Phase.{Phase, same_pattern}
 use Rattle.iox_machine.specs.Service.{Service}
@@ -51,14 +52,14 @@ served_still table room open_here (domain ∷ domains) (service ∷ services) (o
   served_still table room open_here domains services rest,
 )
 
-module _ {T U B D : Type 0} (degrades : B → DegradationCause → DegradationInfo → DegradationAction → Type 0)
+module _ {T U B D : Type 0} (choices : Choices T) (degrades : B → DegradationCause → DegradationInfo → DegradationAction → Type 0)
     (decides : B → BackpressureInfo → BackpressureDecision → Type 0)
     (reader_degrades : D → DegradationCause → DegradationInfo → DegradationAction → Type 0) where
   -- a hub stands still where there is room for more factories, and others are pledged
   pub roomier_stands : (names : List (List ℕ)) (taken : MessagingPattern → List ℕ → List ℕ) (naming : ℕ → Naming)
       (order : List (ℕ × ServicePorts T U)) (hub : NumberedHub T U B D) (room : ℕ) (pledged : Pledged) (state : State T)
-      → HubStandsFor degrades decides reader_degrades names taken naming order hub state
-      → HubStandsFor degrades decides reader_degrades names taken naming order
+      → HubStandsFor choices degrades decides reader_degrades names taken naming order hub state
+      → HubStandsFor choices degrades decides reader_degrades names taken naming order
       (record hub { factories = record { made = record hub.factories.made { room = room } }; pledged = pledged }) state
   roomier_stands names taken naming order hub room pledged state stands = record {
     nodes = stands.nodes;
@@ -74,7 +75,7 @@ module _ {T U B D : Type 0} (degrades : B → DegradationCause → DegradationIn
       opened = stands.factories.opened;
     };
     served = served_still hub.factories.made room hub.hub.services order state.services stands.served;
-    ports = ports_stay degrades decides reader_degrades naming order hub state hub.hub.table hub.hub.nodes state.made.nodes
+    ports = ports_stay choices degrades decides reader_degrades naming order hub state hub.hub.table hub.hub.nodes state.made.nodes
         (record { made = record hub.factories.made { room = room } }) pledged state.phases stands.ports;
   }
 
@@ -133,15 +134,16 @@ module _ {T : Type 0} (names : List (List ℕ)) (own : HaveOwnHashes names) (pat
     seats_then one other node =
         by_name (λ p n now. seats_in node now ≡ seats_in node (state.phases p n)) one other (held.seats node) refl
 
-    module _ {U B D : Type 0} (degrades : B → DegradationCause → DegradationInfo → DegradationAction → Type 0)
+    module _ {U B D : Type 0} (choices : Choices T) (degrades : B → DegradationCause → DegradationInfo → DegradationAction → Type 0)
         (decides : B → BackpressureInfo → BackpressureDecision → Type 0)
         (reader_degrades : D → DegradationCause → DegradationInfo → DegradationAction → Type 0)
         (naming : ℕ → Naming) (order : List (ℕ × ServicePorts T U)) (hub : NumberedHub T U B D) (table : Contents) (room : ℕ)
         (pledged : Pledged)
-        (stands : HubStandsFor degrades decides reader_degrades names taken naming order hub state) (id : table.id ≡ hub.hub.table.id)
+        (stands : HubStandsFor choices degrades decides reader_degrades names taken naming order hub state)
+        (id : table.id ≡ hub.hub.table.id)
         (since : MessagingPattern → List ℕ → List ℕ) (goes_on : GoOn taken since) (stands_then : TableStands names since table after) where
       -- the hub stands for the machine with this phase
-      pub hub_after : HubStandsFor degrades decides reader_degrades names since naming order
+      pub hub_after : HubStandsFor choices degrades decides reader_degrades names since naming order
           (record hub {
             hub = record hub.hub { table = table };
             factories = record { made = record hub.factories.made { room = room } };
@@ -162,6 +164,6 @@ module _ {T : Type 0} (names : List (List ℕ)) (own : HaveOwnHashes names) (pat
           opened = stands.factories.opened;
         };
         served = served_still hub.factories.made room hub.hub.services order state.services stands.served;
-        ports = ports_stay degrades decides reader_degrades naming order hub state table hub.hub.nodes state.made.nodes
+        ports = ports_stay choices degrades decides reader_degrades naming order hub state table hub.hub.nodes state.made.nodes
             (record { made = record hub.factories.made { room = room } }) pledged after.phases stands.ports;
       }

@@ -30,12 +30,11 @@ use Rattle.iox_domain_machine.proofs.Found.{at_head, at_behind, never_some, same
 use Rattle.iox_domain_machine.proofs.LendingTables.{not_there}
 use Rattle.iox_domain_machine.proofs.TableEnds.{at_end}
 use Rattle.iox_domain_machine.specs.Naming.{Naming, nameless, with_name}
-use Rattle.iox_domain_machine.specs.SendLaws.{DecidesAs}
 use Rattle.iox_domain_machine.specs.Services.{those_of, AreNamedApart, ComesOnce, StandInTurn}
 use Rattle.iox_domain_machine.specs.Standing.{StandsFor}
 use Rattle.iox_domain_machine.specs.Tables.{LentSlot}
 use Rattle.iox_hub_base.specs.Open.{OpenServices, here_if}
-use Rattle.iox_hub_base.specs.ServicesAsHome.{domain_at, ports_if, publisher_handlers_in, subscriber_handler_in}
+use Rattle.iox_hub_base.specs.ServicesAsHome.{ports_if, publisher_handlers_in, subscriber_handler_in}
 use Rattle.iox_hub_base.specs.ServicesOpening.{is_open}
 use Rattle.iox_hub_base.specs.declared.presence.Presence.{Presence}
 use Rattle.iox_hub_commands.specs.Tables.{port_under}
@@ -44,6 +43,7 @@ use Rattle.iox_hub_commands.specs.declared.ports.made.MadeLoan.{MadeLoan}
 use Rattle.iox_hub_commands.specs.declared.ports.made.MadeSample.{MadeSample}
 use Rattle.iox_hub_commands.specs.declared.room.Pledged.{Pledged}
 use Rattle.iox_hub_commands.specs.declared.services.factories.Factories.{Factories}
+use Rattle.iox_hub_machine.proofs.Handled.{handled_on, reader_handled_on}
 use Rattle.iox_hub_machine.proofs.DomainMore.{come_here, grown, here_still, new_there, none_open, not_new, others_there}
 use Rattle.iox_hub_machine.proofs.DomainMore.{publisher_elsewhere, publisher_here, same_elsewhere, subscriber_elsewhere, subscriber_here}
 use Rattle.iox_hub_machine.proofs.Numbered.{goes_so}
@@ -51,7 +51,8 @@ use Rattle.iox_hub_machine.proofs.Parting.{ports_under}
 use Rattle.iox_hub_machine.proofs.TableMore.{among_end, none_of}
 use Rattle.iox_hub_machine.specs.Ports.{among, ports_here}
 use Rattle.iox_hub_machine.specs.Standing.{PortsStandFor, PublisherIsHandled, held_in, held_sample, lent_in, lent_slot}
-use Rattle.iox_hub_machine.specs.Standing.{publisher_is_up, subscriber_is_up}
+use Rattle.iox_hub_machine.specs.Standing.{SubscriberIsHandled, publisher_is_up, subscriber_is_up}
+use Rattle.iox_machine.specs.Choices.{Choices}
 use Rattle.iox_machine.specs.Phase.{Phase}
 use Rattle.iox_machine.specs.Service.{Publisher, Service, Subscriber, new_service}
 use Rattle.iox_machine.specs.State.{Factory, State}
@@ -64,11 +65,11 @@ pub often_more : {V : Type 0} (other number : ℕ) (v : V) (table : List (ℕ ×
 often_more other number v [] = omega arith
 often_more other number v (entry ∷ table) = omega (arith, often_more other number v table)
 
-module _ {T U B D : Type 0} (degrades : B → DegradationCause → DegradationInfo → DegradationAction → Type 0)
+module _ {T U B D : Type 0} (choices : Choices T) (degrades : B → DegradationCause → DegradationInfo → DegradationAction → Type 0)
     (decides : B → BackpressureInfo → BackpressureDecision → Type 0)
     (reader_degrades : D → DegradationCause → DegradationInfo → DegradationAction → Type 0) (naming : ℕ → Naming)
     (order : List (ℕ × ServicePorts T U)) (hub : NumberedHub T U B D) (state : State T)
-    (stands : PortsStandFor degrades decides reader_degrades naming order hub state) where
+    (stands : PortsStandFor choices degrades decides reader_degrades naming order hub state) where
   module _ (number : ℕ) (domain : Domain T U B D) (name : List ℕ) (agreed : StaticConfig)
       (closed : is_open number hub.hub.services ≡ false)
       (blank : domain.state.ports ≡ no_ports number (sizes hub.hub.expired_connection_buffer domain.agreed))
@@ -258,7 +259,7 @@ module _ {T U B D : Type 0} (degrades : B → DegradationCause → DegradationIn
     publisher_handled : (id : DomainId) (which : ℕ) (publisher : Publisher T) → publisher_is_up hub_then.hub id which ≡ true
         → among (λ (service : Service T). service.publishers) ((naming_then id.service).publisher which) state_then.services
         ≡ Some publisher
-        → PublisherIsHandled degrades decides hub_then.hub id which publisher
+        → PublisherIsHandled choices degrades decides hub_then.hub id which ((naming_then id.service).publisher which) publisher
     publisher_handled id which publisher up found =
         let off = publisher_off id which up in
         let was = stands.publishers_handled id which publisher (publisher_was id which up)
@@ -266,20 +267,18 @@ module _ {T U B D : Type 0} (degrades : B → DegradationCause → DegradationIn
         (sym (named_so id.service off))
         ∙ sym (among_end (λ (service : Service T). service.publishers) ((naming_then id.service).publisher which) state.services
         (new_service name agreed) refl) ∙ found) in
-        let same = sym (same_elsewhere number domain hub.hub.services closed id off) in
-        record {
-          full = subst (λ (it : Option (Domain T U B D)). DecidesAs (kept_decides decides (publisher_handlers_in which it)) publisher) same
-              was.full;
-          failed = subst (λ (it : Option (Domain T U B D)). (info : DegradationInfo) (action : DegradationAction)
-              → kept_degrades degrades (publisher_handlers_in which it) info action → action ≡ publisher.degradation) same was.failed;
-        }
+        let same = same_elsewhere number domain hub.hub.services closed id off in
+        handled_on choices hub.hub hub_then.hub id which ((naming id.service).publisher which) ((naming_then id.service).publisher which)
+        (ap (λ (it : Naming). it.publisher which) (sym (named_so id.service off))) degrades decides publisher publisher refl
+        (λ info decision may. subst (λ (it : Option (Domain T U B D)). kept_decides decides (publisher_handlers_in which it) info decision)
+        same may)
+        (λ info action may. subst (λ (it : Option (Domain T U B D)). kept_degrades degrades (publisher_handlers_in which it) info action)
+        same may) was
 
     subscriber_handled : (id : DomainId) (which : ℕ) (subscriber : Subscriber) → subscriber_is_up hub_then.hub id which ≡ true
         → among (λ (service : Service T). service.subscribers) ((naming_then id.service).subscriber which) state_then.services
         ≡ Some subscriber
-        → (info : DegradationInfo) (action : DegradationAction)
-        → kept_degrades reader_degrades (subscriber_handler_in which (domain_at id services_then)) info action
-        → action ≡ subscriber.degradation
+        → SubscriberIsHandled choices reader_degrades hub_then.hub id which ((naming_then id.service).subscriber which) subscriber
     subscriber_handled id which subscriber up found =
         let off = subscriber_off id which up in
         let was = stands.subscribers_handled id which subscriber (subscriber_was id which up)
@@ -287,14 +286,17 @@ module _ {T U B D : Type 0} (degrades : B → DegradationCause → DegradationIn
         (sym (named_so id.service off))
         ∙ sym (among_end (λ (service : Service T). service.subscribers) ((naming_then id.service).subscriber which) state.services
         (new_service name agreed) refl) ∙ found) in
-        subst (λ (it : Option (Domain T U B D)). (info : DegradationInfo) (action : DegradationAction)
-        → kept_degrades reader_degrades (subscriber_handler_in which it) info action → action ≡ subscriber.degradation)
-        (sym (same_elsewhere number domain hub.hub.services closed id off)) was
+        let same = same_elsewhere number domain hub.hub.services closed id off in
+        reader_handled_on choices hub.hub hub_then.hub id which ((naming id.service).subscriber which)
+        ((naming_then id.service).subscriber which) (ap (λ (it : Naming). it.subscriber which) (sym (named_so id.service off)))
+        reader_degrades subscriber subscriber refl
+        (λ info action may. subst (λ (it : Option (Domain T U B D)). kept_degrades reader_degrades (subscriber_handler_in which it) info
+        action) same may) was
 
     -- ---- all together
 
     -- the ports stand for those of a machine with the new service
-    pub one_more_domain : PortsStandFor degrades decides reader_degrades naming_then order_then hub_then state_then
+    pub one_more_domain : PortsStandFor choices degrades decides reader_degrades naming_then order_then hub_then state_then
     one_more_domain = record {
       here = come_here number domain hub.hub.services.domains stands.here;
       same = same_then;
@@ -349,7 +351,7 @@ module _ {T U B D : Type 0} (degrades : B → DegradationCause → DegradationIn
   -- the ports of a hub stand where its factories are others
   pub other_factories : (table : Contents) (factories made : ℕ) (counts : List (ℕ × ℕ)) (by_number : Factories) (pledged : Pledged)
       (phases : MessagingPattern → List ℕ → Phase) (those : List (ℕ × Factory))
-      → PortsStandFor degrades decides reader_degrades naming order
+      → PortsStandFor choices degrades decides reader_degrades naming order
       (record hub {
         hub = record hub.hub { factories = factories; table = table; factory_counts = counts };
         factories = by_number;

@@ -67,6 +67,7 @@ use Rattle.iox_hub_commands.specs.declared.ports.made.MadeLoan.{MadeLoan}
 use Rattle.iox_hub_commands.specs.declared.ports.made.MadeSample.{MadeSample}
 use Rattle.iox_hub_machine.proofs.Resting.{Rests, at_domain_rests, changed_rests, leaves_rests, makes_rests, rests_same, rests_then}
 use Rattle.iox_hub_machine.proofs.Resting.{step_rests}
+use Rattle.iox_machine.specs.Choices.{Choices}
 use Rattle.iox_machine.proofs.Ported.{is_of_ports}
 use Rattle.iox_machine.specs.State as machine
 use Rattle.iox_machine.specs.State.{counted}
@@ -305,14 +306,15 @@ module _ {T U B D : Type 0} where
         told = neither_by (subscriber_reply came) answer told (arrived_neither came);
       }
 
-  module _ (payload user_header : Detail) (types : MessageTypeDetails) (is_default : T → Type 0) (is_default_header : U → Type 0)
+  module _ (payload user_header : Detail) (types : MessageTypeDetails) (choices : Choices T) (is_default_header : U → Type 0)
       (fixed : BackpressureStrategy → Option BackpressureAction → DegradationAction → B)
       (degrades : B → DegradationCause → DegradationInfo → DegradationAction → Type 0)
       (decides : B → BackpressureInfo → BackpressureDecision → Type 0) (fixed_reader : DegradationAction → D)
       (reader_degrades : D → DegradationCause → DegradationInfo → DegradationAction → Type 0) (old new : NumberedHub T U B D)
       (answer : Reply T) where
     pub port_leaves : (asked : Command T) → is_of_ports asked ≡ true
-        → hub.Step payload user_header types is_default is_default_header fixed degrades decides fixed_reader reader_degrades asked old
+        → hub.Step payload user_header types choices.is_default is_default_header fixed degrades decides fixed_reader reader_degrades
+        asked old
         (Ok answer) new
         → Leaves old new answer
     port_leaves command.Node is step = absurd (differ is)

@@ -12,18 +12,19 @@ use Rattle.iox_hub_commands.specs.declared.numbered_hub.NumberedHub.{NumberedHub
 use Rattle.iox_hub_commands.specs.declared.room.Pledged.{Pledged}
 use Rattle.iox_hub_commands.specs.declared.services.factories.Factories.{Factories}
 use Rattle.iox_hub_machine.specs.Standing.{PortsStandFor}
+use Rattle.iox_machine.specs.Choices.{Choices}
 use Rattle.iox_machine.specs.Phase.{Phase}
 use Rattle.iox_machine.specs.State.{State}
 use Rattle.iox_negotiate_table.specs.Contents.{Contents}
 
-module _ {T U B D : Type 0} (degrades : B → DegradationCause → DegradationInfo → DegradationAction → Type 0)
+module _ {T U B D : Type 0} (choices : Choices T) (degrades : B → DegradationCause → DegradationInfo → DegradationAction → Type 0)
     (decides : B → BackpressureInfo → BackpressureDecision → Type 0)
     (reader_degrades : D → DegradationCause → DegradationInfo → DegradationAction → Type 0) where
   pub ports_stay : (naming : ℕ → Naming) (order : List (ℕ × ServicePorts T U)) (hub : NumberedHub T U B D) (state : State T)
       (table : Contents) (nodes nodes_made : ℕ)
       (factories : Factories) (pledged : Pledged) (phases : MessagingPattern → List ℕ → Phase)
-      → PortsStandFor degrades decides reader_degrades naming order hub state
-      → PortsStandFor degrades decides reader_degrades naming order
+      → PortsStandFor choices degrades decides reader_degrades naming order hub state
+      → PortsStandFor choices degrades decides reader_degrades naming order
       (record hub { hub = record hub.hub { table = table; nodes = nodes }; factories = factories; pledged = pledged })
       (record state { made = record state.made { nodes = nodes_made }; phases = phases })
   ports_stay naming order hub state table nodes nodes_made factories pledged phases stands = record {

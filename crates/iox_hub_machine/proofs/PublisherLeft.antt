@@ -67,6 +67,7 @@ use Rattle.iox_hub_machine.proofs.Loans.{done_so}
 use Rattle.iox_hub_machine.proofs.Moving.{IsMatched, machine_does}
 use Rattle.iox_hub_machine.proofs.Rooming.{roomy_there}
 use Rattle.iox_hub_machine.proofs.Settled.{gone_publisher_is_down, publishers_beside, kept_beside}
+use Rattle.iox_machine.specs.Choices.{Choices}
 use Rattle.iox_machine.specs.PortList.{left}
 use Rattle.iox_machine.specs.Ports.{publisher_in}
 use Rattle.iox_machine.specs.Replies.{IsSkipped}
@@ -156,19 +157,19 @@ module _ {T U : Type 0} (number : ℕ) (ports : ServicePorts T U) (once : how_of
 
 -- ---- the law
 
-module _ {T U B D : Type 0} (is_default : T → Type 0) (is_default_header : U → Type 0)
+module _ {T U B D : Type 0} (choices : Choices T) (is_default_header : U → Type 0)
     (degrades : B → DegradationCause → DegradationInfo → DegradationAction → Type 0)
     (decides : B → BackpressureInfo → BackpressureDecision → Type 0)
     (reader_degrades : D → DegradationCause → DegradationInfo → DegradationAction → Type 0) where
   module _ (types : MessageTypeDetails) (naming : ℕ → Naming) (order : List (ℕ × ServicePorts T U)) (old new : NumberedHub T U B D)
-      (state : State T) (stands : PortsStandFor degrades decides reader_degrades naming order old state) (number : ℕ)
+      (state : State T) (stands : PortsStandFor choices degrades decides reader_degrades naming order old state) (number : ℕ)
       (grown : HaveGrown old.hub.services.domains) (rises : Rises 1 old.made.publishers.entries old.made.publishers.next)
       (counted : ListsCanChange old.hub) where
     abbrev asked : Command T
     asked = command.Leave (number_of.Publisher number)
 
     abbrev Result : Bool → NumberedHub T U B D → Type 0
-    Result done later = IsMatched degrades decides reader_degrades types is_default naming order old state asked (done_reply done) stands
+    Result done later = IsMatched degrades decides reader_degrades types choices naming order old state asked (done_reply done) stands
         later
 
     -- nothing goes by its number
@@ -194,21 +195,21 @@ module _ {T U B D : Type 0} (is_default : T → Type 0) (is_default_header : U �
 
       its_once : how_often port.number (keys_of ports.publishers) ≤ 1
       its_once =
-          let (one, its) = some_service degrades decides reader_degrades naming order old state stands id ports found in
+          let (one, its) = some_service choices degrades decides reader_degrades naming order old state stands id ports found in
           its.once port.number
 
       matches : (done : Bool) (after : ServicePorts T U) (service : Service T) → PublisherLeaves port.number ports done after
           → StandsFor (naming id.service) (those_of id.service (lent_in old.made)) (those_of id.service (held_in old.made))
           old.hub.expired_connection_buffer ports service
-          → Matches T U is_default types old.hub.expired_connection_buffer asked (done_reply done) state service (naming id.service)
+          → Matches T U choices types old.hub.expired_connection_buffer asked (done_reply done) state service (naming id.service)
           (those_of id.service (lent_in old.made)) (those_of id.service (held_in old.made)) after
       matches done after service leaves its =
-          subst (λ (it : Reply T). Matches T U is_default types old.hub.expired_connection_buffer asked it state service (naming id.service)
+          subst (λ (it : Reply T). Matches T U choices types old.hub.expired_connection_buffer asked it state service (naming id.service)
           (those_of id.service (lent_in old.made)) (those_of id.service (held_in old.made)) after) (sym (done_so done))
-          (subst (λ (name : ℕ). Matches T U is_default types old.hub.expired_connection_buffer (command.Leave (number_of.Publisher name))
+          (subst (λ (name : ℕ). Matches T U choices types old.hub.expired_connection_buffer (command.Leave (number_of.Publisher name))
           (done_or_skipped done) state service (naming id.service) (those_of id.service (lent_in old.made))
           (those_of id.service (held_in old.made)) after) known
-          (publisher_leave_matches T U is_default types old.hub.expired_connection_buffer (naming id.service)
+          (publisher_leave_matches T U choices types old.hub.expired_connection_buffer (naming id.service)
           (those_of id.service (lent_in old.made)) (those_of id.service (held_in old.made)) ports after service state port.number done its
           (roomy_there id ports old.hub grown found).sound some (counted id ports found).0 leaves))
 
@@ -216,7 +217,7 @@ module _ {T U B D : Type 0} (is_default : T → Type 0) (is_default_header : U �
       stays : (after : ServicePorts T U) → PublisherLeaves port.number ports false after
           → Result false (record new { hub = with_hub_ports id after old.hub; made = old.made })
       stays after leaves =
-          let (order_after, services, keys, does, then) = machine_does degrades decides reader_degrades types is_default naming order old
+          let (order_after, services, keys, does, then) = machine_does degrades decides reader_degrades types choices naming order old
           (record new { hub = with_hub_ports id after old.hub; made = old.made }) state asked reply.Skipped id ports after
           (naming id.service) stands found refl refl refl (port.number, known, λ zero. some (known ∙ zero))
           (λ other off. refl, stands.domains.loans) (λ other off. refl, stands.domains.samples)
@@ -230,10 +231,12 @@ module _ {T U B D : Type 0} (is_default : T → Type 0) (is_default_header : U �
         its_left = has_left port.number ports its_once after leaves
 
         abbrev now : Hub T U B D
-        now = changed degrades decides reader_degrades naming order old state stands id ports after found (forgotten port.number) as_kept
+        now = changed choices degrades decides reader_degrades naming order old state stands id ports after found (forgotten port.number)
+            as_kept
 
         down : publisher_is_up now id port.number ≡ false
-        down = up_here degrades decides reader_degrades naming order old state stands id ports after found (forgotten port.number) as_kept
+        down = up_here choices degrades decides reader_degrades naming order old state stands id ports after found (forgotten port.number)
+            as_kept
             port.number ∙ its_left.down
 
         apart : (place : ℕ) → (port.number ≡ place → ⊥) → place ≢ port.number
@@ -243,43 +246,47 @@ module _ {T U B D : Type 0} (is_default : T → Type 0) (is_default_header : U �
             → publisher_is_up now other place ≡ publisher_is_up old.hub other place
         others_stay other place off = ⊎_elim
             (λ same. ap (λ (it : DomainId). publisher_is_up now it place) (sym same)
-            ∙ up_here degrades decides reader_degrades naming order old state stands id ports after found (forgotten port.number) as_kept
+            ∙ up_here choices degrades decides reader_degrades naming order old state stands id ports after found (forgotten port.number)
+            as_kept
             place
             ∙ its_left.others place (apart place (off same)) ∙ ap (publisher_stands place) (sym found)
             ∙ ap (λ (it : DomainId). publisher_is_up old.hub it place) same)
-            (λ elsewhere. up_elsewhere degrades decides reader_degrades naming order old state stands id ports after found
+            (λ elsewhere. up_elsewhere choices degrades decides reader_degrades naming order old state stands id ports after found
             (forgotten port.number) as_kept other place elsewhere) (one_or_other id other)
 
         readers_stay : (other : DomainId) (place : ℕ) → subscriber_is_up now other place ≡ subscriber_is_up old.hub other place
         readers_stay other place = ⊎_elim
             (λ same. ap (λ (it : DomainId). subscriber_is_up now it place) (sym same)
-            ∙ reader_up_here degrades decides reader_degrades naming order old state stands id ports after found (forgotten port.number)
+            ∙ reader_up_here choices degrades decides reader_degrades naming order old state stands id ports after found
+            (forgotten port.number)
             as_kept
             place
             ∙ its_left.readers place ∙ ap (subscriber_stands place) (sym found)
             ∙ ap (λ (it : DomainId). subscriber_is_up old.hub it place) same)
-            (λ elsewhere. reader_up_elsewhere degrades decides reader_degrades naming order old state stands id ports after found
+            (λ elsewhere. reader_up_elsewhere choices degrades decides reader_degrades naming order old state stands id ports after found
             (forgotten port.number) as_kept other place elsewhere) (one_or_other id other)
 
         handlers_stay : (other : DomainId) (place : ℕ) → (id ≡ other → port.number ≡ place → ⊥)
             → publisher_handlers_in place (domain_at other now.services) ≡ publisher_handlers_in place (domain_at other old.hub.services)
         handlers_stay other place off = ⊎_elim
             (λ same. ap (λ (it : DomainId). publisher_handlers_in place (domain_at it now.services)) (sym same)
-            ∙ same_handlers degrades decides reader_degrades naming order old state stands id ports after found (forgotten port.number)
+            ∙ same_handlers choices degrades decides reader_degrades naming order old state stands id ports after found
+            (forgotten port.number)
             as_kept
             place (kept_beside port.number place (apart place (off same)))
             ∙ ap (λ (it : DomainId). publisher_handlers_in place (domain_at it old.hub.services)) same)
-            (λ elsewhere. handlers_elsewhere degrades decides reader_degrades naming order old state stands id ports after found
+            (λ elsewhere. handlers_elsewhere choices degrades decides reader_degrades naming order old state stands id ports after found
             (forgotten port.number) as_kept other place elsewhere) (one_or_other id other)
 
         reader_handlers_stay : (other : DomainId) (place : ℕ)
             → subscriber_handler_in place (domain_at other now.services) ≡ subscriber_handler_in place (domain_at other old.hub.services)
         reader_handlers_stay other place = ⊎_elim
             (λ same. ap (λ (it : DomainId). subscriber_handler_in place (domain_at it now.services)) (sym same)
-            ∙ same_readers degrades decides reader_degrades naming order old state stands id ports after found (forgotten port.number)
+            ∙ same_readers choices degrades decides reader_degrades naming order old state stands id ports after found
+            (forgotten port.number)
             as_kept place (λ kept. refl)
             ∙ ap (λ (it : DomainId). subscriber_handler_in place (domain_at it old.hub.services)) same)
-            (λ elsewhere. readers_elsewhere degrades decides reader_degrades naming order old state stands id ports after found
+            (λ elsewhere. readers_elsewhere choices degrades decides reader_degrades naming order old state stands id ports after found
             (forgotten port.number) as_kept other place elsewhere) (one_or_other id other)
 
         abbrev under_then : ℕ → Option PortId
@@ -297,10 +304,11 @@ module _ {T U B D : Type 0} (is_default : T → Type 0) (is_default_header : U �
           made = without_publisher number old.made;
         })
         leaves_then =
-            let (services, does, all) = machine_left degrades decides reader_degrades naming order old state stands id ports after found
-            (forgotten port.number) as_kept types is_default asked (port.number, known, λ zero. some (known ∙ zero))
+            let (services, does, all)
+            = machine_left choices degrades decides reader_degrades naming order old state stands id ports after found
+            (forgotten port.number) as_kept types asked (port.number, known, λ zero. some (known ∙ zero))
             (λ service its. matches true after service leaves its) in
-            let then = stands_without degrades decides reader_degrades naming order old state stands id ports after found
+            let then = stands_without choices degrades decides reader_degrades naming order old state stands id ports after found
             (forgotten port.number) as_kept new (removed old.made.publishers number) old.made.subscribers services all refl refl
             (goes_less name (publisher_is_up old.hub) (publisher_is_up now) (λ other. port_under (value_at old.made.publishers other))
             under_then stands.publishers number port there goes_by_none others_go down others_stay)
@@ -324,10 +332,10 @@ module _ {T U B D : Type 0} (is_default : T → Type 0) (is_default_header : U �
               reader_handlers_stay other place,
             )) in (
               naming,
-              order_then degrades decides reader_degrades naming order old state stands id ports after found (forgotten port.number)
+              order_then choices degrades decides reader_degrades naming order old state stands id ports after found (forgotten port.number)
                   as_kept,
               services,
-              keys_then degrades decides reader_degrades naming order old state stands id ports after found (forgotten port.number)
+              keys_then choices degrades decides reader_degrades naming order old state stands id ports after found (forgotten port.number)
                   as_kept,
               does,
               then,
@@ -343,12 +351,12 @@ module _ {T U B D : Type 0} (is_default : T → Type 0) (is_default_header : U �
           state.services,
           refl,
           at_one_skips (publisher_in number) (LeavesIf number) state
-              (no_publisher_goes degrades decides reader_degrades naming order old state stands number none),
-          same_stands degrades decides reader_degrades naming order old state stands number new same
+              (no_publisher_goes choices degrades decides reader_degrades naming order old state stands number none),
+          same_stands choices degrades decides reader_degrades naming order old state stands number new same
               (less ∙ ap (λ (it : Bool). removed_if it (without_publisher number) old.made) nothing),
         )
     leave_by done (Some port) there goes less =
-        let it = goes_by_number degrades decides reader_degrades naming order old state stands number port there in
+        let it = goes_by_number choices degrades decides reader_degrades naming order old state stands number port there in
         let (after, leaves, same) = subst (λ (it : Option (ServicePorts T U)). LeavesDomain
         (λ (one : ServicePorts T U). with_hub_ports port.domain one old.hub) (without_hub_publisher port.domain port.number)
         (PublisherLeaves port.number) it old.hub done new.hub) it.found goes in
@@ -372,10 +380,10 @@ module _ {T U B D : Type 0} (is_default : T → Type 0) (is_default_header : U �
               made = it;
             })) (sym less) (leaves_then port there ports found known some after leaves))
 
-  pub publisher_leave_simulated : PublisherLeaveIsSimulated is_default is_default_header degrades decides reader_degrades
+  pub publisher_leave_simulated : PublisherLeaveIsSimulated choices is_default_header degrades decides reader_degrades
   publisher_leave_simulated number old grown rise counted payload user_header types fixed fixed_reader naming order new state answer stands
       ((done, goes, less, told), same) =
-      subst (λ (it : Reply T). IsMatched degrades decides reader_degrades types is_default naming order old state
+      subst (λ (it : Reply T). IsMatched degrades decides reader_degrades types choices naming order old state
       (command.Leave (number_of.Publisher number)) it stands new) (sym told)
       (leave_by types naming order old new state stands number grown rise.1 counted done
       (port_under (value_at old.made.publishers number)) refl goes less)

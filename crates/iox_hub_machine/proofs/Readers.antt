@@ -22,6 +22,7 @@ use Rattle.iox_hub_machine.proofs.Absent.{AreThere, are_there, is_not}
 use Rattle.iox_hub_machine.proofs.Going.{some_service}
 use Rattle.iox_hub_machine.proofs.Parting.{ports_under}
 use Rattle.iox_hub_machine.proofs.Placed.{subscriber_up, subscriber_as}
+use Rattle.iox_machine.specs.Choices.{Choices}
 use Rattle.iox_machine.specs.Ports.{subscriber_in}
 use Rattle.iox_machine.specs.Service.{Service, Subscriber}
 use Rattle.iox_machine.specs.State.{State}
@@ -54,17 +55,17 @@ pub record ReaderGoes {T U B D : Type 0} (naming : ℕ → Naming) (hub : Number
   pub named : (naming port.domain.service).subscriber port.number ≡ number
   pub some : (naming port.domain.service).subscriber port.number ≢ 0
 
-module _ {T U B D : Type 0} (degrades : B → DegradationCause → DegradationInfo → DegradationAction → Type 0)
+module _ {T U B D : Type 0} (choices : Choices T) (degrades : B → DegradationCause → DegradationInfo → DegradationAction → Type 0)
     (decides : B → BackpressureInfo → BackpressureDecision → Type 0)
     (reader_degrades : D → DegradationCause → DegradationInfo → DegradationAction → Type 0) (naming : ℕ → Naming)
     (order : List (ℕ × ServicePorts T U)) (old : NumberedHub T U B D) (state : State T)
-    (stands : PortsStandFor degrades decides reader_degrades naming order old state) (number : ℕ) where
+    (stands : PortsStandFor choices degrades decides reader_degrades naming order old state) (number : ℕ) where
   pub reader_goes : (port : PortId) → value_at old.made.subscribers number ≡ Some port → ReaderGoes naming old number port
   reader_goes port there =
       let known = stands.subscribers.known number port there in
       let (ports, found) = some_where port.number (hub_ports port.domain old.hub) known.1 in
       let names = naming port.domain.service in
-      let (one, its) = some_service degrades decides reader_degrades naming order old state stands port.domain ports found in
+      let (one, its) = some_service choices degrades decides reader_degrades naming order old state stands port.domain ports found in
       let up : subscriber_up (at (names.subscriber port.number) one.subscribers) ≡ true =
       sym (subscriber_as names _ _ old.hub.expired_connection_buffer ports one its port.number)
       ∙ sym (ap (subscriber_stands port.number) found) ∙ known.1 in record {

@@ -73,6 +73,7 @@ use Rattle.iox_hub_machine.proofs.Renaming.{machine_does_named}
 use Rattle.iox_hub_machine.proofs.Roomier.{roomier_stands}
 use Rattle.iox_hub_machine.proofs.Rooming.{roomy_there}
 use Rattle.iox_hub_machine.proofs.Takers.{who_took, samples_within, rise_within}
+use Rattle.iox_machine.specs.Choices.{Choices}
 use Rattle.iox_machine.specs.Ports.{subscriber_in}
 use Rattle.iox_machine.specs.Receiving.{Receives}
 use Rattle.iox_machine.specs.Service.{Service, Subscriber}
@@ -81,32 +82,34 @@ use Rattle.iox_machine.specs.SubscriberUpdate.{UpdatesFirst}
 use Rattle.iox_machine.specs.Table.{at}
 
 -- the machine's subscriber receives, once its connections are up to date
-abbrev ReaderTakes : {T : Type 0} → ℕ → ℕ → ℕ → Subscriber → Service T → Reply T → Service T → Type 0
-ReaderTakes buffer number sample
-    = UpdatesFirst buffer number (λ failure. refusal.Receive (ConnectionFailure failure)) (Receives number sample)
+abbrev ReaderTakes : {T : Type 0} → Choices T → ℕ → ℕ → ℕ → Subscriber → Service T → Reply T → Service T → Type 0
+ReaderTakes choices buffer number sample
+    = UpdatesFirst choices buffer number (λ failure. refusal.Receive (ConnectionFailure failure)) (Receives number sample)
 
-taking_alike : {T : Type 0} (buffer number sample : ℕ) (state new : State T) (answer : Reply T)
-    → AtOne (subscriber_in number) (ReaderTakes buffer number sample) state answer new → DecideAlike state.services new.services
-taking_alike {T} buffer number sample state new answer did =
-    at_one_decides (subscriber_in number) (ReaderTakes buffer number sample) state new answer
+taking_alike : {T : Type 0} (choices : Choices T) (buffer number sample : ℕ) (state new : State T) (answer : Reply T)
+    → AtOne (subscriber_in number) (ReaderTakes choices buffer number sample) state answer new → DecideAlike state.services new.services
+taking_alike {T} choices buffer number sample state new answer did =
+    at_one_decides (subscriber_in number) (ReaderTakes choices buffer number sample) state new answer
     (λ one service after is does.
-    attending_alike buffer number (λ failure. refusal.Receive (ConnectionFailure failure)) (Receives number sample) one service after answer
+    attending_alike choices buffer number (λ failure. refusal.Receive (ConnectionFailure failure)) (Receives number sample) one service
+    after answer
     (standing_found (λ (it : Subscriber). it.stands) (at number service.subscribers) one is)
     (λ other mid attends received. received_alike number sample service mid after other answer attends received) does) did
 
 never_lacks : {V E : Type 0} (v : V) (e : E) → Ok v ≡ Err e → ⊥
 never_lacks v e same = cc
 
-module _ {T U B D : Type 0} (is_default : T → Type 0) (is_default_header : U → Type 0)
+module _ {T U B D : Type 0} (choices : Choices T) (is_default_header : U → Type 0)
     (degrades : B → DegradationCause → DegradationInfo → DegradationAction → Type 0)
     (decides : B → BackpressureInfo → BackpressureDecision → Type 0)
     (reader_degrades : D → DegradationCause → DegradationInfo → DegradationAction → Type 0) where
   module _ (types : MessageTypeDetails) (naming : ℕ → Naming) (order : List (ℕ × ServicePorts T U)) (old new : NumberedHub T U B D)
-      (state : State T) (answer : Reply T) (stands : PortsStandFor degrades decides reader_degrades naming order old state) (number : ℕ)
+      (state : State T) (answer : Reply T) (stands : PortsStandFor choices degrades decides reader_degrades naming order old state)
+      (number : ℕ)
       (grown : HaveGrown old.hub.services.domains) (rises : Rises 1 old.made.samples.entries old.made.samples.next)
       (fits : old.made.samples.next < 2 ^ 64) where
     abbrev Simulates : Reply T → Type 0
-    Simulates told = IsMatched degrades decides reader_degrades types is_default naming order old state (command.Receive number) told stands
+    Simulates told = IsMatched degrades decides reader_degrades types choices naming order old state (command.Receive number) told stands
         new
 
     abbrev buffer : ℕ
@@ -148,13 +151,14 @@ module _ {T U B D : Type 0} (is_default : T → Type 0) (is_default_header : U �
       -- the domain's own ports match
       its_match : (first : List (Service T)) (service : Service T) (last : List (Service T)) → state.services ≡ first ++ service ∷ last
           → StandsFor names lent held buffer goes.ports service
-          → (reader : ℕ → ℕ → ℕ) × Matches T U is_default types buffer (command.Receive (names.subscriber it.number))
+          → (reader : ℕ → ℕ → ℕ) × Matches T U choices types buffer (command.Receive (names.subscriber it.number))
           (received_or_not next values received) state service (record names { reader = reader }) lent (with_held next received held) after
       its_match first service last place stood =
-          receive_matches T U is_default (subscriber_may_degrade reader_degrades it.domain it.number old.hub) types buffer names lent held
+          receive_matches T U choices (subscriber_may_degrade reader_degrades it.domain it.number old.hub) types buffer names lent held
           goes.ports after service state it.number received values stood (roomy_there it.domain goes.ports old.hub grown goes.found)
           goes.some
-          (reader_acts_as degrades decides reader_degrades naming order old state stands it.domain goes.ports goes.found first service
+          (reader_acts_as choices degrades decides reader_degrades naming order old state stands it.domain goes.ports goes.found first
+          service
           last place
           stood it.number)
           (is_nobodys domain next (held_in old.made) nobody_next) (few_samples domain it.number) does are
@@ -170,7 +174,7 @@ module _ {T U B D : Type 0} (is_default : T → Type 0) (is_default_header : U �
           → (is_some (domain_at made.port.domain old.hub.services) ≡ true) × (made.taken.subscriber ≡ made.port.number))
           → Simulates answer
       receive_there changes told same_lent at_held held_still publishers subscribers numbers loans samples =
-          machine_does_named degrades decides reader_degrades types is_default naming order old new state (command.Receive number) answer
+          machine_does_named degrades decides reader_degrades types choices naming order old new state (command.Receive number) answer
           it.domain goes.ports after stands goes.found changes
           (it.number, goes.named, λ zero. goes.some (goes.named ∙ zero))
           (λ other off. ap (those_of other) same_lent, subst ComesOnce (sym same_lent) stands.domains.loans)
@@ -181,16 +185,16 @@ module _ {T U B D : Type 0} (is_default : T → Type 0) (is_default_header : U �
             later,
             refl,
             refl,
-            subst (λ (more : List (ℕ × (ℕ × LentSlot))). Matches T U is_default types buffer (command.Receive number) answer state service
+            subst (λ (more : List (ℕ × (ℕ × LentSlot))). Matches T U choices types buffer (command.Receive number) answer state service
                 later (those_of domain more) (those_of domain (held_in new.made)) after) (sym same_lent)
-                (subst (λ (more : List (ℕ × Taken)). Matches T U is_default types buffer (command.Receive number) answer state service later
+                (subst (λ (more : List (ℕ × Taken)). Matches T U choices types buffer (command.Receive number) answer state service later
                 lent more after) (sym held_still)
-                (subst (λ (reply : Reply T). Matches T U is_default types buffer (command.Receive number) reply state service later lent
+                (subst (λ (reply : Reply T). Matches T U choices types buffer (command.Receive number) reply state service later lent
                 (with_held next received held) after) (sym told)
-                (subst (λ (name : ℕ). Matches T U is_default types buffer (command.Receive name) (received_or_not next values received)
+                (subst (λ (name : ℕ). Matches T U choices types buffer (command.Receive name) (received_or_not next values received)
                 state service later lent (with_held next received held) after) goes.named matched))),
           ))
-          (λ services did. taking_alike buffer number next state (answered_with answer services state) answer did)
+          (λ services did. taking_alike choices buffer number next state (answered_with answer services state) answer did)
           publishers subscribers numbers loans samples
 
     module _ (roomier : Made) (room : IsRoomier old.made roomier) where
@@ -243,10 +247,11 @@ module _ {T U B D : Type 0} (is_default : T → Type 0) (is_default_header : U �
           order,
           state.services,
           refl,
-          at_one_skips (subscriber_in number) (ReaderTakes buffer number next) state
-              (no_subscriber_goes degrades decides reader_degrades naming order old state stands number none),
-          same_stands degrades decides reader_degrades naming order (record old { made = roomier }) state
-              (roomier_stands degrades decides reader_degrades naming order old state roomier room stands) number new changes made_so,
+          at_one_skips (subscriber_in number) (ReaderTakes choices buffer number next) state
+              (no_subscriber_goes choices degrades decides reader_degrades naming order old state stands number none),
+          same_stands choices degrades decides reader_degrades naming order (record old { made = roomier }) state
+              (roomier_stands choices degrades decides reader_degrades naming order old state roomier room stands) number new changes
+              made_so,
         )
 
       -- the service of a subscriber's domain, in its place
@@ -395,7 +400,7 @@ module _ {T U B D : Type 0} (is_default : T → Type 0) (is_default_header : U �
           subst Simulates (sym (subst IsReply is replied)) (receive_nobody made_so none changes)
       receive_by (Some told) answered None none (nothing, changes) numbers replied = never_some told (sym nothing)
       receive_by received answered (Some it) there receives numbers replied =
-          let goes = reader_goes degrades decides reader_degrades naming order old state stands number it there in
+          let goes = reader_goes choices degrades decides reader_degrades naming order old state stands number it there in
           let may = subscriber_may_degrade reader_degrades it.domain it.number old.hub in
           let (after, does, changes) = subst (λ (ports : Option (ServicePorts T U)). AtDomain
           (λ (one : ServicePorts T U). with_hub_ports it.domain one old.hub) (ReceivesBy may it.number) ports old.hub received new.hub)
@@ -411,7 +416,7 @@ module _ {T U B D : Type 0} (is_default : T → Type 0) (is_default_header : U �
     receive_told (Ok answered) (roomier, room, (received, receives, numbers)) replied =
         receive_by roomier room received answered (value_at old.made.subscribers number) refl receives numbers replied
 
-  pub receive_simulated : ReceiveIsSimulated is_default is_default_header degrades decides reader_degrades
+  pub receive_simulated : ReceiveIsSimulated choices is_default_header degrades decides reader_degrades
   receive_simulated number old grown rises fits payload user_header types fixed fixed_reader naming order new state answer stands
       ((received, grows, told), same) =
       receive_told types naming order old new state answer stands number grown rises.4 fits received grows told

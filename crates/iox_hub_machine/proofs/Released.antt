@@ -48,6 +48,7 @@ use Rattle.iox_hub_machine.proofs.Going.{sample_goes, no_sample_goes, same_stand
 use Rattle.iox_hub_machine.proofs.Lessened.{one_removed, its_removed, changes_less, went_so}
 use Rattle.iox_hub_machine.proofs.Moving.{IsMatched, machine_does}
 use Rattle.iox_hub_machine.proofs.Rooming.{roomy_there}
+use Rattle.iox_machine.specs.Choices.{Choices}
 use Rattle.iox_machine.specs.Ports as machine_ports
 use Rattle.iox_machine.specs.Service.{Service}
 use Rattle.iox_machine.specs.State.{State, AtOne}
@@ -65,17 +66,17 @@ some_reader : (found : Option SubscriberPort) → 0 < held_at_port found → is_
 some_reader None some = absurd (omega (arith, some))
 some_reader (Some port) some = refl
 
-module _ {T U B D : Type 0} (is_default : T → Type 0) (is_default_header : U → Type 0)
+module _ {T U B D : Type 0} (choices : Choices T) (is_default_header : U → Type 0)
     (degrades : B → DegradationCause → DegradationInfo → DegradationAction → Type 0)
     (decides : B → BackpressureInfo → BackpressureDecision → Type 0)
     (reader_degrades : D → DegradationCause → DegradationInfo → DegradationAction → Type 0) where
   module _ (types : MessageTypeDetails) (naming : ℕ → Naming) (order : List (ℕ × ServicePorts T U)) (old new : NumberedHub T U B D)
       (state : State T)
-      (stands : PortsStandFor degrades decides reader_degrades naming order old state) (sample : ℕ)
+      (stands : PortsStandFor choices degrades decides reader_degrades naming order old state) (sample : ℕ)
       (grown : HaveGrown old.hub.services.domains) where
     abbrev Result : Reply T → NumberedHub T U B D → Type 0
     Result answer later =
-        IsMatched degrades decides reader_degrades types is_default naming order old state (command.Release sample) answer stands later
+        IsMatched degrades decides reader_degrades types choices naming order old state (command.Release sample) answer stands later
 
     abbrev later : DomainId → ServicePorts T U → NumberedHub T U B D
     later id after = record new { hub = with_hub_ports id after old.hub; made = without_sample sample old.made }
@@ -98,7 +99,7 @@ module _ {T U B D : Type 0} (is_default : T → Type 0) (is_default_header : U �
           → Result reply.Done (later id after)
       released after releases =
           let (order_then, services, keys, does, stands_then)
-          = machine_does degrades decides reader_degrades types is_default naming order old (later id after)
+          = machine_does degrades decides reader_degrades types choices naming order old (later id after)
           state
           (command.Release sample) reply.Done id ports after (naming id.service) stands found refl refl refl (made.taken, goes)
           (λ other off. refl, stands.domains.loans)
@@ -109,10 +110,10 @@ module _ {T U B D : Type 0} (is_default : T → Type 0) (is_default_header : U �
           let lent = those_of id.service (lent_in old.made) in
           let held = those_of id.service (held_in old.made) in
           let buffer = old.hub.expired_connection_buffer in
-          subst (λ (it : List (ℕ × Taken)). Matches T U is_default types buffer (command.Release sample) reply.Done state service names lent
+          subst (λ (it : List (ℕ × Taken)). Matches T U choices types buffer (command.Release sample) reply.Done state service names lent
           it after)
           (sym (ap (those_of id.service) one_less ∙ its_removed sample id.service (held_in old.made)))
-          (release_matches T U is_default types buffer names lent held ports after service state sample made.taken true its
+          (release_matches T U choices types buffer names lent held ports after service state sample made.taken true its
           (roomy_there id ports old.hub grown found).sound mine
           (subst (λ (number : ℕ). domain.Releases number made.taken ports true after) (sym taker) releases)))
           (λ services did. giving_back_alike sample state (answered_with reply.Done services state) reply.Done did)
@@ -129,11 +130,11 @@ module _ {T U B D : Type 0} (is_default : T → Type 0) (is_default_header : U �
           (with_name id.service (naming id.service) naming, order_then, services, keys, does, stands_then)
 
       -- the sample is held
-      is_there : is_held hub_ports (Some made) old.hub ≡ true
+      pub is_there : is_held hub_ports (Some made) old.hub ≡ true
       is_there =
-          let (service, its) = some_service degrades decides reader_degrades naming order old state stands id ports found in
+          let (service, its) = some_service choices degrades decides reader_degrades naming order old state stands id ports found in
           let held = those_of id.service (held_in old.made) in
-          let read = read_matches T U is_default types old.hub.expired_connection_buffer (naming id.service) (those_of id.service
+          let read = read_matches T U choices types old.hub.expired_connection_buffer (naming id.service) (those_of id.service
           (lent_in old.made)) held ports service state sample made.taken its mine in
           let less = counted_removed (λ (entry : ℕ × Taken). entry.1.subscriber == made.taken.subscriber)
           (λ (other : Taken). other.subscriber == made.taken.subscriber) (λ entry. refl) sample made.taken held mine
@@ -159,14 +160,14 @@ module _ {T U B D : Type 0} (is_default : T → Type 0) (is_default_header : U �
       state.services,
       refl,
       at_one_skips (λ (service : Service T). at sample service.samples) (machine_ports.Releases sample) state
-          (no_sample_goes degrades decides reader_degrades naming order old state stands sample none),
-      same_stands degrades decides reader_degrades naming order old state stands sample new changes less,
+          (no_sample_goes choices degrades decides reader_degrades naming order old state stands sample none),
+      same_stands choices degrades decides reader_degrades naming order old state stands sample new changes less,
     )
     release_by false (Some made) there is changes less =
-        let goes = sample_goes degrades decides reader_degrades naming order old state stands sample made there in
+        let goes = sample_goes choices degrades decides reader_degrades naming order old state stands sample made there in
         absurd (true≢false (sym (is ∙ is_there made there goes.ports goes.found goes.goes goes.mine)))
     release_by true (Some made) there is changes less =
-        let goes = sample_goes degrades decides reader_degrades naming order old state stands sample made there in
+        let goes = sample_goes choices degrades decides reader_degrades naming order old state stands sample made there in
         let (after, releases, same) = subst (λ (it : Option (ServicePorts T U)). AtDomain
         (λ (one : ServicePorts T U). with_hub_ports made.port.domain one old.hub) (ReleasesOne made.port.number made.taken) it old.hub
         (Some tt)
@@ -175,10 +176,10 @@ module _ {T U B D : Type 0} (is_default : T → Type 0) (is_default_header : U �
         (subst (λ (it : Made). Result reply.Done (record new { hub = with_hub_ports made.port.domain after old.hub; made = it })) (sym less)
         (released made there goes.ports goes.found goes.goes goes.mine after releases))
 
-  pub release_simulated : ReleaseIsSimulated is_default is_default_header degrades decides reader_degrades
+  pub release_simulated : ReleaseIsSimulated choices is_default_header degrades decides reader_degrades
   release_simulated sample old grown payload user_header types fixed fixed_reader naming order new state answer stands
       ((done, is, changes, less, told), same) =
-      subst (λ (it : Reply T). IsMatched degrades decides reader_degrades types is_default naming order old state (command.Release sample)
+      subst (λ (it : Reply T). IsMatched degrades decides reader_degrades types choices naming order old state (command.Release sample)
       it
       stands
       new) (sym told)

@@ -43,6 +43,7 @@ use Rattle.iox_hub_machine.proofs.Known.{sent_so, sent_counts, GoesByNumber, goe
 use Rattle.iox_hub_machine.proofs.Moving.{IsMatched, ports_alone}
 use Rattle.iox_hub_machine.proofs.Rooming.{roomy_there}
 use Rattle.iox_hub_machine.proofs.Turning.{turned_none, goes_on_alike}
+use Rattle.iox_machine.specs.Choices.{Choices}
 use Rattle.iox_machine.specs.Ports.{publisher_in}
 use Rattle.iox_machine.specs.Replies.{IsSkipped}
 use Rattle.iox_machine.specs.Sending.{GoesOn}
@@ -54,33 +55,33 @@ use Rattle.iox_machine.specs.Table.{at}
 abbrev again : {T : Type 0} → ℕ → Send T → Send T
 again nanoseconds send = record send { retries = send.retries + 1; elapsed = nanoseconds }
 
-abbrev RetriesAt : {T : Type 0} → ℕ → ℕ → Publisher T → Service T → Reply T → Service T → Type 0
-RetriesAt number nanoseconds one service answered after =
+abbrev RetriesAt : {T : Type 0} → Choices T → ℕ → ℕ → Publisher T → Service T → Reply T → Service T → Type 0
+RetriesAt choices number nanoseconds one service answered after =
     MatchOption one.blocked (IsSkipped service answered after)
-    (λ send. GoesOn number one (again nanoseconds send) service answered after)
+    (λ send. GoesOn choices number one (again nanoseconds send) service answered after)
 
-retrying_alike : {T : Type 0} (number nanoseconds : ℕ) (state new : State T) (answer : Reply T)
-    → AtOne (publisher_in number) (RetriesAt number nanoseconds) state answer new → DecideAlike state.services new.services
-retrying_alike {T} number nanoseconds state new answer did =
-    at_one_decides (publisher_in number) (RetriesAt number nanoseconds) state new answer
+retrying_alike : {T : Type 0} (choices : Choices T) (number nanoseconds : ℕ) (state new : State T) (answer : Reply T)
+    → AtOne (publisher_in number) (RetriesAt choices number nanoseconds) state answer new → DecideAlike state.services new.services
+retrying_alike {T} choices number nanoseconds state new answer did =
+    at_one_decides (publisher_in number) (RetriesAt choices number nanoseconds) state new answer
     (λ one service after is does.
     elim (by_option one.blocked (IsSkipped service answer after)
-    (λ send. GoesOn number one (again nanoseconds send) service answer after) does) [
+    (λ send. GoesOn choices number one (again nanoseconds send) service answer after) does) [
       | inl skipped ↦ same_ports service after (ap (λ (it : Service T). it.publishers) skipped.1.1)
           (ap (λ (it : Service T). it.subscribers) skipped.1.1)
-      | inr goes ↦ goes_on_alike number service service after one one (again nanoseconds goes.0) answer
+      | inr goes ↦ goes_on_alike choices number service service after one one (again nanoseconds goes.0) answer
           (turned_none number service one (standing (at number service.publishers) one is)) refl goes.2
     ]) did
 
-module _ {T U B D : Type 0} (is_default : T → Type 0) (is_default_header : U → Type 0)
+module _ {T U B D : Type 0} (choices : Choices T) (is_default_header : U → Type 0)
     (degrades : B → DegradationCause → DegradationInfo → DegradationAction → Type 0)
     (decides : B → BackpressureInfo → BackpressureDecision → Type 0)
     (reader_degrades : D → DegradationCause → DegradationInfo → DegradationAction → Type 0) where
   module _ (types : MessageTypeDetails) (naming : ℕ → Naming) (order : List (ℕ × ServicePorts T U)) (old new : NumberedHub T U B D)
-      (state : State T) (stands : PortsStandFor degrades decides reader_degrades naming order old state) (number nanoseconds : ℕ)
+      (state : State T) (stands : PortsStandFor choices degrades decides reader_degrades naming order old state) (number nanoseconds : ℕ)
       (grown : HaveGrown old.hub.services.domains) (same : new ≡ record old { hub = new.hub }) where
     abbrev Tried : Option (Result Sent SendError) → Type 0
-    Tried sent = IsMatched degrades decides reader_degrades types is_default naming order old state (command.Retry number nanoseconds)
+    Tried sent = IsMatched degrades decides reader_degrades types choices naming order old state (command.Retry number nanoseconds)
         (sent_reply sent) stands new
 
     retry_by : (sent : Option (Result Sent SendError)) (found : Option PortId) → port_under (value_at old.made.publishers number) ≡ found
@@ -91,14 +92,14 @@ module _ {T U B D : Type 0} (is_default : T → Type 0) (is_default_header : U �
           order,
           state.services,
           refl,
-          at_one_skips (publisher_in number) (RetriesAt number nanoseconds) state
-              (no_publisher_goes degrades decides reader_degrades naming order old state stands number none),
-          same_stands degrades decides reader_degrades naming order old state stands number new changes
+          at_one_skips (publisher_in number) (RetriesAt choices number nanoseconds) state
+              (no_publisher_goes choices degrades decides reader_degrades naming order old state stands number none),
+          same_stands choices degrades decides reader_degrades naming order old state stands number new changes
               (ap (λ (it : NumberedHub T U B D). it.made) same),
         )
     retry_by sent (Some port) there retries =
-        let goes : GoesByNumber degrades decides reader_degrades naming order old state stands number port =
-        goes_by_number degrades decides reader_degrades naming order old state stands number port there in
+        let goes : GoesByNumber choices degrades decides reader_degrades naming order old state stands number port =
+        goes_by_number choices degrades decides reader_degrades naming order old state stands number port there in
         let id = port.domain in
         let lent = those_of id.service (lent_in old.made) in
         let held = those_of id.service (held_in old.made) in
@@ -108,25 +109,27 @@ module _ {T U B D : Type 0} (is_default : T → Type 0) (is_default_header : U �
         (λ (one : ServicePorts T U). with_hub_ports id one old.hub) (RetriesBy may port.number nanoseconds) it old.hub sent new.hub)
         goes.found
         retries in
-        ports_alone degrades decides reader_degrades types is_default naming order old state (command.Retry number nanoseconds)
+        ports_alone degrades decides reader_degrades types choices naming order old state (command.Retry number nanoseconds)
         (sent_reply sent) stands new id goes.ports after goes.found
         (same ∙ ap (λ (hub : Hub T U B D). record old { hub = hub }) changes) (sent_counts T sent state.made)
         (port.number, goes.named, λ zero. goes.some (goes.named ∙ zero))
         (λ first service last are its.
-        subst (λ (it : Reply T). Matches T U is_default types buffer (command.Retry number nanoseconds) it state service
+        subst (λ (it : Reply T). Matches T U choices types buffer (command.Retry number nanoseconds) it state service
         (naming id.service) lent held after) (sent_so sent)
-        (subst (λ (name : ℕ). Matches T U is_default types buffer (command.Retry name nanoseconds) (sent_or_skipped sent) state service
+        (subst (λ (name : ℕ). Matches T U choices types buffer (command.Retry name nanoseconds) (sent_or_skipped sent) state service
         (naming id.service) lent held after) goes.named
-        (retry_matches T U is_default may types buffer (naming id.service) lent held goes.ports after service state port.number nanoseconds
+        (retry_matches T U choices may types buffer (naming id.service) lent held goes.ports after service state port.number nanoseconds
         sent its (roomy_there id goes.ports old.hub grown goes.found) goes.some
-        (decides_as degrades decides reader_degrades naming order old state stands id goes.ports goes.found first service last are its
+        (decides_as choices degrades decides reader_degrades naming order old state stands id goes.ports goes.found first service last are
+        its
         port.number) does)))
-        (λ services did. retrying_alike number nanoseconds state (answered_with (sent_reply sent) services state) (sent_reply sent) did)
+        (λ services did. retrying_alike choices number nanoseconds state (answered_with (sent_reply sent) services state)
+        (sent_reply sent) did)
 
-  pub retry_simulated : RetryIsSimulated is_default is_default_header degrades decides reader_degrades
+  pub retry_simulated : RetryIsSimulated choices is_default_header degrades decides reader_degrades
   retry_simulated number nanoseconds old grown payload user_header types fixed fixed_reader naming order new state answer stands
       ((sent, retries, told), same) =
-      subst (λ (it : Reply T). IsMatched degrades decides reader_degrades types is_default naming order old state
+      subst (λ (it : Reply T). IsMatched degrades decides reader_degrades types choices naming order old state
       (command.Retry number nanoseconds) it stands new) (sym told)
       (retry_by types naming order old new state stands number nanoseconds grown same sent
       (port_under (value_at old.made.publishers number)) refl retries)

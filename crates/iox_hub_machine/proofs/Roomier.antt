@@ -13,6 +13,7 @@ use Rattle.iox_hub_commands.specs.declared.numbered_hub.NumberedHub.{NumberedHub
 use Rattle.iox_hub_commands.specs.declared.ports.made.Made.{Made}
 use Rattle.iox_hub_machine.specs.Standing.{PortsStandFor}
 use Rattle.iox_machine.specs.State.{State}
+use Rattle.iox_machine.specs.Choices.{Choices}
 
 -- a table with another room
 abbrev with_room : {V : Type 0} → NumberTable V → NumberTable V → NumberTable V
@@ -37,14 +38,15 @@ same_made old new (publishers, subscribers, loans, samples) = λ i. record {
   samples = same_table old.samples new.samples samples i;
 }
 
-pub roomier_stands : {T U B D : Type 0} (degrades : B → DegradationCause → DegradationInfo → DegradationAction → Type 0)
+pub roomier_stands : {T U B D : Type 0} (choices : Choices T)
+    (degrades : B → DegradationCause → DegradationInfo → DegradationAction → Type 0)
     (decides : B → BackpressureInfo → BackpressureDecision → Type 0)
     (reader_degrades : D → DegradationCause → DegradationInfo → DegradationAction → Type 0) (naming : ℕ → Naming)
     (order : List (ℕ × ServicePorts T U)) (old : NumberedHub T U B D) (state : State T) (roomier : Made) → IsRoomier old.made roomier
-    → PortsStandFor degrades decides reader_degrades naming order old state
-    → PortsStandFor degrades decides reader_degrades naming order (record old { made = roomier }) state
-roomier_stands degrades decides reader_degrades naming order old state roomier is stands =
-    subst (λ (made : Made). PortsStandFor degrades decides reader_degrades naming order (record old { made = made }) state)
+    → PortsStandFor choices degrades decides reader_degrades naming order old state
+    → PortsStandFor choices degrades decides reader_degrades naming order (record old { made = roomier }) state
+roomier_stands choices degrades decides reader_degrades naming order old state roomier is stands =
+    subst (λ (made : Made). PortsStandFor choices degrades decides reader_degrades naming order (record old { made = made }) state)
     (sym (same_made old.made roomier is)) record {
       here = stands.here;
       same = stands.same;

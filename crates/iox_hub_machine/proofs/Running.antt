@@ -31,14 +31,17 @@ use Rattle.iox_hub_commands.specs.declared.numbered_hub.NumberedHub.{NumberedHub
 use Rattle.iox_hub_commands.specs.declared.room.Pledged.{Pledged}
 use Rattle.iox_hub_machine.proofs.Going.{same_stands}
 use Rattle.iox_hub_machine.proofs.Lacking.{lacks}
+use Rattle.iox_hub_machine.proofs.NamedLater.{all_named, by_actions, own_commands, run_chosen}
 use Rattle.iox_hub_machine.proofs.RunsOn.{new_has_room, new_runs_on, step_runs_on, step_takes}
-use Rattle.iox_hub_machine.specs.ArrivalLaws.{AnswersAsFixed, DecidesAsFixed}
 use Rattle.iox_hub_machine.specs.ClosingLaws.{IsCome}
-use Rattle.iox_hub_machine.specs.GoingOnLaws.{AreAllOn, IsOnUntil, IsOneOn, NewHubBegins, RunGoesOn, RunsGoOn}
+use Rattle.iox_hub_machine.specs.GoingOnLaws.{AreAllOn, ComesAsChosen, Decided, DecidedRunsGoOn, DecidedStep, IsOnUntil, IsOneOn}
+use Rattle.iox_hub_machine.specs.GoingOnLaws.{NewHubBegins}
+use Rattle.iox_hub_machine.specs.GoingOnLaws.{RunGoesOn, RunsGoOn, asked_of}
 use Rattle.iox_hub_machine.specs.Ran.{RanAtMost, StandsAfter}
 use Rattle.iox_hub_machine.specs.RunLaws.{AsksAmong, RunAnswers, RunStands, all_asked, names_beside, names_in, steps_named}
 use Rattle.iox_hub_machine.specs.ServiceLaws.{IsFollowed}
 use Rattle.iox_hub_machine.specs.Services.{HubStandsFor}
+use Rattle.iox_machine.specs.Choices.{Choices, as_named}
 use Rattle.iox_machine.specs.Run as machine
 use Rattle.iox_machine.specs.State.{State, new_state}
 use Rattle.iox_negotiate_machine.specs.Laws.{HaveOwnHashes}
@@ -140,9 +143,13 @@ module _ {T : Type 0} where
   all_among [] = tt
   all_among (asked ∷ more) = (its_own asked (names_in more), all_wider asked more (names_in more) (all_among more))
 
-  both_asked : (first rest : List (Command T)) → all_asked (first ++ rest) ≡ all_asked first + all_asked rest
+  pub both_asked : (first rest : List (Command T)) → all_asked (first ++ rest) ≡ all_asked first + all_asked rest
   both_asked [] rest = omega arith
   both_asked (asked ∷ first) rest = let both = both_asked first rest in omega (arith, both)
+
+  both_of : {B D : Type 0} (first rest : List (Decided T B D)) → asked_of (first ++ rest) ≡ asked_of first ++ asked_of rest
+  both_of [] rest = refl
+  both_of (one ∷ first) rest = ap (λ (them : List (Command T)). one.asked ∷ them) (both_of first rest)
 
   both_all : (P : Command T → Type 0) (first rest : List (Command T)) → AllByRecursion P (first ++ rest)
       → AllByRecursion P first × AllByRecursion P rest
@@ -152,10 +159,16 @@ module _ {T : Type 0} where
 -- ---- where a run stops
 
 module _ {T : Type 0} where
-  tells : (asked : Command T) → RepliesValues asked → machine.TellsValues asked
-  tells (command.Receive subscriber) values = tt
-  tells (command.Read sample) values = tt
-  tells other values = absurd values
+  stops_first : (asked : Command T) (rest : List (Command T)) → machine.MayStop (asked ∷ rest) []
+  stops_first (command.Receive subscriber) rest = tt
+  stops_first (command.Read sample) rest = tt
+  stops_first other rest = refl
+
+  stops_so : (asked : Command T) (rest : List (Command T)) (replies : List (Reply T)) → RepliesValues asked
+      → machine.MayStop (asked ∷ rest) replies
+  stops_so (command.Receive subscriber) rest replies values = tt
+  stops_so (command.Read sample) rest replies values = tt
+  stops_so other rest replies values = absurd values
 
   next_is : (first rest : List (Command T)) (asked : Command T) → slice_get (first ++ asked ∷ rest) (length first) ≡ Some asked
   next_is [] rest asked = refl
@@ -170,28 +183,29 @@ module _ {T : Type 0} where
 
   may_stop : (first rest : List (Command T)) (asked : Command T) (replies : List (Reply T)) → length replies ≡ length first
       → (length replies ≡ 0) ⊎ LacksValues (first ++ asked ∷ rest) (length replies) → machine.MayStop (asked ∷ rest) replies
-  may_stop first rest asked replies each (inl none) = inl (none_given replies none)
+  may_stop first rest asked replies each (inl none) =
+      subst (machine.MayStop (asked ∷ rest)) (sym (none_given replies none)) (stops_first asked rest)
   may_stop first rest asked replies each (inr (other, is, values)) =
       let same : other ≡ asked = same_some other asked (sym is ∙ ap (slice_get (first ++ asked ∷ rest)) each ∙ next_is first rest asked) in
-      inr (tells asked (subst (λ (it : Command T). RepliesValues it) same values))
+      stops_so asked rest replies (subst (λ (it : Command T). RepliesValues it) same values)
 
-  one_each : (types : MessageTypeDetails) (is_default : T → Type 0) (buffer : ℕ) (first : List (Command T)) (old new : State T)
-      (answers : List (Reply T)) → machine.Runs types is_default buffer first old answers new → length answers ≡ length first
-  one_each types is_default buffer [] old new answers (none, same) = ap length none
-  one_each types is_default buffer (one ∷ first) old new answers (its, between, others, did, runs, is) =
-      ap length is ∙ ap suc (one_each types is_default buffer first between new others runs)
+  one_each : (types : MessageTypeDetails) (choices : Choices T) (buffer : ℕ) (first : List (Command T)) (old new : State T)
+      (answers : List (Reply T)) → machine.Runs types choices buffer first old answers new → length answers ≡ length first
+  one_each types choices buffer [] old new answers (none, same) = ap length none
+  one_each types choices buffer (one ∷ first) old new answers (its, between, others, did, runs, is) =
+      ap length is ∙ ap suc (one_each types choices buffer first between new others runs)
 
 -- ---- runs
 
-module _ {T : Type 0} (types : MessageTypeDetails) (is_default : T → Type 0) (buffer : ℕ) where
-  came_by : (first : List (Command T)) (asked : Command T) (old mid new : State T) (answers : List (Reply T)) (answer : Reply T)
-      → machine.Runs types is_default buffer first old answers mid → machine.Step types is_default buffer asked mid answer new
-      → machine.Runs types is_default buffer (first ++ asked ∷ []) old (answers ++ answer ∷ []) new
+module _ {T : Type 0} (types : MessageTypeDetails) (choices : Choices T) (buffer : ℕ) where
+  pub came_by : (first : List (Command T)) (asked : Command T) (old mid new : State T) (answers : List (Reply T)) (answer : Reply T)
+      → machine.Runs types choices buffer first old answers mid → machine.Step types choices buffer asked mid answer new
+      → machine.Runs types choices buffer (first ++ asked ∷ []) old (answers ++ answer ∷ []) new
   came_by [] asked old mid new answers answer (none, same) step = (
     answer,
     new,
     [],
-    subst (λ (it : State T). machine.Step types is_default buffer asked it answer new) same step,
+    subst (λ (it : State T). machine.Step types choices buffer asked it answer new) same step,
     (refl, refl),
     ap (λ (all : List (Reply T)). all ++ answer ∷ []) none,
   )
@@ -205,57 +219,61 @@ module _ {T : Type 0} (types : MessageTypeDetails) (is_default : T → Type 0) (
   )
 
   -- a state to which one command more leads
-  came_more : (asked : Command T) (old new : State T) (answer : Reply T) → IsCome types is_default buffer old
-      → machine.Step types is_default buffer asked old answer new → IsCome types is_default buffer new
+  came_more : (asked : Command T) (old new : State T) (answer : Reply T) → IsCome types choices buffer old
+      → machine.Step types choices buffer asked old answer new → IsCome types choices buffer new
   came_more asked old new answer (commands, answers, runs) step =
       (commands ++ asked ∷ [], answers ++ answer ∷ [], came_by commands asked new_state old new answers answer runs step)
 
-module _ {T U B D : Type 0} (payload user_header : Detail) (types : MessageTypeDetails) (is_default : T → Type 0)
-    (is_default_header : U → Type 0)
-    (fixed : BackpressureStrategy → Option BackpressureAction → DegradationAction → B)
-    (degrades : B → DegradationCause → DegradationInfo → DegradationAction → Type 0)
-    (decides : B → BackpressureInfo → BackpressureDecision → Type 0)
-    (fixed_reader : DegradationAction → D)
-    (reader_degrades : D → DegradationCause → DegradationInfo → DegradationAction → Type 0) where
+module _ {T U B D : Type 0} where
   -- A hub may be asked a command that names so many steps: fewer than 2 ^ 56 commands and steps are asked with it.
   abbrev pub MayBeAsked : ℕ → NumberedHub T U B D → Type 0
   MayBeAsked steps hub = (most : ℕ) × RanAtMost most hub × (most + (1 + steps) < 2 ^ 56)
 
-  -- Each command is followed, from a hub that may be asked so, and that stands for what a run of a new machine led to.
+module _ {T U B D : Type 0} (payload user_header : Detail) (types : MessageTypeDetails) (choices : Choices T)
+    (is_default_header : U → Type 0)
+    (degrades : B → DegradationCause → DegradationInfo → DegradationAction → Type 0)
+    (decides : B → BackpressureInfo → BackpressureDecision → Type 0)
+    (reader_degrades : D → DegradationCause → DegradationInfo → DegradationAction → Type 0) where
+  -- Each command is followed, whoever decides for a port that comes by it, from a hub that may be asked so, and stands for what a run of
+  -- a new machine led to.
   abbrev pub EachFollows : Type 0
-  EachFollows = (names : List (List ℕ)) (asked : Command T) (taken : MessagingPattern → List ℕ → List ℕ) (naming : ℕ → Naming)
+  EachFollows = (fixed : BackpressureStrategy → Option BackpressureAction → DegradationAction → B) (fixed_reader : DegradationAction → D)
+      (names : List (List ℕ)) (asked : Command T) (taken : MessagingPattern → List ℕ → List ℕ) (naming : ℕ → Naming)
       (order : List (ℕ × ServicePorts T U)) (old new : NumberedHub T U B D) (state : State T) (answer : Reply T)
-      → HaveOwnHashes names → AsksAmong names asked → MayBeAsked (steps_named asked) old
-      → IsCome types is_default old.hub.expired_connection_buffer state
-      → HubStandsFor degrades decides reader_degrades names taken naming order old state
-      → hub.Step payload user_header types is_default is_default_header fixed degrades decides fixed_reader reader_degrades asked old
+      → HaveOwnHashes names → AsksAmong names asked
+      → ComesAsChosen types choices degrades decides reader_degrades asked fixed fixed_reader old answer
+      → MayBeAsked (steps_named asked) old
+      → IsCome types choices old.hub.expired_connection_buffer state
+      → HubStandsFor choices degrades decides reader_degrades names taken naming order old state
+      → hub.Step payload user_header types choices.is_default is_default_header fixed degrades decides fixed_reader reader_degrades asked
+      old
       (Ok answer) new
-      → IsFollowed payload user_header types is_default is_default_header fixed degrades decides fixed_reader reader_degrades names asked
+      → IsFollowed payload user_header types choices is_default_header fixed degrades decides fixed_reader reader_degrades names asked
       old new state answer
 
-  abbrev Steps : Command T → NumberedHub T U B D → Result (Reply T) AllocError → NumberedHub T U B D → Type 0
-  Steps = hub.Step payload user_header types is_default is_default_header fixed degrades decides fixed_reader reader_degrades
+  abbrev Steps : Decided T B D → NumberedHub T U B D → Result (Reply T) AllocError → NumberedHub T U B D → Type 0
+  Steps = DecidedStep types choices degrades decides reader_degrades payload user_header is_default_header
 
   abbrev Stands : List (List ℕ) → ℕ → NumberedHub T U B D → State T → Type 0
-  Stands = StandsAfter types is_default degrades decides reader_degrades
+  Stands = StandsAfter types choices degrades decides reader_degrades
 
   abbrev OneOn : List (List ℕ) → ℕ → ℕ → Command T → State T → Reply T → NumberedHub T U B D → Type 0
-  OneOn = IsOneOn payload user_header types is_default is_default_header fixed degrades decides fixed_reader reader_degrades
+  OneOn = IsOneOn types choices degrades decides reader_degrades
 
   abbrev AllOn : List (List ℕ) → ℕ → ℕ → List (Command T) → State T → List (Reply T) → NumberedHub T U B D → Type 0
-  AllOn = AreAllOn payload user_header types is_default is_default_header fixed degrades decides fixed_reader reader_degrades
+  AllOn = AreAllOn types choices degrades decides reader_degrades
 
   abbrev OnUntil : List (List ℕ) → ℕ → ℕ → List (Command T) → State T → List (Reply T) → NumberedHub T U B D → Type 0
-  OnUntil = IsOnUntil payload user_header types is_default is_default_header fixed degrades decides fixed_reader reader_degrades
+  OnUntil = IsOnUntil types choices degrades decides reader_degrades
 
   -- the config stays
-  buffer_stays : (commands : List (Command T)) (old new : NumberedHub T U B D) (replies : List (Reply T))
+  buffer_stays : (commands : List (Decided T B D)) (old new : NumberedHub T U B D) (replies : List (Reply T))
       → hub_runs.Runs Steps commands old replies new → new.hub.expired_connection_buffer ≡ old.hub.expired_connection_buffer
   buffer_stays [] old new replies runs = ap (λ (it : NumberedHub T U B D). it.hub.expired_connection_buffer) runs.1
   buffer_stays (asked ∷ more) old new replies (reply, mid, rest, step, runs, is) =
       buffer_stays more mid new rest runs
-      ∙ (step_takes payload user_header types is_default is_default_header fixed degrades decides fixed_reader reader_degrades old mid reply
-      asked step).buffer
+      ∙ (step_takes payload user_header types choices is_default_header asked.fixed degrades decides asked.fixed_reader reader_degrades old
+      mid reply asked.asked step.0).buffer
 
   -- what is pledged isn't looked at
   repledged : (names : List (List ℕ)) (most : ℕ) (old : NumberedHub T U B D) (state : State T) (pledged : Pledged)
@@ -280,7 +298,7 @@ module _ {T U B D : Type 0} (payload user_header : Detail) (types : MessageTypeD
             opened = factories.opened;
           };
           served = it.stands.served;
-          ports = same_stands degrades decides reader_degrades it.naming it.order old state it.stands.ports 0
+          ports = same_stands choices degrades decides reader_degrades it.naming it.order old state it.stands.ports 0
               (record old { pledged = pledged }) refl refl;
         };
         came = it.came;
@@ -298,16 +316,15 @@ module _ {T U B D : Type 0} (payload user_header : Detail) (types : MessageTypeD
       }
 
   module _ (each : EachFollows) (names : List (List ℕ)) (own : HaveOwnHashes names) where
-    one_on : (asked : Command T) (most : ℕ) (old new : NumberedHub T U B D) (state : State T) (answer : Reply T)
-        → AsksAmong names asked → most + (1 + steps_named asked) < 2 ^ 56
-        → Stands names most old state → Steps asked old (Ok answer) new
-        → OneOn names most old.hub.expired_connection_buffer asked state answer new
-    one_on asked most old new state answer asks few it step =
-        let followed = each names asked it.taken it.naming it.order old new state answer own asks (most, it.ran, few) it.came
-        it.stands
-        step in
-        let takes = step_takes payload user_header types is_default is_default_header fixed degrades decides fixed_reader reader_degrades
-        old new answer asked step in record {
+    one_on : (it : Decided T B D) (most : ℕ) (old new : NumberedHub T U B D) (state : State T) (answer : Reply T)
+        → AsksAmong names it.asked → most + (1 + steps_named it.asked) < 2 ^ 56
+        → Stands names most old state → Steps it old (Ok answer) new
+        → OneOn names most old.hub.expired_connection_buffer it.asked state answer new
+    one_on it most old new state answer asks few stood (step, chosen) =
+        let followed = each it.fixed it.fixed_reader names it.asked stood.taken stood.naming stood.order old new state answer own asks
+        (chosen answer refl) (most, stood.ran, few) stood.came stood.stands step in
+        let takes = step_takes payload user_header types choices is_default_header it.fixed degrades decides it.fixed_reader
+        reader_degrades old new answer it.asked step in record {
           after = followed.after;
           step = followed.step;
           stands = record {
@@ -315,18 +332,17 @@ module _ {T U B D : Type 0} (payload user_header : Detail) (types : MessageTypeD
             naming = followed.naming;
             order = followed.order;
             stands = followed.stands;
-            came = subst (λ (buffer : ℕ). IsCome types is_default buffer followed.after) (sym takes.buffer)
-                (came_more types is_default old.hub.expired_connection_buffer asked state followed.after answer it.came followed.step);
-            ran = step_runs_on payload user_header types is_default is_default_header fixed degrades decides fixed_reader reader_degrades
-                old
-                new answer most asked step it.ran;
+            came = subst (λ (buffer : ℕ). IsCome types choices buffer followed.after) (sym takes.buffer)
+                (came_more types choices old.hub.expired_connection_buffer it.asked state followed.after answer stood.came followed.step);
+            ran = step_runs_on payload user_header types choices is_default_header it.fixed degrades decides it.fixed_reader reader_degrades
+                old new answer most it.asked step stood.ran;
           };
         }
 
-    all_on : (commands : List (Command T)) (most : ℕ) (old new : NumberedHub T U B D) (state : State T) (replies : List (Reply T))
-        → AllByRecursion (AsksAmong names) commands
-        → most + all_asked commands < 2 ^ 56 → Stands names most old state → hub_runs.Runs Steps commands old replies new
-        → AllOn names most old.hub.expired_connection_buffer commands state replies new
+    all_on : (commands : List (Decided T B D)) (most : ℕ) (old new : NumberedHub T U B D) (state : State T) (replies : List (Reply T))
+        → AllByRecursion (AsksAmong names) (asked_of commands)
+        → most + all_asked (asked_of commands) < 2 ^ 56 → Stands names most old state → hub_runs.Runs Steps commands old replies new
+        → AllOn names most old.hub.expired_connection_buffer (asked_of commands) state replies new
     all_on [] most old new state replies asks few it runs =
         let even : most ≡ most + 0 = omega arith in record {
           after = state;
@@ -336,11 +352,12 @@ module _ {T U B D : Type 0} (payload user_header : Detail) (types : MessageTypeD
         }
     all_on (asked ∷ more) most old new state replies asks few it (reply, mid, rest, step, runs, is) =
         let one = one_on asked most old mid state reply asks.0 (omega (arith, few)) it step in
-        let later = all_on more (most + (1 + steps_named asked)) mid new one.after rest asks.1 (omega (arith, few)) one.stands
+        let later = all_on more (most + (1 + steps_named asked.asked)) mid new one.after rest asks.1 (omega (arith, few)) one.stands
         runs in
-        let takes = step_takes payload user_header types is_default is_default_header fixed degrades decides fixed_reader reader_degrades
-        old mid reply asked step in
-        let even : most + (1 + steps_named asked) + all_asked more ≡ most + (1 + steps_named asked + all_asked more)
+        let takes = step_takes payload user_header types choices is_default_header asked.fixed degrades decides asked.fixed_reader
+        reader_degrades old mid reply asked.asked step.0 in
+        let even : most + (1 + steps_named asked.asked) + all_asked (asked_of more)
+        ≡ most + (1 + steps_named asked.asked + all_asked (asked_of more))
         = omega arith in record {
           after = later.after;
           runs = (
@@ -348,22 +365,22 @@ module _ {T U B D : Type 0} (payload user_header : Detail) (types : MessageTypeD
             one.after,
             rest,
             one.step,
-            subst (λ (n : ℕ). machine.Runs types is_default n more one.after rest later.after) takes.buffer later.runs,
+            subst (λ (n : ℕ). machine.Runs types choices n (asked_of more) one.after rest later.after) takes.buffer later.runs,
             is,
           );
           stands = subst (λ (n : ℕ). Stands names n new later.after) even later.stands;
         }
 
     -- a run that never began
-    before_all : (commands : List (Command T)) (most : ℕ) (old new : NumberedHub T U B D) (state : State T) (replies : List (Reply T))
+    before_all : (commands : List (Decided T B D)) (most : ℕ) (old new : NumberedHub T U B D) (state : State T) (replies : List (Reply T))
         → Stands names most old state → hub_runs.NeverBegins Steps commands old replies new
-        → OnUntil names most old.hub.expired_connection_buffer commands state replies new
+        → OnUntil names most old.hub.expired_connection_buffer (asked_of commands) state replies new
     before_all [] most old new state replies it (some, none, same) = absurd (never_below some)
     before_all (asked ∷ more) most old new state replies it (some, none, same) =
         let even : most ≡ most + 0 = omega arith in record {
           first = [];
-          asked = asked;
-          rest = more;
+          asked = asked.asked;
+          rest = asked_of more;
           are = refl;
           after = state;
           runs = (none, refl);
@@ -371,41 +388,52 @@ module _ {T U B D : Type 0} (payload user_header : Detail) (types : MessageTypeD
               (subst (λ (hub : NumberedHub T U B D). Stands names most hub state) (sym same) it));
         }
 
-    until : (commands : List (Command T)) (most : ℕ) (old new : NumberedHub T U B D) (state : State T) (replies : List (Reply T))
-        → AllByRecursion (AsksAmong names) commands
-        → most + all_asked commands < 2 ^ 56 → Stands names most old state → hub_runs.EndsAt Steps commands old replies new
-        → OnUntil names most old.hub.expired_connection_buffer commands state replies new
+    until : (commands : List (Decided T B D)) (most : ℕ) (old new : NumberedHub T U B D) (state : State T) (replies : List (Reply T))
+        → AllByRecursion (AsksAmong names) (asked_of commands)
+        → most + all_asked (asked_of commands) < 2 ^ 56 → Stands names most old state → hub_runs.EndsAt Steps commands old replies new
+        → OnUntil names most old.hub.expired_connection_buffer (asked_of commands) state replies new
     until commands most old new state replies asks few it (first, asked, rest, mid, lacking, is, runs, lack) =
-        let (asks_first, asks_rest) = both_all (AsksAmong names) first (asked ∷ rest) (subst (AllByRecursion (AsksAmong names)) is asks) in
-        let all = ap (λ (them : List (Command T)). all_asked them) is in
-        let both = both_asked first (asked ∷ rest) in
+        let are = ap (λ (them : List (Decided T B D)). asked_of them) is ∙ both_of first (asked ∷ rest) in
+        let (asks_first, asks_rest) = both_all (AsksAmong names) (asked_of first) (asked.asked ∷ asked_of rest)
+        (subst (AllByRecursion (AsksAmong names)) are asks) in
+        let all = ap (λ (them : List (Command T)). all_asked them) are in
+        let both = both_asked (asked_of first) (asked.asked ∷ asked_of rest) in
         let went = all_on first most old mid state replies asks_first (omega (arith, few, all, both)) it runs in
         let same = buffer_stays first old mid replies runs in record {
-          first = first;
-          asked = asked;
-          rest = rest;
-          are = is;
+          first = asked_of first;
+          asked = asked.asked;
+          rest = asked_of rest;
+          are = are;
           after = went.after;
           runs = went.runs;
           stands = ⊎_elim
-              (λ only. inl (subst (λ (hub : NumberedHub T U B D). Stands names (most + all_asked first) hub went.after) (sym only)
-              (repledged names (most + all_asked first) mid went.after new.pledged went.stands)))
-              (λ might. inr (λ fit.
-              let (answer, did) = might fit in (
-                answer,
-                subst (λ (buffer : ℕ). OneOn names (most + all_asked first) buffer asked went.after answer new) same
-                    (one_on asked (most + all_asked first) mid new went.after answer asks_rest.0
-                    (omega (arith, few, all, both)) went.stands did),
-              )))
-              (lacks payload user_header types is_default is_default_header fixed degrades decides fixed_reader reader_degrades mid new
-              lacking asked lack);
+              (λ only. inl (subst (λ (hub : NumberedHub T U B D). Stands names (most + all_asked (asked_of first)) hub went.after)
+              (sym only)
+              (repledged names (most + all_asked (asked_of first)) mid went.after new.pledged went.stands)))
+              (λ (subscriber, receives, might). inr (
+                subscriber,
+                receives,
+                λ fit.
+                    let (answer, did) = might fit in (
+                      answer,
+                      subst (λ (buffer : ℕ). OneOn names (most + all_asked (asked_of first)) buffer asked.asked went.after answer new) same
+                          (one_on asked (most + all_asked (asked_of first)) mid new went.after answer asks_rest.0
+                          (omega (arith, few, all, both)) went.stands (
+                            did,
+                            λ told is. subst (λ (it : Command T). ComesAsChosen types choices degrades decides reader_degrades it
+                                asked.fixed asked.fixed_reader mid told) (sym receives) tt,
+                          )),
+                    ),
+              ))
+              (lacks payload user_header types choices is_default_header asked.fixed degrades decides asked.fixed_reader reader_degrades mid
+              new lacking asked.asked lack.0);
         }
 
-    goes_on : (commands : List (Command T)) (most : ℕ) (old new : NumberedHub T U B D) (state : State T) (replies : List (Reply T))
-        (stopped : Bool) → AllByRecursion (AsksAmong names) commands
-        → most + all_asked commands < 2 ^ 56 → Stands names most old state → IsRun Steps commands old replies stopped new
-        → RunGoesOn payload user_header types is_default is_default_header fixed degrades decides fixed_reader reader_degrades names most
-        old.hub.expired_connection_buffer commands state replies stopped new
+    goes_on : (commands : List (Decided T B D)) (most : ℕ) (old new : NumberedHub T U B D) (state : State T) (replies : List (Reply T))
+        (stopped : Bool) → AllByRecursion (AsksAmong names) (asked_of commands)
+        → most + all_asked (asked_of commands) < 2 ^ 56 → Stands names most old state → IsRun Steps commands old replies stopped new
+        → RunGoesOn types choices degrades decides reader_degrades names most
+        old.hub.expired_connection_buffer (asked_of commands) state replies stopped new
     goes_on commands most old new state replies false asks few it runs =
         all_on commands most old new state replies asks few it runs
     goes_on commands most old new state replies true asks few it (inl never) =
@@ -413,37 +441,64 @@ module _ {T U B D : Type 0} (payload user_header : Detail) (types : MessageTypeD
     goes_on commands most old new state replies true asks few it (inr ends) =
         until commands most old new state replies asks few it ends
 
-  pub runs_go_on : (DecidesAsFixed fixed degrades decides → AnswersAsFixed fixed_reader reader_degrades → EachFollows)
-      → RunsGoOn payload user_header types is_default is_default_header fixed degrades decides fixed_reader reader_degrades
-  runs_go_on each names most commands old new state replies stopped decides_so answers_so own asks few it runs =
-      goes_on (each decides_so answers_so) names own commands most old new state replies stopped asks few it runs
+  pub decided_go_on : EachFollows
+      → DecidedRunsGoOn types choices degrades decides reader_degrades payload user_header is_default_header
+  decided_go_on each names most commands old new state replies stopped own asks few it runs =
+      goes_on each names own commands most old new state replies stopped asks few it runs
 
+module _ {T U B D : Type 0} (payload user_header : Detail) (types : MessageTypeDetails) (choices : Choices T)
+    (is_default_header : U → Type 0)
+    (fixed : BackpressureStrategy → Option BackpressureAction → DegradationAction → B)
+    (degrades : B → DegradationCause → DegradationInfo → DegradationAction → Type 0)
+    (decides : B → BackpressureInfo → BackpressureDecision → Type 0)
+    (fixed_reader : DegradationAction → D)
+    (reader_degrades : D → DegradationCause → DegradationInfo → DegradationAction → Type 0) where
+  pub runs_go_on : DecidedRunsGoOn types choices degrades decides reader_degrades payload user_header is_default_header
+      → RunsGoOn payload user_header types choices is_default_header fixed degrades decides fixed_reader reader_degrades
+  runs_go_on on names most commands old new state replies stopped decides_so answers_so may_name own asks few it runs =
+      let same = own_commands fixed fixed_reader commands in
+      subst (λ (them : List (Command T)). RunGoesOn types choices degrades decides reader_degrades names most
+      old.hub.expired_connection_buffer them state replies stopped new) same
+      (on names most (by_actions fixed fixed_reader commands) old new state replies stopped own
+      (subst (AllByRecursion (AsksAmong names)) (sym same) asks)
+      (subst (λ (them : List (Command T)). most + all_asked them < 2 ^ 56) (sym same) few) it
+      (run_chosen choices payload user_header types is_default_header fixed degrades decides fixed_reader reader_degrades decides_so
+      answers_so commands old new replies stopped it.ran.rise may_name runs))
+
+module _ {T U B D : Type 0} (payload user_header : Detail) (types : MessageTypeDetails) (is_default : T → Type 0)
+    (is_default_header : U → Type 0)
+    (fixed : BackpressureStrategy → Option BackpressureAction → DegradationAction → B)
+    (degrades : B → DegradationCause → DegradationInfo → DegradationAction → Type 0)
+    (decides : B → BackpressureInfo → BackpressureDecision → Type 0)
+    (fixed_reader : DegradationAction → D)
+    (reader_degrades : D → DegradationCause → DegradationInfo → DegradationAction → Type 0) where
   -- ---- a new hub
 
-  module _ (on : RunsGoOn payload user_header types is_default is_default_header fixed degrades decides fixed_reader reader_degrades)
-      (begins : NewHubBegins U types is_default degrades decides reader_degrades) where
+  module _ (on : RunsGoOn payload user_header types (as_named is_default) is_default_header fixed degrades decides fixed_reader
+      reader_degrades)
+      (begins : NewHubBegins U types (as_named is_default) degrades decides reader_degrades) where
     answers_so : (config : HubConfig) (commands : List (Command T)) (old new : NumberedHub T U B D) (replies : List (Reply T))
         (stopped : Bool) → old.hub.expired_connection_buffer ≡ config.expired_connection_buffer
         → (stopped ≡ true → StopsInTime commands old (length replies) new)
-        → RunGoesOn payload user_header types is_default is_default_header fixed degrades decides fixed_reader reader_degrades
+        → RunGoesOn types (as_named is_default) degrades decides reader_degrades
         (names_in commands) 0 old.hub.expired_connection_buffer commands new_state replies stopped new
-        → machine.Answers types is_default config.expired_connection_buffer commands stopped replies
+        → machine.Answers types (as_named is_default) config.expired_connection_buffer commands stopped replies
     answers_so config commands old new replies false same stops it = (
       commands,
       [],
       it.after,
       sym (append-nil commands),
       refl,
-      subst (λ (n : ℕ). machine.Runs types is_default n commands new_state replies it.after) same it.runs,
+      subst (λ (n : ℕ). machine.Runs types (as_named is_default) n commands new_state replies it.after) same it.runs,
     )
     answers_so config commands old new replies true same stops it =
-        let runs = subst (λ (n : ℕ). machine.Runs types is_default n it.first new_state replies it.after) same it.runs in (
+        let runs = subst (λ (n : ℕ). machine.Runs types (as_named is_default) n it.first new_state replies it.after) same it.runs in (
           it.first,
           it.asked ∷ it.rest,
           it.after,
           it.are,
           may_stop it.first it.rest it.asked replies
-              (one_each types is_default config.expired_connection_buffer it.first new_state it.after replies runs)
+              (one_each types (as_named is_default) config.expired_connection_buffer it.first new_state it.after replies runs)
               (⊎_elim (λ never. inl never.0)
               (λ lacks. inr (subst (λ (them : List (Command T)). LacksValues them (length replies)) it.are lacks)) (stops refl)),
           runs,
@@ -453,18 +508,20 @@ module _ {T U B D : Type 0} (payload user_header : Detail) (types : MessageTypeD
     run_answers config commands old new replies stopped runs stops decides_so answers_fixed is_new own few =
         answers_so config commands old new replies stopped is_new.hub_is_new.expired_connection_buffer
         (stops (new_has_room config old is_new) (new_runs_on config old is_new).grown)
-        (on (names_in commands) 0 commands old new new_state replies stopped decides_so answers_fixed own (all_among commands)
+        (on (names_in commands) 0 commands old new new_state replies stopped decides_so answers_fixed (all_named is_default old) own
+        (all_among commands)
         (omega (arith, few)) (begins (names_in commands) config old is_new) runs)
 
     pub run_stands : RunStands payload user_header types is_default is_default_header fixed degrades decides fixed_reader reader_degrades
     run_stands config commands old new replies runs decides_so answers_fixed is_new own few =
-        let it = on (names_in commands) 0 commands old new new_state replies false decides_so answers_fixed own (all_among commands)
+        let it = on (names_in commands) 0 commands old new new_state replies false decides_so answers_fixed (all_named is_default old) own
+        (all_among commands)
         (omega (arith, few)) (begins (names_in commands) config old is_new) runs in (
           it.stands.taken,
           it.stands.naming,
           it.stands.order,
           it.after,
-          subst (λ (n : ℕ). machine.Runs types is_default n commands new_state replies it.after)
+          subst (λ (n : ℕ). machine.Runs types (as_named is_default) n commands new_state replies it.after)
               is_new.hub_is_new.expired_connection_buffer it.runs,
           it.stands.stands,
         )

@@ -68,6 +68,7 @@ use Rattle.iox_hub_machine.proofs.PortMeasure.{port_measure}
 use Rattle.iox_hub_machine.proofs.PortsRest.{port_leaves}
 use Rattle.iox_hub_machine.specs.Ran.{AreRising, RanAtMost, port_count}
 use Rattle.iox_hub_machine.specs.RunLaws.{steps_named}
+use Rattle.iox_machine.specs.Choices.{Choices}
 use Rattle.iox_machine.proofs.Ported.{is_of_ports}
 use Rattle.iox_negotiate.proofs.Maps.{Distinct, Rising, insert-rising, remove-rising, rising-distinct, weaker}
 
@@ -223,14 +224,15 @@ module _ {T U B D : Type 0} where
   closing number old =
       λ rises. remove-rising nat_cmp nat_cmp_total (λ x y same. exact_unsigned x y same) (is_at (nat_cmp number)) old.domains rises
 
-  module _ (payload user_header : Detail) (types : MessageTypeDetails) (is_default : T → Type 0) (is_default_header : U → Type 0)
+  module _ (payload user_header : Detail) (types : MessageTypeDetails) (choices : Choices T) (is_default_header : U → Type 0)
       (fixed : BackpressureStrategy → Option BackpressureAction → DegradationAction → B)
       (degrades : B → DegradationCause → DegradationInfo → DegradationAction → Type 0)
       (decides : B → BackpressureInfo → BackpressureDecision → Type 0) (fixed_reader : DegradationAction → D)
       (reader_degrades : D → DegradationCause → DegradationInfo → DegradationAction → Type 0) (old new : NumberedHub T U B D)
       (answer : Reply T) where
     abbrev Steps : Command T → Type 0
-    Steps asked = hub.Step payload user_header types is_default is_default_header fixed degrades decides fixed_reader reader_degrades asked
+    Steps asked = hub.Step payload user_header types choices.is_default is_default_header fixed degrades decides fixed_reader
+        reader_degrades asked
         old (Ok answer) new
 
     abbrev FewMore : Type 0
@@ -246,12 +248,13 @@ module _ {T U B D : Type 0} where
 
     few_more : (asked : Command T) → Steps asked → FewMore
     few_more asked step =
-        step_holds port_measure payload user_header types is_default is_default_header fixed degrades decides fixed_reader reader_degrades
+        step_holds port_measure payload user_header types choices.is_default is_default_header fixed degrades decides fixed_reader
+        reader_degrades
         old new FewMore (λ keeps. balanced 0 old new (omega arith) keeps.1) asked (Ok answer) step (of_ports asked step)
 
     by_ports : (asked : Command T) → Steps asked → is_of_ports asked ≡ true → TakesSome 17 old.hub new.hub
     by_ports asked step is =
-        let leaves = port_leaves payload user_header types is_default is_default_header fixed degrades decides fixed_reader reader_degrades
+        let leaves = port_leaves payload user_header types choices is_default_header fixed degrades decides fixed_reader reader_degrades
         old new answer asked is step in
         let nodes = ap (λ (it : Hub T U B D). it.nodes) leaves.hub.rest in
         let locks = ap (λ (it : Hub T U B D). it.table.next) leaves.hub.rest in record {
@@ -305,7 +308,7 @@ module _ {T U B D : Type 0} where
 
     rests : (asked : Command T) → Steps asked → is_of_ports asked ≡ true → Ascends old.hub.services new.hub.services
     rests asked step is =
-        (port_leaves payload user_header types is_default is_default_header fixed degrades decides fixed_reader reader_degrades old new
+        (port_leaves payload user_header types choices is_default_header fixed degrades decides fixed_reader reader_degrades old new
         answer asked is step).hub.rising
 
     step_ascends : (asked : Command T) → Steps asked → Ascends old.hub.services new.hub.services
@@ -345,9 +348,10 @@ module _ {T U B D : Type 0} where
     -- one command more
     pub step_runs_on : (most : ℕ) (asked : Command T) → Steps asked → RanAtMost most old → RanAtMost (most + (1 + steps_named asked)) new
     step_runs_on most asked step on =
-        let changes = step_changes payload user_header types is_default is_default_header fixed degrades decides fixed_reader
+        let changes = step_changes payload user_header types choices.is_default is_default_header fixed degrades decides fixed_reader
         reader_degrades asked old new (Ok answer) step in
-        let ((id, moves), agrees) = step_goes payload user_header types is_default is_default_header fixed degrades decides fixed_reader
+        let ((id, moves), agrees)
+        = step_goes payload user_header types choices.is_default is_default_header fixed degrades decides fixed_reader
         reader_degrades asked old new (Ok answer) step in
         let goes = numbers_go_on old new changes in
         let takes = step_takes asked step in

@@ -36,6 +36,7 @@ use Rattle.iox_hub_machine.proofs.Deciding.{DecideAlike, same_ports, at_one_deci
 use Rattle.iox_hub_machine.proofs.Going.{GoesThere, sample_goes, no_sample_goes, same_stands}
 use Rattle.iox_hub_machine.proofs.Housed.{put_again}
 use Rattle.iox_hub_machine.proofs.Moving.{IsMatched, ports_alone}
+use Rattle.iox_machine.specs.Choices.{Choices}
 use Rattle.iox_machine.specs.Message as machine
 use Rattle.iox_machine.specs.Service.{Service}
 use Rattle.iox_machine.specs.State.{State, AtOne}
@@ -53,13 +54,13 @@ reading_alike {T} sample state new answer did =
     (λ one service after is does.
     same_ports service after (ap (λ (it : Service T). it.publishers) does.3) (ap (λ (it : Service T). it.subscribers) does.3)) did
 
-module _ {T U B D : Type 0} (is_default : T → Type 0) (is_default_header : U → Type 0)
+module _ {T U B D : Type 0} (choices : Choices T) (is_default_header : U → Type 0)
     (degrades : B → DegradationCause → DegradationInfo → DegradationAction → Type 0)
     (decides : B → BackpressureInfo → BackpressureDecision → Type 0)
     (reader_degrades : D → DegradationCause → DegradationInfo → DegradationAction → Type 0) where
   module _ (types : MessageTypeDetails) (naming : ℕ → Naming) (order : List (ℕ × ServicePorts T U)) (old new : NumberedHub T U B D)
       (state : State T)
-      (stands : PortsStandFor degrades decides reader_degrades naming order old state) (sample : ℕ) (same : new ≡ old) where
+      (stands : PortsStandFor choices degrades decides reader_degrades naming order old state) (sample : ℕ) (same : new ≡ old) where
     module _ (made : MadeSample) (goes : GoesThere old made.port.domain sample (held_sample made).1 (held_in old.made)) where
       abbrev id : DomainId
       id = made.port.domain
@@ -74,39 +75,39 @@ module _ {T U B D : Type 0} (is_default : T → Type 0) (is_default_header : U �
 
       read_by : (found : Option (Message T U)) → sample_in made.taken goes.ports ≡ found → (answer : Reply T)
           → IsReadReply (option_map (λ (message : Message T U). message.values) found) answer
-          → IsMatched degrades decides reader_degrades types is_default naming order old state (command.Read sample) answer stands new
+          → IsMatched degrades decides reader_degrades types choices naming order old state (command.Read sample) answer stands new
       read_by None none answer skipped =
-          subst (λ (it : Reply T). IsMatched degrades decides reader_degrades types is_default naming order old state
+          subst (λ (it : Reply T). IsMatched degrades decides reader_degrades types choices naming order old state
           (command.Read sample) it
           stands
           new) (sym skipped)
-          (ports_alone degrades decides reader_degrades types is_default naming order old state (command.Read sample) reply.Skipped stands
+          (ports_alone degrades decides reader_degrades types choices naming order old state (command.Read sample) reply.Skipped stands
           new id
           goes.ports goes.ports goes.found unmoved refl (made.taken, goes.goes)
           (λ first service last are its.
-          let read = read_matches T U is_default types old.hub.expired_connection_buffer (naming id.service) (those_of id.service
+          let read = read_matches T U choices types old.hub.expired_connection_buffer (naming id.service) (those_of id.service
           (lent_in old.made)) (those_of id.service (held_in old.made)) goes.ports service state sample made.taken its goes.mine in
           never_some read.0 (sym none ∙ read.1))
           (λ services did. reading_alike sample state (answered_with reply.Skipped services state) reply.Skipped did))
       read_by (Some message) is answer (values, are, told) =
-          subst (λ (it : Reply T). IsMatched degrades decides reader_degrades types is_default naming order old state
+          subst (λ (it : Reply T). IsMatched degrades decides reader_degrades types choices naming order old state
           (command.Read sample) it
           stands
           new) (sym told)
-          (ports_alone degrades decides reader_degrades types is_default naming order old state (command.Read sample)
+          (ports_alone degrades decides reader_degrades types choices naming order old state (command.Read sample)
           (reply.Values values) stands
           new id goes.ports goes.ports goes.found unmoved refl (made.taken, goes.goes)
           (λ first service last there its.
-          let read = read_matches T U is_default types old.hub.expired_connection_buffer (naming id.service) (those_of id.service
+          let read = read_matches T U choices types old.hub.expired_connection_buffer (naming id.service) (those_of id.service
           (lent_in old.made)) (those_of id.service (held_in old.made)) goes.ports service state sample made.taken its goes.mine in
           read.2 values (are ∙ ap (λ (it : Message T U). it.values) (same_some message read.0 (sym is ∙ read.1))))
           (λ services did. reading_alike sample state (answered_with (reply.Values values) services state) (reply.Values values) did))
 
     read_under : (found : Option MadeSample) → value_at old.made.samples sample ≡ found → (answer : Reply T)
         → IsReadReply (values_under hub_ports found old.hub) answer
-        → IsMatched degrades decides reader_degrades types is_default naming order old state (command.Read sample) answer stands new
+        → IsMatched degrades decides reader_degrades types choices naming order old state (command.Read sample) answer stands new
     read_under None none answer skipped =
-        subst (λ (it : Reply T). IsMatched degrades decides reader_degrades types is_default naming order old state (command.Read sample) it
+        subst (λ (it : Reply T). IsMatched degrades decides reader_degrades types choices naming order old state (command.Read sample) it
         stands new)
         (sym skipped) (
           naming,
@@ -114,17 +115,17 @@ module _ {T U B D : Type 0} (is_default : T → Type 0) (is_default_header : U �
           state.services,
           refl,
           at_one_skips (λ (service : Service T). at sample service.samples) Reads state
-              (no_sample_goes degrades decides reader_degrades naming order old state stands sample none),
-          same_stands degrades decides reader_degrades naming order old state stands sample new
+              (no_sample_goes choices degrades decides reader_degrades naming order old state stands sample none),
+          same_stands choices degrades decides reader_degrades naming order old state stands sample new
               (ap (λ (it : NumberedHub T U B D). it.hub) same)
               (ap (λ (it : NumberedHub T U B D). it.made) same),
         )
     read_under (Some made) there answer replied =
-        let goes = sample_goes degrades decides reader_degrades naming order old state stands sample made there in
+        let goes = sample_goes choices degrades decides reader_degrades naming order old state stands sample made there in
         read_by made goes (sample_in made.taken goes.ports) refl answer
         (subst (λ (it : Option (ServicePorts T U)). IsReadReply (option_map (λ (message : Message T U). message.values)
         (message_found made.taken it)) answer) goes.found replied)
 
-  pub read_simulated : ReadIsSimulated is_default is_default_header degrades decides reader_degrades
+  pub read_simulated : ReadIsSimulated choices is_default_header degrades decides reader_degrades
   read_simulated sample old payload user_header types fixed fixed_reader naming order new state answer stands (replied, same) =
       read_under types naming order old new state stands sample same (value_at old.made.samples sample) refl answer replied

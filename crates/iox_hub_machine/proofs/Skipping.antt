@@ -44,6 +44,7 @@ use Rattle.iox_hub_machine.proofs.Numbered.{goes_so}
 use Rattle.iox_hub_machine.proofs.PortsStay.{ports_stay}
 use Rattle.iox_hub_machine.specs.ServiceLaws.{IsOnServices, SkippedMatches}
 use Rattle.iox_hub_machine.specs.Services.{HubStandsFor, factory_as}
+use Rattle.iox_machine.specs.Choices.{Choices}
 use Rattle.iox_machine.specs.Agreement.{unfit}
 use Rattle.iox_machine.specs.Asked.{settings_of}
 use Rattle.iox_machine.specs.Factories.{OpensOrCreatesService, OpensService, RefusesNode, create_refusal}
@@ -96,19 +97,19 @@ by_each : {V : Type 0} {P : Type 0} (Q : V → Type 0) (found : Option V) → P 
 by_each Q None p q = p
 by_each Q (Some v) p q = q v
 
-module _ {T U B D : Type 0} (payload user_header : Detail) (types : MessageTypeDetails) (is_default : T → Type 0)
+module _ {T U B D : Type 0} (payload user_header : Detail) (types : MessageTypeDetails) (choices : Choices T)
     (is_default_header : U → Type 0) (fixed : BackpressureStrategy → Option BackpressureAction → DegradationAction → B)
     (degrades : B → DegradationCause → DegradationInfo → DegradationAction → Type 0)
     (decides : B → BackpressureInfo → BackpressureDecision → Type 0) (fixed_reader : DegradationAction → D)
     (reader_degrades : D → DegradationCause → DegradationInfo → DegradationAction → Type 0) where
   module _ (names : List (List ℕ)) (taken : MessagingPattern → List ℕ → List ℕ) (naming : ℕ → Naming)
       (order : List (ℕ × ServicePorts T U)) (old new : NumberedHub T U B D)
-      (state : State T) (stands : HubStandsFor degrades decides reader_degrades names taken naming order old state) where
+      (state : State T) (stands : HubStandsFor choices degrades decides reader_degrades names taken naming order old state) where
     -- a hub stands still where others may be pledged
     pub stands_still : new.hub ≡ old.hub → new.factories.made ≡ old.factories.made → new.made ≡ old.made
-        → HubStandsFor degrades decides reader_degrades names taken naming order new state
+        → HubStandsFor choices degrades decides reader_degrades names taken naming order new state
     stands_still same_hub same_factories same_made =
-        subst (λ (hub : NumberedHub T U B D). HubStandsFor degrades decides reader_degrades names taken naming order hub state)
+        subst (λ (hub : NumberedHub T U B D). HubStandsFor choices degrades decides reader_degrades names taken naming order hub state)
         (sym (λ i. record {
           hub = same_hub i;
           factories = record { made = same_factories i };
@@ -129,7 +130,7 @@ module _ {T U B D : Type 0} (payload user_header : Detail) (types : MessageTypeD
             opened = stands.factories.opened;
           };
           served = stands.served;
-          ports = ports_stay degrades decides reader_degrades naming order old state old.hub.table old.hub.nodes state.made.nodes
+          ports = ports_stay choices degrades decides reader_degrades naming order old state old.hub.table old.hub.nodes state.made.nodes
               old.factories
               new.pledged state.phases stands.ports;
         })
@@ -211,11 +212,12 @@ module _ {T U B D : Type 0} (payload user_header : Detail) (types : MessageTypeD
     either_so (options.RequestResponse named) node name required steps is = by_false _ _ _ (no_node node is) (refl, refl)
 
     abbrev Followed : Command T → Type 0
-    Followed asked = machine.Step types is_default old.hub.expired_connection_buffer asked state reply.Skipped state
-        × HubStandsFor degrades decides reader_degrades names taken naming order new state
+    Followed asked = machine.Step types choices old.hub.expired_connection_buffer asked state reply.Skipped state
+        × HubStandsFor choices degrades decides reader_degrades names taken naming order new state
 
     pub skips : (asked : Command T) → IsOnServices asked
-        → hub.Step payload user_header types is_default is_default_header fixed degrades decides fixed_reader reader_degrades asked old
+        → hub.Step payload user_header types choices.is_default is_default_header fixed degrades decides fixed_reader reader_degrades
+        asked old
         (Ok reply.Skipped) new
         → Followed asked
     skips (command.Create node name named attributes steps) is (made, does, same, told) =
@@ -235,7 +237,7 @@ module _ {T U B D : Type 0} (payload user_header : Detail) (types : MessageTypeD
         (by_none _ _ (no_factory factory so.0) (refl, refl), stands_still so.2 so.1 same)
     skips other is does = absurd is
 
-  pub skipped_matches : SkippedMatches payload user_header types is_default is_default_header fixed degrades decides fixed_reader
+  pub skipped_matches : SkippedMatches payload user_header types choices is_default_header fixed degrades decides fixed_reader
       reader_degrades
   skipped_matches names asked taken naming order old new state is stands does
       = skips names taken naming order old new state stands asked is does

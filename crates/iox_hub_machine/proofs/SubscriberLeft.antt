@@ -66,6 +66,7 @@ use Rattle.iox_hub_machine.proofs.Placed.{publisher_as}
 use Rattle.iox_hub_machine.proofs.Readers.{reader_goes, no_subscriber_goes}
 use Rattle.iox_hub_machine.proofs.Rooming.{roomy_there}
 use Rattle.iox_hub_machine.proofs.Settled.{gone_subscriber_is_down, subscribers_beside, kept_beside}
+use Rattle.iox_machine.specs.Choices.{Choices}
 use Rattle.iox_machine.specs.PortList.{left}
 use Rattle.iox_machine.specs.Ports.{subscriber_in}
 use Rattle.iox_machine.specs.Service.{Service, Subscriber, with_subscriber}
@@ -149,19 +150,19 @@ module _ {T U : Type 0} (names : Naming) (lent : List (ℕ × LentSlot)) (held :
 
 -- ---- the law
 
-module _ {T U B D : Type 0} (is_default : T → Type 0) (is_default_header : U → Type 0)
+module _ {T U B D : Type 0} (choices : Choices T) (is_default_header : U → Type 0)
     (degrades : B → DegradationCause → DegradationInfo → DegradationAction → Type 0)
     (decides : B → BackpressureInfo → BackpressureDecision → Type 0)
     (reader_degrades : D → DegradationCause → DegradationInfo → DegradationAction → Type 0) where
   module _ (types : MessageTypeDetails) (naming : ℕ → Naming) (order : List (ℕ × ServicePorts T U)) (old new : NumberedHub T U B D)
-      (state : State T) (stands : PortsStandFor degrades decides reader_degrades naming order old state) (number : ℕ)
+      (state : State T) (stands : PortsStandFor choices degrades decides reader_degrades naming order old state) (number : ℕ)
       (grown : HaveGrown old.hub.services.domains) (rises : Rises 1 old.made.subscribers.entries old.made.subscribers.next)
       (counted : ListsCanChange old.hub) where
     abbrev asked : Command T
     asked = command.Leave (number_of.Subscriber number)
 
     abbrev Result : Bool → NumberedHub T U B D → Type 0
-    Result done later = IsMatched degrades decides reader_degrades types is_default naming order old state asked (done_reply done) stands
+    Result done later = IsMatched degrades decides reader_degrades types choices naming order old state asked (done_reply done) stands
         later
 
     -- nothing goes by its number
@@ -187,15 +188,15 @@ module _ {T U B D : Type 0} (is_default : T → Type 0) (is_default_header : U �
 
       matches : (done : Bool) (after : ServicePorts T U) (service : Service T) → SubscriberLeaves port.number ports done after
           → Stands service
-          → Matches T U is_default types old.hub.expired_connection_buffer asked (done_reply done) state service (naming id.service)
+          → Matches T U choices types old.hub.expired_connection_buffer asked (done_reply done) state service (naming id.service)
           (those_of id.service (lent_in old.made)) (those_of id.service (held_in old.made)) after
       matches done after service leaves its =
-          subst (λ (it : Reply T). Matches T U is_default types old.hub.expired_connection_buffer asked it state service (naming id.service)
+          subst (λ (it : Reply T). Matches T U choices types old.hub.expired_connection_buffer asked it state service (naming id.service)
           (those_of id.service (lent_in old.made)) (those_of id.service (held_in old.made)) after) (sym (done_so done))
-          (subst (λ (name : ℕ). Matches T U is_default types old.hub.expired_connection_buffer (command.Leave (number_of.Subscriber name))
+          (subst (λ (name : ℕ). Matches T U choices types old.hub.expired_connection_buffer (command.Leave (number_of.Subscriber name))
           (done_or_skipped done) state service (naming id.service) (those_of id.service (lent_in old.made))
           (those_of id.service (held_in old.made)) after) known
-          (subscriber_leave_matches T U is_default types old.hub.expired_connection_buffer (naming id.service)
+          (subscriber_leave_matches T U choices types old.hub.expired_connection_buffer (naming id.service)
           (those_of id.service (lent_in old.made)) (those_of id.service (held_in old.made)) ports after service state port.number done its
           sound some (counted id ports found).1 leaves))
 
@@ -203,7 +204,7 @@ module _ {T U B D : Type 0} (is_default : T → Type 0) (is_default_header : U �
       stays : (after : ServicePorts T U) → SubscriberLeaves port.number ports false after
           → Result false (record new { hub = with_hub_ports id after old.hub; made = old.made })
       stays after leaves =
-          let (order_after, services, keys, does, then) = machine_does degrades decides reader_degrades types is_default naming order old
+          let (order_after, services, keys, does, then) = machine_does degrades decides reader_degrades types choices naming order old
           (record new { hub = with_hub_ports id after old.hub; made = old.made }) state asked reply.Skipped id ports after
           (naming id.service) stands found refl refl refl (port.number, known, λ zero. some (known ∙ zero))
           (λ other off. refl, stands.domains.loans) (λ other off. refl, stands.domains.samples)
@@ -215,15 +216,16 @@ module _ {T U B D : Type 0} (is_default : T → Type 0) (is_default_header : U �
       module _ (after : ServicePorts T U) (leaves : SubscriberLeaves port.number ports true after) where
         its_left : ReaderHasLeft port.number ports after
         its_left =
-            let (one, its) = some_service degrades decides reader_degrades naming order old state stands id ports found in
+            let (one, its) = some_service choices degrades decides reader_degrades naming order old state stands id ports found in
             reader_has_left (naming id.service) (those_of id.service (lent_in old.made)) (those_of id.service (held_in old.made))
             old.hub.expired_connection_buffer port.number ports one its sound after leaves
 
         abbrev now : Hub T U B D
-        now = changed degrades decides reader_degrades naming order old state stands id ports after found as_kept (forgotten port.number)
+        now = changed choices degrades decides reader_degrades naming order old state stands id ports after found as_kept
+            (forgotten port.number)
 
         down : subscriber_is_up now id port.number ≡ false
-        down = reader_up_here degrades decides reader_degrades naming order old state stands id ports after found as_kept
+        down = reader_up_here choices degrades decides reader_degrades naming order old state stands id ports after found as_kept
             (forgotten port.number) port.number ∙ its_left.down
 
         apart : (place : ℕ) → (port.number ≡ place → ⊥) → place ≢ port.number
@@ -233,41 +235,45 @@ module _ {T U B D : Type 0} (is_default : T → Type 0) (is_default_header : U �
             → subscriber_is_up now other place ≡ subscriber_is_up old.hub other place
         others_stay other place off = ⊎_elim
             (λ same. ap (λ (it : DomainId). subscriber_is_up now it place) (sym same)
-            ∙ reader_up_here degrades decides reader_degrades naming order old state stands id ports after found as_kept
+            ∙ reader_up_here choices degrades decides reader_degrades naming order old state stands id ports after found as_kept
             (forgotten port.number) place
             ∙ its_left.others place (apart place (off same)) ∙ ap (subscriber_stands place) (sym found)
             ∙ ap (λ (it : DomainId). subscriber_is_up old.hub it place) same)
-            (λ elsewhere. reader_up_elsewhere degrades decides reader_degrades naming order old state stands id ports after found as_kept
+            (λ elsewhere. reader_up_elsewhere choices degrades decides reader_degrades naming order old state stands id ports after found
+            as_kept
             (forgotten port.number) other place elsewhere) (one_or_other id other)
 
         publishers_stay : (other : DomainId) (place : ℕ) → publisher_is_up now other place ≡ publisher_is_up old.hub other place
         publishers_stay other place = ⊎_elim
             (λ same. ap (λ (it : DomainId). publisher_is_up now it place) (sym same)
-            ∙ up_here degrades decides reader_degrades naming order old state stands id ports after found as_kept (forgotten port.number)
+            ∙ up_here choices degrades decides reader_degrades naming order old state stands id ports after found as_kept
+            (forgotten port.number)
             place
             ∙ its_left.publishers place ∙ ap (publisher_stands place) (sym found)
             ∙ ap (λ (it : DomainId). publisher_is_up old.hub it place) same)
-            (λ elsewhere. up_elsewhere degrades decides reader_degrades naming order old state stands id ports after found as_kept
+            (λ elsewhere. up_elsewhere choices degrades decides reader_degrades naming order old state stands id ports after found as_kept
             (forgotten port.number) other place elsewhere) (one_or_other id other)
 
         handlers_stay : (other : DomainId) (place : ℕ)
             → publisher_handlers_in place (domain_at other now.services) ≡ publisher_handlers_in place (domain_at other old.hub.services)
         handlers_stay other place = ⊎_elim
             (λ same. ap (λ (it : DomainId). publisher_handlers_in place (domain_at it now.services)) (sym same)
-            ∙ same_handlers degrades decides reader_degrades naming order old state stands id ports after found as_kept
+            ∙ same_handlers choices degrades decides reader_degrades naming order old state stands id ports after found as_kept
             (forgotten port.number) place (λ kept. refl)
             ∙ ap (λ (it : DomainId). publisher_handlers_in place (domain_at it old.hub.services)) same)
-            (λ elsewhere. handlers_elsewhere degrades decides reader_degrades naming order old state stands id ports after found as_kept
+            (λ elsewhere. handlers_elsewhere choices degrades decides reader_degrades naming order old state stands id ports after found
+            as_kept
             (forgotten port.number) other place elsewhere) (one_or_other id other)
 
         reader_handlers_stay : (other : DomainId) (place : ℕ) → (id ≡ other → port.number ≡ place → ⊥)
             → subscriber_handler_in place (domain_at other now.services) ≡ subscriber_handler_in place (domain_at other old.hub.services)
         reader_handlers_stay other place off = ⊎_elim
             (λ same. ap (λ (it : DomainId). subscriber_handler_in place (domain_at it now.services)) (sym same)
-            ∙ same_readers degrades decides reader_degrades naming order old state stands id ports after found as_kept
+            ∙ same_readers choices degrades decides reader_degrades naming order old state stands id ports after found as_kept
             (forgotten port.number) place (kept_beside port.number place (apart place (off same)))
             ∙ ap (λ (it : DomainId). subscriber_handler_in place (domain_at it old.hub.services)) same)
-            (λ elsewhere. readers_elsewhere degrades decides reader_degrades naming order old state stands id ports after found as_kept
+            (λ elsewhere. readers_elsewhere choices degrades decides reader_degrades naming order old state stands id ports after found
+            as_kept
             (forgotten port.number) other place elsewhere) (one_or_other id other)
 
         abbrev name : ℕ → ℕ → ℕ
@@ -279,10 +285,11 @@ module _ {T U B D : Type 0} (is_default : T → Type 0) (is_default_header : U �
           made = without_subscriber number old.made;
         })
         leaves_then =
-            let (services, does, all) = machine_left degrades decides reader_degrades naming order old state stands id ports after found
-            as_kept (forgotten port.number) types is_default asked (port.number, known, λ zero. some (known ∙ zero))
+            let (services, does, all)
+            = machine_left choices degrades decides reader_degrades naming order old state stands id ports after found
+            as_kept (forgotten port.number) types asked (port.number, known, λ zero. some (known ∙ zero))
             (λ service its. matches true after service leaves its) in
-            let then = stands_without degrades decides reader_degrades naming order old state stands id ports after found
+            let then = stands_without choices degrades decides reader_degrades naming order old state stands id ports after found
             as_kept (forgotten port.number) new old.made.publishers (removed old.made.subscribers number) services all refl refl
             (names_still (λ service. (naming service).publisher) (publisher_is_up old.hub) (publisher_is_up now)
             (λ other. port_under (value_at old.made.publishers other)) stands.publishers publishers_stay)
@@ -308,10 +315,10 @@ module _ {T U B D : Type 0} (is_default : T → Type 0) (is_default_header : U �
                   goes_by_none others_go down others_stay other place up),
             )) in (
               naming,
-              order_then degrades decides reader_degrades naming order old state stands id ports after found as_kept
+              order_then choices degrades decides reader_degrades naming order old state stands id ports after found as_kept
                   (forgotten port.number),
               services,
-              keys_then degrades decides reader_degrades naming order old state stands id ports after found as_kept
+              keys_then choices degrades decides reader_degrades naming order old state stands id ports after found as_kept
                   (forgotten port.number),
               does,
               then,
@@ -327,12 +334,12 @@ module _ {T U B D : Type 0} (is_default : T → Type 0) (is_default_header : U �
           state.services,
           refl,
           at_one_skips (subscriber_in number) (Leaves number) state
-              (no_subscriber_goes degrades decides reader_degrades naming order old state stands number none),
-          same_stands degrades decides reader_degrades naming order old state stands number new same
+              (no_subscriber_goes choices degrades decides reader_degrades naming order old state stands number none),
+          same_stands choices degrades decides reader_degrades naming order old state stands number new same
               (less ∙ ap (λ (it : Bool). removed_if it (without_subscriber number) old.made) nothing),
         )
     leave_by done (Some port) there goes less =
-        let it = reader_goes degrades decides reader_degrades naming order old state stands number port there in
+        let it = reader_goes choices degrades decides reader_degrades naming order old state stands number port there in
         let (after, leaves, same) = subst (λ (it : Option (ServicePorts T U)). LeavesDomain
         (λ (one : ServicePorts T U). with_hub_ports port.domain one old.hub) (without_hub_subscriber port.domain port.number)
         (SubscriberLeaves port.number) it old.hub done new.hub) it.found goes in
@@ -355,10 +362,10 @@ module _ {T U B D : Type 0} (is_default : T → Type 0) (is_default_header : U �
               made = it;
             })) (sym less) (leaves_then port there ports found known some after leaves))
 
-  pub subscriber_leave_simulated : SubscriberLeaveIsSimulated is_default is_default_header degrades decides reader_degrades
+  pub subscriber_leave_simulated : SubscriberLeaveIsSimulated choices is_default_header degrades decides reader_degrades
   subscriber_leave_simulated number old grown rise counted payload user_header types fixed fixed_reader naming order new state answer stands
       ((done, goes, less, told), same) =
-      subst (λ (it : Reply T). IsMatched degrades decides reader_degrades types is_default naming order old state
+      subst (λ (it : Reply T). IsMatched degrades decides reader_degrades types choices naming order old state
       (command.Leave (number_of.Subscriber number)) it stands new) (sym told)
       (leave_by types naming order old new state stands number grown rise.2 counted done (value_at old.made.subscribers number) refl goes
       less)

@@ -1,8 +1,8 @@
 -- Whatever a publisher of the machine does, ports stand as they stood, and decide as they did.
 use Rattle.std.proofs.Common.{◌≡◌, ◌+◌, ◌++◌, ℕ, Bool, true, false, cond, not, ◌&&◌, List, [], ◌∷◌, Option, None, Some, refl, sym, ap}
-use Rattle.std.proofs.Common.{subst, inl, inr, ◌∙◌, ◌⊎◌, Result, Ok, Err}
+use Rattle.std.proofs.Common.{subst, inl, inr, ◌∙◌}
 use Rattle.std.specs.Option.{option_map_or}
-use Rattle.std.specs.Prelude.{◌==◌, nat_lt, is_some, fold, filter, slice_get, MatchBool, MatchResult}
+use Rattle.std.specs.Prelude.{◌==◌, nat_lt, is_some, fold, filter, slice_get, MatchBool, drop, zip}
 use Rattle.iox_command.specs.DomainValues.declared.backpressure.BackpressureDecision.{BackpressureDecision}
 use Rattle.iox_command.specs.DomainValues.declared.backpressure.BackpressureDecision.TheVariants.{Retry, DiscardData, DiscardDataAndFail}
 use Rattle.iox_command.specs.DomainValues.declared.connection_failure.ConnectionFailure.{ConnectionFailure}
@@ -19,16 +19,13 @@ use Rattle.iox_machine.specs.Mailbox.{Mailbox, newest, put}
 use Rattle.iox_machine.specs.Message.{Message, Loan, is_written, sent_as}
 use Rattle.iox_machine.specs.PortList.{those}
 use Rattle.iox_machine.specs.Ports.{Puts, SendsLoan}
-use Rattle.iox_machine.specs.PublisherUpdate.{Follows, UpdatesFirst, update_answer, ended, welcome}
+use Rattle.iox_machine.specs.PublisherUpdate.{Follows, UpdatesFirst, ended, welcome}
 use Rattle.iox_machine.specs.Replies.{IsSkipped, IsRefused}
-use Rattle.iox_machine.specs.Sending.{offered, deliver, decision_at, GoesOn, Begins, Sends}
+use Rattle.iox_machine.specs.Sending.{GoesOn, Begins, Sends}
 use Rattle.iox_machine.specs.Service.{Service, Publisher, Send, with_publisher, mailbox, with_mailbox}
 use Rattle.iox_machine.specs.Table.{at, contains, removed}
-
-pub by_result : {V W : Type 0} (result : Result V W) (A : V → Type 0) (B : W → Type 0) → MatchResult result A B
-    → ((v : V) × A v) ⊎ ((w : W) × B w)
-by_result (Ok v) A B m = inl (v, m)
-by_result (Err w) A B m = inr (w, m)
+use Rattle.iox_machine.specs.Choices.{Choices}
+use Rattle.iox_machine.proofs.Delivering.{Outcomes, by-outcome, deliver, first_of, goes-on-so, offered}
 
 module _ {T : Type 0} where
   pub alike_then : (one two three : Service T) → DecidesAlike one two → DecidesAlike two three → DecidesAlike one three
@@ -52,13 +49,13 @@ module _ {T : Type 0} where
   offered_keeps number None DiscardDataAndFail subscriber more goes_on send service on =
       on (record send { retries = 0; elapsed = 0; fails = true }) service
 
-  deliver_keeps : (number : ℕ) (publisher : Publisher T) (left : List ℕ) (send : Send T) (service : Service T)
-      → HasPorts service (deliver number publisher left send service).1
-  deliver_keeps number publisher [] send service = (refl, refl)
-  deliver_keeps number publisher (subscriber ∷ more) send service =
+  deliver_keeps : (number : ℕ) (decisions : List BackpressureDecision) (left : List ℕ) (send : Send T) (service : Service T)
+      → HasPorts service (deliver number decisions left send service).1
+  deliver_keeps number decisions [] send service = (refl, refl)
+  deliver_keeps number decisions (subscriber ∷ more) send service =
       offered_keeps number (put service.settings.enable_safe_overflow send.message (mailbox number subscriber service))
-      (decision_at number publisher service subscriber) subscriber more (deliver number publisher more) send service
-      (λ next mid. deliver_keeps number publisher more next mid)
+      (first_of decisions) subscriber more (deliver number (drop 1 decisions) more) send service
+      (λ next mid. deliver_keeps number (drop 1 decisions) more next mid)
 
   connect_by : (b : Bool) (one other : Service T) → HasPorts one other → HasPorts one (cond b one other)
   connect_by true one other same = (refl, refl)
@@ -106,14 +103,17 @@ module _ {T : Type 0} where
   }
 
   -- a send goes on
-  pub goes_on_alike : (number : ℕ) (old mid new : Service T) (was publisher : Publisher T) (send : Send T) (answer : Reply T)
-      → IsTurned number old mid was → deciding publisher ≡ deciding was → GoesOn number publisher send mid answer new → DecidesAlike old new
-  goes_on_alike number old mid new was publisher send answer turned same does =
-      let gone : Send T × Service T = deliver number publisher send.left send mid in
+  pub goes_on_alike : (choices : Choices T) (number : ℕ) (old mid new : Service T) (was publisher : Publisher T) (send : Send T)
+      (answer : Reply T)
+      → IsTurned number old mid was → deciding publisher ≡ deciding was → GoesOn choices number publisher send mid answer new
+      → DecidesAlike old new
+  goes_on_alike choices number old mid new was publisher send answer turned same does =
+      let so = goes-on-so choices number publisher send mid answer new does in
+      let gone : Send T × Service T = deliver number so.0 send.left send mid in
       let now : Publisher T = record publisher { blocked = cond (is_some (slice_get gone.0.left 0)) (Some gone.0) None } in
-      subst (DecidesAlike old) (sym does.1)
+      subst (DecidesAlike old) (sym so.1.1)
       (turned_so number old gone.1 was now
-      (turned_same number old mid gone.1 was turned (deliver_keeps number publisher send.left send mid)) same).alike
+      (turned_same number old mid gone.1 was turned (deliver_keeps number so.0 send.left send mid)) same).alike
 
   -- a publisher follows the list of subscribers
   follows_turned : (number : ℕ) (old mid new : Service T) (publisher after : Publisher T) → IsTurned number old mid publisher
@@ -130,41 +130,45 @@ module _ {T : Type 0} where
       (filter (λ subscriber. not (contains (those publisher.connected) subscriber)) (those after.connected)) begun))
 
   -- a publisher brings its connections up to date, and does something then, or is refused
-  pub updates_alike : (number : ℕ) (told : ConnectionFailure → Refusal) (Does : Publisher T → Service T → Reply T → Service T → Type 0)
+  pub updates_alike : (choices : Choices T) (number : ℕ) (told : ConnectionFailure → Refusal)
+      (Does : Publisher T → Service T → Reply T → Service T → Type 0)
       (publisher : Publisher T) (old mid new : Service T) (answer : Reply T) → IsTurned number old mid publisher
       → ((one : Publisher T) (then : Service T) → IsTurned number old then one → Does one then answer new → DecidesAlike old new)
-      → UpdatesFirst number told Does publisher mid answer new → DecidesAlike old new
-  updates_alike number told Does publisher old mid new answer turned does updates =
+      → UpdatesFirst choices number told Does publisher mid answer new → DecidesAlike old new
+  updates_alike choices number told Does publisher old mid new answer turned does updates =
       elim (by_bool (publisher.seen == mid.subscriber_list.changes) (Does publisher mid answer new)
       ((after : Publisher T) × (then : Service T) × Follows number publisher mid after then
-      × MatchResult (update_answer publisher.degradation mid.subscriber_list.places after.connected)
+      × Outcomes (choices.publisher_acts number publisher.degradation) (zip mid.subscriber_list.places after.connected)
       (λ done. Does after then answer new) (λ failure. IsRefused (told failure) then answer new)) updates) [
         | inl at_once ↦ does publisher mid turned at_once.1
         | inr first ↦ followed first.1.0 first.1.1 first.1.2 first.1.3
       ]
     where
       followed : (after : Publisher T) (then : Service T) → Follows number publisher mid after then
-          → MatchResult (update_answer publisher.degradation mid.subscriber_list.places after.connected)
+          → Outcomes (choices.publisher_acts number publisher.degradation) (zip mid.subscriber_list.places after.connected)
           (λ done. Does after then answer new) (λ failure. IsRefused (told failure) then answer new) → DecidesAlike old new
       followed after then follows goes =
           let turned_then = follows_turned number old mid then publisher after turned follows in
-          elim (by_result (update_answer publisher.degradation mid.subscriber_list.places after.connected)
+          elim (by-outcome (choices.publisher_acts number publisher.degradation) (zip mid.subscriber_list.places after.connected)
           (λ done. Does after then answer new) (λ failure. IsRefused (told failure) then answer new) goes) [
-            | inl done ↦ does after then turned_then done.1
-            | inr failed ↦ subst (DecidesAlike old) (sym failed.1.1) turned_then.alike
+            | inl done ↦ does after then turned_then done.2
+            | inr failed ↦ subst (DecidesAlike old) (sym failed.2.1) turned_then.alike
           ]
 
   -- a publisher sends
-  pub send_alike : (number : ℕ) (message : Message T) (publisher : Publisher T) (old mid new : Service T) (answer : Reply T)
-      → IsTurned number old mid publisher → Sends number message publisher mid answer new → DecidesAlike old new
-  send_alike number message publisher old mid new answer turned sends =
+  pub send_alike : (choices : Choices T) (number : ℕ) (message : Message T) (publisher : Publisher T) (old mid new : Service T)
+      (answer : Reply T)
+      → IsTurned number old mid publisher → Sends choices number message publisher mid answer new → DecidesAlike old new
+  send_alike choices number message publisher old mid new answer turned sends =
       elim (by_bool publisher.stands
-      (UpdatesFirst number (λ failure. refusal.Send (error.ConnectionError failure)) (Begins number message) publisher mid answer new)
+      (UpdatesFirst choices number (λ failure. refusal.Send (error.ConnectionError failure)) (Begins choices number message) publisher mid
+      answer new)
       (IsRefused (refusal.Send error.ConnectionBrokenSinceSenderNoLongerExists) mid answer new) sends) [
-        | inl updates ↦ updates_alike number (λ failure. refusal.Send (error.ConnectionError failure)) (Begins number message) publisher old
+        | inl updates ↦ updates_alike choices number (λ failure. refusal.Send (error.ConnectionError failure))
+            (Begins choices number message) publisher old
             mid new answer turned
             (λ one then turned_then begins.
-            goes_on_alike number old then new one
+            goes_on_alike choices number old then new one
             (record one { history = newest then.settings.history_size (one.history ++ message ∷ []) })
             (record { message = message; left = those one.connected; retries = 0; elapsed = 0; delivered = 0; fails = false })
             answer turned_then refl begins) updates.1
@@ -172,14 +176,15 @@ module _ {T : Type 0} where
       ]
 
   -- a loan is sent
-  pub sends_loan_alike : (number : ℕ) (loan : Loan T) (old new : Service T) (answer : Reply T) → SendsLoan number loan old answer new
+  pub sends_loan_alike : (choices : Choices T) (number : ℕ) (loan : Loan T) (old new : Service T) (answer : Reply T)
+      → SendsLoan choices number loan old answer new
       → DecidesAlike old new
-  sends_loan_alike number loan old new answer does =
+  sends_loan_alike choices number loan old new answer does =
       elim (by_option (at loan.publisher old.publishers) (IsSkipped old answer new)
       (λ publisher. MatchBool (is_written loan && not (is_some publisher.blocked)) (Sent publisher) (IsSkipped old answer new)) does) [
         | inl none ↦ skipped none.1
         | inr one ↦ elim (by_bool (is_written loan && not (is_some one.0.blocked)) (Sent one.0) (IsSkipped old answer new) one.2) [
-          | inl sent ↦ send_alike loan.publisher (sent_as loan) one.0 old fewer new answer
+          | inl sent ↦ send_alike choices loan.publisher (sent_as loan) one.0 old fewer new answer
               (turned_same loan.publisher old old fewer one.0 (turned_none loan.publisher old one.0 one.1) (refl, refl)) sent.1
           | inr unwritten ↦ skipped unwritten.1
         ]
@@ -189,7 +194,7 @@ module _ {T : Type 0} where
       fewer = record old { loans = removed number old.loans }
 
       Sent : Publisher T → Type 0
-      Sent publisher = Sends loan.publisher (sent_as loan) publisher (record old { loans = removed number old.loans }) answer new
+      Sent publisher = Sends choices loan.publisher (sent_as loan) publisher (record old { loans = removed number old.loans }) answer new
 
       skipped : IsSkipped old answer new → DecidesAlike old new
       skipped (told, same) = same_ports old new (ap (λ (it : Service T). it.publishers) same) (ap (λ (it : Service T). it.subscribers) same)
@@ -218,11 +223,11 @@ module _ {T : Type 0} where
       ]
 
   -- a publisher puts
-  pub put_alike : (number : ℕ) (values : List T) (publisher : Publisher T) (old new : Service T) (answer : Reply T)
-      → at number old.publishers ≡ Some publisher → Puts number values publisher old answer new → DecidesAlike old new
-  put_alike number values publisher old new answer there (None, after, lent, sent) =
-      send_alike number (record { number = publisher.next; values = values }) after old (with_publisher number after old) new answer
+  pub put_alike : (choices : Choices T) (number : ℕ) (values : List T) (publisher : Publisher T) (old new : Service T) (answer : Reply T)
+      → at number old.publishers ≡ Some publisher → Puts choices number values publisher old answer new → DecidesAlike old new
+  put_alike choices number values publisher old new answer there (None, after, lent, sent) =
+      send_alike choices number (record { number = publisher.next; values = values }) after old (with_publisher number after old) new answer
       (turned_so number old old publisher after (turned_none number old publisher there)
       (lends_decides number _ publisher old None after lent)) sent
-  put_alike number values publisher old new answer there (Some why, after, lent, (told, same)) =
+  put_alike choices number values publisher old new answer there (Some why, after, lent, (told, same)) =
       same_ports old new (ap (λ (it : Service T). it.publishers) same) (ap (λ (it : Service T). it.subscribers) same)

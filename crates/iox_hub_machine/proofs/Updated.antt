@@ -39,7 +39,7 @@ use Rattle.iox_hub_machine.proofs.Absent.{no_publisher_goes}
 use Rattle.iox_hub_machine.proofs.Amidst.{at_one_skips}
 use Rattle.iox_hub_machine.proofs.Attended.{updated_so, updated_counts}
 use Rattle.iox_hub_machine.proofs.Attending.{standing_found}
-use Rattle.iox_hub_machine.proofs.Deciders.{degradation_in, degrades_as}
+use Rattle.iox_hub_machine.proofs.Deciders.{degrades_as}
 use Rattle.iox_hub_machine.proofs.Deciding.{DecideAlike, DecidesAlike, same_ports, at_one_decides}
 use Rattle.iox_hub_machine.proofs.Going.{same_stands}
 use Rattle.iox_hub_machine.proofs.Known.{goes_by_number}
@@ -47,6 +47,7 @@ use Rattle.iox_hub_machine.proofs.Moving.{IsMatched}
 use Rattle.iox_hub_machine.proofs.Renaming.{ports_alone_named}
 use Rattle.iox_hub_machine.proofs.Rooming.{roomy_there}
 use Rattle.iox_hub_machine.proofs.Turning.{turned_none, updates_alike}
+use Rattle.iox_machine.specs.Choices.{Choices}
 use Rattle.iox_machine.specs.Ports.{publisher_in}
 use Rattle.iox_machine.specs.PublisherUpdate.{UpdatesFirst}
 use Rattle.iox_machine.specs.Replies.{IsSkipped}
@@ -55,20 +56,22 @@ use Rattle.iox_machine.specs.State.{State, AtOne}
 use Rattle.iox_machine.specs.Table.{at}
 
 -- the machine's publisher brings its connections up to date
-abbrev PublisherUpdates : {T : Type 0} → ℕ → Publisher T → Service T → Reply T → Service T → Type 0
-PublisherUpdates number = UpdatesFirst number refusal.Connection (λ one service answered after. (answered ≡ reply.Done) × (after ≡ service))
+abbrev PublisherUpdates : {T : Type 0} → Choices T → ℕ → Publisher T → Service T → Reply T → Service T → Type 0
+PublisherUpdates choices number
+    = UpdatesFirst choices number refusal.Connection (λ one service answered after. (answered ≡ reply.Done) × (after ≡ service))
 
-abbrev UpdatesAt : {T : Type 0} → ℕ → Publisher T → Service T → Reply T → Service T → Type 0
-UpdatesAt number one service answered after =
-    MatchOption one.blocked (PublisherUpdates number one service answered after) (λ send. IsSkipped service answered after)
+abbrev UpdatesAt : {T : Type 0} → Choices T → ℕ → Publisher T → Service T → Reply T → Service T → Type 0
+UpdatesAt choices number one service answered after =
+    MatchOption one.blocked (PublisherUpdates choices number one service answered after) (λ send. IsSkipped service answered after)
 
-updating_alike : {T : Type 0} (number : ℕ) (state new : State T) (answer : Reply T)
-    → AtOne (publisher_in number) (UpdatesAt number) state answer new → DecideAlike state.services new.services
-updating_alike {T} number state new answer did =
-    at_one_decides (publisher_in number) (UpdatesAt number) state new answer
+updating_alike : {T : Type 0} (choices : Choices T) (number : ℕ) (state new : State T) (answer : Reply T)
+    → AtOne (publisher_in number) (UpdatesAt choices number) state answer new → DecideAlike state.services new.services
+updating_alike {T} choices number state new answer did =
+    at_one_decides (publisher_in number) (UpdatesAt choices number) state new answer
     (λ one service after is does.
-    elim (by_option one.blocked (PublisherUpdates number one service answer after) (λ send. IsSkipped service answer after) does) [
-      | inl free ↦ updates_alike number refusal.Connection (λ other mid answered later. (answered ≡ reply.Done) × (later ≡ mid)) one service
+    elim (by_option one.blocked (PublisherUpdates choices number one service answer after) (λ send. IsSkipped service answer after) does) [
+      | inl free ↦ updates_alike choices number refusal.Connection (λ other mid answered later. (answered ≡ reply.Done) × (later ≡ mid))
+          one service
           service after answer
           (turned_none number service one (standing_found (λ (it : Publisher T). it.stands) (at number service.publishers) one is))
           (λ other mid turned done. subst (DecidesAlike service) (sym done.1) turned.alike) free.1
@@ -76,32 +79,32 @@ updating_alike {T} number state new answer did =
           (ap (λ (it : Service T). it.subscribers) blocked.2.1)
     ]) did
 
-module _ {T U B D : Type 0} (is_default : T → Type 0) (is_default_header : U → Type 0)
+module _ {T U B D : Type 0} (choices : Choices T) (is_default_header : U → Type 0)
     (degrades : B → DegradationCause → DegradationInfo → DegradationAction → Type 0)
     (decides : B → BackpressureInfo → BackpressureDecision → Type 0)
     (reader_degrades : D → DegradationCause → DegradationInfo → DegradationAction → Type 0) where
   module _ (types : MessageTypeDetails) (naming : ℕ → Naming) (order : List (ℕ × ServicePorts T U)) (old new : NumberedHub T U B D)
-      (state : State T) (stands : PortsStandFor degrades decides reader_degrades naming order old state) (number : ℕ)
+      (state : State T) (stands : PortsStandFor choices degrades decides reader_degrades naming order old state) (number : ℕ)
       (grown : HaveGrown old.hub.services.domains) (same : new ≡ record old { hub = new.hub }) where
     update_by : (outcome : Option (Result (Unit {0}) ConnectionFailure)) (found : Option PortId)
         → port_under (value_at old.made.publishers number) ≡ found
         → AtPort (Follows hub_ports with_hub_ports (publisher_may_degrade degrades)) found old.hub outcome new.hub
-        → IsMatched degrades decides reader_degrades types is_default naming order old state (command.Update (port.Publisher number))
+        → IsMatched degrades decides reader_degrades types choices naming order old state (command.Update (port.Publisher number))
         (updated_reply outcome) stands new
     update_by outcome None none (nothing, changes) =
-        subst (λ (it : Option (Result (Unit {0}) ConnectionFailure)). IsMatched degrades decides reader_degrades types is_default naming
+        subst (λ (it : Option (Result (Unit {0}) ConnectionFailure)). IsMatched degrades decides reader_degrades types choices naming
         order old state (command.Update (port.Publisher number)) (updated_reply it) stands new) (sym nothing) (
           naming,
           order,
           state.services,
           refl,
-          at_one_skips (publisher_in number) (UpdatesAt number) state
-              (no_publisher_goes degrades decides reader_degrades naming order old state stands number none),
-          same_stands degrades decides reader_degrades naming order old state stands number new changes
+          at_one_skips (publisher_in number) (UpdatesAt choices number) state
+              (no_publisher_goes choices degrades decides reader_degrades naming order old state stands number none),
+          same_stands choices degrades decides reader_degrades naming order old state stands number new changes
               (ap (λ (it : NumberedHub T U B D). it.made) same),
         )
     update_by outcome (Some it) there updates =
-        let goes = goes_by_number degrades decides reader_degrades naming order old state stands number it there in
+        let goes = goes_by_number choices degrades decides reader_degrades naming order old state stands number it there in
         let ports = goes.ports in
         let found = goes.found in
         let id = it.domain in
@@ -114,30 +117,32 @@ module _ {T U B D : Type 0} (is_default : T → Type 0) (is_default_header : U �
         (λ (one : ServicePorts T U). with_hub_ports id one old.hub) (UpdatesBy may it.number) there old.hub outcome new.hub) found updates
         in
         let roomy = roomy_there id ports old.hub grown found in
-        ports_alone_named degrades decides reader_degrades types is_default naming order old new state
+        ports_alone_named degrades decides reader_degrades types choices naming order old new state
         (command.Update (port.Publisher number)) (updated_reply outcome) id ports after stands found
         (same ∙ ap (λ (hub : Hub T U B D). record old { hub = hub }) changes) (updated_counts T outcome state.made)
         (it.number, goes.named, λ zero. goes.some (goes.named ∙ zero))
         (λ first service last are stood.
-        let (reader, matched) = publisher_update_matches T U is_default may types buffer names lent held ports after service state it.number
-        (degradation_in (at (names.publisher it.number) service.publishers)) outcome stood roomy.tied roomy.allowed goes.some
-        (degrades_as degrades decides reader_degrades naming order old state stands id ports found first service last are stood it.number)
+        let (reader, matched) = publisher_update_matches T U choices may types buffer names lent held ports after service state it.number
+        outcome stood roomy.tied roomy.allowed goes.some
+        (degrades_as choices degrades decides reader_degrades naming order old state stands id ports found first service last are stood
+        it.number)
         does in
         let later : Naming = record names { reader = with_name it.number reader names.reader } in (
           later,
           refl,
           refl,
-          subst (λ (told : Reply T). Matches T U is_default types buffer (command.Update (port.Publisher number)) told state service later
+          subst (λ (told : Reply T). Matches T U choices types buffer (command.Update (port.Publisher number)) told state service later
               lent held after) (updated_so outcome)
-              (subst (λ (name : ℕ). Matches T U is_default types buffer (command.Update (port.Publisher name)) (updated_or_skipped outcome)
+              (subst (λ (name : ℕ). Matches T U choices types buffer (command.Update (port.Publisher name)) (updated_or_skipped outcome)
               state service later lent held after) goes.named matched),
         ))
-        (λ services did. updating_alike number state (answered_with (updated_reply outcome) services state) (updated_reply outcome) did)
+        (λ services did. updating_alike choices number state (answered_with (updated_reply outcome) services state)
+        (updated_reply outcome) did)
 
-  pub publisher_update_simulated : PublisherUpdateIsSimulated is_default is_default_header degrades decides reader_degrades
+  pub publisher_update_simulated : PublisherUpdateIsSimulated choices is_default_header degrades decides reader_degrades
   publisher_update_simulated number old grown payload user_header types fixed fixed_reader naming order new state answer stands
       ((outcome, updates, told), same) =
-      subst (λ (it : Reply T). IsMatched degrades decides reader_degrades types is_default naming order old state
+      subst (λ (it : Reply T). IsMatched degrades decides reader_degrades types choices naming order old state
       (command.Update (port.Publisher number)) it stands new) (sym told)
       (update_by types naming order old new state stands number grown same outcome (port_under (value_at old.made.publishers number)) refl
       updates)

@@ -57,7 +57,7 @@ use Rattle.iox_hub_machine.specs.SendLaws.{PutIsSimulated}
 use Rattle.iox_hub_machine.specs.Standing.{PortsStandFor, lent_in, held_in}
 use Rattle.iox_hub_machine.proofs.Absent.{no_publisher_goes}
 use Rattle.iox_hub_machine.proofs.Amidst.{at_one_skips}
-use Rattle.iox_hub_machine.proofs.Deciders.{degradation_in, decides_as, degrades_as}
+use Rattle.iox_hub_machine.proofs.Deciders.{decides_as, degrades_as}
 use Rattle.iox_hub_machine.proofs.Deciding.{DecideAlike, same_ports, at_one_decides}
 use Rattle.iox_hub_machine.proofs.GivenUp.{standing}
 use Rattle.iox_hub_machine.proofs.Going.{same_stands}
@@ -67,6 +67,7 @@ use Rattle.iox_hub_machine.proofs.Moving.{IsMatched}
 use Rattle.iox_hub_machine.proofs.Renaming.{ports_alone_named}
 use Rattle.iox_hub_machine.proofs.Rooming.{roomy_there}
 use Rattle.iox_hub_machine.proofs.Turning.{put_alike}
+use Rattle.iox_machine.specs.Choices.{Choices}
 use Rattle.iox_machine.specs.Ports.{publisher_in, Puts as MachinePuts}
 use Rattle.iox_machine.specs.Replies.{IsSkipped}
 use Rattle.iox_machine.specs.Service.{Service, Publisher}
@@ -74,17 +75,18 @@ use Rattle.iox_machine.specs.State.{State, AtOne}
 use Rattle.iox_machine.specs.Table.{at}
 
 -- the machine puts
-abbrev PutsAt : {T : Type 0} → ℕ → List T → Publisher T → Service T → Reply T → Service T → Type 0
-PutsAt number values one service answered after =
-    MatchOption one.blocked (MachinePuts number values one service answered after) (λ send. IsSkipped service answered after)
+abbrev PutsAt : {T : Type 0} → Choices T → ℕ → List T → Publisher T → Service T → Reply T → Service T → Type 0
+PutsAt choices number values one service answered after =
+    MatchOption one.blocked (MachinePuts choices number values one service answered after) (λ send. IsSkipped service answered after)
 
-putting_alike : {T : Type 0} (number : ℕ) (values : List T) (state new : State T) (answer : Reply T)
-    → AtOne (publisher_in number) (PutsAt number values) state answer new → DecideAlike state.services new.services
-putting_alike {T} number values state new answer did =
-    at_one_decides (publisher_in number) (PutsAt number values) state new answer
+putting_alike : {T : Type 0} (choices : Choices T) (number : ℕ) (values : List T) (state new : State T) (answer : Reply T)
+    → AtOne (publisher_in number) (PutsAt choices number values) state answer new → DecideAlike state.services new.services
+putting_alike {T} choices number values state new answer did =
+    at_one_decides (publisher_in number) (PutsAt choices number values) state new answer
     (λ one service after is does.
-    elim (by_option one.blocked (MachinePuts number values one service answer after) (λ send. IsSkipped service answer after) does) [
-      | inl puts ↦ put_alike number values one service after answer (standing (at number service.publishers) one is) puts.1
+    elim (by_option one.blocked (MachinePuts choices number values one service answer after) (λ send. IsSkipped service answer after)
+    does) [
+      | inl puts ↦ put_alike choices number values one service after answer (standing (at number service.publishers) one is) puts.1
       | inr skipped ↦ same_ports service after (ap (λ (it : Service T). it.publishers) skipped.2.1)
           (ap (λ (it : Service T). it.subscribers) skipped.2.1)
     ]) did
@@ -208,15 +210,16 @@ module _ {T U B D : Type 0} (degrades : B → DegradationCause → DegradationIn
     same ∙ sym (put_again id ports old found),
   )
 
-module _ {T U B D : Type 0} (is_default : T → Type 0) (is_default_header : U → Type 0)
+module _ {T U B D : Type 0} (choices : Choices T) (is_default_header : U → Type 0)
     (degrades : B → DegradationCause → DegradationInfo → DegradationAction → Type 0)
     (decides : B → BackpressureInfo → BackpressureDecision → Type 0)
     (reader_degrades : D → DegradationCause → DegradationInfo → DegradationAction → Type 0) where
   module _ (types : MessageTypeDetails) (naming : ℕ → Naming) (order : List (ℕ × ServicePorts T U)) (old new : NumberedHub T U B D)
-      (state : State T) (stands : PortsStandFor degrades decides reader_degrades naming order old state) (number : ℕ) (values : List T)
+      (state : State T) (stands : PortsStandFor choices degrades decides reader_degrades naming order old state) (number : ℕ)
+      (values : List T)
       (grown : HaveGrown old.hub.services.domains) (same : new ≡ record old { hub = new.hub }) where
     abbrev Replied : Option (Result Sent SendError) → Type 0
-    Replied sent = IsMatched degrades decides reader_degrades types is_default naming order old state (command.Put number values)
+    Replied sent = IsMatched degrades decides reader_degrades types choices naming order old state (command.Put number values)
         (sent_reply sent) stands new
 
     put_there : (sent : Option (Result Sent SendError)) (port : PortId) → port_under (value_at old.made.publishers number) ≡ Some port
@@ -224,8 +227,8 @@ module _ {T U B D : Type 0} (is_default : T → Type 0) (is_default_header : U �
         (ready hub_ports (Some port) old.hub) old.hub sent new.hub
         → Replied sent
     put_there sent port there puts =
-        let goes : GoesByNumber degrades decides reader_degrades naming order old state stands number port =
-        goes_by_number degrades decides reader_degrades naming order old state stands number port there in
+        let goes : GoesByNumber choices degrades decides reader_degrades naming order old state stands number port =
+        goes_by_number choices degrades decides reader_degrades naming order old state stands number port there in
         let it = port.domain in
         let names = naming it.service in
         let lent = those_of it.service (lent_in old.made) in
@@ -233,27 +236,29 @@ module _ {T U B D : Type 0} (is_default : T → Type 0) (is_default_header : U �
         let buffer = old.hub.expired_connection_buffer in
         let (after, parts, changes) = put_so degrades decides port values goes.ports old.hub goes.found (may_lend hub_ports port old.hub)
         refl sent new.hub puts in
-        ports_alone_named degrades decides reader_degrades types is_default naming order old new state (command.Put number values)
+        ports_alone_named degrades decides reader_degrades types choices naming order old new state (command.Put number values)
         (sent_reply sent) it goes.ports after stands goes.found (same ∙ ap (λ (hub : Hub T U B D). record old { hub = hub }) changes)
         (sent_counts T sent state.made) (port.number, goes.named, λ zero. goes.some (goes.named ∙ zero))
         (λ first service last are its.
-        let (message, reader, matched) = put_parts_match types is_default buffer (publisher_may_degrade degrades it port.number old.hub)
+        let (message, reader, matched) = put_parts_match types choices buffer (publisher_may_degrade degrades it port.number old.hub)
         (publisher_may_decide decides it port.number old.hub) names lent held goes.ports service state port.number values its
         (roomy_there it goes.ports old.hub grown goes.found) goes.some
-        (decides_as degrades decides reader_degrades naming order old state stands it goes.ports goes.found first service last are its
-        port.number) (degradation_in (at (names.publisher port.number) service.publishers))
-        (degrades_as degrades decides reader_degrades naming order old state stands it goes.ports goes.found first service last are its
+        (decides_as choices degrades decides reader_degrades naming order old state stands it goes.ports goes.found first service last are
+        its
+        port.number)
+        (degrades_as choices degrades decides reader_degrades naming order old state stands it goes.ports goes.found first service last
+        are its
         port.number) sent after parts in
         let names_then : Naming = record names { message = message; reader = reader } in (
           names_then,
           refl,
           refl,
-          subst (λ (told : Reply T). Matches T U is_default types buffer (command.Put number values) told state service names_then lent
+          subst (λ (told : Reply T). Matches T U choices types buffer (command.Put number values) told state service names_then lent
               held after) (sent_so sent)
-              (subst (λ (name : ℕ). Matches T U is_default types buffer (command.Put name values) (sent_or_skipped sent) state service
+              (subst (λ (name : ℕ). Matches T U choices types buffer (command.Put name values) (sent_or_skipped sent) state service
               names_then lent held after) goes.named matched),
         ))
-        (λ services did. putting_alike number values state (answered_with (sent_reply sent) services state) (sent_reply sent) did)
+        (λ services did. putting_alike choices number values state (answered_with (sent_reply sent) services state) (sent_reply sent) did)
 
     put_by : (sent : Option (Result Sent SendError)) (found : Option MadePublisher) → value_at old.made.publishers number ≡ found
         → AtPort (Puts hub_ports with_hub_ports (publisher_may_degrade degrades) (publisher_may_decide decides) values)
@@ -265,9 +270,9 @@ module _ {T U B D : Type 0} (is_default : T → Type 0) (is_default_header : U �
           order,
           state.services,
           refl,
-          at_one_skips (publisher_in number) (PutsAt number values) state
-              (no_publisher_goes degrades decides reader_degrades naming order old state stands number (ap port_under none)),
-          same_stands degrades decides reader_degrades naming order old state stands number new changes
+          at_one_skips (publisher_in number) (PutsAt choices number values) state
+              (no_publisher_goes choices degrades decides reader_degrades naming order old state stands number (ap port_under none)),
+          same_stands choices degrades decides reader_degrades naming order old state stands number new changes
               (ap (λ (it : NumberedHub T U B D). it.made) same),
         )
     put_by sent (Some made) there puts =
@@ -277,9 +282,9 @@ module _ {T U B D : Type 0} (is_default : T → Type 0) (is_default_header : U �
         values) (ready hub_ports it old.hub) old.hub sent new.hub)
         (ap (λ (slices : Bool). cond (slices || (length values == 1)) (Some made.port) None) (stands.slices number made there)) puts)
 
-  pub put_simulated : PutIsSimulated is_default is_default_header degrades decides reader_degrades
+  pub put_simulated : PutIsSimulated choices is_default_header degrades decides reader_degrades
   put_simulated number values old grown payload user_header types fixed fixed_reader naming order new state answer stands
       ((sent, puts, told), same) =
-      subst (λ (it : Reply T). IsMatched degrades decides reader_degrades types is_default naming order old state
+      subst (λ (it : Reply T). IsMatched degrades decides reader_degrades types choices naming order old state
       (command.Put number values) it stands new) (sym told)
       (put_by types naming order old new state stands number values grown same sent (value_at old.made.publishers number) refl puts)

@@ -41,7 +41,7 @@ module _ {T U : Type 0} (slot : ℕ) where
       (eqb_tells loan.slot slot)
 
   -- changes that make the same of the loan in the slot are one
-  changed_alike : (change other : Loan T U → Loan T U) (found : Loan T U) (loans : List (Loan T U)) → in_slot slot loans ≡ Some found
+  pub changed_alike : (change other : Loan T U → Loan T U) (found : Loan T U) (loans : List (Loan T U)) → in_slot slot loans ≡ Some found
       → times slot (slots loans) ≤ 1 → change found ≡ other found → change_in slot change loans ≡ change_in slot other loans
   changed_alike change other found [] is once same = never_some found is
   changed_alike change other found (loan ∷ loans) is once same = ⊎_elim
@@ -101,7 +101,7 @@ module _ {T U : Type 0} (slot : ℕ) where
       ∙ ap (λ (more : List (Loan T U)). loan ∷ more) (unchanged loans)
 
   -- a publisher with other loans
-  abbrev with_loans : PublisherPort T U → List (Loan T U) → PublisherPort T U
+  abbrev pub with_loans : PublisherPort T U → List (Loan T U) → PublisherPort T U
   with_loans port loans = record port { sender = with_uses (record port.sender.uses { loans = loans }) port.sender }
 
   -- what was there before a place, and what is written from it on

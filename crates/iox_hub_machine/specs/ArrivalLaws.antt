@@ -1,11 +1,14 @@
 -- What a hub does at a command by which a port comes is what the machine does.
-use Rattle.std.specs.Prelude.{ℕ, ◌+◌, ◌^◌, ◌<◌, ◌≡◌, true, List, Option, Some}
+use Rattle.std.specs.Prelude.{ℕ, ◌+◌, ◌-◌, ◌^◌, ◌<◌, ◌≤◌, ◌≡◌, true, min, List, Option, Some}
+use Rattle.std.specs.Option.{unwrap_or}
 use Rattle.iox_command.specs.DomainValues.Actions.{decision_of}
 use Rattle.iox_command.specs.DomainValues.declared.backpressure.BackpressureAction.{BackpressureAction}
 use Rattle.iox_command.specs.DomainValues.declared.backpressure.BackpressureDecision.{BackpressureDecision}
 use Rattle.iox_command.specs.DomainValues.declared.backpressure.BackpressureInfo.{BackpressureInfo}
 use Rattle.iox_command.specs.DomainValues.declared.backpressure_strategy.BackpressureStrategy.{BackpressureStrategy}
+use Rattle.iox_command.specs.DomainValues.declared.backpressure_strategy.BackpressureStrategy.TheVariants.{RetryUntilDelivered}
 use Rattle.iox_command.specs.DomainValues.declared.degradation.DegradationAction.{DegradationAction}
+use Rattle.iox_command.specs.DomainValues.declared.degradation.DegradationAction.TheVariants.{Warn}
 use Rattle.iox_command.specs.DomainValues.declared.degradation.DegradationCause.{DegradationCause}
 use Rattle.iox_command.specs.DomainValues.declared.degradation.DegradationCause.TheVariants.{FailedToEstablishConnection}
 use Rattle.iox_command.specs.DomainValues.declared.degradation.DegradationInfo.{DegradationInfo}
@@ -14,14 +17,17 @@ use Rattle.iox_command.specs.NegotiateBase.DescribeBase.declared.message_type.Me
 use Rattle.iox_command.specs.declared.command.Command.TheVariants as command
 use Rattle.iox_command.specs.declared.port.PublisherOptions.{PublisherOptions}
 use Rattle.iox_command.specs.declared.port.SubscriberOptions.{SubscriberOptions}
+use Rattle.iox_command.specs.declared.reply.Reply.TheVariants as reply
 use Rattle.iox_domain.specs.Rolls.{may_change}
 use Rattle.iox_domain.specs.declared.domain_id.DomainId.{DomainId}
 use Rattle.iox_domain.specs.declared.ports.service_ports.ServicePorts.{ServicePorts}
 use Rattle.iox_hub_base.specs.AsHome.{hub_ports}
 use Rattle.iox_hub_commands.specs.Agreements.{AreOfOneAgreement}
 use Rattle.iox_hub_commands.specs.Grown.{HaveGrown}
+use Rattle.iox_hub_commands.specs.Naming.{publisher_handlers, subscriber_handler}
 use Rattle.iox_hub_commands.specs.declared.numbered_hub.NumberedHub.{NumberedHub}
-use Rattle.iox_hub_machine.specs.ServiceLaws.{Follows}
+use Rattle.iox_hub_machine.specs.ServiceLaws.{FollowsIf}
+use Rattle.iox_machine.specs.Choices.{Choices}
 
 -- Whoever is made of an action answers this where a connection failed.
 abbrev pub AnswersAsFixed : {D : Type 0} → (DegradationAction → D)
@@ -41,6 +47,34 @@ pub record DecidesAsFixed {B : Type 0} (fixed : BackpressureStrategy → Option 
       (decision : BackpressureDecision)
       → decides (fixed strategy handler named) info decision → decision ≡ decision_of strategy handler
 
+-- Whatever somebody may answer where a connection failed may be chosen for the subscriber of this number, that comes by these options.
+abbrev pub AnswersAsChosen : {T D : Type 0} → Choices T → (D → DegradationCause → DegradationInfo → DegradationAction → Type 0) → D
+    → (subscriber : ℕ) → SubscriberOptions → Type 0
+AnswersAsChosen choices degrades who subscriber options = (info : DegradationInfo) (action : DegradationAction)
+    → degrades who FailedToEstablishConnection info action
+    → choices.subscriber_acts subscriber (unwrap_or options.degradation_handler Warn) action
+
+-- Whatever somebody may answer where a connection failed, and decide at a full mailbox, may be chosen for the publisher of this number,
+-- that comes by these options: who decides is told as many retries, but 2^64 - 1 at most.
+pub record DecidesAsChosen {T B : Type 0} (choices : Choices T)
+    (degrades : B → DegradationCause → DegradationInfo → DegradationAction → Type 0)
+    (decides : B → BackpressureInfo → BackpressureDecision → Type 0) (who : B) (publisher : ℕ) (options : PublisherOptions) : Type 0 where
+  pub failed : (info : DegradationInfo) (action : DegradationAction) → degrades who FailedToEstablishConnection info action
+      → choices.publisher_acts publisher (unwrap_or options.degradation_handler Warn) action
+  pub full : (info : BackpressureInfo) (decision : BackpressureDecision) (retries : ℕ) → decides who info decision
+      → info.retries ≡ min retries (2 ^ 64 - 1)
+      → choices.publisher_decides publisher retries info.elapsed_time
+      (decision_of (unwrap_or options.backpressure_strategy RetryUntilDelivered) options.backpressure_handler) decision
+
+-- For each port that comes later what was named may be chosen.
+abbrev pub MayBeNamedLater : {T U B D : Type 0} → Choices T → NumberedHub T U B D → Type 0
+MayBeNamedLater choices hub =
+    ((publisher retries elapsed : ℕ) (named : BackpressureDecision) → hub.made.publishers.next ≤ publisher
+    → choices.publisher_decides publisher retries elapsed named named)
+    × ((publisher : ℕ) (named : DegradationAction) → hub.made.publishers.next ≤ publisher → choices.publisher_acts publisher named named)
+    × ((subscriber : ℕ) (named : DegradationAction) → hub.made.subscribers.next ≤ subscriber
+    → choices.subscriber_acts subscriber named named)
+
 -- One port more of a service can be counted, and one change more of each list of its ports.
 abbrev pub CanBeCounted : {T U : Type 0} → ServicePorts T U → Type 0
 CanBeCounted ports = (ports.next_port + 1 < 2 ^ 64) × (may_change ports.publisher_list ≡ true) × (may_change ports.subscriber_list ≡ true)
@@ -52,23 +86,30 @@ pub record MayCome {T U B D : Type 0} (hub : NumberedHub T U B D) : Type 0 where
   pub counted : (id : DomainId) (ports : ServicePorts T U) → hub_ports id hub.hub ≡ Some ports → CanBeCounted ports
 
 -- The two details are those of values and user headers, the types those of the messages; then what is a default value, and a default user
--- header; who decides by fixed actions, and what anybody who decides may answer.
-module _ {T U B D : Type 0} (payload user_header : Detail) (types : MessageTypeDetails) (is_default : T → Type 0)
+-- header; who decides for a port that names a strategy and actions, and what anybody who decides may answer.
+module _ {T U B D : Type 0} (payload user_header : Detail) (types : MessageTypeDetails) (choices : Choices T)
     (is_default_header : U → Type 0)
     (fixed : BackpressureStrategy → Option BackpressureAction → DegradationAction → B)
     (degrades : B → DegradationCause → DegradationInfo → DegradationAction → Type 0)
     (decides : B → BackpressureInfo → BackpressureDecision → Type 0)
     (fixed_reader : DegradationAction → D)
     (reader_degrades : D → DegradationCause → DegradationInfo → DegradationAction → Type 0) where
-  -- A subscriber of a factory's service comes, or is refused, or the command is skipped.
+  -- A subscriber of a factory's service comes, or is refused, or the command is skipped. Whatever may be answered by who decides for it may
+  -- be chosen for the subscriber of the number that it gets.
   abbrev pub SubscriberComingIsFollowed : Type 0
   SubscriberComingIsFollowed = (names : List (List ℕ)) (factory : ℕ) (options : SubscriberOptions)
-      → AnswersAsFixed fixed_reader reader_degrades
-      → Follows payload user_header types is_default is_default_header fixed degrades decides fixed_reader reader_degrades names
-      (command.Subscriber factory options) MayCome
+      → FollowsIf payload user_header types choices is_default_header fixed degrades decides fixed_reader reader_degrades names
+      (command.Subscriber factory options)
+      (λ old answer. MayCome old × (answer ≡ reply.SubscriberMade old.made.subscribers.next
+      → AnswersAsChosen choices reader_degrades (subscriber_handler fixed_reader options)
+      old.made.subscribers.next options))
 
-  -- A publisher of a factory's service comes, or is refused, or the command is skipped.
+  -- A publisher of a factory's service comes, or is refused, or the command is skipped. Whatever may be answered and decided by who decides
+  -- for it may be chosen for the publisher of the number that it gets.
   abbrev pub PublisherComingIsFollowed : Type 0
-  PublisherComingIsFollowed = (names : List (List ℕ)) (factory : ℕ) (options : PublisherOptions) → DecidesAsFixed fixed degrades decides
-      → Follows payload user_header types is_default is_default_header fixed degrades decides fixed_reader reader_degrades names
-      (command.Publisher factory options) MayCome
+  PublisherComingIsFollowed = (names : List (List ℕ)) (factory : ℕ) (options : PublisherOptions)
+      → FollowsIf payload user_header types choices is_default_header fixed degrades decides fixed_reader reader_degrades names
+      (command.Publisher factory options)
+      (λ old answer. MayCome old × (answer ≡ reply.PublisherMade old.made.publishers.next
+      → DecidesAsChosen choices degrades decides (publisher_handlers fixed options)
+      old.made.publishers.next options))

@@ -22,14 +22,15 @@ use Rattle.iox_hub_commands.specs.CommandSteps as hub
 use Rattle.iox_hub_commands.specs.declared.numbered_hub.NumberedHub.{NumberedHub}
 use Rattle.iox_hub_machine.specs.ServiceLaws.{IsFollowed}
 use Rattle.iox_hub_machine.specs.Services.{HubStandsFor}
+use Rattle.iox_machine.specs.Choices.{Choices}
 use Rattle.iox_machine.specs.Run.{Runs}
 use Rattle.iox_machine.specs.State.{State, new_state}
 use Rattle.iox_negotiate_machine.specs.Laws.{HaveOwnHashes}
 
 -- A run of a new machine leads to a state.
-abbrev pub IsCome : {T : Type 0} → MessageTypeDetails → (T → Type 0) → ℕ → State T → Type 0
-IsCome {T} types is_default buffer state =
-    (asked : List (Command T)) × (answers : List (Reply T)) × Runs types is_default buffer asked new_state answers state
+abbrev pub IsCome : {T : Type 0} → MessageTypeDetails → Choices T → ℕ → State T → Type 0
+IsCome {T} types choices buffer state =
+    (asked : List (Command T)) × (answers : List (Reply T)) × Runs types choices buffer asked new_state answers state
 
 -- No number is that of two services of a hub, nor are the factories of a service counted twice.
 abbrev pub HasEachOnce : {T U B D : Type 0} → Hub T U B D → Type 0
@@ -37,7 +38,7 @@ HasEachOnce hub = ComesOnce hub.services.domains × ComesOnce hub.factory_counts
 
 -- The two details are those of values and user headers, the types those of the messages; then what is a default value, and a default user
 -- header; who decides by fixed actions, and what anybody who decides may answer.
-module _ {T U B D : Type 0} (payload user_header : Detail) (types : MessageTypeDetails) (is_default : T → Type 0)
+module _ {T U B D : Type 0} (payload user_header : Detail) (types : MessageTypeDetails) (choices : Choices T)
     (is_default_header : U → Type 0)
     (fixed : BackpressureStrategy → Option BackpressureAction → DegradationAction → B)
     (degrades : B → DegradationCause → DegradationInfo → DegradationAction → Type 0)
@@ -50,9 +51,9 @@ module _ {T U B D : Type 0} (payload user_header : Detail) (types : MessageTypeD
   ClosingMatches = (names : List (List ℕ)) (factory : ℕ) (taken : MessagingPattern → List ℕ → List ℕ) (naming : ℕ → Naming)
       (order : List (ℕ × ServicePorts T U)) (old new : NumberedHub T U B D) (state : State T) (answer : Reply T)
       → HaveOwnHashes names → AreOfOneAgreement old.factories.made old.hub → HasEachOnce old.hub
-      → IsCome types is_default old.hub.expired_connection_buffer state
-      → HubStandsFor degrades decides reader_degrades names taken naming order old state
-      → hub.Step payload user_header types is_default is_default_header fixed degrades decides fixed_reader reader_degrades
+      → IsCome types choices old.hub.expired_connection_buffer state
+      → HubStandsFor choices degrades decides reader_degrades names taken naming order old state
+      → hub.Step payload user_header types choices.is_default is_default_header fixed degrades decides fixed_reader reader_degrades
       (command.Close factory) old (Ok answer) new
-      → IsFollowed payload user_header types is_default is_default_header fixed degrades decides fixed_reader reader_degrades names
+      → IsFollowed payload user_header types choices is_default_header fixed degrades decides fixed_reader reader_degrades names
       (command.Close factory) old new state answer

@@ -17,10 +17,11 @@ use Rattle.iox_command.specs.declared.step.StepBefore.{StepBefore}
 use Rattle.iox_hub_machine.specs.OpenLaws.{HasNumbersFor}
 use Rattle.iox_hub_machine.specs.ServiceLaws.{Follows}
 use Rattle.iox_negotiate_machine.specs.Laws.{HaveOwnHashes}
+use Rattle.iox_machine.specs.Choices.{Choices}
 
 -- The two details are those of values and user headers, the types those of the messages; then what is a default value, and a default user
 -- header; who decides by fixed actions, and what anybody who decides may answer.
-module _ {T U B D : Type 0} (payload user_header : Detail) (types : MessageTypeDetails) (is_default : T → Type 0)
+module _ {T U B D : Type 0} (payload user_header : Detail) (types : MessageTypeDetails) (choices : Choices T)
     (is_default_header : U → Type 0)
     (fixed : BackpressureStrategy → Option BackpressureAction → DegradationAction → B)
     (degrades : B → DegradationCause → DegradationInfo → DegradationAction → Type 0)
@@ -33,5 +34,5 @@ module _ {T U B D : Type 0} (payload user_header : Detail) (types : MessageTypeD
   abbrev pub CreateMatches : Type 0
   CreateMatches = (names : List (List ℕ)) (node : ℕ) (name : List ℕ) (options : ServiceOptions) (attributes : List Attribute)
       (steps : List StepBefore) → IsAmong names name → HaveOwnHashes names
-      → Follows payload user_header types is_default is_default_header fixed degrades decides fixed_reader reader_degrades names
+      → Follows payload user_header types choices is_default_header fixed degrades decides fixed_reader reader_degrades names
       (command.Create node name options attributes steps) (HasNumbersFor (length steps + 1))

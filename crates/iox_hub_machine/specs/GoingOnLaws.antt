@@ -1,6 +1,7 @@
 -- What a hub stands for after a run, whatever it stood for before.
-use Rattle.std.specs.Prelude.{ℕ, ◌+◌, ◌-◌, ◌^◌, ◌<◌, ◌≡◌, ◌⊎◌, Bool, true, false, List, ◌∷◌, ◌++◌, length, Option, Some}
+use Rattle.std.specs.Prelude.{ℕ, ◌+◌, ◌-◌, ◌^◌, ◌<◌, ◌≡◌, ◌⊎◌, Bool, true, false, List, ◌∷◌, ◌++◌, length, map, Option, Some, Result, Ok}
 use Rattle.std.specs.List.{AllByRecursion}
+use Rattle.std.specs.declared.alloc.AllocError.{AllocError}
 use Rattle.iox_command.specs.DomainValues.declared.backpressure.BackpressureAction.{BackpressureAction}
 use Rattle.iox_command.specs.DomainValues.declared.backpressure.BackpressureDecision.{BackpressureDecision}
 use Rattle.iox_command.specs.DomainValues.declared.backpressure.BackpressureInfo.{BackpressureInfo}
@@ -11,18 +12,22 @@ use Rattle.iox_command.specs.DomainValues.declared.degradation.DegradationInfo.{
 use Rattle.iox_command.specs.NegotiateBase.DescribeBase.Detail.{Detail}
 use Rattle.iox_command.specs.NegotiateBase.DescribeBase.declared.message_type.MessageTypeDetails.{MessageTypeDetails}
 use Rattle.iox_command.specs.declared.command.Command.{Command}
+use Rattle.iox_command.specs.declared.command.Command.TheVariants as command
 use Rattle.iox_command.specs.declared.reply.Reply.{Reply}
+use Rattle.iox_command.specs.declared.reply.Reply.TheVariants as reply
 use Rattle.iox_container.specs.NumberTable.{value_at}
 use Rattle.iox_hub_base.specs.AsHome.{hub_ports}
 use Rattle.iox_hub_base.specs.declared.hub.HubConfig.{HubConfig}
 use Rattle.iox_hub_commands.specs.CommandSteps as hub
+use Rattle.iox_hub_commands.specs.Naming.{publisher_handlers, subscriber_handler}
 use Rattle.iox_hub_commands.specs.Numbers.{IsNew}
 use Rattle.iox_hub_commands.specs.Reading.{values_under}
 use Rattle.iox_hub_commands.specs.Runs.{IsRun}
 use Rattle.iox_hub_commands.specs.declared.numbered_hub.NumberedHub.{NumberedHub}
-use Rattle.iox_hub_machine.specs.ArrivalLaws.{AnswersAsFixed, DecidesAsFixed}
+use Rattle.iox_hub_machine.specs.ArrivalLaws.{AnswersAsChosen, AnswersAsFixed, DecidesAsChosen, DecidesAsFixed, MayBeNamedLater}
 use Rattle.iox_hub_machine.specs.Ran.{StandsAfter}
 use Rattle.iox_hub_machine.specs.RunLaws.{AsksAmong, all_asked, steps_named}
+use Rattle.iox_machine.specs.Choices.{Choices}
 use Rattle.iox_machine.specs.Run as machine
 use Rattle.iox_machine.specs.State.{State, new_state}
 use Rattle.iox_negotiate_machine.specs.Laws.{HaveOwnHashes}
@@ -33,40 +38,46 @@ NewestFits {T} hub = (values : List T)
     → values_under hub_ports (value_at hub.made.samples (hub.made.samples.next - 1)) hub.hub ≡ Some values → length values < 2 ^ 63
 
 -- A new hub stands for a new machine, after no command, whatever names are asked for.
-abbrev pub NewHubBegins : (U : Type 0) → {T B D : Type 0} → MessageTypeDetails → (T → Type 0)
+abbrev pub NewHubBegins : (U : Type 0) → {T B D : Type 0} → MessageTypeDetails → Choices T
     → (B → DegradationCause → DegradationInfo → DegradationAction → Type 0)
     → (B → BackpressureInfo → BackpressureDecision → Type 0) → (D → DegradationCause → DegradationInfo → DegradationAction → Type 0)
     → Type 0
-NewHubBegins U {T} {B} {D} types is_default degrades decides reader_degrades = (names : List (List ℕ)) (config : HubConfig)
+NewHubBegins U {T} {B} {D} types choices degrades decides reader_degrades = (names : List (List ℕ)) (config : HubConfig)
     (hub : NumberedHub T U B D) → IsNew config hub
-    → StandsAfter types is_default degrades decides reader_degrades names 0 hub new_state
+    → StandsAfter types choices degrades decides reader_degrades names 0 hub new_state
 
--- The two details are those of values and user headers, the types those of the messages; then what is a default value, and a default user
--- header; who decides by fixed actions, and what anybody who decides may answer.
-module _ {T U B D : Type 0} (payload user_header : Detail) (types : MessageTypeDetails) (is_default : T → Type 0)
-    (is_default_header : U → Type 0)
-    (fixed : BackpressureStrategy → Option BackpressureAction → DegradationAction → B)
+-- A command, and who decides for a port that comes by it, made of the strategy and the actions that it names: or somebody who is handed in.
+pub record Decided (T B D : Type 0) : Type 0 where
+  pub asked : Command T
+  pub fixed : BackpressureStrategy → Option BackpressureAction → DegradationAction → B
+  pub fixed_reader : DegradationAction → D
+
+-- the commands alone
+abbrev pub asked_of : {T B D : Type 0} → List (Decided T B D) → List (Command T)
+asked_of commands = map (λ command. command.asked) commands
+
+-- The types are those of the messages; then what may be chosen, and what anybody who decides may answer.
+module _ {T U B D : Type 0} (types : MessageTypeDetails) (choices : Choices T)
     (degrades : B → DegradationCause → DegradationInfo → DegradationAction → Type 0)
     (decides : B → BackpressureInfo → BackpressureDecision → Type 0)
-    (fixed_reader : DegradationAction → D)
     (reader_degrades : D → DegradationCause → DegradationInfo → DegradationAction → Type 0) where
   -- The machine may answer so to this command, and the hub stands for what it is then.
   pub record IsOneOn (names : List (List ℕ)) (most buffer : ℕ) (asked : Command T) (state : State T) (answer : Reply T)
       (hub : NumberedHub T U B D) : Type 0 where
     pub after : State T
-    pub step : machine.Step types is_default buffer asked state answer after
-    pub stands : StandsAfter types is_default degrades decides reader_degrades names (most + (1 + steps_named asked)) hub after
+    pub step : machine.Step types choices buffer asked state answer after
+    pub stands : StandsAfter types choices degrades decides reader_degrades names (most + (1 + steps_named asked)) hub after
 
   -- The machine may answer so to all these commands, and the hub stands for what it is then.
   pub record AreAllOn (names : List (List ℕ)) (most buffer : ℕ) (commands : List (Command T)) (state : State T)
       (replies : List (Reply T)) (hub : NumberedHub T U B D) : Type 0 where
     pub after : State T
-    pub runs : machine.Runs types is_default buffer commands state replies after
-    pub stands : StandsAfter types is_default degrades decides reader_degrades names (most + all_asked commands) hub after
+    pub runs : machine.Runs types choices buffer commands state replies after
+    pub stands : StandsAfter types choices degrades decides reader_degrades names (most + all_asked commands) hub after
 
   -- Some command is the first that isn't replied to. The machine may answer so to those before it, and the hub stands for what it is then;
-  -- or it stands for what the machine is after that command, too, to which it may answer something: so it is where the values of the
-  -- sample that came last fit in a vector.
+  -- or that command receives, and the hub stands for what the machine is after it, to which it may answer something: so it is where the
+  -- values of the sample that came last fit in a vector.
   pub record IsOnUntil (names : List (List ℕ)) (most buffer : ℕ) (commands : List (Command T)) (state : State T)
       (replies : List (Reply T)) (hub : NumberedHub T U B D) : Type 0 where
     pub first : List (Command T)
@@ -74,26 +85,69 @@ module _ {T U B D : Type 0} (payload user_header : Detail) (types : MessageTypeD
     pub rest : List (Command T)
     pub are : commands ≡ first ++ asked ∷ rest
     pub after : State T
-    pub runs : machine.Runs types is_default buffer first state replies after
-    pub stands : StandsAfter types is_default degrades decides reader_degrades names (most + all_asked first) hub after
-        ⊎ (NewestFits hub → (answer : Reply T) × IsOneOn names (most + all_asked first) buffer asked after answer hub)
+    pub runs : machine.Runs types choices buffer first state replies after
+    pub stands : StandsAfter types choices degrades decides reader_degrades names (most + all_asked first) hub after
+        ⊎ ((subscriber : ℕ) × (asked ≡ command.Receive subscriber)
+        × (NewestFits hub → (answer : Reply T) × IsOneOn names (most + all_asked first) buffer asked after answer hub))
 
   -- What a run comes to, as it stopped or didn't.
   abbrev pub RunGoesOn : List (List ℕ) → ℕ → ℕ → List (Command T) → State T → List (Reply T) → Bool → NumberedHub T U B D → Type 0
   RunGoesOn names most buffer commands state replies false hub = AreAllOn names most buffer commands state replies hub
   RunGoesOn names most buffer commands state replies true hub = IsOnUntil names most buffer commands state replies hub
 
+  -- Where a port comes by a command, and gets the next number, whatever may be decided and answered by who decides for it may be chosen for
+  -- the port of this number.
+  abbrev pub ComesAsChosen : Command T → (BackpressureStrategy → Option BackpressureAction → DegradationAction → B)
+      → (DegradationAction → D) → NumberedHub T U B D → Reply T → Type 0
+  ComesAsChosen (command.Publisher factory options) fixed fixed_reader old answer = answer ≡ reply.PublisherMade old.made.publishers.next
+      → DecidesAsChosen choices degrades decides (publisher_handlers fixed options) old.made.publishers.next options
+  ComesAsChosen (command.Subscriber factory options) fixed fixed_reader old answer = answer ≡ reply.SubscriberMade old.made.subscribers.next
+      → AnswersAsChosen choices reader_degrades (subscriber_handler fixed_reader options) old.made.subscribers.next options
+  ComesAsChosen other fixed fixed_reader old answer = Unit {0}
+
+  -- What each command does, with who decides for a port that comes by it, and what it is replied. Whatever may be decided and answered by
+  -- that one may be chosen.
+  abbrev pub DecidedStep : Detail → Detail → (U → Type 0) → Decided T B D → NumberedHub T U B D → Result (Reply T) AllocError
+      → NumberedHub T U B D → Type 0
+  DecidedStep payload user_header is_default_header command old answer new =
+      hub.Step payload user_header types choices.is_default is_default_header command.fixed degrades decides command.fixed_reader
+      reader_degrades command.asked old answer new
+      × ((told : Reply T) → answer ≡ Ok told → ComesAsChosen command.asked command.fixed command.fixed_reader old told)
+
+  -- A hub that stands for a state goes on as the machine does from there, whoever decides for the ports that come, where whatever that one
+  -- may decide and answer may be chosen: what it replies to commands, from the first one on or until it stops, the machine may answer, and
+  -- the hub stands for what the machine is then, or for what it is after one command more. So it is where no two services of the names that
+  -- are asked for share a hash, and all commands and steps, with those before the run, are fewer than 2 ^ 56.
+  abbrev pub DecidedRunsGoOn : Detail → Detail → (U → Type 0) → Type 0
+  DecidedRunsGoOn payload user_header is_default_header = (names : List (List ℕ)) (most : ℕ) (commands : List (Decided T B D))
+      (old new : NumberedHub T U B D) (state : State T) (replies : List (Reply T)) (stopped : Bool)
+      → HaveOwnHashes names → AllByRecursion (AsksAmong names) (asked_of commands)
+      → most + all_asked (asked_of commands) < 2 ^ 56
+      → StandsAfter types choices degrades decides reader_degrades names most old state
+      → IsRun (DecidedStep payload user_header is_default_header) commands old replies stopped new
+      → RunGoesOn names most old.hub.expired_connection_buffer (asked_of commands) state replies stopped new
+
+-- The two details are those of values and user headers, the types those of the messages; then what is a default value, and a default user
+-- header; who decides by fixed actions, and what anybody who decides may answer.
+module _ {T U B D : Type 0} (payload user_header : Detail) (types : MessageTypeDetails) (choices : Choices T)
+    (is_default_header : U → Type 0)
+    (fixed : BackpressureStrategy → Option BackpressureAction → DegradationAction → B)
+    (degrades : B → DegradationCause → DegradationInfo → DegradationAction → Type 0)
+    (decides : B → BackpressureInfo → BackpressureDecision → Type 0)
+    (fixed_reader : DegradationAction → D)
+    (reader_degrades : D → DegradationCause → DegradationInfo → DegradationAction → Type 0) where
   -- A hub that stands for a state goes on as the machine does from there: what it replies to commands, from the first one on or until it
   -- stops, the machine may answer, and the hub stands for what the machine is then, or for what it is after one command more. So it is
   -- where no two services of the names that are asked for share a hash, all commands and steps, with those before the run, are fewer than
-  -- 2 ^ 56, and whoever is made of fixed actions for a port decides by these.
+  -- 2 ^ 56, whoever is made of fixed actions for a port decides by these, and for each port that comes later what was named may be chosen.
   abbrev pub RunsGoOn : Type 0
   RunsGoOn = (names : List (List ℕ)) (most : ℕ) (commands : List (Command T)) (old new : NumberedHub T U B D) (state : State T)
       (replies : List (Reply T)) (stopped : Bool)
-      → DecidesAsFixed fixed degrades decides → AnswersAsFixed fixed_reader reader_degrades
+      → DecidesAsFixed fixed degrades decides → AnswersAsFixed fixed_reader reader_degrades → MayBeNamedLater choices old
       → HaveOwnHashes names → AllByRecursion (AsksAmong names) commands
       → most + all_asked commands < 2 ^ 56
-      → StandsAfter types is_default degrades decides reader_degrades names most old state
-      → IsRun (hub.Step payload user_header types is_default is_default_header fixed degrades decides fixed_reader reader_degrades)
+      → StandsAfter types choices degrades decides reader_degrades names most old state
+      → IsRun (hub.Step payload user_header types choices.is_default is_default_header fixed degrades decides fixed_reader reader_degrades)
       commands old replies stopped new
-      → RunGoesOn names most old.hub.expired_connection_buffer commands state replies stopped new
+      → RunGoesOn types choices degrades decides reader_degrades names most old.hub.expired_connection_buffer commands state replies
+      stopped new

@@ -19,6 +19,7 @@ use Rattle.iox_hub_commands.specs.CommandSteps as hub
 use Rattle.iox_hub_commands.specs.Grown.{HaveGrown}
 use Rattle.iox_hub_commands.specs.declared.numbered_hub.NumberedHub.{NumberedHub}
 use Rattle.iox_hub_machine.specs.Standing.{PortsStandFor}
+use Rattle.iox_machine.specs.Choices.{Choices}
 use Rattle.iox_machine.specs.Run as machine
 use Rattle.iox_machine.specs.Service.{Service}
 use Rattle.iox_machine.specs.State.{State, counted}
@@ -29,7 +30,7 @@ answered_with answer services state = record state { made = counted answer state
 
 -- What is a default value is given, and a default user header; and what anybody may answer who decides for a publisher, or for a
 -- subscriber.
-module _ {T U B D : Type 0} (is_default : T → Type 0) (is_default_header : U → Type 0)
+module _ {T U B D : Type 0} (choices : Choices T) (is_default_header : U → Type 0)
     (degrades : B → DegradationCause → DegradationInfo → DegradationAction → Type 0)
     (decides : B → BackpressureInfo → BackpressureDecision → Type 0)
     (reader_degrades : D → DegradationCause → DegradationInfo → DegradationAction → Type 0) where
@@ -40,13 +41,14 @@ module _ {T U B D : Type 0} (is_default : T → Type 0) (is_default_header : U �
   IsSimulatedFrom old asked = (payload user_header : Detail) (types : MessageTypeDetails)
       (fixed : BackpressureStrategy → Option BackpressureAction → DegradationAction → B) (fixed_reader : DegradationAction → D)
       (naming : ℕ → Naming) (order : List (ℕ × ServicePorts T U)) (new : NumberedHub T U B D) (state : State T) (answer : Reply T)
-      → PortsStandFor degrades decides reader_degrades naming order old state
-      → hub.Step payload user_header types is_default is_default_header fixed degrades decides fixed_reader reader_degrades asked old
+      → PortsStandFor choices degrades decides reader_degrades naming order old state
+      → hub.Step payload user_header types choices.is_default is_default_header fixed degrades decides fixed_reader reader_degrades asked
+      old
       (Ok answer) new
       → (naming_then : ℕ → Naming) × (order_then : List (ℕ × ServicePorts T U)) × (services : List (Service T))
       × (keys_of order_then ≡ keys_of order)
-      × machine.Step types is_default old.hub.expired_connection_buffer asked state answer (answered_with answer services state)
-      × PortsStandFor degrades decides reader_degrades naming_then order_then new (answered_with answer services state)
+      × machine.Step types choices old.hub.expired_connection_buffer asked state answer (answered_with answer services state)
+      × PortsStandFor choices degrades decides reader_degrades naming_then order_then new (answered_with answer services state)
 
   -- So it is from any hub.
   abbrev pub IsSimulated : Command T → Type 0

@@ -17,6 +17,7 @@ use Rattle.iox_hub_commands.specs.Grown.{HaveGrown}
 use Rattle.iox_hub_commands.specs.Lives.{NumbersRise}
 use Rattle.iox_hub_commands.specs.declared.numbered_hub.NumberedHub.{NumberedHub}
 use Rattle.iox_hub_machine.specs.Laws.{IsSimulatedFrom}
+use Rattle.iox_machine.specs.Choices.{Choices}
 
 -- One change more can be counted of the list of publishers, and of that of subscribers, of each domain that is here.
 abbrev pub ListsCanChange : {T U B D : Type 0} → Hub T U B D → Type 0
@@ -25,7 +26,7 @@ ListsCanChange {T} {U} hub = (id : DomainId) (ports : ServicePorts T U) → hub_
 
 -- What is a default value is given, and a default user header; and what anybody may answer who decides for a publisher, or for a
 -- subscriber.
-module _ {T U B D : Type 0} (is_default : T → Type 0) (is_default_header : U → Type 0)
+module _ {T U B D : Type 0} (choices : Choices T) (is_default_header : U → Type 0)
     (degrades : B → DegradationCause → DegradationInfo → DegradationAction → Type 0)
     (decides : B → BackpressureInfo → BackpressureDecision → Type 0)
     (reader_degrades : D → DegradationCause → DegradationInfo → DegradationAction → Type 0) where
@@ -33,7 +34,7 @@ module _ {T U B D : Type 0} (is_default : T → Type 0) (is_default_header : U �
   -- of each hub do, and of whose lists of ports each can change once more: one changes once at a command at most.
   abbrev pub IsSimulatedIfCounted : Command T → Type 0
   IsSimulatedIfCounted asked = (old : NumberedHub T U B D) → HaveGrown old.hub.services.domains → NumbersRise old
-      → ListsCanChange old.hub → IsSimulatedFrom is_default is_default_header degrades decides reader_degrades old asked
+      → ListsCanChange old.hub → IsSimulatedFrom choices is_default_header degrades decides reader_degrades old asked
 
   -- A publisher leaves.
   abbrev pub PublisherLeaveIsSimulated : Type 0

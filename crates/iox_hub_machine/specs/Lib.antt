@@ -15,3 +15,10 @@ pub mod LeavingLaws
 pub mod Ran
 pub mod RunLaws
 pub mod GoingOnLaws
+pub mod TypedSteps
+pub mod TypedPublishing
+pub mod TypedSubscribing
+pub mod TypedServices
+pub mod TypedReading
+pub mod TypedOpening
+pub mod TypedRuns

@@ -11,10 +11,11 @@ use Rattle.iox_hub_commands.specs.Grown.{HaveGrown}
 use Rattle.iox_hub_commands.specs.Lives.{NumbersRise}
 use Rattle.iox_hub_commands.specs.declared.numbered_hub.NumberedHub.{NumberedHub}
 use Rattle.iox_hub_machine.specs.Laws.{IsSimulatedFrom}
+use Rattle.iox_machine.specs.Choices.{Choices}
 
 -- What is a default value is given, and a default user header; and what anybody may answer who decides for a publisher, or for a
 -- subscriber.
-module _ {T U B D : Type 0} (is_default : T → Type 0) (is_default_header : U → Type 0)
+module _ {T U B D : Type 0} (choices : Choices T) (is_default_header : U → Type 0)
     (degrades : B → DegradationCause → DegradationInfo → DegradationAction → Type 0)
     (decides : B → BackpressureInfo → BackpressureDecision → Type 0)
     (reader_degrades : D → DegradationCause → DegradationInfo → DegradationAction → Type 0) where
@@ -22,7 +23,7 @@ module _ {T U B D : Type 0} (is_default : T → Type 0) (is_default_header : U �
   -- `GrowsOn` and `NumbersGoOn` say of each hub.
   abbrev pub IsSimulatedIfNumbered : Command T → Type 0
   IsSimulatedIfNumbered asked = (old : NumberedHub T U B D) → HaveGrown old.hub.services.domains → NumbersRise old
-      → IsSimulatedFrom is_default is_default_header degrades decides reader_degrades old asked
+      → IsSimulatedFrom choices is_default_header degrades decides reader_degrades old asked
 
   -- A publisher lends so many values, none of which is written.
   abbrev pub LendUninitIsSimulated : Type 0

@@ -11,15 +11,14 @@ use Rattle.iox_command.specs.DomainValues.declared.degradation.DegradationInfo.{
 use Rattle.iox_command.specs.NegotiateBase.DescribeBase.Attributes.{Required}
 use Rattle.iox_command.specs.NegotiateBase.DescribeBase.Detail.{Detail}
 use Rattle.iox_command.specs.NegotiateBase.DescribeBase.declared.message_type.MessageTypeDetails.{MessageTypeDetails}
-use Rattle.iox_command.specs.NegotiateBase.DescribeBase.declared.type_detail.TypeVariant.TheVariants.{Dynamic}
 use Rattle.iox_command.specs.declared.command.Command.TheVariants as command
 use Rattle.iox_command.specs.declared.service.ServiceOptions.{ServiceOptions}
 use Rattle.iox_command.specs.declared.step.StepBefore.{StepBefore}
 use Rattle.iox_container.specs.NumberTable.{Rises}
-use Rattle.iox_domain.specs.Fitting.{asked_types}
 use Rattle.iox_hub_commands.specs.declared.numbered_hub.NumberedHub.{NumberedHub}
 use Rattle.iox_hub_machine.specs.ServiceLaws.{Follows}
 use Rattle.iox_negotiate_machine.specs.Laws.{HaveOwnHashes}
+use Rattle.iox_machine.specs.Choices.{Choices}
 
 -- A hub may get one factory more, and its table so many locks: the numbers of its factories rise, as those of each hub do, and numbers are
 -- left.
@@ -28,25 +27,22 @@ pub record HasNumbersFor {T U B D : Type 0} (count : ℕ) (hub : NumberedHub T U
   pub factories : hub.factories.made.next + 1 < 2 ^ 64
   pub locks : hub.hub.table.next + count < 2 ^ 64
 
--- The two details are those of values and user headers: messages are slices of these values. Then what is a default value, and a default
--- user header; who decides by fixed actions, and what anybody who decides may answer.
-module _ {T U B D : Type 0} (payload user_header : Detail) (is_default : T → Type 0) (is_default_header : U → Type 0)
+-- The two details are those of values and user headers, the types those of the messages; then what is a default value, and a default user
+-- header; who decides by fixed actions, and what anybody who decides may answer.
+module _ {T U B D : Type 0} (payload user_header : Detail) (types : MessageTypeDetails) (choices : Choices T)
+    (is_default_header : U → Type 0)
     (fixed : BackpressureStrategy → Option BackpressureAction → DegradationAction → B)
     (degrades : B → DegradationCause → DegradationInfo → DegradationAction → Type 0)
     (decides : B → BackpressureInfo → BackpressureDecision → Type 0)
     (fixed_reader : DegradationAction → D)
     (reader_degrades : D → DegradationCause → DegradationInfo → DegradationAction → Type 0) where
-  -- the types of the messages
-  abbrev pub slice_types : MessageTypeDetails
-  slice_types = asked_types Dynamic payload user_header
-
   -- A node opens a service by a name that is asked for, as options ask and if it has what is required of attributes, with steps of nodes
   -- outside the hub before its accesses. No two services of the names that are asked for share a hash, and there are numbers left: for the
   -- factory, and for as many locks as these nodes may take.
   abbrev pub OpeningMatches : Type 0
   OpeningMatches = (names : List (List ℕ)) (node : ℕ) (name : List ℕ) (named : ServiceOptions) (required : Required)
       (steps : List StepBefore) → IsAmong names name → HaveOwnHashes names
-      → Follows payload user_header slice_types is_default is_default_header fixed degrades decides fixed_reader reader_degrades names
+      → Follows payload user_header types choices is_default_header fixed degrades decides fixed_reader reader_degrades names
       (command.Open node name named required steps) (HasNumbersFor (length steps))
 
   -- So it is where the node creates the service if none stands, with the required pairs as attributes. There is a number left for its own
@@ -55,5 +51,5 @@ module _ {T U B D : Type 0} (payload user_header : Detail) (is_default : T → T
   OpeningOrCreatingMatches = (names : List (List ℕ)) (node : ℕ) (name : List ℕ) (named : ServiceOptions) (required : Required)
       (steps : List StepBefore) → IsAmong names name
       → HaveOwnHashes names
-      → Follows payload user_header slice_types is_default is_default_header fixed degrades decides fixed_reader reader_degrades names
+      → Follows payload user_header types choices is_default_header fixed degrades decides fixed_reader reader_degrades names
       (command.OpenOrCreate node name named required steps) (HasNumbersFor (length steps + 1))

@@ -19,6 +19,7 @@ use Rattle.iox_hub_commands.specs.Numbers.{numbers_used}
 use Rattle.iox_hub_commands.specs.declared.numbered_hub.NumberedHub.{NumberedHub}
 use Rattle.iox_hub_machine.specs.ClosingLaws.{IsCome}
 use Rattle.iox_hub_machine.specs.Services.{HubStandsFor}
+use Rattle.iox_machine.specs.Choices.{Choices}
 use Rattle.iox_machine.specs.State.{State}
 
 -- how many places list somebody
@@ -58,7 +59,7 @@ module _ {T U B D : Type 0} where
     pub ports : counted_in (λ ports. port_count ports) hub.hub.services.domains ≤ 6 * most
 
 -- The types are those of the messages; then what is a default value, and what anybody who decides may answer.
-module _ {T U B D : Type 0} (types : MessageTypeDetails) (is_default : T → Type 0)
+module _ {T U B D : Type 0} (types : MessageTypeDetails) (choices : Choices T)
     (degrades : B → DegradationCause → DegradationInfo → DegradationAction → Type 0)
     (decides : B → BackpressureInfo → BackpressureDecision → Type 0)
     (reader_degrades : D → DegradationCause → DegradationInfo → DegradationAction → Type 0) where
@@ -69,6 +70,6 @@ module _ {T U B D : Type 0} (types : MessageTypeDetails) (is_default : T → Typ
     pub taken : MessagingPattern → List ℕ → List ℕ
     pub naming : ℕ → Naming
     pub order : List (ℕ × ServicePorts T U)
-    pub stands : HubStandsFor degrades decides reader_degrades names taken naming order hub state
-    pub came : IsCome types is_default hub.hub.expired_connection_buffer state
+    pub stands : HubStandsFor choices degrades decides reader_degrades names taken naming order hub state
+    pub came : IsCome types choices hub.hub.expired_connection_buffer state
     pub ran : RanAtMost most hub

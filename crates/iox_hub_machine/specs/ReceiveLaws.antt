@@ -11,30 +11,31 @@ use Rattle.iox_hub_commands.specs.Grown.{HaveGrown}
 use Rattle.iox_hub_commands.specs.Lives.{NumbersRise}
 use Rattle.iox_hub_commands.specs.declared.numbered_hub.NumberedHub.{NumberedHub}
 use Rattle.iox_hub_machine.specs.Laws.{IsSimulatedFrom, IsSimulatedIfGrown}
+use Rattle.iox_machine.specs.Choices.{Choices}
 
 -- What is a default value is given, and a default user header; and what anybody may answer who decides for a publisher, or for a
 -- subscriber.
-module _ {T U B D : Type 0} (is_default : T → Type 0) (is_default_header : U → Type 0)
+module _ {T U B D : Type 0} (choices : Choices T) (is_default_header : U → Type 0)
     (degrades : B → DegradationCause → DegradationInfo → DegradationAction → Type 0)
     (decides : B → BackpressureInfo → BackpressureDecision → Type 0)
     (reader_degrades : D → DegradationCause → DegradationInfo → DegradationAction → Type 0) where
   -- A publisher follows the list of subscribers.
   abbrev pub PublisherUpdateIsSimulated : Type 0
   PublisherUpdateIsSimulated = (publisher : ℕ)
-      → IsSimulatedIfGrown is_default is_default_header degrades decides reader_degrades (command.Update (port.Publisher publisher))
+      → IsSimulatedIfGrown choices is_default_header degrades decides reader_degrades (command.Update (port.Publisher publisher))
 
   -- A subscriber follows the list of publishers.
   abbrev pub SubscriberUpdateIsSimulated : Type 0
   SubscriberUpdateIsSimulated = (subscriber : ℕ)
-      → IsSimulatedIfGrown is_default is_default_header degrades decides reader_degrades (command.Update (port.Subscriber subscriber))
+      → IsSimulatedIfGrown choices is_default_header degrades decides reader_degrades (command.Update (port.Subscriber subscriber))
 
   -- It is told whether some connection of a subscriber has data.
   abbrev pub HasIsSimulated : Type 0
   HasIsSimulated = (subscriber : ℕ)
-      → IsSimulatedIfGrown is_default is_default_header degrades decides reader_degrades (command.Has subscriber)
+      → IsSimulatedIfGrown choices is_default_header degrades decides reader_degrades (command.Has subscriber)
 
   -- A subscriber receives, and a sample that comes gets the next number, which nothing goes by yet. Fewer than 2 ^ 64 - 1 came so far.
   abbrev pub ReceiveIsSimulated : Type 0
   ReceiveIsSimulated = (subscriber : ℕ) (old : NumberedHub T U B D) → HaveGrown old.hub.services.domains → NumbersRise old
       → old.made.samples.next < 2 ^ 64
-      → IsSimulatedFrom is_default is_default_header degrades decides reader_degrades old (command.Receive subscriber)
+      → IsSimulatedFrom choices is_default_header degrades decides reader_degrades old (command.Receive subscriber)

@@ -26,6 +26,7 @@ use Rattle.iox_hub_commands.specs.Runs.{IsRun, Runs}
 use Rattle.iox_hub_commands.specs.declared.numbered_hub.NumberedHub.{NumberedHub}
 use Rattle.iox_hub_machine.specs.ArrivalLaws.{AnswersAsFixed, DecidesAsFixed}
 use Rattle.iox_hub_machine.specs.Services.{HubStandsFor}
+use Rattle.iox_machine.specs.Choices.{as_named}
 use Rattle.iox_machine.specs.Run as machine
 use Rattle.iox_machine.specs.State.{State, new_state}
 use Rattle.iox_negotiate_machine.specs.Laws.{HaveOwnHashes}
@@ -89,7 +90,7 @@ module _ {T U B D : Type 0} (payload user_header : Detail) (types : MessageTypeD
       DecidesAsFixed fixed degrades decides → AnswersAsFixed fixed_reader reader_degrades
       → IsNew config old → HaveOwnHashes (names_in commands)
       → all_asked commands < 2 ^ 56
-      → machine.Answers types is_default config.expired_connection_buffer commands stopped replies
+      → machine.Answers types (as_named is_default) config.expired_connection_buffer commands stopped replies
 
   -- So it is of each run that stops only where it may.
   abbrev pub RunAnswers : Type 0
@@ -104,8 +105,8 @@ module _ {T U B D : Type 0} (payload user_header : Detail) (types : MessageTypeD
   abbrev pub StandsAsMachine : HubConfig → List (Command T) → NumberedHub T U B D → List (Reply T) → Type 0
   StandsAsMachine config commands new replies =
       (taken : MessagingPattern → List ℕ → List ℕ) × (naming : ℕ → Naming) × (order : List (ℕ × ServicePorts T U)) × (after : State T)
-      × machine.Runs types is_default config.expired_connection_buffer commands new_state replies after
-      × HubStandsFor degrades decides reader_degrades (names_in commands) taken naming order new after
+      × machine.Runs types (as_named is_default) config.expired_connection_buffer commands new_state replies after
+      × HubStandsFor (as_named is_default) degrades decides reader_degrades (names_in commands) taken naming order new after
 
   -- So it is with each run to its end, by the same premises.
   abbrev pub RunStands : Type 0

@@ -7,23 +7,24 @@ use Rattle.iox_command.specs.DomainValues.declared.degradation.DegradationCause.
 use Rattle.iox_command.specs.DomainValues.declared.degradation.DegradationInfo.{DegradationInfo}
 use Rattle.iox_command.specs.declared.command.Command.TheVariants as command
 use Rattle.iox_hub_machine.specs.Laws.{IsSimulatedIfGrown}
+use Rattle.iox_machine.specs.Choices.{Choices}
 
 -- What is a default value is given, and a default user header; and what anybody may answer who decides for a publisher, or for a
 -- subscriber.
-module _ {T U B D : Type 0} (is_default : T → Type 0) (is_default_header : U → Type 0)
+module _ {T U B D : Type 0} (choices : Choices T) (is_default_header : U → Type 0)
     (degrades : B → DegradationCause → DegradationInfo → DegradationAction → Type 0)
     (decides : B → BackpressureInfo → BackpressureDecision → Type 0)
     (reader_degrades : D → DegradationCause → DegradationInfo → DegradationAction → Type 0) where
   -- A send that waits is tried again, after so many nanoseconds.
   abbrev pub RetryIsSimulated : Type 0
   RetryIsSimulated = (publisher nanoseconds : ℕ)
-      → IsSimulatedIfGrown is_default is_default_header degrades decides reader_degrades (command.Retry publisher nanoseconds)
+      → IsSimulatedIfGrown choices is_default_header degrades decides reader_degrades (command.Retry publisher nanoseconds)
 
   -- A loan is sent.
   abbrev pub SendIsSimulated : Type 0
-  SendIsSimulated = (loan : ℕ) → IsSimulatedIfGrown is_default is_default_header degrades decides reader_degrades (command.Send loan)
+  SendIsSimulated = (loan : ℕ) → IsSimulatedIfGrown choices is_default_header degrades decides reader_degrades (command.Send loan)
 
   -- Values are lent, written and sent at once.
   abbrev pub PutIsSimulated : Type 0
   PutIsSimulated = (publisher : ℕ) (values : List T)
-      → IsSimulatedIfGrown is_default is_default_header degrades decides reader_degrades (command.Put publisher values)
+      → IsSimulatedIfGrown choices is_default_header degrades decides reader_degrades (command.Put publisher values)

@@ -25,6 +25,7 @@ use Rattle.iox_hub_commands.specs.Numbers.{IsNew}
 use Rattle.iox_hub_commands.specs.Steps.{lists_of}
 use Rattle.iox_hub_commands.specs.declared.numbered_hub.NumberedHub.{NumberedHub}
 use Rattle.iox_hub_machine.specs.Services.{HubStandsFor}
+use Rattle.iox_machine.specs.Choices.{Choices}
 use Rattle.iox_machine.specs.Run as machine
 use Rattle.iox_machine.specs.State.{State, new_state}
 use Rattle.iox_negotiate_machine.specs.CallLaws.{AreListed}
@@ -44,16 +45,17 @@ IsOnServices (command.Close factory) = Unit {0}
 IsOnServices other = ⊥
 
 -- A new hub stands for a new machine, whatever names are asked for: no number was taken, and no port has a name.
-abbrev pub NewHubStands : (T U : Type 0) → {B D : Type 0} → (B → DegradationCause → DegradationInfo → DegradationAction → Type 0)
+abbrev pub NewHubStands : (T U : Type 0) → {B D : Type 0} → Choices T
+    → (B → DegradationCause → DegradationInfo → DegradationAction → Type 0)
     → (B → BackpressureInfo → BackpressureDecision → Type 0) → (D → DegradationCause → DegradationInfo → DegradationAction → Type 0)
     → Type 0
-NewHubStands T U {B} {D} degrades decides reader_degrades = (names : List (List ℕ)) (config : HubConfig) (hub : NumberedHub T U B D)
+NewHubStands T U {B} {D} choices degrades decides reader_degrades = (names : List (List ℕ)) (config : HubConfig) (hub : NumberedHub T U B D)
     → IsNew config hub
-    → HubStandsFor degrades decides reader_degrades names (λ pattern name. []) (λ service. nameless) [] hub new_state
+    → HubStandsFor choices degrades decides reader_degrades names (λ pattern name. []) (λ service. nameless) [] hub new_state
 
 -- The two details are those of values and user headers, the types those of the messages; then what is a default value, and a default user
 -- header; who decides by fixed actions, and what anybody who decides may answer.
-module _ {T U B D : Type 0} (payload user_header : Detail) (types : MessageTypeDetails) (is_default : T → Type 0)
+module _ {T U B D : Type 0} (payload user_header : Detail) (types : MessageTypeDetails) (choices : Choices T)
     (is_default_header : U → Type 0)
     (fixed : BackpressureStrategy → Option BackpressureAction → DegradationAction → B)
     (degrades : B → DegradationCause → DegradationInfo → DegradationAction → Type 0)
@@ -67,19 +69,24 @@ module _ {T U B D : Type 0} (payload user_header : Detail) (types : MessageTypeD
     pub naming : ℕ → Naming
     pub order : List (ℕ × ServicePorts T U)
     pub after : State T
-    pub step : machine.Step types is_default old.hub.expired_connection_buffer asked state answer after
-    pub stands : HubStandsFor degrades decides reader_degrades names taken naming order new after
+    pub step : machine.Step types choices old.hub.expired_connection_buffer asked state answer after
+    pub stands : HubStandsFor choices degrades decides reader_degrades names taken naming order new after
 
-  -- Where a hub stands for a machine, is as is needed, and replies to this command, the machine may reply so, too, and the hub stands for
-  -- what it is then.
-  abbrev pub Follows : List (List ℕ) → Command T → (NumberedHub T U B D → Type 0) → Type 0
-  Follows names asked IsFit = (taken : MessagingPattern → List ℕ → List ℕ) (naming : ℕ → Naming)
+  -- Where a hub stands for a machine, it and its reply to this command are as is needed, and it does what the command says, the machine may
+  -- reply so, too, and the hub stands for what it is then.
+  abbrev pub FollowsIf : List (List ℕ) → Command T → (NumberedHub T U B D → Reply T → Type 0) → Type 0
+  FollowsIf names asked AreFit = (taken : MessagingPattern → List ℕ → List ℕ) (naming : ℕ → Naming)
       (order : List (ℕ × ServicePorts T U)) (old new : NumberedHub T U B D) (state : State T) (answer : Reply T)
-      → IsFit old
-      → HubStandsFor degrades decides reader_degrades names taken naming order old state
-      → hub.Step payload user_header types is_default is_default_header fixed degrades decides fixed_reader reader_degrades asked old
+      → AreFit old answer
+      → HubStandsFor choices degrades decides reader_degrades names taken naming order old state
+      → hub.Step payload user_header types choices.is_default is_default_header fixed degrades decides fixed_reader reader_degrades asked
+      old
       (Ok answer) new
       → IsFollowed names asked old new state answer
+
+  -- So it is whatever it replies, where the hub is as is needed.
+  abbrev pub Follows : List (List ℕ) → Command T → (NumberedHub T U B D → Type 0) → Type 0
+  Follows names asked IsFit = FollowsIf names asked (λ old answer. IsFit old)
 
   -- A node is made, where fewer than 2 ^ 64 - 1 were.
   abbrev pub NodeMatches : Type 0
@@ -96,8 +103,9 @@ module _ {T U B D : Type 0} (payload user_header : Detail) (types : MessageTypeD
   abbrev pub SkippedMatches : Type 0
   SkippedMatches = (names : List (List ℕ)) (asked : Command T) (taken : MessagingPattern → List ℕ → List ℕ) (naming : ℕ → Naming)
       (order : List (ℕ × ServicePorts T U)) (old new : NumberedHub T U B D) (state : State T) → IsOnServices asked
-      → HubStandsFor degrades decides reader_degrades names taken naming order old state
-      → hub.Step payload user_header types is_default is_default_header fixed degrades decides fixed_reader reader_degrades asked old
+      → HubStandsFor choices degrades decides reader_degrades names taken naming order old state
+      → hub.Step payload user_header types choices.is_default is_default_header fixed degrades decides fixed_reader reader_degrades asked
+      old
       (Ok reply.Skipped) new
-      → machine.Step types is_default old.hub.expired_connection_buffer asked state reply.Skipped state
-      × HubStandsFor degrades decides reader_degrades names taken naming order new state
+      → machine.Step types choices old.hub.expired_connection_buffer asked state reply.Skipped state
+      × HubStandsFor choices degrades decides reader_degrades names taken naming order new state

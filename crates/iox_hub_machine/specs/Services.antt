@@ -23,6 +23,7 @@ use Rattle.iox_hub_commands.specs.declared.numbered_hub.NumberedHub.{NumberedHub
 use Rattle.iox_hub_commands.specs.declared.services.made.MadeFactory.{MadeFactory}
 use Rattle.iox_hub_machine.specs.Seats.{seats_in, seats_for, factories_of_node}
 use Rattle.iox_hub_machine.specs.Standing.{PortsStandFor}
+use Rattle.iox_machine.specs.Choices.{Choices}
 use Rattle.iox_machine.specs.Service.{Service}
 use Rattle.iox_machine.specs.State.{State, Factory}
 use Rattle.iox_negotiate_machine.specs.CallLaws.{IsServiceIn}
@@ -95,7 +96,7 @@ module _ {T U B D : Type 0} where
   -- the open publish-subscribe services with their ports are the same. These numbers were taken for the services of each name; what anybody
   -- may answer who decides for a port is given, under which names the machine has the ports of each service, and in which order it has the
   -- services.
-  pub record HubStandsFor (degrades : B → DegradationCause → DegradationInfo → DegradationAction → Type 0)
+  pub record HubStandsFor (choices : Choices T) (degrades : B → DegradationCause → DegradationInfo → DegradationAction → Type 0)
       (decides : B → BackpressureInfo → BackpressureDecision → Type 0)
       (reader_degrades : D → DegradationCause → DegradationInfo → DegradationAction → Type 0)
       (names : List (List ℕ)) (taken : MessagingPattern → List ℕ → List ℕ) (naming : ℕ → Naming)
@@ -105,4 +106,4 @@ module _ {T U B D : Type 0} where
     pub id : hub.hub.services.hub ≡ hub.hub.table.id
     pub factories : FactoriesStandFor names taken hub state
     pub served : AreServedInTurn hub.factories.made hub.hub.services order state.services
-    pub ports : PortsStandFor degrades decides reader_degrades naming order hub state
+    pub ports : PortsStandFor choices degrades decides reader_degrades naming order hub state

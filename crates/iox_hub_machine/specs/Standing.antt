@@ -26,6 +26,7 @@ use Rattle.iox_hub_commands.specs.declared.ports.made.MadeLoan.{MadeLoan}
 use Rattle.iox_hub_commands.specs.declared.ports.made.MadePublisher.{MadePublisher}
 use Rattle.iox_hub_commands.specs.declared.ports.made.MadeSample.{MadeSample}
 use Rattle.iox_hub_machine.specs.Ports.{ports_here, AreHere, among}
+use Rattle.iox_machine.specs.Choices.{Choices}
 use Rattle.iox_machine.specs.Service.{Publisher, Subscriber}
 use Rattle.iox_machine.specs.State as machine
 use Rattle.iox_machine.specs.State.{State}
@@ -75,25 +76,27 @@ module _ {T U B D : Type 0} where
   abbrev pub subscriber_is_up : Hub T U B D → DomainId → ℕ → Bool
   subscriber_is_up hub domain number = subscriber_stands number (hub_ports domain hub)
 
-  -- Whoever decides for a publisher of a hub does so as the machine's publisher: at a full mailbox, and where a connection fails.
-  pub record PublisherIsHandled (degrades : B → DegradationCause → DegradationInfo → DegradationAction → Type 0)
-      (decides : B → BackpressureInfo → BackpressureDecision → Type 0) (hub : Hub T U B D) (domain : DomainId) (number : ℕ)
+  -- Whatever may be decided for a publisher of a hub may be chosen for the machine's publisher of this name: at a full mailbox, and where a
+  -- connection fails.
+  pub record PublisherIsHandled (choices : Choices T) (degrades : B → DegradationCause → DegradationInfo → DegradationAction → Type 0)
+      (decides : B → BackpressureInfo → BackpressureDecision → Type 0) (hub : Hub T U B D) (domain : DomainId) (number name : ℕ)
       (publisher : Publisher T) : Type 0 where
-    pub full : DecidesAs (publisher_may_decide decides domain number hub) publisher
+    pub full : DecidesAs choices (publisher_may_decide decides domain number hub) name publisher
     pub failed : (info : DegradationInfo) (action : DegradationAction) → publisher_may_degrade degrades domain number hub info action
-        → action ≡ publisher.degradation
+        → choices.publisher_acts name publisher.degradation action
 
-  -- Whoever decides for a subscriber of a hub does so as the machine's subscriber, where a connection fails.
-  abbrev pub SubscriberIsHandled : (D → DegradationCause → DegradationInfo → DegradationAction → Type 0) → Hub T U B D → DomainId → ℕ
-      → Subscriber → Type 0
-  SubscriberIsHandled reader_degrades hub domain number subscriber =
+  -- Whatever may be answered for a subscriber of a hub where a connection fails may be chosen for the machine's of this name.
+  abbrev pub SubscriberIsHandled : Choices T → (D → DegradationCause → DegradationInfo → DegradationAction → Type 0) → Hub T U B D
+      → DomainId → ℕ
+      → ℕ → Subscriber → Type 0
+  SubscriberIsHandled choices reader_degrades hub domain number name subscriber =
       (info : DegradationInfo) (action : DegradationAction) → subscriber_may_degrade reader_degrades domain number hub info action
-      → action ≡ subscriber.degradation
+      → choices.subscriber_acts name subscriber.degradation action
 
-  -- The ports of a hub, with its loans and samples, are those of a machine, by the names that each of its services gives them. What anybody
-  -- may answer who decides for a port is given, and the ports of all open services of the hub, in the order in which the machine has their
-  -- services: that in which they were opened.
-  pub record PortsStandFor (degrades : B → DegradationCause → DegradationInfo → DegradationAction → Type 0)
+  -- The ports of a hub, with its loans and samples, are those of a machine, by the names that each of its services gives them. What may be
+  -- chosen for ports is given, and what anybody may answer who decides for one, and the ports of all open services of the hub, in the order
+  -- in which the machine has their services: that in which they were opened.
+  pub record PortsStandFor (choices : Choices T) (degrades : B → DegradationCause → DegradationInfo → DegradationAction → Type 0)
       (decides : B → BackpressureInfo → BackpressureDecision → Type 0)
       (reader_degrades : D → DegradationCause → DegradationInfo → DegradationAction → Type 0)
       (naming : ℕ → Naming) (order : List (ℕ × ServicePorts T U)) (hub : NumberedHub T U B D) (state : State T) : Type 0 where
@@ -119,10 +122,10 @@ module _ {T U B D : Type 0} where
     pub subscribers : GoByNames (λ service. (naming service).subscriber) (subscriber_is_up hub.hub) (value_at hub.made.subscribers)
     -- the messages of each publisher are slices
     pub slices : (number : ℕ) (made : MadePublisher) → value_at hub.made.publishers number ≡ Some made → made.holds_slices ≡ true
-    -- who decides for a port that stands does so as the machine's port
+    -- what may be decided for a port that stands may be chosen for the machine's port
     pub publishers_handled : (domain : DomainId) (number : ℕ) (publisher : Publisher T) → publisher_is_up hub.hub domain number ≡ true
         → among (λ service. service.publishers) ((naming domain.service).publisher number) state.services ≡ Some publisher
-        → PublisherIsHandled degrades decides hub.hub domain number publisher
+        → PublisherIsHandled choices degrades decides hub.hub domain number ((naming domain.service).publisher number) publisher
     pub subscribers_handled : (domain : DomainId) (number : ℕ) (subscriber : Subscriber) → subscriber_is_up hub.hub domain number ≡ true
         → among (λ service. service.subscribers) ((naming domain.service).subscriber number) state.services ≡ Some subscriber
-        → SubscriberIsHandled reader_degrades hub.hub domain number subscriber
+        → SubscriberIsHandled choices reader_degrades hub.hub domain number ((naming domain.service).subscriber number) subscriber

@@ -13,10 +13,16 @@
 #![tactic(auto)]
 
 pub mod runs;
+pub mod typed;
 
+ghost use Rattle.std.specs.Prelude.{Option};
 ghost use Rattle.iox_hub_base.specs.DescribeBase.Detail.{detail};
 ghost use Rattle.iox_hub_base.specs.DescribeBase.declared.type_detail.TypeVariant.TheVariants.{FixedSize};
 ghost use Rattle.iox_hub_commands.specs.Asked.{types_of};
+ghost use Rattle.iox_hub_commands.specs.DomainValues.declared.backpressure.BackpressureAction.{BackpressureAction};
+ghost use Rattle.iox_hub_commands.specs.DomainValues.declared.backpressure_strategy.BackpressureStrategy.{BackpressureStrategy};
+ghost use Rattle.iox_hub_commands.specs.DomainValues.declared.degradation.DegradationAction.{DegradationAction};
+ghost use Rattle.iox_machine.specs.Choices.{Handed, chosen_by};
 ghost use Rattle.iox_hub_machine.specs.ArrivalLaws.{AnswersAsFixed, DecidesAsFixed, SubscriberComingIsFollowed};
 ghost use Rattle.iox_hub_machine.specs.ArrivalLaws.{PublisherComingIsFollowed};
 ghost use Rattle.iox_hub_machine.specs.ClosingLaws.{ClosingMatches};
@@ -38,48 +44,62 @@ use iox_hub_commands::{FixedDegradation, FixedHandlers, PublisherHandlers, Subsc
 /// A value is written at a place of a loan that goes by a number, if the loan is written and has this place; else nothing happens, nor
 /// where no loan goes by the number.
 pub fn setting_a_value_is_simulated<T: Default, U: Default, B: Decides + Degrades, D: Degrades>()
-    ensures { SetIsSimulated T.is_default U.is_default (λ handlers. B.degrades handlers) (λ handlers. B.decides handlers)
+    ensures { (handed : Handed B D) → SetIsSimulated (chosen_by T.is_default (λ handlers. B.decides handlers)
+        (λ handlers. B.degrades handlers) (λ handler. D.degrades handler) handed) U.is_default (λ handlers. B.degrades handlers)
+        (λ handlers. B.decides handlers)
         (λ handler. D.degrades handler) }
 {}
 
 /// All values of a loan that goes by a number are written at once, if it has as many; else nothing happens, nor where no loan goes by the
 /// number.
 pub fn filling_a_loan_is_simulated<T: Default, U: Default, B: Decides + Degrades, D: Degrades>()
-    ensures { FillIsSimulated T.is_default U.is_default (λ handlers. B.degrades handlers) (λ handlers. B.decides handlers)
+    ensures { (handed : Handed B D) → FillIsSimulated (chosen_by T.is_default (λ handlers. B.decides handlers)
+        (λ handlers. B.degrades handlers) (λ handler. D.degrades handler) handed) U.is_default (λ handlers. B.degrades handlers)
+        (λ handlers. B.decides handlers)
         (λ handler. D.degrades handler) }
 {}
 
 /// A sample that goes by a number is read, and nothing changes; nothing is read where none goes by it.
 pub fn reading_is_simulated<T: Default, U: Default, B: Decides + Degrades, D: Degrades>()
-    ensures { ReadIsSimulated T.is_default U.is_default (λ handlers. B.degrades handlers) (λ handlers. B.decides handlers)
+    ensures { (handed : Handed B D) → ReadIsSimulated (chosen_by T.is_default (λ handlers. B.decides handlers)
+        (λ handlers. B.degrades handlers) (λ handler. D.degrades handler) handed) U.is_default (λ handlers. B.degrades handlers)
+        (λ handlers. B.decides handlers)
         (λ handler. D.degrades handler) }
 {}
 
 /// A loan that goes by a number is given up, and its number spent; nothing happens where no loan goes by it. The domains of the hub came
 /// by calls of ports, as `NumberedHub::new` and `NumberedHub::step` say of each hub.
 pub fn dropping_a_loan_is_simulated<T: Default, U: Default, B: Decides + Degrades, D: Degrades>()
-    ensures { DropIsSimulated T.is_default U.is_default (λ handlers. B.degrades handlers) (λ handlers. B.decides handlers)
+    ensures { (handed : Handed B D) → DropIsSimulated (chosen_by T.is_default (λ handlers. B.decides handlers)
+        (λ handlers. B.degrades handlers) (λ handler. D.degrades handler) handed) U.is_default (λ handlers. B.degrades handlers)
+        (λ handlers. B.decides handlers)
         (λ handler. D.degrades handler) }
 {}
 
 /// A sample that goes by a number is released, and its number spent; nothing happens where no sample goes by it. The domains of the hub
 /// came by calls of ports, as `NumberedHub::new` and `NumberedHub::step` say of each hub.
 pub fn releasing_a_sample_is_simulated<T: Default, U: Default, B: Decides + Degrades, D: Degrades>()
-    ensures { ReleaseIsSimulated T.is_default U.is_default (λ handlers. B.degrades handlers) (λ handlers. B.decides handlers)
+    ensures { (handed : Handed B D) → ReleaseIsSimulated (chosen_by T.is_default (λ handlers. B.decides handlers)
+        (λ handlers. B.degrades handlers) (λ handler. D.degrades handler) handed) U.is_default (λ handlers. B.degrades handlers)
+        (λ handlers. B.decides handlers)
         (λ handler. D.degrades handler) }
 {}
 
 /// A send that waits is given up, of a publisher that goes by a number, and as many are told to have taken its message; nothing happens
 /// where none waits, nor where no publisher goes by the number.
 pub fn giving_up_a_send_is_simulated<T: Default, U: Default, B: Decides + Degrades, D: Degrades>()
-    ensures { GiveUpIsSimulated T.is_default U.is_default (λ handlers. B.degrades handlers) (λ handlers. B.decides handlers)
+    ensures { (handed : Handed B D) → GiveUpIsSimulated (chosen_by T.is_default (λ handlers. B.decides handlers)
+        (λ handlers. B.degrades handlers) (λ handler. D.degrades handler) handed) U.is_default (λ handlers. B.degrades handlers)
+        (λ handlers. B.decides handlers)
         (λ handler. D.degrades handler) }
 {}
 
 /// A send that waits is tried again, of a publisher that goes by a number; nothing happens where none waits, nor where no publisher goes
 /// by the number. The domains of the hub came by calls of ports, as `NumberedHub::new` and `NumberedHub::step` say of each hub.
 pub fn retrying_a_send_is_simulated<T: Default, U: Default, B: Decides + Degrades, D: Degrades>()
-    ensures { RetryIsSimulated T.is_default U.is_default (λ handlers. B.degrades handlers) (λ handlers. B.decides handlers)
+    ensures { (handed : Handed B D) → RetryIsSimulated (chosen_by T.is_default (λ handlers. B.decides handlers)
+        (λ handlers. B.degrades handlers) (λ handler. D.degrades handler) handed) U.is_default (λ handlers. B.degrades handlers)
+        (λ handlers. B.decides handlers)
         (λ handler. D.degrades handler) }
 {}
 
@@ -87,7 +107,9 @@ pub fn retrying_a_send_is_simulated<T: Default, U: Default, B: Decides + Degrade
 /// else, nor where no loan goes by the number. Its publisher follows the list of subscribers first, where that changed. The domains of the
 /// hub came by calls of ports, as `NumberedHub::new` and `NumberedHub::step` say of each hub.
 pub fn sending_a_loan_is_simulated<T: Default, U: Default, B: Decides + Degrades, D: Degrades>()
-    ensures { SendIsSimulated T.is_default U.is_default (λ handlers. B.degrades handlers) (λ handlers. B.decides handlers)
+    ensures { (handed : Handed B D) → SendIsSimulated (chosen_by T.is_default (λ handlers. B.decides handlers)
+        (λ handlers. B.degrades handlers) (λ handler. D.degrades handler) handed) U.is_default (λ handlers. B.degrades handlers)
+        (λ handlers. B.decides handlers)
         (λ handler. D.degrades handler) }
 {}
 
@@ -95,7 +117,9 @@ pub fn sending_a_loan_is_simulated<T: Default, U: Default, B: Decides + Degrades
 /// it waits, nor where no publisher goes by the number. The domains of the hub came by calls of ports, as `NumberedHub::new` and
 /// `NumberedHub::step` say of each hub.
 pub fn putting_is_simulated<T: Default, U: Default, B: Decides + Degrades, D: Degrades>()
-    ensures { PutIsSimulated T.is_default U.is_default (λ handlers. B.degrades handlers) (λ handlers. B.decides handlers)
+    ensures { (handed : Handed B D) → PutIsSimulated (chosen_by T.is_default (λ handlers. B.decides handlers)
+        (λ handlers. B.degrades handlers) (λ handler. D.degrades handler) handed) U.is_default (λ handlers. B.degrades handlers)
+        (λ handlers. B.decides handlers)
         (λ handler. D.degrades handler) }
 {}
 
@@ -109,7 +133,9 @@ pub fn updating_a_publisher_is_simulated<
     B: Decides + Degrades,
     D: Degrades,
 >()
-    ensures { PublisherUpdateIsSimulated T.is_default U.is_default (λ handlers. B.degrades handlers) (λ handlers. B.decides handlers)
+    ensures { (handed : Handed B D) → PublisherUpdateIsSimulated (chosen_by T.is_default (λ handlers. B.decides handlers)
+        (λ handlers. B.degrades handlers) (λ handler. D.degrades handler) handed) U.is_default (λ handlers. B.degrades handlers)
+        (λ handlers. B.decides handlers)
         (λ handler. D.degrades handler) }
 {}
 
@@ -122,7 +148,9 @@ pub fn updating_a_subscriber_is_simulated<
     B: Decides + Degrades,
     D: Degrades,
 >()
-    ensures { SubscriberUpdateIsSimulated T.is_default U.is_default (λ handlers. B.degrades handlers) (λ handlers. B.decides handlers)
+    ensures { (handed : Handed B D) → SubscriberUpdateIsSimulated (chosen_by T.is_default (λ handlers. B.decides handlers)
+        (λ handlers. B.degrades handlers) (λ handler. D.degrades handler) handed) U.is_default (λ handlers. B.degrades handlers)
+        (λ handlers. B.decides handlers)
         (λ handler. D.degrades handler) }
 {}
 
@@ -130,7 +158,9 @@ pub fn updating_a_subscriber_is_simulated<
 /// where no subscriber goes by the number. The domains of the hub came by calls of ports, as `NumberedHub::new` and `NumberedHub::step` say
 /// of each hub.
 pub fn asking_for_samples_is_simulated<T: Default, U: Default, B: Decides + Degrades, D: Degrades>()
-    ensures { HasIsSimulated T.is_default U.is_default (λ handlers. B.degrades handlers) (λ handlers. B.decides handlers)
+    ensures { (handed : Handed B D) → HasIsSimulated (chosen_by T.is_default (λ handlers. B.decides handlers)
+        (λ handlers. B.degrades handlers) (λ handler. D.degrades handler) handed) U.is_default (λ handlers. B.degrades handlers)
+        (λ handlers. B.decides handlers)
         (λ handler. D.degrades handler) }
 {}
 
@@ -140,7 +170,9 @@ pub fn asking_for_samples_is_simulated<T: Default, U: Default, B: Decides + Degr
 /// a sample is below 2 ^ 64. From these it follows that a subscriber holds fewer than 2 ^ 64 - 1 samples, and that nothing goes by the next
 /// number.
 pub fn receiving_is_simulated<T: Default, U: Default, B: Decides + Degrades, D: Degrades>()
-    ensures { ReceiveIsSimulated T.is_default U.is_default (λ handlers. B.degrades handlers) (λ handlers. B.decides handlers)
+    ensures { (handed : Handed B D) → ReceiveIsSimulated (chosen_by T.is_default (λ handlers. B.decides handlers)
+        (λ handlers. B.degrades handlers) (λ handler. D.degrades handler) handed) U.is_default (λ handlers. B.degrades handlers)
+        (λ handlers. B.decides handlers)
         (λ handler. D.degrades handler) }
 {}
 
@@ -151,8 +183,10 @@ pub fn lists_are_named()
 {}
 
 /// A new hub stands for a new machine, whatever names are asked for.
-pub fn new_hub_stands<T, U, B: PublisherHandlers, D: SubscriberHandler>()
-    ensures { NewHubStands T U (λ handlers. B.degrades handlers) (λ handlers. B.decides handlers) (λ handler. D.degrades handler) }
+pub fn new_hub_stands<T: Default, U, B: PublisherHandlers, D: SubscriberHandler>()
+    ensures { (handed : Handed B D) → NewHubStands T U (chosen_by T.is_default (λ handlers. B.decides handlers)
+        (λ handlers. B.degrades handlers) (λ handler. D.degrades handler) handed) (λ handlers. B.degrades handlers)
+        (λ handlers. B.decides handlers) (λ handler. D.degrades handler) }
 {}
 
 /// A node is made. Fewer than 2 ^ 64 - 1 nodes must have been made.
@@ -162,8 +196,9 @@ pub fn making_a_node_matches<
     B: PublisherHandlers,
     D: SubscriberHandler,
 >()
-    ensures { NodeMatches (detail FixedSize T.name T.size T.alignment) (detail FixedSize U.name U.size U.alignment)
-        (types_of T.name T.size T.alignment U.name U.size U.alignment) T.is_default U.is_default B.fixed
+    ensures { (handed : Handed B D) → NodeMatches (detail FixedSize T.name T.size T.alignment) (detail FixedSize U.name U.size U.alignment)
+        (types_of T.name T.size T.alignment U.name U.size U.alignment) (chosen_by T.is_default (λ handlers. B.decides handlers)
+        (λ handlers. B.degrades handlers) (λ handler. D.degrades handler) handed) U.is_default B.fixed
         (λ handlers. B.degrades handlers) (λ handlers. B.decides handlers) D.fixed (λ handler. D.degrades handler) }
 {}
 
@@ -176,8 +211,10 @@ pub fn steps_of_others_match<
     B: PublisherHandlers,
     D: SubscriberHandler,
 >()
-    ensures { ForeignMatches (detail FixedSize T.name T.size T.alignment) (detail FixedSize U.name U.size U.alignment)
-        (types_of T.name T.size T.alignment U.name U.size U.alignment) T.is_default U.is_default B.fixed
+    ensures { (handed : Handed B D)
+        → ForeignMatches (detail FixedSize T.name T.size T.alignment) (detail FixedSize U.name U.size U.alignment)
+        (types_of T.name T.size T.alignment U.name U.size U.alignment) (chosen_by T.is_default (λ handlers. B.decides handlers)
+        (λ handlers. B.degrades handlers) (λ handler. D.degrades handler) handed) U.is_default B.fixed
         (λ handlers. B.degrades handlers) (λ handlers. B.decides handlers) D.fixed (λ handler. D.degrades handler) }
 {}
 
@@ -189,8 +226,10 @@ pub fn skipped_commands_match<
     B: PublisherHandlers,
     D: SubscriberHandler,
 >()
-    ensures { SkippedMatches (detail FixedSize T.name T.size T.alignment) (detail FixedSize U.name U.size U.alignment)
-        (types_of T.name T.size T.alignment U.name U.size U.alignment) T.is_default U.is_default B.fixed
+    ensures { (handed : Handed B D)
+        → SkippedMatches (detail FixedSize T.name T.size T.alignment) (detail FixedSize U.name U.size U.alignment)
+        (types_of T.name T.size T.alignment U.name U.size U.alignment) (chosen_by T.is_default (λ handlers. B.decides handlers)
+        (λ handlers. B.degrades handlers) (λ handler. D.degrades handler) handed) U.is_default B.fixed
         (λ handlers. B.degrades handlers) (λ handlers. B.decides handlers) D.fixed (λ handler. D.degrades handler) }
 {}
 
@@ -210,42 +249,51 @@ pub fn handlers_of_actions_are_answered(_handlers: &Handlers, _handler: &Degrada
 {}
 
 /// A subscriber comes, by a factory of the hub that goes by a number, and gets the next number; or it is refused, where the machine's is;
-/// or the command is skipped, where the hub has no factory of the number, or one of another pattern. Who decides for it by a fixed action
-/// answers this action, as `FixedDegradation` does. The domains of the hub came by calls of ports, and each of its services has one
-/// agreement, as `NumberedHub::new` and `NumberedHub::step` say of each hub; and one port more of each service can be counted, and one
-/// change more of each list of ports.
+/// or the command is skipped, where the hub has no factory of the number, or one of another pattern. Whatever may be answered by who
+/// decides for it, be that one handed in or made of the action that is named, may be chosen for the subscriber of the number that it gets.
+/// The domains of the hub came by calls of ports, and each of its services has one agreement, as `NumberedHub::new` and
+/// `NumberedHub::step` say of each hub; and one port more of each service can be counted, and one change more of each list of ports.
 pub fn coming_of_a_subscriber_is_followed<
     T: ZeroCopySend + Default,
     U: ZeroCopySend + Default,
-    B: PublisherHandlers,
-    D: SubscriberHandler,
+    B: Decides + Degrades,
+    D: Degrades,
 >()
-    ensures { SubscriberComingIsFollowed (detail FixedSize T.name T.size T.alignment) (detail FixedSize U.name U.size U.alignment)
-        (types_of T.name T.size T.alignment U.name U.size U.alignment) T.is_default U.is_default B.fixed
-        (λ handlers. B.degrades handlers) (λ handlers. B.decides handlers) D.fixed (λ handler. D.degrades handler) }
+    ensures { (handed : Handed B D)
+        (fixed : BackpressureStrategy → Option BackpressureAction → DegradationAction → B) (fixed_reader : DegradationAction → D)
+        → SubscriberComingIsFollowed (detail FixedSize T.name T.size T.alignment) (detail FixedSize U.name U.size U.alignment)
+        (types_of T.name T.size T.alignment U.name U.size U.alignment) (chosen_by T.is_default (λ handlers. B.decides handlers)
+        (λ handlers. B.degrades handlers) (λ handler. D.degrades handler) handed) U.is_default fixed
+        (λ handlers. B.degrades handlers) (λ handlers. B.decides handlers) fixed_reader (λ handler. D.degrades handler) }
 {}
 
 /// A publisher comes, by a factory of the hub that goes by a number, and gets the next number; or it is refused, where the machine's is; or
 /// the command is skipped, where the hub has no factory of the number, or one of another pattern. It gets the slots that the command names,
-/// or those that it needs. Who decides for it by a strategy and fixed actions decides by these, as `FixedHandlers` does. The domains of the
-/// hub came by calls of ports, and each of its services has one agreement, as `NumberedHub::new` and `NumberedHub::step` say of each hub;
-/// and one port more of each service can be counted, and one change more of each list of ports.
+/// or those that it needs. Whatever may be decided and answered by who decides for it, be that one handed in or made of what the command
+/// names, may be chosen for the publisher of the number that it gets. The domains of the hub came by calls of ports, and each of its
+/// services has one agreement, as `NumberedHub::new` and `NumberedHub::step` say of each hub; and one port more of each service can be
+/// counted, and one change more of each list of ports.
 pub fn coming_of_a_publisher_is_followed<
     T: ZeroCopySend + Default,
     U: ZeroCopySend + Default,
-    B: PublisherHandlers,
-    D: SubscriberHandler,
+    B: Decides + Degrades,
+    D: Degrades,
 >()
-    ensures { PublisherComingIsFollowed (detail FixedSize T.name T.size T.alignment) (detail FixedSize U.name U.size U.alignment)
-        (types_of T.name T.size T.alignment U.name U.size U.alignment) T.is_default U.is_default B.fixed
-        (λ handlers. B.degrades handlers) (λ handlers. B.decides handlers) D.fixed (λ handler. D.degrades handler) }
+    ensures { (handed : Handed B D)
+        (fixed : BackpressureStrategy → Option BackpressureAction → DegradationAction → B) (fixed_reader : DegradationAction → D)
+        → PublisherComingIsFollowed (detail FixedSize T.name T.size T.alignment) (detail FixedSize U.name U.size U.alignment)
+        (types_of T.name T.size T.alignment U.name U.size U.alignment) (chosen_by T.is_default (λ handlers. B.decides handlers)
+        (λ handlers. B.degrades handlers) (λ handler. D.degrades handler) handed) U.is_default fixed
+        (λ handlers. B.degrades handlers) (λ handlers. B.decides handlers) fixed_reader (λ handler. D.degrades handler) }
 {}
 
 /// A publisher that goes by a number lends so many values, none of which is written, and the loan gets the next number; or it is refused.
 /// Nothing happens where a send of it waits, nor where no publisher goes by the number. The domains of the hub came by calls of ports, and
 /// its numbers rise, as `NumberedHub::new` and `NumberedHub::run` say of each hub.
 pub fn lending_uninit_is_simulated<T: Default, U: Default, B: Decides + Degrades, D: Degrades>()
-    ensures { LendUninitIsSimulated T.is_default U.is_default (λ handlers. B.degrades handlers) (λ handlers. B.decides handlers)
+    ensures { (handed : Handed B D) → LendUninitIsSimulated (chosen_by T.is_default (λ handlers. B.decides handlers)
+        (λ handlers. B.degrades handlers) (λ handler. D.degrades handler) handed) U.is_default (λ handlers. B.degrades handlers)
+        (λ handlers. B.decides handlers)
         (λ handler. D.degrades handler) }
 {}
 
@@ -253,7 +301,9 @@ pub fn lending_uninit_is_simulated<T: Default, U: Default, B: Decides + Degrades
 /// refused. Nothing happens where a send of it waits, nor where no publisher goes by the number. The domains of the hub came by calls of
 /// ports, and its numbers rise, as `NumberedHub::new` and `NumberedHub::run` say of each hub.
 pub fn lending_is_simulated<T: Default, U: Default, B: Decides + Degrades, D: Degrades>()
-    ensures { LendIsSimulated T.is_default U.is_default (λ handlers. B.degrades handlers) (λ handlers. B.decides handlers)
+    ensures { (handed : Handed B D) → LendIsSimulated (chosen_by T.is_default (λ handlers. B.decides handlers)
+        (λ handlers. B.degrades handlers) (λ handler. D.degrades handler) handed) U.is_default (λ handlers. B.degrades handlers)
+        (λ handlers. B.decides handlers)
         (λ handler. D.degrades handler) }
 {}
 
@@ -266,7 +316,9 @@ pub fn leaving_of_a_publisher_is_simulated<
     B: Decides + Degrades,
     D: Degrades,
 >()
-    ensures { PublisherLeaveIsSimulated T.is_default U.is_default (λ handlers. B.degrades handlers) (λ handlers. B.decides handlers)
+    ensures { (handed : Handed B D) → PublisherLeaveIsSimulated (chosen_by T.is_default (λ handlers. B.decides handlers)
+        (λ handlers. B.degrades handlers) (λ handler. D.degrades handler) handed) U.is_default (λ handlers. B.degrades handlers)
+        (λ handlers. B.decides handlers)
         (λ handler. D.degrades handler) }
 {}
 
@@ -279,7 +331,9 @@ pub fn leaving_of_a_subscriber_is_simulated<
     B: Decides + Degrades,
     D: Degrades,
 >()
-    ensures { SubscriberLeaveIsSimulated T.is_default U.is_default (λ handlers. B.degrades handlers) (λ handlers. B.decides handlers)
+    ensures { (handed : Handed B D) → SubscriberLeaveIsSimulated (chosen_by T.is_default (λ handlers. B.decides handlers)
+        (λ handlers. B.degrades handlers) (λ handler. D.degrades handler) handed) U.is_default (λ handlers. B.degrades handlers)
+        (λ handlers. B.decides handlers)
         (λ handler. D.degrades handler) }
 {}
 
@@ -294,8 +348,10 @@ pub fn creating_matches<
     B: PublisherHandlers,
     D: SubscriberHandler,
 >()
-    ensures { CreateMatches (detail FixedSize T.name T.size T.alignment) (detail FixedSize U.name U.size U.alignment)
-        (types_of T.name T.size T.alignment U.name U.size U.alignment) T.is_default U.is_default B.fixed
+    ensures { (handed : Handed B D)
+        → CreateMatches (detail FixedSize T.name T.size T.alignment) (detail FixedSize U.name U.size U.alignment)
+        (types_of T.name T.size T.alignment U.name U.size U.alignment) (chosen_by T.is_default (λ handlers. B.decides handlers)
+        (λ handlers. B.degrades handlers) (λ handler. D.degrades handler) handed) U.is_default B.fixed
         (λ handlers. B.degrades handlers) (λ handlers. B.decides handlers) D.fixed (λ handler. D.degrades handler) }
 {}
 
@@ -310,9 +366,11 @@ pub fn opening_matches<
     B: PublisherHandlers,
     D: SubscriberHandler,
 >()
-    ensures { OpeningMatches (detail FixedSize T.name T.size T.alignment) (detail FixedSize U.name U.size U.alignment)
-        T.is_default U.is_default B.fixed (λ handlers. B.degrades handlers) (λ handlers. B.decides handlers)
-        D.fixed (λ handler. D.degrades handler) }
+    ensures { (handed : Handed B D)
+        → OpeningMatches (detail FixedSize T.name T.size T.alignment) (detail FixedSize U.name U.size U.alignment)
+        (types_of T.name T.size T.alignment U.name U.size U.alignment) (chosen_by T.is_default (λ handlers. B.decides handlers)
+        (λ handlers. B.degrades handlers) (λ handler. D.degrades handler) handed) U.is_default B.fixed
+        (λ handlers. B.degrades handlers) (λ handlers. B.decides handlers) D.fixed (λ handler. D.degrades handler) }
 {}
 
 /// So it is where the node creates the service if none stands, with the required pairs as attributes. The premises are those of an opening,
@@ -323,9 +381,11 @@ pub fn opening_or_creating_matches<
     B: PublisherHandlers,
     D: SubscriberHandler,
 >()
-    ensures { OpeningOrCreatingMatches (detail FixedSize T.name T.size T.alignment) (detail FixedSize U.name U.size U.alignment)
-        T.is_default U.is_default B.fixed (λ handlers. B.degrades handlers) (λ handlers. B.decides handlers)
-        D.fixed (λ handler. D.degrades handler) }
+    ensures { (handed : Handed B D)
+        → OpeningOrCreatingMatches (detail FixedSize T.name T.size T.alignment) (detail FixedSize U.name U.size U.alignment)
+        (types_of T.name T.size T.alignment U.name U.size U.alignment) (chosen_by T.is_default (λ handlers. B.decides handlers)
+        (λ handlers. B.degrades handlers) (λ handler. D.degrades handler) handed) U.is_default B.fixed
+        (λ handlers. B.degrades handlers) (λ handlers. B.decides handlers) D.fixed (λ handler. D.degrades handler) }
 {}
 
 /// A factory is closed, or is refused as in use: the machine does so, too. With the last factory of a publish-subscribe service its ports
@@ -339,7 +399,9 @@ pub fn closing_matches<
     B: PublisherHandlers,
     D: SubscriberHandler,
 >()
-    ensures { ClosingMatches (detail FixedSize T.name T.size T.alignment) (detail FixedSize U.name U.size U.alignment)
-        (types_of T.name T.size T.alignment U.name U.size U.alignment) T.is_default U.is_default B.fixed
+    ensures { (handed : Handed B D)
+        → ClosingMatches (detail FixedSize T.name T.size T.alignment) (detail FixedSize U.name U.size U.alignment)
+        (types_of T.name T.size T.alignment U.name U.size U.alignment) (chosen_by T.is_default (λ handlers. B.decides handlers)
+        (λ handlers. B.degrades handlers) (λ handler. D.degrades handler) handed) U.is_default B.fixed
         (λ handlers. B.degrades handlers) (λ handlers. B.decides handlers) D.fixed (λ handler. D.degrades handler) }
 {}

@@ -1,6 +1,6 @@
 -- Every step of a single value's machine keeps what the machine keeps.
 use Rattle.std.proofs.Common.{◌≡◌, ℕ, ◌+◌, ◌-◌, ◌^◌, ◌<◌, ◌≤◌, ◌⊎◌, inl, inr, ⊎_elim, Bool, true, false, not, if◌then◌else◌, ◌==◌, ◌&&◌}
-use Rattle.std.proofs.Common.{nat_lt, Option, Some, None, List, [], ◌∷◌, ◌++◌, length, slice_index, take, refl, sym, ◌∙◌, ap}
+use Rattle.std.proofs.Common.{nat_lt, Option, Some, None, List, [], ◌∷◌, ◌++◌, length, slice_index, take, drop, refl, sym, ◌∙◌, ap}
 use Rattle.std.proofs.Common.{subst, arith, length-append, length-set, take_all}
 use Rattle.std.specs.Prelude.{is_none}
 use Rattle.std.specs.Global.{Vec}
@@ -15,8 +15,8 @@ use Rattle.iox_queues_steps.specs.declared.schedule.Stepped.{Stepped}
 use Rattle.iox_queues_steps.specs.declared.schedule.Stepped.TheVariants as stepped
 use Rattle.iox_queues.specs.declared.bits.machine.Event.{Event}
 use Rattle.iox_index_steps.specs.AtomicSteps.{call_begun, call_is_idle, call_next, call_take, fills_second, place, table_value}
-use Rattle.iox_index_steps.specs.AtomicTold.{Tells, current_of, times_moved, moved_by, put_after}
-use Rattle.iox_index_steps.specs.AtomicMachine.{AtomicState, HasFewStores, SomeStores, IsStored, IsTold, RunsTo, StepsTo, begun}
+use Rattle.iox_index_steps.specs.AtomicTold.{IsAskedSoFar, Tells, call_in_hand, current_of, times_moved, moved_by, put_after}
+use Rattle.iox_index_steps.specs.AtomicMachine.{AtomicState, HasFewStores, MovesOnce, SomeStores, IsStored, IsTold, RunsTo, StepsTo, begun}
 use Rattle.iox_index_steps.specs.AtomicMachine.{call_ended, fits, happens, initial_of, may_begin, producer_after, producer_begun, seat_at}
 use Rattle.iox_index_steps.specs.AtomicMachine.{stage_at, start_words, went, width_of}
 use Rattle.iox_index_steps.specs.AtomicKept.{IsConsistent, IsKept, Knows, HalvesFit}
@@ -27,7 +27,12 @@ use Rattle.iox_index_steps.specs.declared.atomic.call.Call.TheVariants as call
 use Rattle.iox_index_steps.specs.declared.atomic.call.AtomicCall.{AtomicCall}
 use Rattle.iox_index_steps.specs.declared.atomic.call.AtomicCall.TheVariants as stage
 use Rattle.iox_index_steps.specs.declared.atomic.state.Seat.{Seat}
+use Rattle.iox_queues.proofs.OwnSteps.{own_more, own_more_since}
 use Rattle.iox_queues.proofs.Recorded.{answered_on}
+use Rattle.iox_queues.specs.Told.{own}
+use Rattle.std.proofs.Math.Seq.{drop-append_seam}
+use Rattle.iox_index_steps.proofs.AtomicAsked.{asked_all, asked_append, asked_next, call_asked, ended_asked_on, move_each}
+use Rattle.iox_index_steps.proofs.AtomicOfCalls.{begun_counted, went_counted}
 use Rattle.iox_index_steps.proofs.AtomicSums.{more_moved}
 use Rattle.iox_index_steps.proofs.AtomicKnowing.{knows_else}
 use Rattle.iox_index_steps.proofs.AtomicMade.{MadeStep, current_same, ending_made, find_made, load_quiet, local_quiet, look_made}
@@ -263,7 +268,17 @@ module _ (m : AtomicState) (party : ℕ) (fit : fits m (GoOn party) ≡ true) (k
       among = among_append (m.events ++ event ∷ []) m.finished (call_ended party (seat_at m.seats party).first (length m.events) s)
           (among_on m.events event m.finished k.recorded.among)
           (ended_among m.events event party (seat_at m.seats party).first s (k.began party));
+      ended = asked_append (width_of m) m.values (m.events ++ event ∷ []) m.finished
+          (call_ended party (seat_at m.seats party).first (length m.events) s)
+          (ended_asked_on (width_of m) m.values m.events event m.finished k.recorded.among k.recorded.ended)
+          (call_asked (width_of m) m.values party (seat_at m.seats party).first m.events event s (k.recorded.going party));
+      going = asked_all (width_of m) m.values m.seats m.events event seat within k.began k.recorded.going
+          (subst (λ (es : List Event). IsAskedSoFar (width_of m) m.values party (call_in_hand seat.stage) seat.stage es)
+          (sym (own_more_since party (seat_at m.seats party).first m.events event (k.began party) refl))
+          (asked_next (width_of m) m.values party (own party (drop (seat_at m.seats party).first m.events)) event s refl
+          (k.recorded.going party)));
     };
+    counted = went_counted m party fit k.counted;
     sound = went_sound;
   }
 
@@ -354,6 +369,14 @@ module _ (m : AtomicState) (party : ℕ) (c : Call) (fit : fits m (Begin party c
       )
       here call.Load ok rest put_is = tt
 
+  first_own : own party (drop (length m.events) (m.events ++ begin ∷ [])) ≡ begin ∷ []
+  first_own = ap (own party) (drop-append_seam m.events (begin ∷ [])) ∙ own_more party [] begin refl
+
+  begun_asked : (c : Call) → IsAskedSoFar (width_of m) m.values party (call_in_hand (call_begun c)) (call_begun c)
+      (own party (drop (length m.events) (m.events ++ begin ∷ [])))
+  begun_asked (call.Store number) = record { between = []; whole = first_own; goes = refl }
+  begun_asked call.Load = record { between = []; whole = first_own; goes = refl }
+
   begun_keeps : IsKept (begun m party c)
   begun_keeps = record {
     size = k.size;
@@ -363,7 +386,10 @@ module _ (m : AtomicState) (party : ℕ) (c : Call) (fit : fits m (Begin party c
     recorded = record {
       answered = answered_on (start_words (initial_of m)) m.words m.events begin refl k.recorded.answered;
       among = among_on m.events begin m.finished k.recorded.among;
+      ended = ended_asked_on (width_of m) m.values m.events begin m.finished k.recorded.among k.recorded.ended;
+      going = asked_all (width_of m) m.values m.seats m.events begin begun_seat there k.began k.recorded.going (begun_asked c);
     };
+    counted = begun_counted m party c fit k.counted;
     sound = begun_sound;
   }
 
@@ -392,6 +418,9 @@ all_told m k few =
         → Tells m.values party (seat_at m.seats party).first m.events c
     done party c s is knows =
         (subst (λ (s : AtomicCall). Knows m.values m.words.write m.producer m.events party (seat_at m.seats party).first s) is knows).1
+
+pub moves_once : (m : AtomicState) → IsKept m → MovesOnce m
+moves_once m k = move_each (width_of m) m.values m.events m.finished k.recorded.ended
 
 moved_once : (access : Access) → moved_by access ≤ 1
 moved_once (Load word) = omega arith

@@ -1,14 +1,16 @@
 -- A new single value keeps what every machine keeps.
 use Rattle.std.proofs.Common.{◌≡◌, ℕ, zero, suc, ◌+◌, inl, Bool, true, false, nat_lt, List, [], ◌∷◌, ◌++◌, length, slice_index_or}
-use Rattle.std.proofs.Common.{take, replicate, refl, sym, ◌∙◌, ap, subst, arith, length-append}
+use Rattle.std.proofs.Common.{take, drop, replicate, refl, sym, ◌∙◌, ap, subst, arith, length-append}
 use Rattle.std.specs.Global.{Vec}
 use Rattle.std.proofs.lemmas.Bool.{ltb-true, ltb-false}
 use Rattle.std.proofs.lemmas.List.{get_or-replicate, get_or_append_left, get_or_past, length-replicate}
 use Rattle.iox_index_steps.specs.AtomicSteps.{table_value}
-use Rattle.iox_index_steps.specs.AtomicTold.{current_of}
+use Rattle.iox_index_steps.specs.AtomicTold.{IsAskedSoFar, call_in_hand, current_of}
+use Rattle.iox_queues.specs.Told.{own}
 use Rattle.iox_index_steps.specs.AtomicMachine.{idle_seat, seat_at, start}
 use Rattle.iox_index_steps.specs.AtomicKept.{IsKept, Knows}
 use Rattle.iox_index_steps.specs.declared.atomic.state.Seat.{Seat}
+use Rattle.iox_index_steps.proofs.AtomicOfCalls.{start_counted}
 use Rattle.iox_index_steps.proofs.AtomicSeats.{seat_is}
 
 all_idle : (parties q : ℕ) → seat_at (replicate parties idle_seat) q ≡ idle_seat
@@ -28,7 +30,14 @@ start_kept values parties = record {
   size = length-append (table_value values 0) (table_value values 0 ++ 0 ∷ []) ∙ ap (λ (k : ℕ). length (table_value values 0) + k)
       (length-append (table_value values 0) (0 ∷ []));
   began = λ q. omega (arith, ap (λ (s : Seat). s.first) (all_idle parties q));
-  recorded = record { answered = refl; among = tt };
+  recorded = record {
+    answered = refl;
+    among = tt;
+    ended = tt;
+    going = λ q. subst (λ (s : Seat). IsAskedSoFar (length (table_value values 0)) values q (call_in_hand s.stage) s.stage
+        (own q (drop s.first []))) (sym (all_idle parties q)) tt;
+  };
+  counted = start_counted values parties;
   sound = λ few. record {
     fit = record {
       counter = refl;

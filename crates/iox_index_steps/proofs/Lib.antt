@@ -9,6 +9,7 @@ pub mod Seats
 pub mod Brief
 pub mod Ending
 pub mod Asked
+pub mod OfCalls
 pub mod Runs
 pub mod Starts
 pub mod AtomicSums
@@ -16,5 +17,7 @@ pub mod AtomicWords
 pub mod AtomicKnowing
 pub mod AtomicMade
 pub mod AtomicSeats
+pub mod AtomicAsked
+pub mod AtomicOfCalls
 pub mod AtomicRuns
 pub mod AtomicStarts

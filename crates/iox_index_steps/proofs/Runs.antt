@@ -35,6 +35,7 @@ use Rattle.iox_index_steps.proofs.Ending.{among_append, among_on, each_seat, end
 use Rattle.iox_index_steps.proofs.Ending.{same_holders, told_append, told_on}
 use Rattle.iox_index_steps.proofs.Asked.{asked_all, asked_append, asked_next, call_asked, ended_asked_on}
 use Rattle.iox_index_steps.proofs.Brief.{few_before}
+use Rattle.iox_index_steps.proofs.OfCalls.{begun_counted, went_counted}
 use Rattle.iox_index_steps.specs.declared.machine.Finished.{Finished}
 use Rattle.iox_index_steps.specs.Machine.{IsLockedByRelease}
 use Rattle.iox_index_steps.proofs.Seats.{seat_here, seat_else}
@@ -181,6 +182,7 @@ module _ (m : IndexSetState) (party : ℕ) (fit : fits m (GoOn party) ≡ true) 
         (subst (λ (n : ℕ). HasCells n (call_take stage answer)) (sym size)
         (next_cells (length m.words.cells) answer stage (k.cells party)));
     recorded = went_recorded;
+    counted = went_counted m party fit k.counted;
     sound = went_sound;
   }
 
@@ -265,6 +267,7 @@ module _ (m : IndexSetState) (party : ℕ) (c : Call) (fit : fits m (Begin party
     cells = each_seat (λ (s : Seat). HasCells (length m.words.cells) s.stage) (λ (s : Seat). HasCells (length m.words.cells) s.stage)
         m.seats party begun_seat there k.cells (λ s h. h) (begun_cells c may);
     recorded = begun_recorded;
+    counted = begun_counted m party c fit k.counted;
     sound = begun_sound;
   }
 

@@ -13,6 +13,7 @@ use Rattle.iox_index_steps.specs.Machine.{holder_of, idle_seat, seat_at, start, 
 use Rattle.iox_index_steps.specs.Kept.{HasCells, IsKept, Knows, LeadsThrough, count_taken, one_if_taken, times_among}
 use Rattle.iox_index_steps.specs.Machine.{one_if_holder}
 use Rattle.iox_index_steps.specs.declared.state.Seat.{Seat}
+use Rattle.iox_index_steps.proofs.OfCalls.{start_counted}
 use Rattle.iox_index_steps.proofs.Seats.{seat_is}
 
 -- one number more at the end
@@ -96,6 +97,7 @@ start_kept capacity parties small =
         going = λ q. subst (λ (s : Seat). IsAskedSoFar (length (range_with_len 1 capacity)) q s.stage (own q (drop s.first [])))
             (sym (all_idle parties q)) tt;
       };
+      counted = start_counted capacity parties;
       sound = λ few. record {
         whole = record {
           free = range_with_len 0 capacity;
@@ -113,7 +115,8 @@ start_kept capacity parties small =
             (sym (all_idle parties q)) tt;
         told = tt;
         locked_by = λ locked.
-            let marked : ◌≡◌ {A = Bool} false true = (and_parts (nat_lt (next_free (start_words capacity).read) (length (range_with_len 1 capacity)))
+            let marked : ◌≡◌ {A = Bool} false true
+            = (and_parts (nat_lt (next_free (start_words capacity).read) (length (range_with_len 1 capacity)))
             (borrowed_count (start_words capacity).read == lock_mark) locked).1 in absurd (cc);
       };
     }

@@ -6,7 +6,8 @@ use Rattle.iox_queues.specs.Told.{own}
 use Rattle.iox_queues.specs.declared.bits.machine.Event.{Event}
 use Rattle.iox_index_steps.specs.AtomicSteps.{fills_second, place, table_value}
 use Rattle.iox_index_steps.specs.AtomicTold.{AreTold, Tells, current_of, found_after, times_moved, put_after}
-use Rattle.iox_index_steps.specs.AtomicMachine.{AtomicState, HasFewStores, IsRecorded, IsStored, initial_of, seat_at, stage_at, width_of}
+use Rattle.iox_index_steps.specs.AtomicMachine.{AtomicState, HasFewStores, IsRecorded, IsStored, StepsAreOfCalls, initial_of, seat_at}
+use Rattle.iox_index_steps.specs.AtomicMachine.{stage_at, width_of}
 use Rattle.iox_index_steps.specs.declared.atomic.call.Call.{Call}
 use Rattle.iox_index_steps.specs.declared.atomic.call.Call.TheVariants as call
 use Rattle.iox_index_steps.specs.declared.atomic.call.AtomicCall.{AtomicCall}
@@ -58,4 +59,5 @@ pub record IsKept (m : AtomicState) : Type 0 where
   pub size : length m.words.cells ≡ width_of m + (width_of m + 1)
   pub began : (party : ℕ) → (seat_at m.seats party).first ≤ length m.events
   pub recorded : IsRecorded m
+  pub counted : StepsAreOfCalls m
   pub sound : HasFewStores m → IsConsistent m

@@ -1,6 +1,6 @@
 -- A single value as a machine: its steps, and what every list of them keeps.
 use Rattle.std.specs.Prelude.{ℕ, ◌≡◌, ◌+◌, ◌-◌, ◌^◌, ◌<◌, ◌⊎◌, Bool, true, false, not, ◌&&◌, nat_lt, Option, Some, None, List, [], ◌∷◌}
-use Rattle.std.specs.Prelude.{◌++◌, length, set, slice_get, take, replicate, is_none, ◌==◌}
+use Rattle.std.specs.Prelude.{◌++◌, length, set, slice_get, take, drop, replicate, is_none, ◌==◌, if◌then◌else◌}
 use Rattle.std.specs.Global.{Vec}
 use Rattle.iox_queues_steps.specs.Access.{RingWords, answer_of, after_access}
 use Rattle.iox_queues_steps.specs.declared.access.Access.TheVariants.{Local}
@@ -8,8 +8,11 @@ use Rattle.iox_queues_steps.specs.declared.schedule.Stepped.{Stepped}
 use Rattle.iox_queues_steps.specs.declared.schedule.Stepped.TheVariants as stepped
 use Rattle.iox_queues.specs.declared.bits.machine.Event.{Event}
 use Rattle.iox_queues.specs.Recorded.{Answered}
+use Rattle.iox_queues.specs.Spans.{AddsOne, AreOfCalls, Span}
+use Rattle.iox_queues.specs.Told.{own}
 use Rattle.iox_index_steps.specs.AtomicSteps.{table_value, call_begun, call_next, call_take, call_is_idle, call_is_over}
-use Rattle.iox_index_steps.specs.AtomicTold.{AreTold, LieWithin, Tells, current_of, times_moved}
+use Rattle.iox_index_steps.specs.AtomicTold.{AreAsked, AreTold, IsAskedSoFar, LieWithin, MoveEach, Tells, call_in_hand, current_of}
+use Rattle.iox_index_steps.specs.AtomicTold.{times_moved}
 use Rattle.iox_index_steps.specs.declared.atomic.call.Call.{Call}
 use Rattle.iox_index_steps.specs.declared.atomic.call.Call.TheVariants as call
 use Rattle.iox_index_steps.specs.declared.atomic.call.AtomicCall.{AtomicCall}
@@ -159,10 +162,54 @@ start values parties = record {
 abbrev pub HasFewStores : AtomicState → Type 0
 HasFewStores m = times_moved m.events < 2 ^ 64 - 1
 
--- each step got what its word held, and they left the words as they are; each call that ended lies among them
+-- each step got what its word held, and they left the words as they are; each call that ended lies among them; the steps of each
+-- call, ended or in hand, are those that its value asked for
 pub record IsRecorded (m : AtomicState) : Type 0 where
   pub answered : Answered (start_words (initial_of m)) m.events m.words
   pub among : LieWithin m.events m.finished
+  pub ended : AreAsked (width_of m) m.values m.events m.finished
+  pub going : (party : ℕ) → IsAskedSoFar (width_of m) m.values party (call_in_hand (stage_at m.seats party))
+      (stage_at m.seats party) (own party (drop (seat_at m.seats party).first m.events))
+
+-- each call that ended moved the counter on as often as it is to: a store once, a load never
+abbrev pub MovesOnce : AtomicState → Type 0
+MovesOnce m = MoveEach m.events m.finished
+
+-- the first and the last step of a call that ended
+abbrev pub span_ended : Finished → Span
+span_ended f = record { party = f.party; first = f.first; last = f.last }
+
+-- so of each of these calls
+abbrev pub spans_ended : List Finished → List Span
+spans_ended [] = []
+spans_ended (f ∷ finished) = span_ended f ∷ spans_ended finished
+
+-- the number of the first step of the call that a party is in, if it is in one
+abbrev pub begun_at : Seat → Option ℕ
+begun_at seat = if call_is_idle seat.stage then None else Some seat.first
+
+-- each step is one of one call
+abbrev pub StepsAreOfCalls : AtomicState → Type 0
+StepsAreOfCalls m = AreOfCalls m.events (spans_ended m.finished) (λ (party : ℕ). begun_at (seat_at m.seats party))
+
+-- the party that a step asks
+abbrev pub party_of : Move → ℕ
+party_of (Begin party c) = party
+party_of (GoOn party) = party
+
+-- a begin leaves its party in the call that was asked for
+abbrev pub LeavesBegun : Move → AtomicState → Type 0
+LeavesBegun (Begin party c) n = call_in_hand (stage_at n.seats party) ≡ Some c
+LeavesBegun (GoOn party) n = Unit {0}
+
+-- a step that was made is one event of the party that was asked; the last one of a call is that of one more call that ended
+abbrev pub TellsStep : AtomicState → Move → Stepped → AtomicState → Type 0
+TellsStep m step stepped.Went n =
+    AddsOne m.events n.events (party_of step) × LeavesBegun step n × (length n.finished ≡ length m.finished)
+TellsStep m step stepped.Finished n =
+    AddsOne m.events n.events (party_of step) × LeavesBegun step n × (length n.finished ≡ length m.finished + 1)
+TellsStep m step stepped.Skipped n = n ≡ m
+TellsStep m step stepped.NoMemory n = n ≡ m
 
 -- the call is a store of these words
 abbrev pub IsStoreOf : List (Vec ℕ) → List ℕ → Call → Type 0

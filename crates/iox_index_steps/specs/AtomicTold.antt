@@ -1,12 +1,15 @@
 -- What the steps on a single value make current, and what the answer of a call says of them.
-use Rattle.std.specs.Prelude.{ℕ, ◌≡◌, ◌+◌, ◌<◌, ◌≤◌, List, [], ◌∷◌, ◌++◌, length, take, drop}
+use Rattle.std.specs.Prelude.{ℕ, ◌≡◌, ◌+◌, ◌<◌, ◌≤◌, Option, Some, None, List, [], ◌∷◌, ◌++◌, length, take, drop}
 use Rattle.std.specs.Global.{Vec}
 use Rattle.iox_queues_steps.specs.declared.access.Word.TheVariants.{Write, Read, Cell}
 use Rattle.iox_queues_steps.specs.declared.access.Access.{Access}
 use Rattle.iox_queues_steps.specs.declared.access.Access.TheVariants.{Load, Store, Exchange, Local}
 use Rattle.iox_queues.specs.Told.{own}
 use Rattle.iox_queues.specs.declared.bits.machine.Event.{Event}
-use Rattle.iox_index_steps.specs.AtomicSteps.{table_value}
+use Rattle.iox_queues.specs.Recorded.{IsAskedFrom}
+use Rattle.iox_index_steps.specs.AtomicSteps.{call_begun, call_next, call_take, table_value}
+use Rattle.iox_index_steps.specs.declared.atomic.call.AtomicCall.{AtomicCall}
+use Rattle.iox_index_steps.specs.declared.atomic.call.AtomicCall.TheVariants as stage
 use Rattle.iox_index_steps.specs.declared.atomic.call.Call.{Call}
 use Rattle.iox_index_steps.specs.declared.atomic.call.Call.TheVariants as call
 use Rattle.iox_index_steps.specs.declared.atomic.Finished.{Finished}
@@ -118,3 +121,40 @@ pub record LiesWithin (events : List Event) (f : Finished) : Type 0 where
 abbrev pub LieWithin : List Event → List Finished → Type 0
 LieWithin events [] = Unit {0}
 LieWithin events (f ∷ finished) = LiesWithin events f × LieWithin events finished
+
+-- how often a call moves the counter on: a store once, a load never
+abbrev pub moves_of : Call → ℕ
+moves_of (call.Store number) = 1
+moves_of call.Load = 0
+
+-- the steps of each call that ended moved the counter on as often
+abbrev pub MoveEach : List Event → List Finished → Type 0
+MoveEach events [] = Unit {0}
+MoveEach events (f ∷ finished) =
+    (times_moved (own f.party (drop f.first (take f.last events))) ≡ moves_of f.call) × MoveEach events finished
+
+-- the steps of a call up to a stage, where values have n words: a local one that begins it, and the accesses that its value asked for
+abbrev pub IsAsked : ℕ → List (Vec ℕ) → ℕ → Call → AtomicCall → List Event → Type 0
+IsAsked n values party c stage events =
+    IsAskedFrom AtomicCall (call_next n values) (call_take n) party (call_begun c) stage events
+
+-- the call that a party is in
+abbrev pub call_in_hand : AtomicCall → Option Call
+call_in_hand stage.Idle = None
+call_in_hand (stage.Store number) = Some (call.Store number)
+call_in_hand (stage.Fill number counter next) = Some (call.Store number)
+call_in_hand stage.Load = Some call.Load
+call_in_hand (stage.Gather counter next) = Some call.Load
+call_in_hand (stage.Done c) = Some c
+
+-- the steps of the call in hand, if there is one, up to its stage
+abbrev pub IsAskedSoFar : ℕ → List (Vec ℕ) → ℕ → Option Call → AtomicCall → List Event → Type 0
+IsAskedSoFar n values party None stage events = Unit {0}
+IsAskedSoFar n values party (Some c) stage events = IsAsked n values party c stage events
+
+-- the steps of each call that ended, up to its last one
+abbrev pub AreAsked : ℕ → List (Vec ℕ) → List Event → List Finished → Type 0
+AreAsked n values events [] = Unit {0}
+AreAsked n values events (f ∷ finished) =
+    IsAsked n values f.party f.call (stage.Done f.call) (own f.party (drop f.first (take f.last events)))
+    × AreAsked n values events finished

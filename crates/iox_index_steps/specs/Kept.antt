@@ -8,7 +8,9 @@ use Rattle.iox_queues.specs.declared.bits.machine.Event.{Event}
 use Rattle.iox_index_steps.specs.Steps.{next_free, borrowed_count, lock_mark, is_locked_by}
 use Rattle.iox_index_steps.specs.Changes.{head_changes, times_taken, times_given}
 use Rattle.iox_index_steps.specs.Told.{AreTold, MoveNone, TakesTurns, Tells}
-use Rattle.iox_index_steps.specs.Machine.{IndexSetState, HasFewChanges, IsLockedByRelease, IsRecorded, is_locked, one_if_holder, seat_at, stage_at, holder_of}
+use Rattle.iox_index_steps.specs.Machine.{IndexSetState, HasFewChanges, IsLockedByRelease, IsRecorded, is_locked, one_if_holder, seat_at}
+use Rattle.iox_index_steps.specs.Machine.{stage_at, holder_of}
+use Rattle.iox_index_steps.specs.OfCalls.{StepsAreOfCalls}
 use Rattle.iox_index_steps.specs.declared.call.IndexCall.{IndexCall}
 use Rattle.iox_index_steps.specs.declared.call.IndexCall.TheVariants.{Idle, Acquire, Follow, Take, Release, Link, Give, Done}
 
@@ -104,4 +106,5 @@ pub record IsKept (m : IndexSetState) : Type 0 where
   pub began : (party : ℕ) → (seat_at m.seats party).first ≤ length m.events
   pub cells : (party : ℕ) → HasCells (length m.words.cells) (stage_at m.seats party)
   pub recorded : IsRecorded m
+  pub counted : StepsAreOfCalls m
   pub sound : HasFewChanges m → IsConsistent m

@@ -3,6 +3,7 @@ pub mod Steps
 pub mod Changes
 pub mod Told
 pub mod Machine
+pub mod OfCalls
 pub mod Kept
 pub mod State
 pub mod AtomicSteps

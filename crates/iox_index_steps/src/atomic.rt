@@ -32,7 +32,8 @@ pub struct Finished {
 /// A table has the values that may be stored, each of as many words; value 0 is current at first. Any party may stop anywhere. A
 /// store that is begun while another one is under way is skipped. Where the counter was moved fewer than 2^64 - 1 times, the words
 /// that a load found between its last two looks at the counter are those that were current at the last one, and the current words
-/// are those of the store that moved the counter last, or the first ones.
+/// are those of the store that moved the counter last, or the first ones. Each step is one of one call. A store that ended moved
+/// the counter on once, and a load never.
 #[derive(Debug, Drop)]
 pub struct AtomicMachine {
     state: State,
@@ -52,7 +53,8 @@ impl Model for AtomicMachine {
 }
 
 impl AtomicMachine {
-    ghost use Rattle.iox_index_steps.specs.AtomicMachine.{HasFewStores, IsRecorded, IsTold, StepsTo, RunsTo, start};
+    ghost use Rattle.iox_index_steps.specs.AtomicMachine.{HasFewStores, IsRecorded, IsTold, MovesOnce, StepsAreOfCalls, StepsTo};
+    ghost use Rattle.iox_index_steps.specs.AtomicMachine.{RunsTo, TellsStep, start};
 
     /// The first of these values is current, and this many parties may call; with no value at all it is one of no words.
     pub fn new(
@@ -71,7 +73,10 @@ impl AtomicMachine {
     /// it was where fewer steps were made.
     pub fn step(&mut self, step: Move) -> Stepped
         ensures steps { StepsTo self.old step result self.new }
+        ensures tells { TellsStep self.old step result self.new }
         ensures recorded { IsRecorded self.new }
+        ensures counted { StepsAreOfCalls self.new }
+        ensures moves { MovesOnce self.new }
         ensures told { HasFewStores self.new → IsTold self.new }
         ensures few { length self.new.events < 2 ^ 64 - 1 → HasFewStores self.new }
     {
@@ -83,6 +88,8 @@ impl AtomicMachine {
     pub fn run(&mut self, schedule: &[Move]) -> usize
         ensures runs { RunsTo self.old schedule.now result self.new }
         ensures recorded { IsRecorded self.new }
+        ensures counted { StepsAreOfCalls self.new }
+        ensures moves { MovesOnce self.new }
         ensures told { HasFewStores self.new → IsTold self.new }
         ensures few { length self.new.events < 2 ^ 64 - 1 → HasFewStores self.new }
     {
@@ -103,6 +110,8 @@ impl AtomicMachine {
     // What every machine keeps.
     fn keeps(&self)
         ensures recorded { IsRecorded self.now }
+        ensures counted { StepsAreOfCalls self.now }
+        ensures moves { MovesOnce self.now }
         ensures told { HasFewStores self.now → IsTold self.now }
     {
         let _ = &self.state;
@@ -112,6 +121,8 @@ impl AtomicMachine {
     pub fn events(&self) -> &[Event]
         ensures value { result.now ≡ self.now.events }
         ensures recorded { IsRecorded self.now }
+        ensures counted { StepsAreOfCalls self.now }
+        ensures moves { MovesOnce self.now }
         ensures told { HasFewStores self.now → IsTold self.now }
     {
         self.state.events.as_slice()
@@ -121,6 +132,8 @@ impl AtomicMachine {
     pub fn finished(&self) -> &[Finished]
         ensures value { result.now ≡ self.now.finished }
         ensures recorded { IsRecorded self.now }
+        ensures counted { StepsAreOfCalls self.now }
+        ensures moves { MovesOnce self.now }
         ensures told { HasFewStores self.now → IsTold self.now }
     {
         self.state.finished.as_slice()

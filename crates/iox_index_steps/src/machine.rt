@@ -30,7 +30,7 @@ pub struct Finished {
 /// Any party may stop anywhere. A party may give back only what it holds, and only once: another release is skipped. Where fewer
 /// than 2^16 changes of the head lie inside each acquire, no index has two holders, an index is taken and given back by turns, of
 /// a locked set no index is out, only a release that was to lock it locked it, it stays locked, and each call that ended did what
-/// it answered.
+/// it answered. Each step is one of one call: two local steps bound a call that ended.
 #[derive(Debug, Drop)]
 pub struct IndexSetMachine {
     state: State,
@@ -53,6 +53,7 @@ impl Model for IndexSetMachine {
 impl IndexSetMachine {
     ghost use Rattle.iox_index_steps.specs.Machine.{HasFewChanges, IsOrderly, IsRecorded, StaysLocked, StepsTo, RunsTo, start, stage_at};
     ghost use Rattle.iox_index_steps.specs.Machine.{is_locked};
+    ghost use Rattle.iox_index_steps.specs.OfCalls.{StepsAreOfCalls, TellsStep};
 
     /// A set of this many indices, of which none is held, with this many parties. There are fewer than 2^24 indices, since a head
     /// has no room for more.
@@ -73,7 +74,9 @@ impl IndexSetMachine {
     /// they do where fewer than 2^16 steps were made.
     pub fn step(&mut self, step: Move) -> Stepped
         ensures steps { StepsTo self.old step result self.new }
+        ensures tells { TellsStep self.old step result self.new }
         ensures recorded { IsRecorded self.new }
+        ensures counted { StepsAreOfCalls self.new }
         ensures orderly { HasFewChanges self.new → IsOrderly self.new }
         ensures locked { HasFewChanges self.new → StaysLocked self.old self.new }
         ensures few { HasFewChanges self.new → HasFewChanges self.old }
@@ -88,6 +91,7 @@ impl IndexSetMachine {
     pub fn run(&mut self, schedule: &[Move]) -> usize
         ensures runs { RunsTo self.old schedule.now result self.new }
         ensures recorded { IsRecorded self.new }
+        ensures counted { StepsAreOfCalls self.new }
         ensures orderly { HasFewChanges self.new → IsOrderly self.new }
         ensures locked { HasFewChanges self.new → StaysLocked self.old self.new }
         ensures few { HasFewChanges self.new → HasFewChanges self.old }
@@ -110,6 +114,7 @@ impl IndexSetMachine {
     // What every machine keeps.
     fn keeps(&self)
         ensures recorded { IsRecorded self.now }
+        ensures counted { StepsAreOfCalls self.now }
         ensures orderly { HasFewChanges self.now → IsOrderly self.now }
     {
         let _ = &self.state;
@@ -119,6 +124,7 @@ impl IndexSetMachine {
     pub fn events(&self) -> &[Event]
         ensures value { result.now ≡ self.now.events }
         ensures recorded { IsRecorded self.now }
+        ensures counted { StepsAreOfCalls self.now }
         ensures orderly { HasFewChanges self.now → IsOrderly self.now }
     {
         self.state.events.as_slice()
@@ -128,6 +134,7 @@ impl IndexSetMachine {
     pub fn finished(&self) -> &[Finished]
         ensures value { result.now ≡ self.now.finished }
         ensures recorded { IsRecorded self.now }
+        ensures counted { StepsAreOfCalls self.now }
         ensures orderly { HasFewChanges self.now → IsOrderly self.now }
     {
         self.state.finished.as_slice()

@@ -161,13 +161,13 @@ lane_begins m sent place (call.Send loan) lane found fit l u is h = record {
   stage = λ slot at.
       let same : loan ≡ slot = some_is loan slot (sym (head_sends loan 0 (slice_get (head_of loan lane) 0)) ∙ at) in
       subst (λ (words : List ℕ). IsSent m.table words (head_of loan lane) slot)
-      (sym (last_same (sent slot) (message_of m.table place loan lane) slot same))
-      (subst (IsSent m.table (message_of m.table place loan lane).words (head_of loan lane)) same
+      (sym (last_same (sent slot) (message_of m.table m.moments place loan lane) slot same))
+      (subst (IsSent m.table (message_of m.table m.moments place loan lane).words (head_of loan lane)) same
       (message_sent m.table loan (head_of loan lane) is.head));
   used = λ slot at.
       let not : loan ≡ slot → ⊥ = λ same. used_no_loan m place place lane slot found l u at
       (subst (IsLoanAt m place) same (begun_loan m place loan lane found fit)) in
-      subst (Holds m.table slot) (sym (last_other (sent slot) (message_of m.table place loan lane) slot not)) (h.used slot at);
+      subst (Holds m.table slot) (sym (last_other (sent slot) (message_of m.table m.moments place loan lane) slot not)) (h.used slot at);
 }
 lane_begins m sent place (call.DropLoan loan) lane found fit l u is h = record {
   stage = λ slot at. absurd (cc at);

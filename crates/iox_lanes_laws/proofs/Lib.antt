@@ -18,10 +18,13 @@ pub mod Ends
 pub mod MessagesBooks
 pub mod Stages
 pub mod Words
+pub mod Founds
 pub mod Lanes
 pub mod Sent
 pub mod Whole
 pub mod Records
+pub mod NumberedOrders
+pub mod NumberedRuns
 pub mod PublisherCourses
 pub mod SubscriberCourses
 pub mod Takes

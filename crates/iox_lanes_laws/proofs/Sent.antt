@@ -90,7 +90,7 @@ begun_other m place c None before slot e fit not = refl
 begun_other m place call.LoanUninit (Some lane) before slot e fit not = refl
 begun_other m place (call.Write loan payload user_header) (Some lane) before slot e fit not = refl
 begun_other m place (call.Send loan) (Some lane) before slot e fit not
-    = last_other before (message_of m.table place loan lane) slot
+    = last_other before (message_of m.table m.moments place loan lane) slot
     (λ same. not (subst (IsLoanAt m place) same (begun_loan m place loan lane e fit)))
 begun_other m place (call.DropLoan loan) (Some lane) before slot e fit not = refl
 begun_other m place call.Receive (Some lane) before slot e fit not = refl

@@ -10,7 +10,9 @@ use Rattle.iox_lanes_machine.specs.LanesParties.Parties.{PublisherLaneState}
 use Rattle.iox_lanes_machine.specs.LanesParties.declared.call.Call.{Call}
 use Rattle.iox_lanes_machine.specs.LanesParties.declared.call.Call.TheVariants as call
 use Rattle.iox_lanes_machine.specs.LanesParties.declared.call.Entry.{Entry}
+use Rattle.iox_lanes_machine.specs.LanesParties.declared.call.Move.{Move}
 use Rattle.iox_lanes_machine.specs.LanesParties.declared.call.Move.TheVariants.{Begin, GoOn}
+use Rattle.iox_lanes_machine.specs.LanesParties.declared.call.Party.{Party}
 use Rattle.iox_lanes_machine.specs.LanesParties.declared.call.Party.TheVariants.{Publisher, Subscriber}
 use Rattle.iox_lanes_machine.specs.LedgerUses.{one_if, refers_to}
 use Rattle.iox_lanes_machine.proofs.LanesParties.Rings.{all_at}
@@ -19,10 +21,11 @@ use Rattle.iox_lanes_machine.specs.Held.{slot_held}
 use Rattle.iox_lanes_machine.specs.Kept.{IsKept}
 use Rattle.iox_lanes_machine.specs.Resting.{AllBetween}
 use Rattle.iox_lanes_machine.specs.Slots.{IsLoanAt}
-use Rattle.iox_lanes_machine.specs.World.{World, happens, ends, publisher_fits_at}
+use Rattle.iox_lanes_machine.specs.World.{World, fits, happens, ends, publisher_fits_at}
 use Rattle.iox_lanes_machine.proofs.Held.{reads_whole}
 use Rattle.iox_lanes_machine.proofs.Paces.{came_kept}
 use Rattle.iox_lanes_machine.proofs.Steps.{happens_moments}
+use Rattle.iox_lanes_machine.proofs.Connected.{sends_connected}
 use Rattle.iox_lanes_machine.proofs.SubscriberUses.{recorded}
 use Rattle.iox_lanes_machine.proofs.Told.{steps_told}
 use Rattle.iox_lanes_machine.proofs.Whole.{step_made, happens_keeps}
@@ -55,14 +58,14 @@ at_first m between = λ place lane found. record {
   used = λ slot at. holds_held m.table slot;
 }
 
-up : (n : ℕ) → n < 2 ^ 63 → n ≤ successor n
+pub up : (n : ℕ) → n < 2 ^ 63 → n ≤ successor n
 up n h = omega arith
 
-few_before : (n k : ℕ) → successor n ≤ k → k ≤ 2 ^ 63 → n < 2 ^ 63
+pub few_before : (n k : ℕ) → successor n ≤ k → k ≤ 2 ^ 63 → n < 2 ^ 63
 few_before n k h g = omega arith
 
 -- of the steps that are left, how many were made
-grows : (m : World) (entries : List Entry) (messages : List MessageState) (n : World) → SendsThrough m entries messages n
+pub grows : (m : World) (entries : List Entry) (messages : List MessageState) (n : World) → SendsThrough m entries messages n
     → n.moments ≤ 2 ^ 63 → m.moments ≤ n.moments
 grows m [] messages n h few = subst (λ (x : World). m.moments ≤ x.moments) (sym h.1) (omega arith)
 grows m (entry ∷ entries) messages n (inl h) few = grows m entries messages n h.1 few
@@ -113,7 +116,7 @@ record UsedBy (m : World) (slot : ℕ) : Type 0 where
 
 connection_used : (m : World) (slot : ℕ) → IsKept m → m.moments ≤ 2 ^ 63 → IsAtConnection m slot → UsedBy m slot
 connection_used m slot k few at =
-    let r = recorded m at.connection at.link at.order at.found at.got (k.sends few) (k.uses few) slot in
+    let r = recorded m at.connection at.link at.order at.found at.got (sends_connected m (k.sends few)) (k.uses few) slot in
     record {
       place = (at.link).publisher;
       lane = r.lane;
@@ -149,18 +152,23 @@ begun_is m place c None message e fit h = absurd (cc h)
 begun_is m place call.LoanUninit (Some lane) message e fit h = absurd (cc h)
 begun_is m place (call.Write loan payload user_header) (Some lane) message e fit h = absurd (cc h)
 begun_is m place (call.Send loan) (Some lane) message e fit h =
-    let same : message_of m.table place loan lane ≡ message = cc h in
+    let same : message_of m.table m.moments place loan lane ≡ message = cc h in
     subst (λ (x : MessageState). IsLoanAt m place x.slot) same (begun_loan m place loan lane e fit)
 begun_is m place (call.DropLoan loan) (Some lane) message e fit h = absurd (cc h)
 begun_is m place call.Receive (Some lane) message e fit h = absurd (cc h)
 begun_is m place (call.Read sample) (Some lane) message e fit h = absurd (cc h)
 begun_is m place (call.Release sample) (Some lane) message e fit h = absurd (cc h)
 
-pub used_slots_send_nothing : UsedSlotsSendNothing
-used_slots_send_nothing m came few slot used (Publisher place) (Begin c) message fit h same =
-    let k = (came_kept m came).0 in
+pub kept_sends_nothing : (m : World) → IsKept m → m.moments ≤ 2 ^ 63 → (slot : ℕ) → IsRemembered m slot ⊎ IsAtConnection m slot
+    → (party : Party) (step : Move) (message : MessageState) → fits m party step ≡ true → begun_messages m party step ≡ message ∷ []
+    → message.slot ≡ slot → ⊥
+kept_sends_nothing m k few slot used (Publisher place) (Begin c) message fit h same =
     let u = slot_used m slot k few used in
     used_no_loan m u.place place u.lane slot u.found k.loans (k.uses few) u.used
     (subst (IsLoanAt m place) same (begun_is m place c (slice_get m.publishers place) message refl fit h))
-used_slots_send_nothing m came few slot used (Publisher place) GoOn message fit h same = absurd (cc h)
-used_slots_send_nothing m came few slot used (Subscriber place) step message fit h same = absurd (cc h)
+kept_sends_nothing m k few slot used (Publisher place) GoOn message fit h same = absurd (cc h)
+kept_sends_nothing m k few slot used (Subscriber place) step message fit h same = absurd (cc h)
+
+pub used_slots_send_nothing : UsedSlotsSendNothing
+used_slots_send_nothing m came few slot used party step message fit h same
+    = kept_sends_nothing m (came_kept m came).0 few slot used party step message fit h same

@@ -8,6 +8,7 @@ pub mod Turns
 pub mod Publishing
 pub mod Subscribing
 pub mod Messages
+pub mod Numbered
 pub mod WholeMessages
 pub mod Recorded
 pub mod Accesses

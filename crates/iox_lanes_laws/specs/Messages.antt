@@ -13,26 +13,30 @@ use Rattle.iox_lanes_machine.specs.LanesParties.declared.call.Party.TheVariants.
 use Rattle.iox_lanes_machine.specs.Made.{listed}
 use Rattle.iox_lanes_machine.specs.World.{World}
 
--- a message: who sends it, its slot, and the words of its header, its user header and its payload, as they are when its send begins
+-- a message: who sends it, its slot, the moment at which its send begins, and the words of its header, its user header and its payload,
+-- as they are then
 pub record MessageState : Type 0 where
   pub publisher : ℕ
   pub slot : ℕ
+  pub moment : ℕ
   pub words : List ℕ
 
 -- the words of the payload that a slot holds
 abbrev pub payload_held : TableWords → ℕ → List ℕ
 payload_held table slot = listed (λ word. held_by table (Slot slot (Payload word))) table.sizes.payload_words
 
--- the message that a loan is when its send begins: the header and the user header that are kept for it, and the payload that its slot holds
-abbrev pub message_of : TableWords → ℕ → ℕ → PublisherLaneState → MessageState
-message_of table publisher loan lane = record { publisher = publisher; slot = loan; words = head_of loan lane ++ payload_held table loan }
+-- the message that a loan is when its send begins, at a moment: the header and the user header that are kept for it, and the payload that
+-- its slot holds
+abbrev pub message_of : TableWords → ℕ → ℕ → ℕ → PublisherLaneState → MessageState
+message_of table moment publisher loan lane
+    = record { publisher = publisher; slot = loan; moment = moment; words = head_of loan lane ++ payload_held table loan }
 
 -- what a publisher begins to send by a call: one message if the call is a send, else none
 abbrev pub sent_by : World → ℕ → Call → Option PublisherLaneState → List MessageState
 sent_by m publisher c None = []
 sent_by m publisher call.LoanUninit (Some lane) = []
 sent_by m publisher (call.Write loan payload user_header) (Some lane) = []
-sent_by m publisher (call.Send loan) (Some lane) = message_of m.table publisher loan lane ∷ []
+sent_by m publisher (call.Send loan) (Some lane) = message_of m.table m.moments publisher loan lane ∷ []
 sent_by m publisher (call.DropLoan loan) (Some lane) = []
 sent_by m publisher call.Receive (Some lane) = []
 sent_by m publisher (call.Read sample) (Some lane) = []

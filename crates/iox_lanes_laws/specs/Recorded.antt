@@ -1,5 +1,9 @@
 -- Lanes with the messages that were sent on them.
-use Rattle.std.specs.Prelude.{ℕ, ◌≡◌, ◌+◌, ◌<◌, ◌≤◌, ◌^◌, ◌⊎◌, true, false, List, [], ◌∷◌, ◌++◌, length}
+use Rattle.std.specs.Prelude.{ℕ, ◌≡◌, ◌+◌, ◌<◌, ◌≤◌, ◌^◌, ◌⊎◌, true, false, List, [], ◌∷◌, ◌++◌, length, map, slice_get, Some}
+use Rattle.std.specs.List.{All}
+use Rattle.iox_lanes_machine.specs.QueuesSteps.Ends.{overflows}
+use Rattle.iox_lanes_machine.specs.QueuesSteps.Order.{Acts}
+use Rattle.iox_lanes_machine.specs.QueuesSteps.declared.order.Placed.{Placed}
 use Rattle.iox_lanes_machine.specs.QueuesSteps.declared.schedule.Stepped.{Stepped}
 use Rattle.iox_lanes_machine.specs.QueuesSteps.declared.schedule.Stepped.TheVariants as stepped
 use Rattle.iox_lanes_machine.specs.LanesParties.declared.call.CallName.TheVariants as name
@@ -8,10 +12,12 @@ use Rattle.iox_lanes_machine.specs.LanesParties.declared.call.FinishedCall.{Fini
 use Rattle.iox_lanes_machine.specs.LanesParties.declared.call.Move.{Move}
 use Rattle.iox_lanes_machine.specs.LanesParties.declared.call.Party.{Party}
 use Rattle.iox_lanes_machine.specs.Held.{slot_held}
+use Rattle.iox_lanes_machine.specs.Links.{LinkState}
 use Rattle.iox_lanes_machine.specs.Resting.{AllBetween}
 use Rattle.iox_lanes_machine.specs.WholeReads.{CameTo}
 use Rattle.iox_lanes_machine.specs.World.{World, Records, StepsTo, fits, happens}
 use Rattle.iox_lanes_laws.specs.Messages.{MessageState, begun_messages, last_in}
+use Rattle.iox_lanes_laws.specs.Numbered.{last_number, number_by, numbered}
 
 -- lanes, and the messages whose sends began on them, in their order
 pub record RecordState : Type 0 where
@@ -46,12 +52,39 @@ RecordsRun r (entry ∷ entries) made n =
     × ((fewer : ℕ) × (made ≡ fewer + 1) × RecordsRun (recorded_after r entry.party entry.step) entries fewer n))
     ⊎ ((fits r.lanes entry.party entry.step ≡ true) × RecordsAt r entry.party entry.step × RecordsRun r entries made n))
 
--- Whatever is run from where nobody is inside a call and no message is kept: a read that ends behind it gives just the words of
--- the last message that is kept for its slot; of a slot for which none is, those that it held at first. So it is as long as at
--- most 2^63 steps were made.
+-- these messages have the words that their slots hold; so have those that are found, and none at all
+abbrev pub AreAsHeld : World → List MessageState → Type 0
+AreAsHeld m messages = All (λ message. message.words ≡ slot_held m.table message.slot) messages
+
+-- and were sent or found by now
+abbrev pub AreEarly : World → List MessageState → Type 0
+AreEarly m messages = All (λ message. message.moment ≤ m.moments) messages
+
+-- Whatever is run from where nobody is inside a call and the messages that are kept are as their slots hold them: a read that ends behind
+-- it gives just the words of the last message that is kept for its slot; of a slot for which none is, those that it held at first. So it
+-- is as long as at most 2^63 steps were made.
 abbrev pub ReadsGiveWhatIsKept : Type 0
 ReadsGiveWhatIsKept = (r : RecordState) (entries : List Entry) (made : ℕ) (n : RecordState) → CameTo r.lanes → AllBetween r.lanes
-    → r.messages ≡ [] → RecordsRun r entries made n → n.lanes.moments ≤ 2 ^ 63
+    → AreAsHeld r.lanes r.messages → RecordsRun r entries made n → n.lanes.moments ≤ 2 ^ 63
     → (party : Party) (step : Move) (answer : Stepped) (after : RecordState) → RecordsTo n party step answer after
     → (call : FinishedCall) (slot : ℕ) → after.lanes.finished ≡ n.lanes.finished ++ call ∷ [] → call.call ≡ name.Read slot
     → after.lanes.read ≡ n.lanes.read ++ last_in (slot_held r.lanes.table slot) n.messages slot
+
+-- And where one is kept, that is the message of a number: of the last one that was sent in the slot of the read by its end.
+abbrev pub ReadsGiveMessages : Type 0
+ReadsGiveMessages = (r : RecordState) (entries : List Entry) (made : ℕ) (n : RecordState) → CameTo r.lanes → AllBetween r.lanes
+    → AreAsHeld r.lanes r.messages → AreEarly r.lanes r.messages → RecordsRun r entries made n → n.lanes.moments ≤ 2 ^ 63
+    → (party : Party) (step : Move) (answer : Stepped) (after : RecordState) → RecordsTo n party step answer after
+    → (call : FinishedCall) (slot : ℕ) → after.lanes.finished ≡ n.lanes.finished ++ call ∷ [] → call.call ≡ name.Read slot
+    → (number : ℕ) (message : MessageState) → last_number n.messages slot n.lanes.moments (length n.messages) ≡ Some number
+    → slice_get n.messages number ≡ Some message → after.lanes.read ≡ n.lanes.read ++ message.words
+
+-- Whatever is run from before the first step on: the order of each connection answers as a mailbox does with the numbers of its messages in
+-- place of their slots; at first the numbers of what was found wait there. So a take gives the number of the oldest message that waits,
+-- under which it was put, and no other. So it is as long as at most 2^63 steps were made.
+abbrev pub OrdersFollowNumbers : Type 0
+OrdersFollowNumbers = (r : RecordState) (entries : List Entry) (made : ℕ) (n : RecordState) → CameTo r.lanes → r.lanes.moments ≡ 0
+    → AreEarly r.lanes r.messages → RecordsRun r entries made n → n.lanes.moments ≤ 2 ^ 63
+    → (connection : ℕ) (link : LinkState) (order : List Placed) → slice_get n.lanes.links connection ≡ Some link
+    → slice_get n.lanes.orders connection ≡ Some order
+    → Acts (overflows link.kind) link.limit (map (number_by r.messages 0) link.found) (numbered n.messages order)

@@ -19,7 +19,7 @@
 pub mod message;
 pub mod recorded;
 
-ghost use Rattle.iox_lanes_laws.specs.Recorded.{ReadsGiveWhatIsKept};
+ghost use Rattle.iox_lanes_laws.specs.Recorded.{OrdersFollowNumbers, ReadsGiveMessages, ReadsGiveWhatIsKept};
 ghost use Rattle.iox_lanes_laws.specs.WholeMessages.{ReadsGiveWhatWasSent, UsedSlotsSendNothing};
 
 pub use message::Message;
@@ -40,8 +40,21 @@ pub fn used_slots_send_nothing()
 {}
 
 /// A read that ends on lanes which keep messages gives just the words of the last message that is kept for its slot, whatever was
-/// run since none was kept and nobody was inside a call; of a slot for which none is, those that it held then. So it is as long
-/// as at most 2^63 steps were made.
+/// run since nobody was inside a call and the messages that were kept were as their slots held them; of a slot for which none is, those
+/// that it held then. So it is as long as at most 2^63 steps were made.
 pub fn reads_give_what_is_kept()
     ensures { ReadsGiveWhatIsKept }
+{}
+
+/// That message has a number, and is the one that the lanes give by it: a read gives just the words of the message whose number its slot
+/// has as it ends. So it is where the first messages were found, and sent or found by then, and as long as at most 2^63 steps were made.
+pub fn reads_give_messages()
+    ensures { ReadsGiveMessages }
+{}
+
+/// From before the first step on, whatever is run: the order of each connection answers as a mailbox does with the numbers of its messages
+/// in place of their slots. So a take gives the message of the oldest number that waits, under which it was put. So it is where the first
+/// messages were found by then, and as long as at most 2^63 steps were made.
+pub fn orders_follow_numbers()
+    ensures { OrdersFollowNumbers }
 {}

@@ -1,5 +1,5 @@
 -- A loan has no other use.
-use Rattle.std.proofs.Common.{ℕ, ◌≡◌, ◌+◌, ◌<◌, ◌≤◌, ◌^◌, ◌⊎◌, Bool, true, false, List, length, slice_get, Some, refl, sym, ◌∙◌, ap}
+use Rattle.std.proofs.Common.{ℕ, ◌≡◌, ◌+◌, ◌<◌, ◌≤◌, ◌⊎◌, Bool, true, false, List, length, slice_get, Some, refl, sym, ◌∙◌, ap}
 use Rattle.std.proofs.Common.{subst, inl, inr, arith}
 use Rattle.std.proofs.lemmas.Bool.{cases_lt}
 use Rattle.std.proofs.lemmas.Option.{slice_get_within}
@@ -13,10 +13,11 @@ use Rattle.iox_lanes_machine.proofs.Changes.{loan_lacks}
 use Rattle.iox_lanes_machine.proofs.Entries.{entry_own, refers_own}
 use Rattle.iox_lanes_machine.specs.Alone.{InNoHistory, AtNoConnection, LoansStandAlone, IsRemembered, IsAtConnection, UsedSlotsStay}
 use Rattle.iox_lanes_machine.specs.Kept.{IsKept}
-use Rattle.iox_lanes_machine.specs.Sends.{AllSendsPut}
+use Rattle.iox_lanes_machine.specs.Sends.{AreConnected}
 use Rattle.iox_lanes_machine.specs.Slots.{IsLoanAt, IsLoanOf, SlotsStay, LoansStand}
 use Rattle.iox_lanes_machine.specs.Uses.{PublisherUses, UsesKept}
 use Rattle.iox_lanes_machine.specs.World.{World}
+use Rattle.iox_lanes_machine.proofs.Connected.{sends_connected}
 use Rattle.iox_lanes_machine.specs.Links.{LinkState}
 use Rattle.iox_lanes_machine.proofs.Ends.{some_is}
 use Rattle.iox_lanes_machine.proofs.SubscriberUses.{Standing, recorded}
@@ -73,7 +74,7 @@ is_none : (b : Bool) → one_if b ≡ 0 → b ≡ false
 is_none true h = absurd (omega (arith, h))
 is_none false h = refl
 
-stands_not : (m : World) (place slot : ℕ) (loan : IsLoanAt m place slot) → AllSendsPut m → LoansStand m → UsesKept m
+stands_not : (m : World) (place slot : ℕ) (loan : IsLoanAt m place slot) → AreConnected m → LoansStand m → UsesKept m
     → (connection : ℕ) (link : LinkState) (order : List Placed) → slice_get m.links connection ≡ Some link
     → slice_get m.orders connection ≡ Some order → Standing m connection link order slot ≡ 0
 stands_not m place slot loan s l u connection link order found got =
@@ -81,7 +82,7 @@ stands_not m place slot loan s l u connection link order found got =
     r.is ∙ ap one_if (refers_not m place slot connection link loan r.lane r.place l u r.found
     (slice_get_within (r.lane).port.routes r.place r.route r.at) (refers_to (r.lane).port.book r.place slot) refl)
 
-at_no_connection : (m : World) (place slot : ℕ) (loan : IsLoanAt m place slot) → AllSendsPut m → LoansStand m → UsesKept m
+at_no_connection : (m : World) (place slot : ℕ) (loan : IsLoanAt m place slot) → AreConnected m → LoansStand m → UsesKept m
     → AtNoConnection m slot
 at_no_connection m place slot loan s l u = λ connection link order found got.
     let none = stands_not m place slot loan s l u connection link order found got in
@@ -93,24 +94,30 @@ at_no_connection m place slot loan s l u = λ connection link order found got.
     }
 
 pub loans_alone : (m : World) → IsKept m → LoansStandAlone m
-loans_alone m k = λ few place slot loan.
-    (in_no_history m place slot loan k.loans (k.uses few), at_no_connection m place slot loan (k.sends few) k.loans (k.uses few))
+loans_alone m k = λ few place slot loan. (
+  in_no_history m place slot loan k.loans (k.uses few),
+  at_no_connection m place slot loan (sends_connected m (k.sends few)) k.loans
+      (k.uses few),
+)
 
 -- so a slot with a use is no loan
-not_used : (m : World) (place slot : ℕ) → IsLoanAt m place slot → m.moments ≤ 2 ^ 63 → IsKept m → IsRemembered m slot
+pub not_used : (m : World) (place slot : ℕ) → IsLoanAt m place slot → AreConnected m → LoansStand m → UsesKept m → IsRemembered m slot
     ⊎ IsAtConnection m slot → ⊥
-not_used m place slot loan few k (inl history) =
-    let none = in_no_history m place slot loan k.loans (k.uses few) history.place history.lane history.found in
+not_used m place slot loan s l u (inl history) =
+    let none = in_no_history m place slot loan l u history.place history.lane history.found in
     absurd (omega (arith, none, history.has))
-not_used m place slot loan few k (inr there) =
-    let none = stands_not m place slot loan (k.sends few) k.loans (k.uses few) there.connection there.link there.order there.found
-    there.got in
+not_used m place slot loan s l u (inr there) =
+    let none = stands_not m place slot loan s l u there.connection there.link there.order there.found there.got in
     absurd (omega (arith, none, there.has))
 
-no_loan : (m : World) (party : Party) (slot : ℕ) → m.moments ≤ 2 ^ 63 → IsKept m → IsRemembered m slot ⊎ IsAtConnection m slot
+no_loan : (m : World) (party : Party) (slot : ℕ) → AreConnected m → LoansStand m → UsesKept m → IsRemembered m slot ⊎ IsAtConnection m slot
     → IsLoanOf m party slot → ⊥
-no_loan m (Publisher place) slot few k used loan = not_used m place slot loan few k used
-no_loan m (Subscriber place) slot few k used loan = loan
+no_loan m (Publisher place) slot s l u used loan = not_used m place slot loan s l u used
+no_loan m (Subscriber place) slot s l u used loan = loan
+
+pub uses_stay : (m : World) (party : Party) (n : World) → AreConnected m → LoansStand m → UsesKept m → SlotsStay m party n
+    → UsedSlotsStay m n
+uses_stay m party n s l u stay = λ few slot word there used. stay slot word there (λ loan. no_loan m party slot s l u used loan)
 
 pub used_stay : (m : World) (party : Party) (n : World) → IsKept m → SlotsStay m party n → UsedSlotsStay m n
-used_stay m party n k stay = λ few slot word there used. stay slot word there (λ loan. no_loan m party slot few k used loan)
+used_stay m party n k stay = λ few. uses_stay m party n (sends_connected m (k.sends few)) k.loans (k.uses few) stay few

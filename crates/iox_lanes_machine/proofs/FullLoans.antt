@@ -57,6 +57,7 @@ use Rattle.iox_lanes_machine.specs.Uses.{aside_at, given_back}
 use Rattle.iox_lanes_machine.specs.World.{World, fits, happens, placed, publisher_stage, subscriber_stage, publisher_given}
 use Rattle.iox_lanes_machine.specs.World.{publisher_begins, publisher_goes_on, publisher_fits_at, subscriber_begins, subscriber_goes_on}
 use Rattle.iox_lanes_machine.specs.World.{subscriber_fits_at, pops_from, pop_acts, added}
+use Rattle.iox_lanes_machine.proofs.Connected.{sends_connected}
 use Rattle.iox_lanes_machine.specs.Links.{LinkState}
 use Rattle.iox_lanes_machine.proofs.Ends.{some_is}
 use Rattle.iox_lanes_machine.specs.LanesBase.declared.words.word.ConnectionRing.TheVariants.{Completion}
@@ -141,7 +142,8 @@ other_subscriber : (m : World) (own connection slot : ℕ) (link : LinkState) (a
 other_subscriber m own connection slot link None e fit k bound found = absurd (cc)
 other_subscriber m own connection slot link (Some lane) e fit k bound found =
     let few : m.moments ≤ 2 ^ 63 = omega (arith, bound) in
-    let setting = subscribers.setting_of m own lane e bound k.within (k.rings few) k.returns (k.returns.rings few) (k.sends few) k.loans
+    let setting = subscribers.setting_of m own lane e bound k.within (k.rings few) k.returns (k.returns.rings few)
+    (sends_connected m (k.sends few)) k.loans
     (k.uses few) in
     elim (eqb_tells link.subscriber own) [
       | inl same ↦ subscriber_back m own connection slot link lane lane.port.call setting found same.1
@@ -478,7 +480,7 @@ spared_on place first slot m party step fit bound p =
             let is : publisher_after (publisher_given m.table went.0) went.0 ≡ lane = some_is _ lane (sym went.3 ∙ found) in
             let was = p.spare went.0 went.1 (ap (λ (x : PublisherLaneState). x.first) is ∙ since) went.2 in
             let setting = publishers.setting_of m place went.0 went.1 bound p.kept.within (p.kept.rings few) p.kept.returns
-            (p.kept.returns.rings few) (p.kept.sends few) in
+            (p.kept.returns.rings few) (sends_connected m (p.kept.sends few)) in
             let uses = (p.kept.uses few).publishers place went.0 went.1 in
             let fit' = publishers.change_fits m place went.0.port.routes (words_of went.0.port) went.0.port.book went.0.port.call
             setting (p.kept.loans.stages place went.0 went.1) uses.lacking uses.balanced in

@@ -85,7 +85,7 @@ route_there (x ∷ xs) i None e below = absurd (cc (sym (slice_get-get_or (x ∷
 route_there xs i (Some route) e below = (route, e)
 
 -- a sample that is borrowed stands at a connection
-borrowed_there : (m : World) (who : ℕ) (lane : SubscriberLaneState) → slice_get m.subscribers who ≡ Some lane → IsWithin m
+pub borrowed_there : (m : World) (who : ℕ) (lane : SubscriberLaneState) → slice_get m.subscribers who ≡ Some lane → IsWithin m
     → SubscriberUses m lane → (slot : ℕ) (at : Option ℕ) → get_or lane.port.samples slot None ≡ at → is_borrowed at ≡ true
     → IsAtConnection m slot
 borrowed_there m who lane found w u slot None e h = absurd (cc h)

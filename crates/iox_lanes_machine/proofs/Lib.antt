@@ -74,3 +74,5 @@ pub mod LedgerFindings
 pub use Rattle.iox_lanes_parties.proofs as LanesParties
 pub use Rattle.iox_lanes_parties.proofs.LanesBase as LanesBase
 pub use Rattle.iox_lanes_parties.proofs.QueuesSteps as QueuesSteps
+pub mod Connected
+pub mod Together

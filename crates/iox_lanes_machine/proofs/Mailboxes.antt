@@ -32,9 +32,9 @@ order_follows m connection k = λ few link found.
     ((k.rings few) connection link (get_or m.orders connection []) found (order_there m connection link k found)).mailbox
 
 -- the positions by the stage of the push
-record Near (limit more : ℕ) (words : RingWords) : Type 0 where
-  behind : words.read ≤ words.write
-  near : words.write ≤ words.read + limit + more
+pub record Near (limit more : ℕ) (words : RingWords) : Type 0 where
+  pub behind : words.read ≤ words.write
+  pub near : words.write ≤ words.read + limit + more
 
 late_near : (limit : ℕ) (words : RingWords) (q : List ℕ) (value seen : ℕ) → length q ≤ limit
     → overflowing_ring.IsLate limit words q value seen → Near limit 1 words
@@ -58,7 +58,7 @@ push_near limit words q (overflowing_push.Full value seen next) room h = late_ne
 push_near limit words q (overflowing_push.SawOldest value seen next oldest) room h = late_near limit words q value seen room h.0
 push_near limit words q (overflowing_push.Pushed value answer) room h = level_near limit words q room h
 
-shape_near : (k : RingKind) (limit : ℕ) (words : RingWords) (q : List ℕ) (p : Push) (c : Pop) → Shape k limit words q p c
+pub shape_near : (k : RingKind) (limit : ℕ) (words : RingWords) (q : List ℕ) (p : Push) (c : Pop) → Shape k limit words q p c
     → Near limit (if overflows k then 1 else 0) words
 shape_near kind.Overflowing limit words q (push.Overflowing p) (pop.Overflowing c) s = push_near limit words q p s.room s.push_knows
 shape_near kind.Overflowing limit words q (push.Overflowing p) (pop.Refusing c) s = absurd s

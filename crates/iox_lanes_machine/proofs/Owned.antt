@@ -12,6 +12,7 @@ use Rattle.iox_lanes_machine.specs.Owned.{IsSlotOf, MailIsOwn, HistoriesAreOwn}
 use Rattle.iox_lanes_machine.specs.Rings.{waiting}
 use Rattle.iox_lanes_machine.specs.Uses.{PublisherUses, UsesKept}
 use Rattle.iox_lanes_machine.specs.World.{World}
+use Rattle.iox_lanes_machine.proofs.Connected.{sends_connected}
 use Rattle.iox_lanes_machine.proofs.Ends.{some_is}
 use Rattle.iox_lanes_machine.proofs.Mailboxes.{order_there}
 use Rattle.iox_lanes_machine.proofs.RestingRings.{mail_is}
@@ -33,7 +34,7 @@ waiting_own : (m : World) (connection : ℕ) (link : LinkState) (order : List Pl
     → slice_get m.links connection ≡ Some link → slice_get m.orders connection ≡ Some order
     → (slot : ℕ) → 0 < count slot (waiting link order) → IsSlotOf m link.publisher slot
 waiting_own m connection link order k few found got slot waits =
-    let own = of_publisher m connection link order found got (k.sends few) (k.uses few) slot (omega (arith, waits)) in
+    let own = of_publisher m connection link order found got (sends_connected m (k.sends few)) (k.uses few) slot (omega (arith, waits)) in
     record { lane = own.lane; found = own.found; above = own.above; below = own.below }
 
 pub mail_is_own : (m : World) (connection : ℕ) → IsKept m → MailIsOwn m connection

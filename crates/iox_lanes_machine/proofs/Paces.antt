@@ -36,6 +36,7 @@ use Rattle.iox_lanes_machine.specs.Sends.{is_sender}
 use Rattle.iox_lanes_machine.specs.WholeReads.{CameTo}
 use Rattle.iox_lanes_machine.specs.World.{World, fits, happens, placed, publisher_fits_at, publisher_given, publisher_begins}
 use Rattle.iox_lanes_machine.specs.World.{publisher_goes_on, subscriber_begins, subscriber_goes_on, RunsTo}
+use Rattle.iox_lanes_machine.proofs.Connected.{sends_connected}
 use Rattle.iox_lanes_machine.specs.declared.sizes.LaneSizes.{LaneSizes}
 use Rattle.iox_lanes_machine.specs.Findings.{AreFound, with_found}
 use Rattle.iox_lanes_machine.specs.declared.found.Found.{Found}
@@ -202,7 +203,8 @@ own_falls : (m : World) (place : ℕ) (lane : PublisherLaneState) (words : ℕ) 
     < steps_left m.table.sizes.completion_cells (length lane.port.routes) words lane.port.book lane.port.call
 own_falls m place lane words e busy bound k stores =
     let few : m.moments ≤ 2 ^ 63 = omega (arith, bound) in
-    let setting = publishers.setting_of m place lane e bound k.within (k.rings few) k.returns (k.returns.rings few) (k.sends few) in
+    let setting = publishers.setting_of m place lane e bound k.within (k.rings few) k.returns (k.returns.rings few)
+    (sends_connected m (k.sends few)) in
     let uses = (k.uses few).publishers place lane e in
     let is : IsPublisher m.table.sizes lane = all_at (IsPublisher m.table.sizes) m.publishers place lane e (k.within).publishers in
     let fit = publishers.change_fits m place lane.port.routes (words_of lane.port) lane.port.book lane.port.call setting

@@ -36,7 +36,7 @@ use Rattle.iox_lanes_machine.proofs.Changes.{else_refers, refers_there, refers_e
 use Rattle.iox_lanes_machine.proofs.Sending.{IsThere, take_lacking, push_known, back_known, loan_lacks_none, write_lacking, head_lacking}
 use Rattle.iox_lanes_machine.specs.Rings.{sent_word, push_on}
 use Rattle.iox_lanes_machine.specs.Returns.{ReturnsKept, AreReturning}
-use Rattle.iox_lanes_machine.specs.Sends.{AllSendsPut}
+use Rattle.iox_lanes_machine.specs.Sends.{AreConnected}
 use Rattle.iox_lanes_machine.specs.Slots.{StandsAtLoan, LoansStand}
 use Rattle.iox_lanes_machine.specs.World.{World, publisher_stage, pushes_to, push_acts, added, publisher_given, publisher_begins}
 use Rattle.iox_lanes_machine.specs.World.{publisher_goes_on, publisher_fits_at}
@@ -175,7 +175,7 @@ follows connections place book c before after (inr (inr away, same)) fits k was 
 
 -- the setting of a publisher
 pub setting_of : (m : World) (place : ℕ) (lane : PublisherLaneState) → slice_get m.publishers place ≡ Some lane → m.moments < 2 ^ 63
-    → IsWithin m → AreKept m → ReturnsKept m → AreReturning m → AllSendsPut m
+    → IsWithin m → AreKept m → ReturnsKept m → AreReturning m → AreConnected m
     → Setting m place lane.port.routes (words_of lane.port) lane.port.call
 setting_of m place lane e bound w k r b s =
     let is : IsPublisher m.table.sizes lane = all_at (IsPublisher m.table.sizes) m.publishers place lane e w.publishers in
@@ -189,7 +189,7 @@ setting_of m place lane e bound w k r b s =
       links = w.senders place lane e;
       call_is = is.call;
       access = (publishers_stay_within m.table.sizes lane is).2;
-      once = (s place lane e).connections.once;
+      once = (s place lane e).once;
       stage = ap publisher_stage e;
     }
 
@@ -264,7 +264,7 @@ same_subscriber m n lane e u = record
     { all = u.all ∙ ap (λ (sizes : TableSizes). sizes.slots) (sym e); borrowed = u.borrowed; placed = u.placed }
 
 pub gone_publisher : (m : World) (place : ℕ) (at : Option PublisherLaneState) → slice_get m.publishers place ≡ at
-    → publisher_fits_at at GoOn ≡ true → m.moments < 2 ^ 63 → IsWithin m → AreKept m → ReturnsKept m → AreReturning m → AllSendsPut m
+    → publisher_fits_at at GoOn ≡ true → m.moments < 2 ^ 63 → IsWithin m → AreKept m → ReturnsKept m → AreReturning m → AreConnected m
     → LoansStand m → UsesKept m
     → UsesKept (publisher_goes_on (record m
     { orders = added m.orders (pushes_to (publisher_stage at)) m.moments (push_acts m.table (publisher_stage at)) }) place at)

@@ -48,6 +48,7 @@ use Rattle.iox_lanes_machine.specs.Uses.{given_back}
 use Rattle.iox_lanes_machine.specs.World.{World, fits, happens, StepsTo, placed, publisher_stage, subscriber_stage, publisher_given}
 use Rattle.iox_lanes_machine.specs.World.{publisher_begins, publisher_goes_on, publisher_fits_at, subscriber_given, subscriber_begins}
 use Rattle.iox_lanes_machine.specs.World.{subscriber_goes_on, subscriber_fits_at}
+use Rattle.iox_lanes_machine.proofs.Connected.{sends_connected}
 use Rattle.iox_lanes_machine.specs.Links.{LinkState}
 use Rattle.iox_lanes_machine.proofs.Ends.{some_is}
 use Rattle.iox_lanes_machine.proofs.InTable.{IsSeat, access_after, access_elsewhere}
@@ -201,7 +202,8 @@ publisher_queue m own lane n connection link e bound k found now table_is = by_c
     in_table = all_at (IsPublisher m.table.sizes) m.publishers own lane e (k.within).publishers
 
     setting : moves.Setting m own lane.port.routes (words_of lane.port) lane.port.call
-    setting = publishers.setting_of m own lane e bound k.within (k.rings few) k.returns (k.returns.rings few) (k.sends few)
+    setting = publishers.setting_of m own lane e bound k.within (k.rings few) k.returns (k.returns.rings few)
+        (sends_connected m (k.sends few))
 
     fit : ChangeFits (length lane.port.routes) lane.port.book (publisher_change lane.port.call (told m lane.port.call))
     fit = let uses = (k.uses few).publishers own lane e in publishers.change_fits m own lane.port.routes (words_of lane.port)
@@ -318,7 +320,8 @@ subscriber_queue m own lane n connection link e bound k found now table_is = by_
     after = subscriber_after (subscriber_given m.table lane) lane
 
     setting : subscribers.Setting m own lane lane.port.call
-    setting = subscribers.setting_of m own lane e bound k.within (k.rings few) k.returns (k.returns.rings few) (k.sends few) k.loans
+    setting = subscribers.setting_of m own lane e bound k.within (k.rings few) k.returns (k.returns.rings few)
+        (sends_connected m (k.sends few)) k.loans
         (k.uses few)
 
     elsewhere : (releases_at lane.port.call ≡ Some connection → ⊥) → QueueMoves m (Subscriber own) n connection link

@@ -489,7 +489,7 @@ back_pop_counts s cells write q c acts =
     )
 
 -- the cells between the two positions hold the list
-cells_are : (words : RingWords) (at : ℕ) (q : List ℕ) → Held (length words.cells) words.cells at q → cells_from words at (length q) ≡ q
+pub cells_are : (words : RingWords) (at : ℕ) (q : List ℕ) → Held (length words.cells) words.cells at q → cells_from words at (length q) ≡ q
 cells_are words at [] h = refl
 cells_are words at (x ∷ q) h =
     let here : at + 0 ≡ at = omega arith in

@@ -218,7 +218,7 @@ release_finds m who lane place route (push.SawWrite limit value write next) k r 
         ((k.uses).senders route.connection link mine.found)
 
     among : IsAmong (owner.0).port.routes route.connection
-    among = ((k.sends link.publisher owner.0 owner.1).connections).each route.connection link mine.found refl
+    among = (k.sends link.publisher owner.0 owner.1).each route.connection link mine.found refl
 
     there : slice_get m.subscribers link.subscriber ≡ Some lane
     there = ap (slice_get m.subscribers) mine.own ∙ k.found

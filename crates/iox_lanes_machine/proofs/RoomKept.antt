@@ -40,7 +40,7 @@ use Rattle.iox_lanes_machine.proofs.Samples.{gives_fit}
 use Rattle.iox_lanes_machine.specs.Kept.{IsLinkOf, receiver, IsWithin, AreKept}
 use Rattle.iox_lanes_machine.specs.Returns.{ReturnsKept, AreReturning}
 use Rattle.iox_lanes_machine.specs.Rooms.{may_borrow, HasReceived, GaveBack, RoomsKept}
-use Rattle.iox_lanes_machine.specs.Sends.{AllSendsPut}
+use Rattle.iox_lanes_machine.specs.Sends.{AreConnected}
 use Rattle.iox_lanes_machine.specs.Slots.{LoansStand}
 use Rattle.iox_lanes_machine.specs.Uses.{PublisherUses, UsesKept}
 use Rattle.iox_lanes_machine.specs.World.{World, fits, happens, ended, publisher_stage, subscriber_stage, pushes_to, push_acts, pops_from}
@@ -115,7 +115,7 @@ subscriber_gave (subscribing.Released done) from a ok e = subst GaveBack (some_i
 
 -- a publisher's step
 pub gone_publisher : (m : World) (place : ℕ) (at : Option PublisherLaneState) → slice_get m.publishers place ≡ at
-    → publisher_fits_at at GoOn ≡ true → m.moments < 2 ^ 63 → IsWithin m → AreKept m → ReturnsKept m → AreReturning m → AllSendsPut m
+    → publisher_fits_at at GoOn ≡ true → m.moments < 2 ^ 63 → IsWithin m → AreKept m → ReturnsKept m → AreReturning m → AreConnected m
     → LoansStand m → UsesKept m → RoomsKept m
     → RoomsKept (publisher_goes_on (record m
     { orders = added m.orders (pushes_to (publisher_stage at)) m.moments (push_acts m.table (publisher_stage at)) }) place at)
@@ -204,7 +204,7 @@ few_cells m connection link found b = ((b connection link found).shape).small
 
 -- a subscriber's step
 pub gone_subscriber : (m : World) (place : ℕ) (at : Option SubscriberLaneState) → slice_get m.subscribers place ≡ at
-    → subscriber_fits_at at GoOn ≡ true → m.moments < 2 ^ 63 → IsWithin m → AreKept m → ReturnsKept m → AreReturning m → AllSendsPut m
+    → subscriber_fits_at at GoOn ≡ true → m.moments < 2 ^ 63 → IsWithin m → AreKept m → ReturnsKept m → AreReturning m → AreConnected m
     → LoansStand m → UsesKept m → RoomsKept m
     → RoomsKept (subscriber_goes_on (record m
     { orders = added m.orders (pops_from (subscriber_stage at)) m.moments (pop_acts m (subscriber_stage at)) }) place at)
@@ -396,7 +396,7 @@ begun_subscriber m place c (Some lane) e fit r = record {
 }
 
 pub happens_rooms : (m : World) (party : Party) (step : Move) → fits m party step ≡ true → m.moments < 2 ^ 63 → IsWithin m → AreKept m
-    → ReturnsKept m → AreReturning m → AllSendsPut m → LoansStand m → UsesKept m → RoomsKept m → RoomsKept (happens m party step)
+    → ReturnsKept m → AreReturning m → AreConnected m → LoansStand m → UsesKept m → RoomsKept m → RoomsKept (happens m party step)
 happens_rooms m (Publisher place) (Begin c) fit bound w k r b s l u rooms
     = begun_publisher m place c (slice_get m.publishers place) refl fit rooms
 happens_rooms m (Subscriber place) (Begin c) fit bound w k r b s l u rooms

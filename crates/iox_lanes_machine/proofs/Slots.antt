@@ -328,14 +328,14 @@ loans_apart m k = λ one other slot h g. elim (cases_lt one other) [
         omega (arith, x.1, y.0, k.rows one other h.lane g.lane h.found g.found less)
 
 -- an access of a ring touches no word of a slot
-ring_touches : (connection : ℕ) (ring : ConnectionRing) (cells : ℕ) (access : Access) (slot : ℕ) (word : SlotWord)
+pub ring_touches : (connection : ℕ) (ring : ConnectionRing) (cells : ℕ) (access : Access) (slot : ℕ) (word : SlotWord)
     → MayChange (on_ring connection ring cells access) (Slot slot word) → ⊥
 ring_touches connection ring cells (own.Load w) slot word h = h
 ring_touches connection ring cells (own.Store w value) slot word h = absurd (cc h)
 ring_touches connection ring cells (own.Exchange w old new) slot word h = absurd (cc h)
 ring_touches connection ring cells own.Local slot word h = h
 
-publisher_touches : (book : BookState) (c : PublisherCall) (slot : ℕ) (word : SlotWord) → StandsAtLoan book c
+pub publisher_touches : (book : BookState) (c : PublisherCall) (slot : ℕ) (word : SlotWord) → StandsAtLoan book c
     → MayChange (publisher_next c) (Slot slot word) → is_out (loan_of slot book) ≡ true
 publisher_touches book publishing.Idle slot word h t = absurd t
 publisher_touches book (publishing.LoanReclaims place route p) slot word h t = absurd (ring_touches _ _ _ _ slot word t)
@@ -349,7 +349,7 @@ publisher_touches book (publishing.Pushing own_slot place route p delivery) slot
 publisher_touches book (publishing.Sent own_slot delivery) slot word h t = absurd t
 publisher_touches book (publishing.Dropping own_slot) slot word h t = absurd t
 
-subscriber_touches : (c : SubscriberCall) (slot : ℕ) (word : SlotWord) → MayChange (subscriber_next c) (Slot slot word) → ⊥
+pub subscriber_touches : (c : SubscriberCall) (slot : ℕ) (word : SlotWord) → MayChange (subscriber_next c) (Slot slot word) → ⊥
 subscriber_touches subscribing.Idle slot word t = t
 subscriber_touches (subscribing.Receiving place route p waits) slot word t = ring_touches _ _ _ _ slot word t
 subscriber_touches (subscribing.Received given) slot word t = t

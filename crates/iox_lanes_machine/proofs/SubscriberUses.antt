@@ -37,7 +37,7 @@ use Rattle.iox_lanes_machine.proofs.Samples.{samples_after, samples_are, samples
 use Rattle.iox_lanes_machine.proofs.Samples.{borrows_same, OwnFits, Changes, own_there, own_elsewhere, gives_fit, takes_fit, placed_after}
 use Rattle.iox_lanes_machine.specs.Rings.{waiting, push_on}
 use Rattle.iox_lanes_machine.specs.Returns.{ReturnsKept, AreReturning, GoesRound, IsReturning}
-use Rattle.iox_lanes_machine.specs.Sends.{AllSendsPut, IsAmong}
+use Rattle.iox_lanes_machine.specs.Sends.{AreConnected, IsAmong}
 use Rattle.iox_lanes_machine.specs.Slots.{LoansStand}
 use Rattle.iox_lanes_machine.specs.World.{World, publisher_stage, subscriber_stage, sender_stage, push_at, pops_from, pop_acts, added}
 use Rattle.iox_lanes_machine.specs.World.{subscriber_given, subscriber_begins, subscriber_goes_on, subscriber_fits_at}
@@ -81,11 +81,11 @@ lane_there lanes place None e below = absurd (none_below lanes place below e)
 lane_there lanes place (Some lane) e below = (lane, e)
 
 pub recorded : (m : World) (connection : ℕ) (link : LinkState) (order : List Placed) → slice_get m.links connection ≡ Some link
-    → slice_get m.orders connection ≡ Some order → AllSendsPut m → UsesKept m → (s : ℕ) → IsRecorded m connection link order s
+    → slice_get m.orders connection ≡ Some order → AreConnected m → UsesKept m → (s : ℕ) → IsRecorded m connection link order s
 recorded m connection link order found got sends u s =
     let there = lane_there m.publishers link.publisher (slice_get m.publishers link.publisher) refl (u.senders connection link found) in
     let among : IsAmong (there.0).port.routes connection
-    = (sends link.publisher there.0 there.1).connections.each connection link found refl in
+    = (sends link.publisher there.0 there.1).each connection link found refl in
     let uses : PublisherUses m there.0 = u.publishers link.publisher there.0 there.1 in
     record {
       lane = there.0;
@@ -114,7 +114,7 @@ pub record IsOf (m : World) (link : LinkState) (s : ℕ) : Type 0 where
   pub below : s < lane.port.book.first + length lane.port.book.loans
 
 pub of_publisher : (m : World) (connection : ℕ) (link : LinkState) (order : List Placed) → slice_get m.links connection ≡ Some link
-    → slice_get m.orders connection ≡ Some order → AllSendsPut m → UsesKept m → (s : ℕ) → 0 < Standing m connection link order s
+    → slice_get m.orders connection ≡ Some order → AreConnected m → UsesKept m → (s : ℕ) → 0 < Standing m connection link order s
     → IsOf m link s
 of_publisher m connection link order found got sends u s some =
     let r = recorded m connection link order found got sends u s in
@@ -127,7 +127,7 @@ of_publisher m connection link order found got sends u s some =
 -- a slot stands at no two connections of one subscriber
 one_connection : (m : World) (one other : ℕ) (link behind : LinkState) (order order' : List Placed) → slice_get m.links one ≡ Some link
     → slice_get m.orders one ≡ Some order → slice_get m.links other ≡ Some behind → slice_get m.orders other ≡ Some order'
-    → AllSendsPut m → LoansStand m → UsesKept m → link.subscriber ≡ behind.subscriber → (s : ℕ) → 0 < Standing m one link order s
+    → AreConnected m → LoansStand m → UsesKept m → link.subscriber ≡ behind.subscriber → (s : ℕ) → 0 < Standing m one link order s
     → 0 < Standing m other behind order' s → one ≡ other
 one_connection m one other link behind order order' found got found' got' sends l u same s some some' =
     let x = of_publisher m one link order found got sends u s some in
@@ -146,7 +146,7 @@ one_connection m one other link behind order order' found got found' got' sends 
 unborrowed : (m : World) (who one other : ℕ) (link behind : LinkState) (order order' : List Placed) (lane : SubscriberLaneState)
     → slice_get m.subscribers who ≡ Some lane → slice_get m.links one ≡ Some link → slice_get m.orders one ≡ Some order
     → slice_get m.links other ≡ Some behind → slice_get m.orders other ≡ Some order'
-    → AllSendsPut m → LoansStand m → UsesKept m → link.subscriber ≡ who → behind.subscriber ≡ who → (s : ℕ)
+    → AreConnected m → LoansStand m → UsesKept m → link.subscriber ≡ who → behind.subscriber ≡ who → (s : ℕ)
     → 0 < count s (waiting link order) + count s (aside_at m.table one link (publisher_stage (slice_get m.publishers link.publisher)))
     → (b : Bool) → borrows other s (Some lane) ≡ b → b ≡ false
 unborrowed m who one other link behind order order' lane e found got found' got' sends l u is is' s some false h = refl
@@ -168,7 +168,7 @@ pub record Setting (m : World) (who : ℕ) (lane : SubscriberLaneState) (c : Sub
   pub kept : AreKept m
   pub some : 0 < m.table.sizes.completion_cells
   pub returning : AreReturning m
-  pub sends : AllSendsPut m
+  pub sends : AreConnected m
   pub loans : LoansStand m
   pub uses : UsesKept m
   pub found : slice_get m.subscribers who ≡ Some lane
@@ -559,7 +559,7 @@ other_after m n lane e u
 
 -- the setting of a subscriber
 pub setting_of : (m : World) (place : ℕ) (lane : SubscriberLaneState) → slice_get m.subscribers place ≡ Some lane → m.moments < 2 ^ 63
-    → IsWithin m → AreKept m → ReturnsKept m → AreReturning m → AllSendsPut m → LoansStand m → UsesKept m
+    → IsWithin m → AreKept m → ReturnsKept m → AreReturning m → AreConnected m → LoansStand m → UsesKept m
     → Setting m place lane lane.port.call
 setting_of m place lane e bound w k r b s l u =
     let is : IsSubscriber m.table.sizes lane = all_at (IsSubscriber m.table.sizes) m.subscribers place lane e w.subscribers in
@@ -582,7 +582,7 @@ setting_of m place lane e bound w k r b s l u =
     }
 
 pub gone_subscriber : (m : World) (place : ℕ) (at : Option SubscriberLaneState) → slice_get m.subscribers place ≡ at
-    → subscriber_fits_at at GoOn ≡ true → m.moments < 2 ^ 63 → IsWithin m → AreKept m → ReturnsKept m → AreReturning m → AllSendsPut m
+    → subscriber_fits_at at GoOn ≡ true → m.moments < 2 ^ 63 → IsWithin m → AreKept m → ReturnsKept m → AreReturning m → AreConnected m
     → LoansStand m → UsesKept m
     → UsesKept (subscriber_goes_on (record m
     { orders = added m.orders (pops_from (subscriber_stage at)) m.moments (pop_acts m (subscriber_stage at)) }) place at)

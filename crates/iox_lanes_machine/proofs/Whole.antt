@@ -7,6 +7,7 @@ use Rattle.iox_lanes_machine.specs.LanesParties.declared.call.Party.{Party}
 use Rattle.iox_lanes_machine.specs.Alone.{UsedSlotsStay}
 use Rattle.iox_lanes_machine.specs.Kept.{IsKept}
 use Rattle.iox_lanes_machine.specs.World.{World, fits, happens, ends, StepsTo}
+use Rattle.iox_lanes_machine.proofs.Connected.{sends_connected}
 use Rattle.iox_lanes_machine.proofs.Alone.{used_stay}
 use Rattle.iox_lanes_machine.proofs.Apart.{steps_apart}
 use Rattle.iox_lanes_machine.proofs.Held.{happens_held}
@@ -54,13 +55,13 @@ happens_keeps m party step fit k = record {
   reads = happens_reads m party step k.reads;
   uses = λ few. let bound : m.moments < 2 ^ 63 = omega (arith, happens_moments m party step fit, few) in
       happens_uses m party step fit bound k.within (k.rings (omega (arith, bound))) k.returns (k.returns.rings (omega (arith, bound)))
-      (k.sends (omega (arith, bound))) k.loans (k.uses (omega (arith, bound)));
+      (sends_connected m (k.sends (omega (arith, bound)))) k.loans (k.uses (omega (arith, bound)));
   held = λ few. let bound : m.moments < 2 ^ 63 = omega (arith, happens_moments m party step fit, few) in
       happens_held m party step k.within (k.uses (omega (arith, bound))) k.reads (step_uses m party step fit k) (omega (arith, bound))
       (k.held (omega (arith, bound)));
   rooms = λ few. let bound : m.moments < 2 ^ 63 = omega (arith, happens_moments m party step fit, few) in
       happens_rooms m party step fit bound k.within (k.rings (omega (arith, bound))) k.returns (k.returns.rings (omega (arith, bound)))
-      (k.sends (omega (arith, bound))) k.loans (k.uses (omega (arith, bound))) (k.rooms (omega (arith, bound)));
+      (sends_connected m (k.sends (omega (arith, bound)))) k.loans (k.uses (omega (arith, bound))) (k.rooms (omega (arith, bound)));
   left = λ few. let bound : m.moments < 2 ^ 63 = omega (arith, happens_moments m party step fit, few) in
       let made = step_made m party step fit (ends m party step) refl in
       let apart = steps_apart m party step made.0 (happens m party step) made.1 k.within in

@@ -20,6 +20,7 @@ use Rattle.iox_lanes_machine.specs.Made.{listed, start}
 use Rattle.iox_lanes_machine.specs.Reads.{width}
 use Rattle.iox_lanes_machine.specs.WholeReads.{UsedThrough, ReadsGiveWhatStood, UntouchedThrough, ReadsGiveWhatWasStored}
 use Rattle.iox_lanes_machine.specs.World.{World, ends, happens, RunsTo}
+use Rattle.iox_lanes_machine.proofs.Connected.{sends_connected}
 use Rattle.iox_lanes_machine.proofs.Apart.{steps_apart}
 use Rattle.iox_lanes_machine.proofs.FoundKeptWhole.{all_found}
 use Rattle.iox_lanes_machine.proofs.Held.{word_is, reads_whole}
@@ -81,7 +82,8 @@ listed_same f g (suc n) h = ap (λ (xs : List ℕ). xs ++ f n ∷ []) (listed_sa
 -- a slot that stands at a connection is one of the service
 slot_there : (m : World) (slot : ℕ) → IsKept m → m.moments ≤ 2 ^ 63 → IsAtConnection m slot → slot < m.table.sizes.slots
 slot_there m slot k few used =
-    let owner = of_publisher m used.connection used.link used.order used.found used.got (k.sends few) (k.uses few) slot used.has in
+    let owner = of_publisher m used.connection used.link used.order used.found used.got (sends_connected m (k.sends few)) (k.uses few)
+    slot used.has in
     let is : IsPublisher m.table.sizes owner.lane
     = all_at (IsPublisher m.table.sizes) m.publishers _ owner.lane owner.found (k.within).publishers in
     omega (arith, owner.below, is.slots)

@@ -39,6 +39,7 @@ pub mod Sending
 pub mod Borrowing
 pub mod LedgerRooms
 pub mod Pace
+pub mod Together
 pub use Rattle.iox_lanes_parties.specs.LanesBase as LanesBase
 pub use Rattle.iox_lanes_parties.specs as LanesParties
 pub use Rattle.iox_lanes_parties.specs.QueuesSteps as QueuesSteps

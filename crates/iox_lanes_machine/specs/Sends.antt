@@ -162,6 +162,11 @@ pub record HasConnections (links : List LinkState) (who : ℕ) (routes : List Ro
   pub once : (i j : ℕ) (one other : Route) → slice_get routes i ≡ Some one → slice_get routes j ≡ Some other
       → one.connection ≡ other.connection → i ≡ j
 
+-- each publisher has each of its connections, and each but once
+abbrev pub AreConnected : World → Type 0
+AreConnected m = (who : ℕ) (lane : PublisherLaneState) → slice_get m.publishers who ≡ Some lane
+    → HasConnections m.links who lane.port.routes
+
 -- the sends of a publisher, in their order, have put just the puts that stand at its connections, but for what the send that it
 -- is in has put so far
 pub record SendsPut (m : World) (who : ℕ) (fails : Bool) (routes : List Route) (first : ℕ) (call : PublisherCall) : Type 0 where

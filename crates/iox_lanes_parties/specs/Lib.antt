@@ -5,5 +5,6 @@ pub mod Keeping
 pub mod PublisherKeeping
 pub mod Publishers
 pub mod SendAnswers
+pub mod Values
 pub use Rattle.iox_lanes_base.specs as LanesBase
 pub use Rattle.iox_lanes_base.specs.QueuesSteps as QueuesSteps

@@ -4,6 +4,7 @@
 //! - [`head`]: the header and user header of a slot.
 //! - [`publisher`], [`subscriber`]: a port, and what it keeps for itself.
 //! - [`laws`]: ports keep to their own service.
+//! - [`values`]: a program's own values as the words of a call.
 //! - [`publisher_lane`], [`subscriber_lane`]: a port with the call that it began last.
 //!
 //! First calls, of a subscriber that is connected to nobody; `Lanes` of `iox_lanes_machine` makes them with the words of a service.
@@ -22,8 +23,10 @@ pub mod publisher;
 pub mod publisher_lane;
 pub mod subscriber;
 pub mod subscriber_lane;
+pub mod values;
 
 pub use call::{Answer, Call, CallName, Entry, FinishedCall, Move, Party, SendAnswer};
 pub use head::Head;
 pub use publisher_lane::PublisherLane;
 pub use subscriber_lane::SubscriberLane;
+pub use values::values_in;

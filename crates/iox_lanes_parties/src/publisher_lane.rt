@@ -241,6 +241,13 @@ impl PublisherLane {
         self.port.history()
     }
 
+    /// How many uses each of its slots has: one as a loan, one in the history, one at each connection that has it.
+    pub fn uses(&self) -> &[u64]
+        ensures { result.now ≡ self.now.port.book.uses }
+    {
+        self.port.uses()
+    }
+
     /// Its connections, in place order.
     pub fn routes(&self) -> &[Route]
         ensures { result.now ≡ self.now.port.routes }

@@ -5,6 +5,7 @@
 //! publisher's alone, up to where its send begins to push; from there on each entry is any party's.
 ghost use Rattle.std.specs.Prelude.{◌≡◌};
 
+use crate::answers::hold;
 use crate::known::{
     Known, NOTHING, are_mailboxes, begun, is_answered, kept, last_at, receiving, sending, sizes,
 };
@@ -15,7 +16,6 @@ use iox_lanes_parties::{Answer, Call, Move, Party};
 use iox_queues_steps::Stepped;
 use iox_queues_steps::rings::RingKind;
 use std::alloc::{AllocError, Global};
-use std::test::Fail;
 
 // One publisher and so many subscribers, at whose connections one message may wait and be borrowed.
 fn small(kind: RingKind, subscribers: u64) -> LaneSizes
@@ -209,13 +209,15 @@ fn all_are_right(alloc: Global, kind: RingKind) -> Result<bool, AllocError> {
 }
 
 #[test]
-fn every_schedule_goes_right_where_the_oldest_are_dropped(rt: HostRuntime) -> Result<(), Fail> {
-    assert!(rt; all_are_right(rt.alloc(), RingKind::Overflowing)?);
-    Ok(())
+fn every_schedule_goes_right_where_the_oldest_are_dropped(
+    rt: HostRuntime,
+) -> Result<(), AllocError> {
+    hold(&rt, all_are_right(rt.alloc(), RingKind::Overflowing))
 }
 
 #[test]
-fn every_schedule_goes_right_where_the_newest_are_refused(rt: HostRuntime) -> Result<(), Fail> {
-    assert!(rt; all_are_right(rt.alloc(), RingKind::Refusing)?);
-    Ok(())
+fn every_schedule_goes_right_where_the_newest_are_refused(
+    rt: HostRuntime,
+) -> Result<(), AllocError> {
+    hold(&rt, all_are_right(rt.alloc(), RingKind::Refusing))
 }

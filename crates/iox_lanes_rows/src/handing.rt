@@ -1,4 +1,5 @@
 //! Lanes that threads take over in mid-stream, and ports that stand still again.
+use crate::answers::hold;
 use crate::service::{lanes, read_back, sent};
 use iox_lanes_base::calls::{Delivery, Receipt};
 use iox_lanes_machine::Lanes;
@@ -8,7 +9,6 @@ use iox_lanes_threads::{LanePublisher, LaneSubscriber, LaneThreads, end, open_th
 use iox_queues_steps::rings::RingKind;
 use std::alloc::{AllocError, Global};
 use std::sync::Wait;
-use std::test::Fail;
 
 const PUBLISHER: Party = Party::Publisher(0);
 
@@ -103,7 +103,6 @@ fn hands_over(rt: &impl Wait, alloc: Global) -> Result<bool, AllocError> {
 }
 
 #[test]
-fn threads_go_on_where_lanes_stood_still(rt: HostRuntime) -> Result<(), Fail> {
-    assert!(&rt; hands_over(&rt, rt.alloc())?);
-    Ok(())
+fn threads_go_on_where_lanes_stood_still(rt: HostRuntime) -> Result<(), AllocError> {
+    hold(&rt, hands_over(&rt, rt.alloc()))
 }

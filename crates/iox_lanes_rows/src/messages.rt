@@ -5,7 +5,7 @@ use iox_lanes_parties::{Call, Move, Party};
 use iox_queues_steps::Stepped;
 use iox_queues_steps::rings::RingKind;
 use std::alloc::{AllocError, Global};
-use std::test::Fail;
+use std::process::Abort;
 
 const SIZES: LaneSizes = LaneSizes {
     publishers: 1,
@@ -92,10 +92,14 @@ fn are_kept(alloc: Global, count: u64) -> Result<bool, AllocError> {
     Ok(lanes.len() as u64 == count)
 }
 
-#[test]
-fn messages_are_kept_as_they_were_sent_and_read(rt: HostRuntime) -> Result<(), Fail> {
-    for count in [0, 1, 2, 7, 64, 1000] {
-        assert!(rt; are_kept(rt.alloc(), count)?, "{count}");
+fn all_are_kept(rt: &impl Abort, alloc: Global) -> Result<(), AllocError> {
+    for count in &[0, 1, 2, 7, 64, 1000] {
+        assert!(rt; are_kept(alloc, *count)?, "{count}");
     }
     Ok(())
+}
+
+#[test]
+fn messages_are_kept_as_they_were_sent_and_read(rt: HostRuntime) -> Result<(), AllocError> {
+    all_are_kept(&rt, rt.alloc())
 }

@@ -1,6 +1,7 @@
 //! Random schedules of lanes: each connection's order is held against a plain mailbox, and each read against what was sent.
 ghost use Rattle.std.specs.Prelude.{◌≡◌};
 
+use crate::answers::hold;
 use crate::known::{
     Known, NOTHING, SLOTS, are_mailboxes, begun, is_answered, kept, last_at, receiving, sending,
     sizes,
@@ -10,7 +11,6 @@ use iox_lanes_parties::{Call, Move, Party};
 use iox_queues_steps::Stepped;
 use iox_queues_steps::rings::RingKind;
 use std::alloc::{AllocError, Global};
-use std::test::Fail;
 
 // Two publishers, and three subscribers at each connection of which two messages may wait.
 fn crowd(kind: RingKind) -> LaneSizes
@@ -168,13 +168,15 @@ fn both_go(alloc: Global, kind: RingKind) -> Result<bool, AllocError> {
 }
 
 #[test]
-fn random_schedules_go_right_where_the_oldest_are_dropped(rt: HostRuntime) -> Result<(), Fail> {
-    assert!(rt; both_go(rt.alloc(), RingKind::Overflowing)?);
-    Ok(())
+fn random_schedules_go_right_where_the_oldest_are_dropped(
+    rt: HostRuntime,
+) -> Result<(), AllocError> {
+    hold(&rt, both_go(rt.alloc(), RingKind::Overflowing))
 }
 
 #[test]
-fn random_schedules_go_right_where_the_newest_are_refused(rt: HostRuntime) -> Result<(), Fail> {
-    assert!(rt; both_go(rt.alloc(), RingKind::Refusing)?);
-    Ok(())
+fn random_schedules_go_right_where_the_newest_are_refused(
+    rt: HostRuntime,
+) -> Result<(), AllocError> {
+    hold(&rt, both_go(rt.alloc(), RingKind::Refusing))
 }

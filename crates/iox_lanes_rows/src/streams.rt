@@ -1,4 +1,5 @@
 //! Numbers through four threads: two publishers and two subscribers.
+use crate::answers::hold;
 use crate::service::lanes;
 use crate::start::Start;
 use iox_lanes_base::calls::Receipt;
@@ -9,7 +10,6 @@ use iox_queues_steps::rings::RingKind;
 use std::alloc::{AllocError, Global};
 use std::sync::Wait;
 use std::sync::atomic::{AtomicU64, Ordering};
-use std::test::Fail;
 use std::thread;
 use std::thread::Threads;
 
@@ -210,13 +210,11 @@ fn goes<R: Threads + Wait + Sync>(
 }
 
 #[test]
-fn numbers_rise_where_the_oldest_are_dropped(rt: HostRuntime) -> Result<(), Fail> {
-    assert!(&rt; goes(&rt, rt.alloc(), RingKind::Overflowing)?);
-    Ok(())
+fn numbers_rise_where_the_oldest_are_dropped(rt: HostRuntime) -> Result<(), AllocError> {
+    hold(&rt, goes(&rt, rt.alloc(), RingKind::Overflowing))
 }
 
 #[test]
-fn numbers_rise_where_the_newest_are_refused(rt: HostRuntime) -> Result<(), Fail> {
-    assert!(&rt; goes(&rt, rt.alloc(), RingKind::Refusing)?);
-    Ok(())
+fn numbers_rise_where_the_newest_are_refused(rt: HostRuntime) -> Result<(), AllocError> {
+    hold(&rt, goes(&rt, rt.alloc(), RingKind::Refusing))
 }

@@ -1,4 +1,5 @@
 //! Two threads that answer each other, each with a publisher and a subscriber.
+use crate::answers::hold;
 use crate::service::{narrow_lanes, read_back, sent};
 use crate::start::Start;
 use iox_lanes_base::calls::Receipt;
@@ -6,7 +7,6 @@ use iox_lanes_threads::{LanePublisher, LaneSubscriber, LaneThreads, end, open_th
 use iox_queues_steps::rings::RingKind;
 use std::alloc::{AllocError, Global};
 use std::sync::Wait;
-use std::test::Fail;
 use std::thread;
 use std::thread::Threads;
 
@@ -85,13 +85,11 @@ fn goes<R: Threads + Wait + Sync>(
 }
 
 #[test]
-fn threads_answer_where_the_oldest_are_dropped(rt: HostRuntime) -> Result<(), Fail> {
-    assert!(&rt; goes(&rt, rt.alloc(), RingKind::Overflowing)?);
-    Ok(())
+fn threads_answer_where_the_oldest_are_dropped(rt: HostRuntime) -> Result<(), AllocError> {
+    hold(&rt, goes(&rt, rt.alloc(), RingKind::Overflowing))
 }
 
 #[test]
-fn threads_answer_where_the_newest_are_refused(rt: HostRuntime) -> Result<(), Fail> {
-    assert!(&rt; goes(&rt, rt.alloc(), RingKind::Refusing)?);
-    Ok(())
+fn threads_answer_where_the_newest_are_refused(rt: HostRuntime) -> Result<(), AllocError> {
+    hold(&rt, goes(&rt, rt.alloc(), RingKind::Refusing))
 }

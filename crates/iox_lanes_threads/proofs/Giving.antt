@@ -24,11 +24,11 @@ pub opens : (m : World) → Fitting m → Holds (opening m.table.words [] (first
 opens m fit = record {
   ports = ports_of m;
   owner = λ number. 0;
-  fit = (service_of m, fit);
+  fit = (service_of m, fit.0, fit.1);
   waiting = λ seat v i p got there.
       let is = alone (first_view m) v seat got in
       let at : get_elem? (ports_of m) i ≡ some p = ap (λ (u : View). get_elem? u.waiting i) is.1 ∙ there in
-      let number : p.number ≡ i = (fit.ports i p at).number in
+      let number : p.number ≡ i = (fit.0.ports i p at).number in
       let from : v.from ≡ 0 = ap (λ (u : View). u.from) (sym is.1) in
       (omega (arith, number, from), (sym is.0, ap (get_elem? (ports_of m)) number ∙ at));
   seated = λ seat v i p got there.

@@ -27,17 +27,22 @@ use Rattle.iox_lanes_machine.specs.Mailboxes.{PositionsNear, positions_of}
 use Rattle.iox_lanes_machine.specs.Opening.{SlotsNamed}
 use Rattle.iox_lanes_machine.specs.Reads.{width}
 use Rattle.iox_lanes_machine.specs.Slots.{SlotsInRows}
+use Rattle.iox_lanes_machine.specs.Together.{HoldTogether}
 use Rattle.iox_lanes_machine.specs.World.{World}
+use Rattle.iox_lanes_threads_ports.specs.LanesThreadsRule.Lanes.PublisherLeads.{stays as publisher_stays}
+use Rattle.iox_lanes_threads_ports.specs.LanesThreadsRule.Lanes.SubscriberLeads.{stays as subscriber_stays}
+use Rattle.iox_lanes_threads_ports.specs.LanesThreadsRule.Lanes.{line_of}
 use Rattle.iox_lanes_threads_ports.specs.LanesThreadsRule.Service.{IsCell, read_word}
-use Rattle.iox_lanes_threads_ports.specs.LanesThreadsRule.Rule.{held, IsPort}
+use Rattle.iox_lanes_threads_ports.specs.LanesThreadsRule.Rule.{held, IsPort, Fits}
 use Rattle.iox_lanes_threads_ports.specs.LanesThreadsRule.declared.service.SlotRange.{SlotRange}
 use Rattle.iox_lanes_threads_ports.specs.LanesThreadsRule.declared.view.Port.{Port}
 use Rattle.iox_lanes_threads_ports.specs.LanesThreadsRule.declared.view.PortParty.{PortParty}
 use Rattle.iox_lanes_threads_ports.specs.LanesThreadsRule.declared.view.PortParty.TheVariants as party
 use Rattle.iox_lanes_threads_ports.specs.Ports.{sender_of, receiver_of, EachOnce, IsEnd, PublisherKnows, SubscriberKnows, PublisherStands}
 use Rattle.iox_lanes_threads_ports.specs.Ports.{SubscriberStands}
-use Rattle.iox_lanes_threads.specs.Opening.{line_of, range_of, service_of, opened, publishers_from, subscribers_from, ports_of, Fitting}
+use Rattle.iox_lanes_threads.specs.Opening.{range_of, service_of, opened, publishers_from, subscribers_from, ports_of, Fitting}
 use Rattle.iox_lanes_threads.specs.Standing.{PublishersStand, SubscribersStand}
+use Rattle.iox_lanes_threads.proofs.Backing.{lanes_back}
 use Rattle.iox_lanes_threads.proofs.Lists.{none_there, in_either, mapped_is, mapped_at}
 
 -- what lanes promise of themselves
@@ -46,6 +51,7 @@ pub record Sound (m : World) : Type 0 where
   pub rows : SlotsInRows m
   pub named : SlotsNamed m
   pub near : (connection : ℕ) → PositionsNear m connection (positions_of m.table connection)
+  pub together : m.moments ≤ 2 ^ 63 → HoldTogether m
 
 -- and of their publishers: each has each of its connections once
 abbrev pub Apart : World → Type 0
@@ -119,8 +125,8 @@ module _ (m : World) (k : Sound m) where
   cell_named (Ring connection ring (Cell at)) is cell some_slot = k.named.cells some_slot connection ring at is
   cell_named (Slot slot word) is cell some_slot = absurd cell
 
-  pub fitting : m.moments ≤ 2 ^ 63 → Fitting m
-  fitting few = record {
+  fits : m.moments ≤ 2 ^ 63 → Fits (service_of m) m.table.words (ports_of m)
+  fits few = record {
     rows = λ one other range behind found found' less.
         let here = mapped_is range_of m.publishers one range found in
         let there = mapped_is range_of m.publishers other behind found' in
@@ -146,6 +152,9 @@ module _ (m : World) (k : Sound m) where
     moved = λ connection line number p ring at name differs. absurd
         (differs (ap (λ (words : List ℕ). held (service_of m) words (read_word connection)) (port_at number p at).knows));
   }
+
+  pub fitting : m.moments ≤ 2 ^ 63 → Fitting m
+  fitting few = (fits few, lanes_back m (k.together few))
 
   sending_end : (place : ℕ) (route : Route) → IsLinkOf m.links sender place route → IsEnd (service_of m) sender_of (Publisher place) route
   sending_end place route is = record {
@@ -203,6 +212,7 @@ module _ (m : World) (k : Sound m) where
     first = refl;
     count = refl;
     knows = idle_publisher (opened m place (Publisher place) (party.Publisher lane)) lane.port.book lane.port.call idle;
+    comes = publisher_stays;
   }
 
   pub subscriber_stands : HaveRoom m → (place : ℕ) (lane : SubscriberLaneState) → slice_get m.subscribers place ≡ Some lane
@@ -215,6 +225,7 @@ module _ (m : World) (k : Sound m) where
     routes = All-weaker (IsLinkOf m.links receiver place) (IsEnd (service_of m) receiver_of (Subscriber place)) (receiving_end place)
         lane.port.routes (k.within.receivers place lane found);
     knows = idle_subscriber (opened m (length m.publishers + place) (Subscriber place) (party.Subscriber lane)) lane.port.call idle;
+    comes = subscriber_stays;
   }
 
 pub idle_is : (c : SubscriberCall) → subscriber_is_idle c ≡ true → c ≡ subscribing.Idle

@@ -6,20 +6,15 @@ use Rattle.iox_lanes_machine.specs.LanesParties.Parties.{PublisherLaneState, Sub
 use Rattle.iox_lanes_machine.specs.LanesParties.declared.call.Party.{Party}
 use Rattle.iox_lanes_machine.specs.LanesParties.declared.call.Party.TheVariants.{Publisher, Subscriber}
 use Rattle.iox_lanes_machine.specs.World.{World}
-use Rattle.iox_lanes_machine.specs.Links.{LinkState}
+use Rattle.iox_lanes_threads_ports.specs.LanesThreadsRule.Lanes.{line_of, IsBacked}
 use Rattle.iox_lanes_threads_ports.specs.LanesThreadsRule.Rule.{Fits, one}
 use Rattle.iox_lanes_threads_ports.specs.LanesThreadsRule.Acts.{first_port}
-use Rattle.iox_lanes_threads_ports.specs.LanesThreadsRule.declared.service.Line.{Line}
 use Rattle.iox_lanes_threads_ports.specs.LanesThreadsRule.declared.service.Service.{Service}
 use Rattle.iox_lanes_threads_ports.specs.LanesThreadsRule.declared.service.SlotRange.{SlotRange}
 use Rattle.iox_lanes_threads_ports.specs.LanesThreadsRule.declared.view.Port.{Port}
 use Rattle.iox_lanes_threads_ports.specs.LanesThreadsRule.declared.view.PortParty.{PortParty}
 use Rattle.iox_lanes_threads_ports.specs.LanesThreadsRule.declared.view.PortParty.TheVariants as party
 use Rattle.iox_lanes_threads_ports.specs.LanesThreadsRule.declared.view.View.{View}
-
--- a link as a connection of the service
-abbrev pub line_of : LinkState → Line
-line_of link = record { publisher = link.publisher; subscriber = link.subscriber; kind = link.kind; limit = link.limit }
 
 -- the slots of a publisher
 abbrev pub range_of : PublisherLaneState → SlotRange
@@ -29,9 +24,17 @@ range_of lane = record { first = lane.port.book.first; count = length lane.port.
 abbrev pub service_of : World → Service
 service_of m = record { sizes = m.table.sizes; lines = map line_of m.links; ranges = map range_of m.publishers }
 
--- a port that knows what each word of the lanes holds
+-- a port that knows what each word of the lanes holds, and made no access yet
 abbrev pub opened : World → ℕ → Party → PortParty → Port
-opened m number name own = record { number = number; name = name; service = service_of m; known = m.table.words; party = own }
+opened m number name own = record {
+  number = number;
+  name = name;
+  service = service_of m;
+  known = m.table.words;
+  accesses = 0;
+  party = own;
+  seen = [];
+}
 
 -- publishers as ports, from a place on
 abbrev pub publishers_from : World → ℕ → List PublisherLaneState → List Port
@@ -69,9 +72,9 @@ others_wait v = waits (v.from + 1) (behind_first v.waiting)
 abbrev pub first_waits : View → View
 first_waits v = one (first_port v.waiting)
 
--- the words of the lanes and their ports fit
+-- the words of the lanes and their ports fit, and lanes stand behind them
 abbrev pub Fitting : World → Type 0
-Fitting m = Fits (service_of m) m.table.words (ports_of m)
+Fitting m = Fits (service_of m) m.table.words (ports_of m) × IsBacked (service_of m) m.table.words (ports_of m)
 
 -- the seat at which ports wait, of a table with as many words as the lanes have
 pub record WaitsFor (m : World) (table : TableId) (me : Me ℕ View) (from : ℕ) (ports : List Port) : Type 0 where

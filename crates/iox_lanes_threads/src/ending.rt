@@ -1,12 +1,16 @@
 //! From threads to ports that exist still.
-ghost use Rattle.std.specs.Prelude.{◌≡◌, ◌<◌, ◌≤◌, ℕ, true, false, [], map, length, IfOk, IfErr, vec_capacity};
+ghost use Rattle.std.specs.Prelude.{◌≡◌, ◌<◌, ◌≤◌, ◌++◌, ℕ, true, false, [], map, length, IfOk, IfErr, vec_capacity};
+ghost use Rattle.std.specs.List.{All};
+ghost use Rattle.iox_lanes_threads_ports.specs.LanesThreadsRule.Gathered.{Agree};
 ghost use Rattle.iox_lanes_threads.specs.Ending.{has_publisher, has_subscriber, AreAll};
 
 use crate::errors::EndError;
 use crate::publisher::LanePublisher;
 use crate::subscriber::LaneSubscriber;
+use crate::table::Share;
 use crate::threads::{Board, LaneThreads};
 use iox_lanes_parties::{PublisherLane, SubscriberLane};
+use iox_lanes_threads_rule::{WordSeat, agree, gather};
 
 /// The ports of a service that stand still again. Loans and samples that were still out are void: the words are gone.
 #[derive(Drop)]
@@ -124,11 +128,103 @@ pub fn end(
         publishers: _,
         subscribers: _,
         words: _,
+        home: _,
         publisher_room,
         subscriber_room,
     } = board;
     Ok(EndedThreads {
         publishers: publisher_lanes(publishers, publisher_room),
         subscribers: subscriber_lanes(subscribers, subscriber_room),
+    })
+}
+
+// The seats of publishers come to one seat, and their lanes into the room for them.
+fn gather_publishers(
+    words: &Share,
+    home: &mut WordSeat,
+    ports: Vec<LanePublisher>,
+    room: Vec<PublisherLane>,
+) -> Vec<PublisherLane>
+    requires room { (room.items ≡ []) × (length ports.items ≤ vec_capacity room) }
+    requires table { (home.old.table_id ≡ words.now) × (0 < words.now.words) }
+    requires tables { All (λ p. p.own.table ≡ words.now) ports.items }
+    ensures lanes { result.items ≡ map (λ p. p.own.lane) ports.items }
+    ensures table { home.new.table_id ≡ home.old.table_id }
+    ensures home { home.new.me.0.ports ≡ home.old.me.0.ports ++ map (λ p. p.own.port) ports.items }
+{
+    let mut lanes = room;
+    let mut rest = ports.into_iter();
+    while let Some(port) = rest.next() {
+        let (seat, lane) = port.into_parts();
+        gather(words.words(), home, seat);
+        lanes.push_reserved(lane);
+    }
+    lanes
+}
+
+// The seats of subscribers likewise.
+fn gather_subscribers(
+    words: &Share,
+    home: &mut WordSeat,
+    ports: Vec<LaneSubscriber>,
+    room: Vec<SubscriberLane>,
+) -> Vec<SubscriberLane>
+    requires room { (room.items ≡ []) × (length ports.items ≤ vec_capacity room) }
+    requires table { (home.old.table_id ≡ words.now) × (0 < words.now.words) }
+    requires tables { All (λ p. p.own.table ≡ words.now) ports.items }
+    ensures lanes { result.items ≡ map (λ p. p.own.lane) ports.items }
+    ensures table { home.new.table_id ≡ home.old.table_id }
+    ensures home { home.new.me.0.ports ≡ home.old.me.0.ports ++ map (λ p. p.own.port) ports.items }
+{
+    let mut lanes = room;
+    let mut rest = ports.into_iter();
+    while let Some(port) = rest.next() {
+        let (seat, lane) = port.into_parts();
+        gather(words.words(), home, seat);
+        lanes.push_reserved(lane);
+    }
+    lanes
+}
+
+/// Ends all ports of a board as [`end`] does, where each steps on the board's own words, as those do that were opened on it. Then
+/// what a subscriber has read of a sample that it has still is what its publisher knows of the slot, as long as the ports know
+/// that no write position came to 3 * 2^62.
+pub fn end_together(
+    board: Board,
+    publishers: Vec<LanePublisher>,
+    subscribers: Vec<LaneSubscriber>,
+) -> Result<EndedThreads, (EndError, LaneThreads)>
+    requires publishers { All (λ p. p.own.table ≡ board.table) publishers.items }
+    requires subscribers { All (λ s. s.own.table ≡ board.table) subscribers.items }
+    ensures ended { IfOk result (λ ended. AreAll board publishers.items subscribers.items
+        × (ended.publishers.items ≡ map (λ p. p.own.lane) publishers.items)
+        × (ended.subscribers.items ≡ map (λ s. s.own.lane) subscribers.items)) }
+    ensures agree { IfOk result (λ _. Agree (map (λ p. p.own.port) publishers.items ++ map (λ s. s.own.port) subscribers.items)) }
+    ensures refused { IfErr result (λ refused. (AreAll board publishers.items subscribers.items → ⊥)
+        × (refused.1 ≡ record { board = board; publishers = publishers; subscribers = subscribers })) }
+{
+    if !are_all(&board, &publishers, &subscribers) {
+        let threads = LaneThreads {
+            board,
+            publishers,
+            subscribers,
+        };
+        return Err((EndError::NotAllPorts, threads));
+    }
+    let Board {
+        number: _,
+        publishers: _,
+        subscribers: _,
+        words,
+        mut home,
+        publisher_room,
+        subscriber_room,
+    } = board;
+    let publishers = gather_publishers(&words, &mut home, publishers, publisher_room);
+    let subscribers = gather_subscribers(&words, &mut home, subscribers, subscriber_room);
+    agree(words.words(), &mut home);
+    Ok(EndedThreads {
+        publishers,
+        subscribers,
     })
 }

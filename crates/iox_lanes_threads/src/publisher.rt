@@ -1,6 +1,7 @@
 //! A publisher with its share of the words.
 ghost use Rattle.std.specs.Prelude.{◌≡◌, true, is_some, IfSome};
 ghost use Rattle.iox_lanes_machine.specs.LanesParties.Parties.{head_of, with_user_header};
+ghost use Rattle.iox_lanes_threads_ports.specs.LanesThreadsRule.Acts.{single};
 ghost use Rattle.iox_lanes_threads_ports.specs.Known.{KeepsPayload, KnowsHead, KnowsPayload, KnowsSent};
 ghost use Rattle.iox_lanes_threads_ports.specs.Values.{Loans, Sends, Writes};
 ghost use Rattle.iox_lanes_threads.specs.Ports.{StaysPublisher};
@@ -10,6 +11,8 @@ use crate::threads::OnBoard;
 use iox_lanes_parties::publisher::LoanAnswer;
 use iox_lanes_parties::{PublisherLane, SendAnswer};
 use iox_lanes_threads_ports::ThreadedPublisher;
+use iox_lanes_threads_rule::WordSeat;
+use iox_queues_base::Words;
 use std::marker::Model;
 
 /// A publisher that steps on the words that it shares with the other ports of its board. It may go to any thread; no call takes a
@@ -83,6 +86,24 @@ impl LanePublisher {
             .write(self.words.words(), loan, payload, user_header)
     }
 
+    /// Writes a value into the slot of a loan, and keeps a user header for its send: as `write` of their words. False where the slot is no
+    /// loan of this port, the service has values of another width, or the port stands inside a call; then nothing is done.
+    pub fn write_values<T: Words, U: Words>(
+        &mut self,
+        loan: u64,
+        value: &T,
+        user_header: &U,
+    ) -> bool
+        ensures same { StaysPublisher self.old self.new }
+        ensures call { Writes self.old.own loan (T.parts value.now) (U.parts user_header.now) self.new.own result }
+        ensures payload { result ≡ true → KnowsPayload self.new.own.port loan (T.parts value.now) }
+        ensures header { result ≡ true → head_of loan self.new.own.lane
+            ≡ with_user_header (head_of loan self.old.own.lane) (U.parts user_header.now) }
+    {
+        self.port
+            .write_values(self.words.words(), loan, value, user_header)
+    }
+
     /// Sends a loan that is written, and tells how many connections took it. It is `UnableToDeliver` just where the publisher
     /// fails at a full mailbox and one refused. None where the slot is no such loan of this port, or as of a loan.
     pub fn send(&mut self, loan: u64) -> Option<SendAnswer>
@@ -101,6 +122,13 @@ impl LanePublisher {
         ensures { result ≡ self.own.lane }
     {
         self.port.into_parts().1
+    }
+
+    /// Its seat and its lane, which stands still from now on.
+    pub(crate) fn into_parts(self) -> (WordSeat, PublisherLane)
+        ensures { (result.0.table_id ≡ self.own.table) × (result.0.me ≡ single self.own.port) × (result.1 ≡ self.own.lane) }
+    {
+        self.port.into_parts()
     }
 }
 

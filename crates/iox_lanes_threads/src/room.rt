@@ -178,6 +178,7 @@ fn seat_subscribers(
     requires enough { length lanes.items ≡ length shares.items }
     requires room { (seated.items ≡ []) × (length lanes.items ≤ vec_capacity seated) }
     ensures seated { result.items ≡ opened_subscribers board home.old.table_id of.now.value 0 lanes.items }
+    ensures home { (home.new.table_id ≡ home.old.table_id) × (home.new.me.0.ports ≡ []) }
 {
     let mut rest = lanes.into_iter();
     while let Some(lane) = rest.next() {
@@ -266,6 +267,7 @@ impl Room {
                 publishers: publisher_count,
                 subscribers: subscriber_count,
                 words,
+                home,
                 publisher_room,
                 subscriber_room,
             },

@@ -1,7 +1,9 @@
 //! A subscriber with its share of the words.
-ghost use Rattle.std.specs.Prelude.{◌≡◌, ◌+◌, true, false, length, Some};
+ghost use Rattle.std.specs.Prelude.{◌≡◌, ◌+◌, true, false, length, IfSome, None, Some};
+ghost use Rattle.iox_lanes_machine.specs.LanesParties.Values.{AreValues};
 ghost use Rattle.iox_lanes_machine.specs.LanesParties.Parties.{subscriber_begun};
 ghost use Rattle.iox_lanes_threads_ports.specs.Courses.{SubscriberEnds};
+ghost use Rattle.iox_lanes_threads_ports.specs.LanesThreadsRule.Acts.{single};
 ghost use Rattle.iox_lanes_threads_ports.specs.Known.{KnowsRead, KnowsGivenBack, KeepsGivenBack};
 ghost use Rattle.iox_lanes_threads_ports.specs.Values.{Releases, Reads};
 ghost use Rattle.iox_lanes_threads.specs.Ports.{StaysSubscriber};
@@ -9,8 +11,10 @@ ghost use Rattle.iox_lanes_threads.specs.Ports.{StaysSubscriber};
 use crate::table::Share;
 use crate::threads::OnBoard;
 use iox_lanes_base::calls::Receipt;
-use iox_lanes_parties::{Answer, Call, SubscriberLane};
+use iox_lanes_parties::{Answer, Call, SubscriberLane, values_in};
 use iox_lanes_threads_ports::ThreadedSubscriber;
+use iox_lanes_threads_rule::WordSeat;
+use iox_queues_base::Words;
 use std::marker::Model;
 use std::sync::Wait;
 
@@ -87,6 +91,14 @@ impl LaneSubscriber {
         self.port.words()
     }
 
+    /// The user header and the value that were read, if the last call was a read, and of as many words.
+    pub fn values<T: Words, U: Words>(&self) -> Option<(U, T)>
+        ensures some { IfSome result (AreValues T.of_parts U.of_parts T.WORDS U.WORDS self.now.own.words) }
+        ensures none { result ≡ None → length self.now.own.words ≡ 3 + U.WORDS + T.WORDS → ⊥ }
+    {
+        values_in::<T, U>(self.port.words())
+    }
+
     /// Gives a sample back, and answers whether it went back. None where the slot is no sample of this port.
     pub fn release(&mut self, sample: u64) -> Option<bool>
         ensures same { StaysSubscriber self.old self.new }
@@ -102,6 +114,13 @@ impl LaneSubscriber {
         ensures { result ≡ self.own.lane }
     {
         self.port.into_parts().1
+    }
+
+    /// Its seat and its lane, which stands still from now on.
+    pub(crate) fn into_parts(self) -> (WordSeat, SubscriberLane)
+        ensures { (result.0.table_id ≡ self.own.table) × (result.0.me ≡ single self.own.port) × (result.1 ≡ self.own.lane) }
+    {
+        self.port.into_parts()
     }
 }
 

@@ -5,6 +5,7 @@ use crate::publisher::LanePublisher;
 use crate::subscriber::LaneSubscriber;
 use crate::table::Share;
 use iox_lanes_parties::{PublisherLane, SubscriberLane};
+use iox_lanes_threads_rule::WordSeat;
 use std::marker::Model;
 
 /// The words that the ports of a service share, as who opened them keeps them. It knows its ports by the number that it was opened with.
@@ -14,13 +15,15 @@ pub struct Board {
     pub(crate) publishers: usize,
     pub(crate) subscribers: usize,
     pub(crate) words: Share,
+    // The seat at which all ports waited, and to which they come when they end together.
+    pub(crate) home: WordSeat,
     // Room for the ports when they end.
     pub(crate) publisher_room: Vec<PublisherLane>,
     pub(crate) subscriber_room: Vec<SubscriberLane>,
 }
 
 impl Model for Board {
-    ghost use Rattle.std.specs.Prelude.{◌≡◌, ◌≤◌, [], vec_capacity};
+    ghost use Rattle.std.specs.Prelude.{◌≡◌, ◌<◌, ◌≤◌, [], vec_capacity};
     ghost use Rattle.iox_lanes_threads.specs.Ports.{BoardState};
 
     ghost Value = { BoardState };
@@ -28,7 +31,8 @@ impl Model for Board {
     ghost view = { λ b. record { number = b.number; table = b.words; publishers = b.publishers; subscribers = b.subscribers } };
 
     ghost invariant = { λ b. (b.publisher_room.items ≡ []) × (b.publishers ≤ vec_capacity b.publisher_room)
-        × (b.subscriber_room.items ≡ []) × (b.subscribers ≤ vec_capacity b.subscriber_room) };
+        × (b.subscriber_room.items ≡ []) × (b.subscribers ≤ vec_capacity b.subscriber_room) × (b.home.table_id ≡ b.words)
+        × (0 < b.words.words) × (b.home.me.0.ports ≡ []) };
 }
 
 /// A port of some board.

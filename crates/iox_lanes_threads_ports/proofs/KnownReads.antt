@@ -19,6 +19,7 @@ use Rattle.iox_lanes_machine.specs.LanesParties.Parties.{SubscriberLaneState, su
 use Rattle.iox_lanes_machine.specs.LanesParties.Within.{IsSubscribing, IsExtent}
 use Rattle.iox_lanes_machine.specs.LanesParties.declared.call.Call.TheVariants as call
 use Rattle.iox_lanes_threads_rule.specs.Acts.{stepped, ToldBy}
+use Rattle.iox_lanes_threads_rule.specs.Steps.{learned}
 use Rattle.iox_lanes_threads_rule.specs.declared.service.Service.{Service}
 use Rattle.iox_lanes_threads_rule.specs.declared.view.Port.{Port}
 use Rattle.iox_lanes_threads_rule.specs.declared.view.PortParty.{PortParty}
@@ -134,7 +135,7 @@ read_from q extent slot words n false e to = λ k within less. let past : total 
 one_more : (q : Port) (extent : SlotExtent) (slot w n : ℕ) (words : List ℕ) (party : PortParty)
     → length q.known ≡ words_of q.service.sizes → slot < q.service.sizes.slots → IsExtent q.service.sizes extent → w < total extent
     → ReadTo q extent slot words w
-    → ReadTo (record q { known = set q.known (number_of q.service.sizes (Slot slot (word_at extent w))) n; party = party }) extent slot
+    → ReadTo (learned q (set q.known (number_of q.service.sizes (Slot slot (word_at extent w))) n) party) extent slot
     (put_at words w n) (successor w)
 one_more q extent slot w n words party wide there is below to k less within most =
     let is_w : IsWord q.service.sizes (Slot slot (word_at extent w)) = (there, word_in q.service.sizes extent w is below) in

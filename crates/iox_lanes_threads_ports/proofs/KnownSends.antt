@@ -42,7 +42,7 @@ use Rattle.iox_lanes_machine.specs.LanesParties.declared.call.Call.TheVariants a
 use Rattle.iox_lanes_machine.specs.LanesParties.declared.call.Move.TheVariants.{Begin}
 use Rattle.iox_lanes_machine.specs.LanesParties.declared.call.Party.{Party}
 use Rattle.iox_lanes_machine.specs.LanesParties.declared.call.Party.TheVariants.{Publisher, Subscriber}
-use Rattle.iox_lanes_threads_rule.specs.Steps.{known_lost}
+use Rattle.iox_lanes_threads_rule.specs.Steps.{known_lost, learned}
 use Rattle.iox_lanes_threads_rule.specs.Rule.{held}
 use Rattle.iox_lanes_threads_rule.specs.Acts.{stepped, ToldBy}
 use Rattle.iox_lanes_threads_rule.specs.declared.service.Service.{Service}
@@ -197,8 +197,7 @@ ring_headed p slot head q place c ring cells n after access name service there w
 one_more : (p : Port) (slot w v : ℕ) (head : List ℕ) (q : Port) (party : PortParty) → length q.known ≡ words_of q.service.sizes
     → q.service ≡ p.service → slot < q.service.sizes.slots → w < 3 + q.service.sizes.user_header_words → slice_get head w ≡ Some v
     → length head ≡ 3 + q.service.sizes.user_header_words → Heads p slot head w q
-    → Heads p slot head (successor w) (record q
-    { known = set q.known (number_of q.service.sizes (Slot slot (header_word w))) v; party = party })
+    → Heads p slot head (successor w) (learned q (set q.known (number_of q.service.sizes (Slot slot (header_word w))) v) party)
 one_more p slot w v head q party wide service there below at long h =
     let is_w : IsWord q.service.sizes (Slot slot (header_word w)) = (there, head_in q.service.sizes w below) in
     record {

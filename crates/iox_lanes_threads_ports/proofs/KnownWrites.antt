@@ -26,6 +26,7 @@ use Rattle.iox_lanes_machine.specs.LanesParties.declared.call.Move.{Move}
 use Rattle.iox_lanes_machine.specs.LanesParties.declared.call.Move.TheVariants.{Begin, GoOn}
 use Rattle.iox_lanes_machine.proofs.LanesParties.Rings.{and_left, and_right}
 use Rattle.iox_lanes_threads_rule.specs.Acts.{stepped, ToldBy}
+use Rattle.iox_lanes_threads_rule.specs.Steps.{learned}
 use Rattle.iox_lanes_threads_rule.specs.declared.view.Port.{Port}
 use Rattle.iox_lanes_threads_rule.specs.declared.view.PortParty.{PortParty}
 use Rattle.iox_lanes_threads_rule.proofs.Held.{word_at}
@@ -93,7 +94,7 @@ payload_here slot s k w e f = cc (e, f)
 -- one more word
 one_more : (q : Port) (slot s w v : ℕ) (payload : List ℕ) (party : PortParty) → length q.known ≡ words_of q.service.sizes
     → s < q.service.sizes.slots → w < q.service.sizes.payload_words → s ≡ slot → slice_get payload w ≡ Some v
-    → UpTo q slot payload w → UpTo (record q { known = set q.known (number_of q.service.sizes (payload_word s w)) v; party = party })
+    → UpTo q slot payload w → UpTo (learned q (set q.known (number_of q.service.sizes (payload_word s w)) v) party)
     slot payload (successor w)
 one_more q slot s w v payload party wide there below e at up k less within =
     let is_w : IsWord q.service.sizes (payload_word s w) = (there, below) in

@@ -1,5 +1,6 @@
 -- The lemmas on ports in threads.
 pub mod Rings
+pub mod Coming
 pub mod PublisherSteps
 pub mod SubscriberSteps
 pub mod Connections
@@ -16,3 +17,4 @@ pub mod KnownReads
 pub mod KnownReleases
 pub mod KnownSends
 pub mod KnownPushes
+pub mod Counts

@@ -59,6 +59,7 @@ use Rattle.iox_lanes_threads_ports.specs.Ends.{NamesSlot, LonePop, PushKnows}
 use Rattle.iox_lanes_threads_ports.specs.Ports.{sender_of, EachOnce, IsEnd, IsOwnSlot, back_read, PublisherKnows, PublisherStands}
 use Rattle.iox_lanes_threads_ports.specs.Ports.{PublishersGoOn}
 use Rattle.iox_lanes_threads_ports.proofs.Rings.{lone_pop_may, lone_push_may, over_push_may, lone_pop_goes, lone_push_goes, over_push_goes}
+use Rattle.iox_lanes_threads_ports.proofs.Coming.{publisher_came, publisher_began}
 
 -- the connection's publisher
 sends : (at : Option Line) (line : Line) (name : Party) → at ≡ Some line → name ≡ sender_of line → IsSender at name
@@ -346,6 +347,7 @@ module _ (p : Port) (lane : PublisherLaneState) (stands : PublisherStands p lane
         first = stands.first ∙ sym slots.first;
         count = stands.count ∙ sym slots.loans;
         knows = goes_at lane.port.call (publisher_party lane) stands.within.call stands.knows (of_table p lane stands) told;
+        comes = publisher_came p lane n (publisher_next lane.port.call) refl told stands.comes;
       }
 
 -- a loan that is out is one of the publisher's slots
@@ -416,6 +418,7 @@ begins p lane moment c stands fit =
       first = stands.first ∙ sym b.1.first;
       count = stands.count ∙ sym b.1.loans;
       knows = b.0;
+      comes = publisher_began p.party lane moment c stands.comes fit;
     }
 
 pub publishers_go_on : PublishersGoOn

@@ -26,7 +26,7 @@ use Rattle.iox_lanes_machine.specs.LanesParties.declared.call.Party.{Party}
 use Rattle.iox_lanes_machine.specs.LanesParties.declared.call.Party.TheVariants.{Publisher, Subscriber}
 use Rattle.iox_lanes_threads_rule.specs.Service.{Stores, read_word, write_word}
 use Rattle.iox_lanes_threads_rule.specs.Rule.{held, Overflows}
-use Rattle.iox_lanes_threads_rule.specs.Steps.{MoveOn, known_lost}
+use Rattle.iox_lanes_threads_rule.specs.Steps.{MoveOn, known_lost, saw, learned}
 use Rattle.iox_lanes_threads_rule.specs.Acts.{stepped, MayAct, ToldBy}
 use Rattle.iox_lanes_threads_rule.specs.declared.service.Line.{Line}
 use Rattle.iox_lanes_threads_rule.specs.declared.view.Port.{Port}
@@ -125,7 +125,11 @@ write_cell c k ring e = cc e
 
 -- a port that knows something new of one word
 abbrev Knew : Port → SharedWord → ℕ → PortParty → Port
-Knew p w x party = record p { known = set p.known (number_of p.service.sizes w) x; party = party }
+Knew p w x party = learned p (set p.known (number_of p.service.sizes w) x) party
+
+-- and one that has loaded a word
+abbrev Loaded : Port → SharedWord → ℕ → PortParty → Port
+Loaded p w x party = learned (saw p w) (set p.known (number_of p.service.sizes w) x) party
 
 module _ (p : Port) (c : ℕ) (ring : ConnectionRing) (cells : ℕ) (after : ℕ → PortParty)
     (wide : length p.known ≡ words_of p.service.sizes) (read : IsWord p.service.sizes (Ring c ring Read))
@@ -150,7 +154,7 @@ module _ (p : Port) (c : ℕ) (ring : ConnectionRing) (cells : ℕ) (after : ℕ
   lone_pop_goes refusing_pop.Idle answer is k told = tt
   lone_pop_goes refusing_pop.Begun answer is k told = (here (Ring c ring Read) answer read, told.small)
   lone_pop_goes (refusing_pop.SawRead seen) answer is k told =
-      emptied_goes (Knew p (Ring c ring Write) answer (after answer)) seen (answer == seen)
+      emptied_goes (Loaded p (Ring c ring Write) answer (after answer)) seen (answer == seen)
       (beside (Ring c ring Write) (Ring c ring Read) answer write read (read_write c ring) ∙ k.0) k.1
   lone_pop_goes (refusing_pop.Nonempty seen next) answer is k told =
       let e : held p.service (set p.known (number_of p.service.sizes (Ring c ring (Cell (seen % cells)))) answer) (Ring c ring Read)
@@ -177,7 +181,7 @@ module _ (p : Port) (c : ℕ) (ring : ConnectionRing) (cells : ℕ) (after : ℕ
   lone_push_goes refusing_push.Idle answer is k told = tt
   lone_push_goes (refusing_push.Begun limit value) answer is k told = (k, (here (Ring c ring Write) answer write, told.small), refl)
   lone_push_goes (refusing_push.SawWrite limit value seen next) answer is k told =
-      measured_goes (Knew p (Ring c ring Read) answer (after answer)) limit value seen next answer (nat_lt (seen - answer) limit) k.0
+      measured_goes (Loaded p (Ring c ring Read) answer (after answer)) limit value seen next answer (nat_lt (seen - answer) limit) k.0
       (beside (Ring c ring Read) (Ring c ring Write) answer read write (λ e. read_write c ring (sym e)) ∙ k.1.0, k.1.1) k.2
   lone_push_goes (refusing_push.SawRoom value seen next) answer is k told =
       let e : held p.service (set p.known (number_of p.service.sizes (Ring c ring (Cell (seen % cells)))) value) (Ring c ring Write)
@@ -268,12 +272,8 @@ module _ (p : Port) (c : ℕ) (line : Line) (cells : ℕ) (after : ℕ → PortP
       )
 
   swapped_goes : (place seen next value answer : ℕ) (b : Bool) → p.name ≡ Subscriber place → answer < 2 ^ 64
-      → OverPop (record p {
-        known
-            = if b then set p.known (number_of p.service.sizes (read_word c)) next else known_lost p.name p.known
-            (number_of p.service.sizes (read_word c)) answer;
-        party = after answer;
-      }) c
+      → OverPop (learned p (if b then set p.known (number_of p.service.sizes (read_word c)) next else known_lost p.name p.known
+      (number_of p.service.sizes (read_word c)) answer) (after answer)) c
       (overflowing.pop_swapped b answer value)
   swapped_goes place seen next value answer true name small = tt
   swapped_goes place seen next value answer false name small = let t = lost_knows p.name place answer name in ((t.0, small), t.1, refl)
@@ -286,7 +286,7 @@ module _ (p : Port) (c : ℕ) (line : Line) (cells : ℕ) (after : ℕ → PortP
   over_pop_goes overflowing_pop.Begun answer name is k told = (at_here (read_word c) answer over_read, told.small)
   over_pop_goes (overflowing_pop.SawRead seen) answer name is k told =
       let up : knows p (read_word c) ≤ answer = told.above c line ring refl in
-      emptied_over (Knew p (write_word c) answer (after answer)) seen answer (answer == seen) refl
+      emptied_over (Loaded p (write_word c) answer (after answer)) seen answer (answer == seen) refl
       (at_beside (write_word c) (read_word c) answer over_write over_read (read_write c Submission) ∙ k.0, k.1) (omega (arith, up, k.0))
       (at_here (write_word c) answer over_write)
   over_pop_goes (overflowing_pop.Nonempty seen next) answer name is k told =

@@ -27,6 +27,7 @@ use Rattle.iox_lanes_threads_ports.specs.SlotParts.{storing, storing_at}
 use Rattle.iox_lanes_threads_ports.specs.Strides.{called, PublisherStrides, Strode, PublisherStrode, TouchesWord, LaneKind, publishers}
 use Rattle.iox_lanes_threads_ports.specs.Strides.{GoesAhead}
 use Rattle.iox_lanes_threads_ports.specs.Strides.PublisherStrides.{stays, goes}
+use Rattle.iox_lanes_threads_ports.proofs.Coming.{publisher_makes}
 use Rattle.iox_lanes_threads_ports.proofs.PublisherSteps as steps
 use Rattle.iox_lanes_threads_ports.proofs.Running.{SeatIs, seat_stepped, Publishes, Paced, step_paced}
 
@@ -49,6 +50,7 @@ pub publisher_goes_ahead : GoesAhead PublisherLaneState PublisherCall publishers
 publisher_goes_ahead = record {
   itself = λ lane. refl;
   may = λ p call lane stands. steps.may_act p (called call lane) stands;
+  makes = λ p call lane stands. publisher_makes p.party (called call lane) stands.comes;
   stays = λ p lane. stays;
   goes = λ p begun made q call lane answer stands strides touches told. (
     steps.goes_on q (called call lane) stands answer told,

@@ -51,6 +51,7 @@ use Rattle.iox_lanes_threads_ports.specs.Ends.{LonePush, PopKnows}
 use Rattle.iox_lanes_threads_ports.specs.Ports.{receiver_of, IsEnd, back_write, SubscriberKnows, SubscriberStands, SubscribersGoOn}
 use Rattle.iox_lanes_threads_ports.proofs.PublisherSteps.{SamePort, step_same, moved_over}
 use Rattle.iox_lanes_threads_ports.proofs.Rings.{lone_pop_may, lone_push_may, over_pop_may, lone_pop_goes, lone_push_goes, over_pop_goes}
+use Rattle.iox_lanes_threads_ports.proofs.Coming.{subscriber_came, subscriber_began}
 
 receives : (at : Option Line) (line : Line) (name : Party) → at ≡ Some line → name ≡ receiver_of line → IsReceiver at name
 receives None line name e own = absurd (cc e)
@@ -217,6 +218,7 @@ module _ (p : Port) (lane : SubscriberLaneState) (stands : SubscriberStands p la
             (moved_over (λ s name. All (IsEnd s receiver_of name) lane.port.routes) same stands.routes);
         knows = subst (SubscriberKnows (subscriber_stepped p lane n)) (sym stays.1)
             (goes_at n (subscriber_party lane) lane.port.call stands.within.call stands.knows of_table told);
+        comes = subscriber_came p lane n (subscriber_next lane.port.call) refl told stands.comes;
       }
 
 -- a sample that is borrowed is a slot of the service
@@ -266,6 +268,7 @@ begins p lane moment c stands fit =
       within = (subscribers_stay_within p.service.sizes lane stands.within).0 moment c fit;
       routes = subst (All (IsEnd p.service receiver_of p.name)) (sym b.1) stands.routes;
       knows = b.0;
+      comes = subscriber_began p.party lane moment c stands.comes fit;
     }
 
 pub subscribers_go_on : SubscribersGoOn

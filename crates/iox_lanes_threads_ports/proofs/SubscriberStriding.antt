@@ -14,6 +14,7 @@ use Rattle.iox_lanes_threads_ports.specs.Courses.{subscriber_party, SubscriberGo
 use Rattle.iox_lanes_threads_ports.specs.Courses.SubscriberGoes.{stays, goes}
 use Rattle.iox_lanes_threads_ports.specs.Ports.{SubscriberStands}
 use Rattle.iox_lanes_threads_ports.specs.Strides.{subscriber_called, SubscriberStrode, subscribers, GoesAhead}
+use Rattle.iox_lanes_threads_ports.proofs.Coming.{subscriber_makes}
 use Rattle.iox_lanes_threads_ports.proofs.Striding.{strode_moved, strode_none}
 use Rattle.iox_lanes_threads_ports.proofs.SubscriberSteps as steps
 use Rattle.iox_lanes_threads_ports.proofs.Running.{Subscribes}
@@ -23,6 +24,7 @@ pub subscriber_goes_ahead : GoesAhead SubscriberLaneState SubscriberCall subscri
 subscriber_goes_ahead = record {
   itself = λ lane. refl;
   may = λ p call lane stands. steps.may_act p (subscriber_called call lane) stands;
+  makes = λ p call lane stands. subscriber_makes p.party (subscriber_called call lane) stands.comes;
   stays = λ p lane. stays;
   goes = λ p begun made q call lane answer stands strides touches told. (
     steps.goes_on q (subscriber_called call lane) stands answer told,

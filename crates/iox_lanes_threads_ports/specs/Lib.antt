@@ -9,4 +9,5 @@ pub mod RingCalls
 pub mod SlotParts
 pub mod Pace
 pub mod Paces
+pub mod Counts
 pub use Rattle.iox_lanes_threads_rule.specs as LanesThreadsRule

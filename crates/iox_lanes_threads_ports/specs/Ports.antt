@@ -23,6 +23,7 @@ use Rattle.iox_lanes_threads_ports.specs.Courses.{publisher_stepped, subscriber_
 use Rattle.iox_lanes_machine.specs.LanesParties.Within.{IsPublisher, IsSubscriber}
 use Rattle.iox_lanes_machine.specs.LanesParties.declared.call.Party.{Party}
 use Rattle.iox_lanes_machine.specs.LanesParties.declared.call.Party.TheVariants.{Publisher, Subscriber}
+use Rattle.iox_lanes_threads_rule.specs.Lanes.{ComesToPublisher, ComesToSubscriber}
 use Rattle.iox_lanes_threads_rule.specs.declared.service.Line.{Line}
 use Rattle.iox_lanes_threads_rule.specs.declared.service.Service.{Service}
 use Rattle.iox_lanes_threads_rule.specs.declared.service.SlotRange.{SlotRange}
@@ -86,7 +87,7 @@ SubscriberKnows p (subscribing.WasRead slot) = Unit {0}
 SubscriberKnows p (subscribing.Releasing place route push) = LonePush p (back_write route) push
 SubscriberKnows p (subscribing.Released done) = Unit {0}
 
--- a publisher's lane stands where its port knows what the next step needs
+-- a publisher's lane stands where its port knows what the next step needs, and comes there from what its view has it be
 pub record PublisherStands (p : Port) (lane : PublisherLaneState) : Type 0 where
   pub place : ℕ
   pub range : SlotRange
@@ -99,6 +100,7 @@ pub record PublisherStands (p : Port) (lane : PublisherLaneState) : Type 0 where
   pub first : range.first ≡ lane.port.book.first
   pub count : range.count ≡ length lane.port.book.loans
   pub knows : PublisherKnows p lane.port.book lane.port.call
+  pub comes : ComesToPublisher p.party lane
 
 -- a subscriber's lane likewise
 pub record SubscriberStands (p : Port) (lane : SubscriberLaneState) : Type 0 where
@@ -107,6 +109,7 @@ pub record SubscriberStands (p : Port) (lane : SubscriberLaneState) : Type 0 whe
   pub within : IsSubscriber p.service.sizes lane
   pub routes : All (IsEnd p.service receiver_of p.name) lane.port.routes
   pub knows : SubscriberKnows p lane.port.call
+  pub comes : ComesToSubscriber p.party lane
 
 -- a publisher's begin that fits keeps it standing so, and its next access is one that its port may make, after whose answer it
 -- stands so again

@@ -12,6 +12,7 @@ use Rattle.iox_lanes_machine.specs.LanesBase.declared.words.access.SharedAccess.
 use Rattle.iox_lanes_machine.specs.LanesBase.Subscribing.{subscriber_next}
 use Rattle.iox_lanes_machine.specs.LanesParties.Parties.{PublisherLaneState, SubscriberLaneState, publisher_after, subscriber_after}
 use Rattle.iox_lanes_threads_rule.specs.Acts.{single, port_of, stepped, MayAct, ToldBy}
+use Rattle.iox_lanes_threads_rule.specs.Lanes.{MakesNext}
 use Rattle.iox_lanes_threads_rule.specs.declared.view.Port.{Port}
 use Rattle.iox_lanes_threads_rule.specs.declared.view.PortParty.{PortParty}
 use Rattle.iox_lanes_threads_rule.specs.declared.view.View.{View}
@@ -102,11 +103,13 @@ subscribers = record {
 abbrev pub StrodeBy : {L C : Type 0} → LaneKind L C → Port → L → ℕ → Me ℕ View → L → Type 0
 StrodeBy kind p lane made me now = Strode kind.Stands (kind.Strides p lane made) p me now
 
--- Accesses may be made ahead of lanes of a kind. Where a lane stands its port may make the access that comes next. Behind no step it made
--- none, and behind one more on a shared word, after its answer, it stands again and made one step more.
+-- Accesses may be made ahead of lanes of a kind. Where a lane stands its port may make the access that comes next, and makes it next.
+-- Behind no step it made none, and behind one more on a shared word, after its answer, it stands again and made one step more.
 pub record GoesAhead (L C : Type 0) (kind : LaneKind L C) : Type 0 where
   pub itself : (lane : L) → lane ≡ kind.called (kind.standing lane) lane
   pub may : (p : Port) (call : C) (lane : L) → kind.Stands p (kind.called call lane) → MayAct p (kind.next call)
+  pub makes : (p : Port) (call : C) (lane : L) → kind.Stands p (kind.called call lane)
+      → MakesNext p.party (kind.next call) (kind.party (kind.called call lane))
   pub stays : (p : Port) (lane : L) → kind.Strides p lane 0 p lane
   pub goes : (p : Port) (begun : L) (made : ℕ) (q : Port) (call : C) (lane : L) (answer : ℕ)
       → kind.Stands q (kind.called call lane) → kind.Strides p begun made q (kind.called call lane)

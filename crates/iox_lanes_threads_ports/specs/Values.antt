@@ -16,6 +16,7 @@ use Rattle.iox_lanes_machine.specs.LanesParties.PublisherKeeping.{loan_of}
 use Rattle.iox_lanes_machine.specs.LanesParties.declared.publisher.slot_book.LoanAnswer.{LoanAnswer}
 use Rattle.iox_lanes_machine.specs.LanesParties.Parties.{PublisherLaneState, SubscriberLaneState, is_out, publisher_fits, publisher_begun}
 use Rattle.iox_lanes_machine.specs.LanesParties.Parties.{write_begun, subscriber_fits, subscriber_begun, subscriber_after}
+use Rattle.iox_lanes_machine.specs.LanesParties.Values.{HasWidths, IsWriteOf}
 use Rattle.iox_lanes_machine.specs.LanesParties.declared.call.SendAnswer.{SendAnswer}
 use Rattle.iox_lanes_machine.specs.LanesParties.declared.call.Answer.{Answer}
 use Rattle.iox_lanes_machine.specs.LanesParties.declared.call.Answer.TheVariants as answer
@@ -52,26 +53,12 @@ pub record IsSeated (table : TableId) (me : Me ℕ View) (sizes : TableSizes) : 
 -- a write with room for the words of a payload and of a user header
 abbrev pub HasRoom : TableSizes → Move → Type 0
 HasRoom sizes GoOn = ⊥
-HasRoom sizes (Begin call.LoanUninit) = ⊥
-HasRoom sizes (Begin (call.Write loan payload user_header)) = (length payload.items ≡ sizes.payload_words)
-    × (length user_header.items ≡ sizes.user_header_words)
-HasRoom sizes (Begin (call.Send loan)) = ⊥
-HasRoom sizes (Begin (call.DropLoan loan)) = ⊥
-HasRoom sizes (Begin call.Receive) = ⊥
-HasRoom sizes (Begin (call.Read sample)) = ⊥
-HasRoom sizes (Begin (call.Release sample)) = ⊥
+HasRoom sizes (Begin c) = HasWidths sizes.payload_words sizes.user_header_words c
 
 -- the write of these words
 abbrev pub Asks : ℕ → List ℕ → List ℕ → Move → Type 0
 Asks loan payload user_header GoOn = ⊥
-Asks loan payload user_header (Begin call.LoanUninit) = ⊥
-Asks loan payload user_header (Begin (call.Write slot words header)) = (slot ≡ loan) × (words.items ≡ payload)
-    × (header.items ≡ user_header)
-Asks loan payload user_header (Begin (call.Send slot)) = ⊥
-Asks loan payload user_header (Begin (call.DropLoan slot)) = ⊥
-Asks loan payload user_header (Begin call.Receive) = ⊥
-Asks loan payload user_header (Begin (call.Read sample)) = ⊥
-Asks loan payload user_header (Begin (call.Release sample)) = ⊥
+Asks loan payload user_header (Begin c) = IsWriteOf loan payload user_header c
 
 -- a publisher that begins what it is asked for
 abbrev pub publisher_begins : Move → PublisherLaneState → PublisherLaneState

@@ -1,4 +1,5 @@
 //! Each stage of a call knows what its next step needs: proved of the definitions that the contracts of ports name.
+ghost use Rattle.iox_lanes_threads_ports.specs.Counts.{PublishersCount, SubscribersCount};
 ghost use Rattle.iox_lanes_threads_ports.specs.Ports.{PublishersGoOn, SubscribersGoOn};
 
 /// A publisher that stands where it knows what its stage needs may make its next access, and stands so after the answer.
@@ -9,4 +10,15 @@ pub fn publishers_go_on()
 /// A subscriber likewise.
 pub fn subscribers_go_on()
     ensures { SubscribersGoOn }
+{}
+
+/// A publisher's port counts the accesses to shared words that it makes. Behind any steps of its calls it has made just as many more as
+/// these steps name: none is made twice, and none is left out.
+pub fn publishers_count()
+    ensures { PublishersCount }
+{}
+
+/// So does a subscriber's.
+pub fn subscribers_count()
+    ensures { SubscribersCount }
 {}

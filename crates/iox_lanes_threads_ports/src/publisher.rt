@@ -16,6 +16,7 @@ use iox_lanes_base::words::TableSizes;
 use iox_lanes_parties::publisher::LoanAnswer;
 use iox_lanes_parties::{Answer, Call, Move, PublisherLane, SendAnswer};
 use iox_lanes_threads_rule::{Opening, WordSeat, Words};
+use iox_queues_base::Words as WordValues;
 use std::alloc::{AllocError, Global};
 use std::marker::Model;
 
@@ -85,6 +86,24 @@ fn fill_call(asked: &mut Call, loan: u64, words: &[u64], header: &[u64]) -> bool
             true
         }
         _ => false,
+    }
+}
+
+// Puts the words of a value and of a user header there, if they are as many as there is room for.
+fn fill_values<T: WordValues, U: WordValues>(
+    asked: &mut Move,
+    loan: u64,
+    value: &T,
+    user_header: &U,
+) -> bool
+    ensures fills { result ≡ true → Asks loan (T.parts value.now) (U.parts user_header.now) asked.new }
+    ensures refuses { (sizes : TableSizes) → HasRoom sizes asked.old → HasRoom sizes asked.new
+        × (result ≡ false → length (T.parts value.now) ≡ sizes.payload_words → length (U.parts user_header.now) ≡ sizes.user_header_words
+        → ⊥) }
+{
+    match asked {
+        Move::Begin(call) => call.write_anew(loan, value, user_header),
+        Move::GoOn => false,
     }
 }
 
@@ -235,6 +254,36 @@ impl ThreadedPublisher {
         ensures header { result ≡ true → head_of loan self.new.lane ≡ with_user_header (head_of loan self.old.lane) user_header.now }
     {
         if !fill(&mut self.asked, loan, payload, user_header) {
+            return false;
+        }
+        let most = write_steps(&self.sizes);
+        let answer = does(
+            words,
+            &mut self.seat,
+            &self.sizes,
+            &mut self.lane,
+            &self.asked,
+            most,
+        );
+        answer.is_some()
+    }
+
+    /// Writes a value into the slot of a loan, and keeps a user header for its send: as `write` of their words.
+    pub fn write_values<K: Opening, T: WordValues, U: WordValues>(
+        &mut self,
+        words: &Words<K>,
+        loan: u64,
+        value: &T,
+        user_header: &U,
+    ) -> bool
+        requires { self.old.table ≡ words.now.table_id }
+        ensures same { SamePublisher self.old self.new }
+        ensures call { Writes self.old loan (T.parts value.now) (U.parts user_header.now) self.new result }
+        ensures payload { result ≡ true → KnowsPayload self.new.port loan (T.parts value.now) }
+        ensures header { result ≡ true → head_of loan self.new.lane
+            ≡ with_user_header (head_of loan self.old.lane) (U.parts user_header.now) }
+    {
+        if !fill_values(&mut self.asked, loan, value, user_header) {
             return false;
         }
         let most = write_steps(&self.sizes);

@@ -11,8 +11,10 @@ use Rattle.iox_lanes_parties.specs.LanesBase.Numbers.{number_of, words_of, IsWor
 use Rattle.iox_lanes_parties.specs.LanesBase.declared.words.sizes.TableSizes.{TableSizes}
 use Rattle.iox_lanes_parties.specs.LanesBase.declared.words.word.SharedWord.{SharedWord}
 use Rattle.iox_lanes_parties.proofs.LanesBase.Numbering.{apart, within}
+use Rattle.iox_lanes_machine.specs.LanesBase.declared.words.access.SharedAccess.TheVariants.{Load, Store, Exchange}
+use Rattle.iox_lanes_threads_rule.specs.Lanes.{MakesNext, IsBacked}
 use Rattle.iox_lanes_threads_rule.specs.Rule.{held, Fits, Sits, Ruled, one}
-use Rattle.iox_lanes_threads_rule.specs.Steps.{learned, known_exchanged, Told, MayStore, MayExchange}
+use Rattle.iox_lanes_threads_rule.specs.Steps.{saw, learned, known_exchanged, Told, MayStore, MayExchange}
 use Rattle.iox_lanes_threads_rule.specs.Acts.{FitSome, Holds, single, loaded, stored, exchanged}
 use Rattle.iox_lanes_threads_rule.specs.declared.service.Service.{Service}
 use Rattle.iox_lanes_threads_rule.specs.declared.view.Port.{Port}
@@ -20,6 +22,7 @@ use Rattle.iox_lanes_threads_rule.specs.declared.view.PortParty.{PortParty}
 use Rattle.iox_lanes_threads_rule.specs.declared.view.View.{View}
 use Rattle.iox_lanes_threads_rule.proofs.Keeping.{loads, stores, is_read}
 use Rattle.iox_lanes_threads_rule.proofs.Exchanging.{exchanges}
+use Rattle.iox_lanes_threads_rule.proofs.PortsBehind.{load_backed, store_backed, exchange_backed}
 
 -- what a step of a port owes to the rule of words and ports
 abbrev pub Moves : (List ℕ → List Port → Type 0) → Port → ℕ → (ℕ → ℕ) → (ℕ → Port → Type 0) → Type 0
@@ -97,8 +100,9 @@ lifts fits slots id p i f shows tell moves tells state ruled homes mine small =
 
 -- the service is the port's
 own_fit : (words : List ℕ) (ports : List Port) (p : Port) → FitSome words ports → get_elem? ports p.number ≡ some p
-    → Fits p.service words ports
-own_fit words ports p fit at = subst (λ (s : Service). Fits s words ports) (sym (fit.1.ports p.number p at).service) fit.1
+    → Fits p.service words ports × IsBacked p.service words ports
+own_fit words ports p fit at =
+    subst (λ (s : Service). Fits s words ports × IsBacked s words ports) (sym (fit.1.ports p.number p at).service) (fit.1, fit.2)
 
 -- what is told of a word is told of the word of its number
 at_number : (p : Port) (w v : SharedWord) (T : SharedWord → Type 0) → IsWord p.service.sizes w → IsWord p.service.sizes v
@@ -106,32 +110,44 @@ at_number : (p : Port) (w v : SharedWord) (T : SharedWord → Type 0) → IsWord
 at_number p w v T is there e h = subst T (sym (apart p.service.sizes v w there is e)) h
 
 pub load_allowed : (slots id : ℕ) (p : Port) (after : ℕ → PortParty) (w : SharedWord) → IsWord p.service.sizes w
+    → MakesNext p.party (Load w) after
     → Allows Holds slots id (single p) (number_of p.service.sizes w) (λ n. n)
     (loaded p after (step slots (number_of p.service.sizes w) 0 0 none) (single p))
-load_allowed slots id p after w is =
+load_allowed slots id p after w is next =
     lifts FitSome slots id p (number_of p.service.sizes w) (λ n. n)
-    (λ n q. (q ≡ learned p (set p.known (number_of p.service.sizes w) n) (after n)) × Told p.service p w n)
+    (λ n q. (q ≡ learned (saw p w) (set p.known (number_of p.service.sizes w) n) (after n)) × Told p.service p w n)
     (loaded p after (step slots (number_of p.service.sizes w) 0 0 none) (single p))
     (λ words ports fit at small.
-    let done = loads p.service words ports p w (after (held p.service words w)) (own_fit words ports p fit at) at is small in (
-      learned p (set p.known (number_of p.service.sizes w) (held p.service words w)) (after (held p.service words w)),
+    let own = own_fit words ports p fit at in
+    let done = loads p.service words ports p w (after (held p.service words w)) own.0 at is small in
+    let known : List ℕ = set p.known (number_of p.service.sizes w) (held p.service words w) in (
+      learned (saw p w) known (after (held p.service words w)),
       refl,
-      (p.service, done.1),
+      (p.service, done.1, load_backed p.service words ports p w after own.0 at is next own.1),
       (refl, done.0),
     ))
-    (λ n q told. (ap single told.0, (λ v there e. at_number p w v (λ u. Told p.service p u n) is there e told.1)))
+    (λ n q told v there e. at_number p w v
+    (λ u. (single q ≡ single (learned (saw p u) (set p.known (number_of p.service.sizes w) n) (after n)))
+    × Told p.service p u n) is there e (ap single told.0, told.1))
 
 pub store_allowed : (slots id : ℕ) (p : Port) (after : ℕ → PortParty) (w : SharedWord) (new : ℕ) → MayStore p.service p w new
+    → MakesNext p.party (Store w new) after
     → Allows Holds slots id (single p) (number_of p.service.sizes w) (λ _. new)
     (λ _. stored p after (step slots (number_of p.service.sizes w) new 0 none) (single p) new)
-store_allowed slots id p after w new may =
+store_allowed slots id p after w new may next =
     lifts FitSome slots id p (number_of p.service.sizes w) (λ _. new)
     (λ n q. q ≡ learned p (set p.known (number_of p.service.sizes w) new) (after 0))
     (λ _. stored p after (step slots (number_of p.service.sizes w) new 0 none) (single p) new)
-    (λ words ports fit at small. (
-      learned p (set p.known (number_of p.service.sizes w) new) (after 0),
+    (λ words ports fit at small.
+    let own = own_fit words ports p fit at in
+    let known : List ℕ = set p.known (number_of p.service.sizes w) new in (
+      learned p known (after 0),
       refl,
-      (p.service, stores p.service words ports p w new (after 0) (own_fit words ports p fit at) at may),
+      (
+        p.service,
+        stores p.service words ports p w new (after 0) own.0 at may,
+        store_backed p.service words ports p w new after own.0 at may next own.1,
+      ),
       refl,
     ))
     (λ n q told. ap single told)
@@ -141,9 +157,10 @@ same_either true x y = refl
 same_either false x y = refl
 
 pub exchange_allowed : (slots id : ℕ) (p : Port) (after : ℕ → PortParty) (w : SharedWord) (old new : ℕ) → MayExchange p.service p w old new
+    → MakesNext p.party (Exchange w old new) after
     → Allows Holds slots id (single p) (number_of p.service.sizes w) (λ n. either (n == old) new n)
     (exchanged p after (step slots (number_of p.service.sizes w) old new none) (single p))
-exchange_allowed slots id p after w old new may =
+exchange_allowed slots id p after w old new may next =
     let is : IsWord p.service.sizes w = subst (IsWord p.service.sizes) (sym may.word)
     (is_read p.service may.connection may.line may.ring) in
     lifts FitSome slots id p (number_of p.service.sizes w) (λ n. either (n == old) new n)
@@ -151,15 +168,16 @@ exchange_allowed slots id p after w old new may =
     × (held p.service p.known w ≤ n)) (exchanged p after (step slots (number_of p.service.sizes w) old new none) (single p))
     (λ words ports fit at small.
     let found : ℕ = held p.service words w in
-    let done = exchanges p.service words ports p w old new (after found) (own_fit words ports p fit at) at may in
-    let q : Port = learned p (known_exchanged p.name p.known (number_of p.service.sizes w) old new found) (after found) in (
+    let own = own_fit words ports p fit at in
+    let done = exchanges p.service words ports p w old new (after found) own.0 at may in
+    let known : List ℕ = known_exchanged p.name p.known (number_of p.service.sizes w) old new found in
+    let q : Port = learned p known (after found) in
+    let both = subst (λ (x : ℕ). Fits p.service (set words (number_of p.service.sizes w) x) (set ports p.number q)
+    × IsBacked p.service (set words (number_of p.service.sizes w) x) (set ports p.number q)) (same_either (found == old) new found)
+    (done.1, exchange_backed p.service words ports p w old new after own.0 at may next own.1) in (
       q,
       refl,
-      (
-        p.service,
-        subst (λ (x : ℕ). Fits p.service (set words (number_of p.service.sizes w) x) (set ports p.number q))
-            (same_either (found == old) new found) done.1,
-      ),
+      (p.service, both.0, both.1),
       (refl, small, done.0),
     ))
     (λ n q told. (ap single told.0, told.1, (λ v there e. at_number p w v (λ u. held p.service p.known u ≤ n) is there e told.2)))
@@ -175,30 +193,30 @@ module _ (slots id words : ℕ) (sizes : TableSizes) (p : Port) (after : ℕ →
   in_table is = let less : number_of sizes w < words_of sizes
       = subst (λ (z : TableSizes). number_of z w < words_of z) same (within p.service.sizes w is).1 in omega (arith, less, at, wide)
 
-  pub load_granted : IsWord p.service.sizes w → (i < words)
+  pub load_granted : IsWord p.service.sizes w → MakesNext p.party (Load w) after → (i < words)
       × Allows Holds slots id me i (λ n. n) (loaded p after (step slots i 0 0 none) me)
-  load_granted is = (
+  load_granted is next = (
     in_table is,
     subst (λ (m : Me ℕ View). Allows Holds slots id m i (λ n. n) (loaded p after (step slots i 0 0 none) m)) (sym mine)
         (subst (λ (n : ℕ). Allows Holds slots id (single p) n (λ n. n) (loaded p after (step slots n 0 0 none) (single p))) at_own
-        (load_allowed slots id p after w is)),
+        (load_allowed slots id p after w is next)),
   )
 
-  pub store_granted : (new : ℕ) → MayStore p.service p w new → (i < words)
+  pub store_granted : (new : ℕ) → MayStore p.service p w new → MakesNext p.party (Store w new) after → (i < words)
       × Allows Holds slots id me i (λ _. new) (λ _. stored p after (step slots i new 0 none) me new)
-  store_granted new may = (
+  store_granted new may next = (
     in_table may.word,
     subst (λ (m : Me ℕ View). Allows Holds slots id m i (λ _. new) (λ _. stored p after (step slots i new 0 none) m new)) (sym mine)
         (subst (λ (n : ℕ). Allows Holds slots id (single p) n (λ _. new) (λ _. stored p after (step slots n new 0 none) (single p) new))
-        at_own (store_allowed slots id p after w new may)),
+        at_own (store_allowed slots id p after w new may next)),
   )
 
-  pub exchange_granted : (old new : ℕ) → MayExchange p.service p w old new → (i < words)
+  pub exchange_granted : (old new : ℕ) → MayExchange p.service p w old new → MakesNext p.party (Exchange w old new) after → (i < words)
       × Allows Holds slots id me i (λ n. either (n == old) new n) (exchanged p after (step slots i old new none) me)
-  exchange_granted old new may = (
+  exchange_granted old new may next = (
     in_table (subst (IsWord p.service.sizes) (sym may.word) (is_read p.service may.connection may.line may.ring)),
     subst (λ (m : Me ℕ View). Allows Holds slots id m i (λ n. either (n == old) new n)
         (exchanged p after (step slots i old new none) m)) (sym mine)
         (subst (λ (n : ℕ). Allows Holds slots id (single p) n (λ n. either (n == old) new n)
-        (exchanged p after (step slots n old new none) (single p))) at_own (exchange_allowed slots id p after w old new may)),
+        (exchanged p after (step slots n old new none) (single p))) at_own (exchange_allowed slots id p after w old new may next)),
   )

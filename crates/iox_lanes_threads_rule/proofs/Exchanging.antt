@@ -45,7 +45,7 @@ no_sender : (at : Option Line) (y : ℕ) → IsSender at (Subscriber y) → ⊥
 no_sender None y h = h
 no_sender (Some line) y h = no_subscriber line.publisher y (sym h)
 
-read_behind : (s : Service) (c : ℕ) → number_of s.sizes (read_word c) - 1 ≡ number_of s.sizes (write_word c)
+pub read_behind : (s : Service) (c : ℕ) → number_of s.sizes (read_word c) - 1 ≡ number_of s.sizes (write_word c)
 read_behind s c = omega arith
 
 -- An exchange, by who made it, and whether it was won: what it needs is stated once for what the port knows then.
@@ -142,7 +142,7 @@ module _ (s : Service) (words : List ℕ) (ports : List Port) (p : Port) (party 
       ]
 
   pub exchange_fits : Fits s after (set ports p.number (learned p known party))
-  exchange_fits = kept s words ports p known party (read_word c) x fit at exchange_change exchange_shared exchange_moved
+  exchange_fits = kept s words ports p p.seen known party (read_word c) x fit at exchange_change exchange_shared exchange_moved
 
 module _ (s : Service) (words : List ℕ) (ports : List Port) (p : Port) (party : PortParty) (c : ℕ) (line : Line) (old new : ℕ)
     (fit : Fits s words ports) (at : get_elem? ports p.number ≡ some p)

@@ -1,5 +1,5 @@
 -- Loads and stores keep the rule.
-use Rattle.std.proofs.Common.{ℕ, ◌≡◌, ◌<◌, ◌≤◌, ◌^◌, List, length, length-set, set, slice_get, Option, None, Some, refl, sym, ◌∙◌, ap}
+use Rattle.std.proofs.Common.{ℕ, ◌≡◌, ◌<◌, ◌≤◌, ◌^◌, List, ◌∷◌, length, length-set, set, slice_get, Option, None, Some, refl, sym, ◌∙◌, ap}
 use Rattle.std.proofs.Common.{subst, inl, inr, arith}
 use Rattle.std.proofs.lemmas.List.{get_or-set_other}
 use mathlib.Core.Option.{some}
@@ -14,7 +14,7 @@ use Rattle.iox_lanes_parties.specs.declared.call.Party.{Party}
 use Rattle.iox_lanes_parties.specs.declared.call.Party.TheVariants.{Subscriber}
 use Rattle.iox_lanes_threads_rule.specs.Service.{number_among, Refuses, IsLoneReader, Stores, IsPosition, IsCell, write_word, read_word}
 use Rattle.iox_lanes_threads_rule.specs.Rule.{held, IsPort, Overflows, Fits}
-use Rattle.iox_lanes_threads_rule.specs.Steps.{learned, Told, MayStore, LoadsKeep, StoresKeep}
+use Rattle.iox_lanes_threads_rule.specs.Steps.{saw, learned, Told, MayStore, LoadsKeep, StoresKeep}
 use Rattle.iox_lanes_threads_rule.specs.declared.service.Line.{Line}
 use Rattle.iox_lanes_threads_rule.specs.declared.service.Service.{Service}
 use Rattle.iox_lanes_threads_rule.specs.declared.view.Port.{Port}
@@ -22,9 +22,9 @@ use Rattle.iox_lanes_threads_rule.specs.declared.view.PortParty.{PortParty}
 use Rattle.iox_lanes_threads_rule.proofs.Held.{word_at, at_same, at_other, at_kept, one_writer}
 
 -- a port that learned something is at its number still
-pub same_port : (s : Service) (p : Port) (known : List ℕ) (party : PortParty) → IsPort s p.number p → length known ≡ length p.known
-    → IsPort s p.number (learned p known party)
-same_port s p known party k e = record { service = k.service; number = refl; name = k.name; wide = e ∙ k.wide }
+pub same_port : (s : Service) (p : Port) (seen : List SharedWord) (known : List ℕ) (party : PortParty) → IsPort s p.number p
+    → length known ≡ length p.known → IsPort s p.number (learned (record p { seen = seen }) known party)
+same_port s p seen known party k e = record { service = k.service; number = refl; name = k.name; wide = e ∙ k.wide }
 
 -- What a step changes: one word, what its port knows. It lowers no position, puts the number of a slot into a cell, and stores
 -- into no other port's word; and its port knows of the words what it must.
@@ -41,21 +41,22 @@ pub record Change (s : Service) (words : List ℕ) (p : Port) (known : List ℕ)
 pub one_number : (s : Service) (n m : ℕ) (p q : Port) → IsPort s n p → IsPort s m q → p.name ≡ q.name → n ≡ m
 one_number s n m p q k l e = sym k.name ∙ ap (number_among s) e ∙ l.name
 
-module _ (s : Service) (words : List ℕ) (ports : List Port) (p : Port) (known : List ℕ) (party : PortParty) (w : SharedWord) (x : ℕ)
-    (fit : Fits s words ports) (at : get_elem? ports p.number ≡ some p)
+module _ (s : Service) (words : List ℕ) (ports : List Port) (p : Port) (seen : List SharedWord) (known : List ℕ) (party : PortParty)
+    (w : SharedWord) (x : ℕ) (fit : Fits s words ports) (at : get_elem? ports p.number ≡ some p)
     (change : Change s words p known w x) where
   abbrev after : List ℕ
   after = set words (number_of s.sizes w) x
 
   abbrev new : Port
-  new = learned p known party
+  new = learned (record p { seen = seen }) known party
 
   mine : IsPort s p.number p
   mine = fit.ports p.number p at
 
   is_port : (n : ℕ) (r : Port) → get_elem? (set ports p.number new) n ≡ some r → IsPort s n r
   is_port n r got = elim (at_set ports p.number n new r got) [
-    | inl here ↦ subst (λ (z : ℕ × Port). IsPort s z.0 z.1) (λ i. (sym here.0 i, here.1 i)) (same_port s p known party mine change.wide)
+    | inl here ↦ subst (λ (z : ℕ × Port). IsPort s z.0 z.1) (λ i. (sym here.0 i, here.1 i))
+        (same_port s p seen known party mine change.wide)
     | inr there ↦ fit.ports n r there.1
   ]
 
@@ -202,14 +203,14 @@ module _ (s : Service) (words : List ℕ) (ports : List Port) (p : Port) (party 
 
   -- the words are as they were, and the port knows the read position if it knew it before
   load_moved : (connection : ℕ) (line : Line) (number : ℕ) (r : Port) → Overflows s connection line
-      → get_elem? (set ports p.number (learned p (set p.known i found) party)) number ≡ some r
+      → get_elem? (set ports p.number (learned (saw p w) (set p.known i found) party)) number ≡ some r
       → r.name ≡ Subscriber line.subscriber
       → (held s r.known (read_word connection) ≡ held s (set words i found) (read_word connection) → ⊥)
       → held s (set words i found) (read_word connection) < held s (set words i found) (write_word connection)
   load_moved connection line number r ring got name off =
       let there = is_read s connection line ring in
       let less : held s words (read_word connection) < held s words (write_word connection)
-      = elim (at_set ports p.number number (learned p (set p.known i found) party) r got) [
+      = elim (at_set ports p.number number (learned (saw p w) (set p.known i found) party) r got) [
         | inl here ↦ elim (word_at s p.known w (read_word connection) found wide is there) [
           | inl same ↦ absurd (off (ap (λ (z : Port). held s z.known (read_word connection)) (sym here.1) ∙ same.1 ∙ sym
               (ap (held s words) same.0) ∙ sym (stay (read_word connection) there)))
@@ -221,8 +222,8 @@ module _ (s : Service) (words : List ℕ) (ports : List Port) (p : Port) (party 
       ] in
       omega (arith, less, stay (read_word connection) there, stay (write_word connection) (is_write s connection line ring))
 
-  pub load_fits : Fits s (set words i found) (set ports p.number (learned p (set p.known i found) party))
-  load_fits = kept s words ports p (set p.known i found) party w found fit at load_change load_shared load_moved
+  pub load_fits : Fits s (set words i found) (set ports p.number (learned (saw p w) (set p.known i found) party))
+  load_fits = kept s words ports p (w ∷ p.seen) (set p.known i found) party w found fit at load_change load_shared load_moved
 
 pub loads : LoadsKeep
 loads s words ports p w party fit at is small = (told s words ports p w fit at is small, load_fits s words ports p party w fit at is)
@@ -304,7 +305,7 @@ module _ (s : Service) (words : List ℕ) (ports : List Port) (p : Port) (party 
       omega (arith, less, read_stays connection line ring, write_grows connection line ring)
 
   pub store_fits : Fits s (set words j x) (set ports p.number (learned p (set p.known j x) party))
-  store_fits = kept s words ports p (set p.known j x) party w x fit at store_change store_shared store_moved
+  store_fits = kept s words ports p p.seen (set p.known j x) party w x fit at store_change store_shared store_moved
 
 pub stores : StoresKeep
 stores s words ports p w new party fit at may = store_fits s words ports p party w new fit at may

@@ -8,17 +8,18 @@ use Rattle.iox_lanes_parties.specs.LanesBase.declared.words.word.SharedWord.{Sha
 use Rattle.iox_lanes_parties.specs.Keeping.{new_subscriber}
 use Rattle.iox_lanes_parties.specs.declared.call.CallName.TheVariants as name
 use Rattle.iox_lanes_parties.specs.declared.call.Party.TheVariants.{Publisher}
+use Rattle.iox_lanes_threads_rule.specs.Lanes.{IsBacked}
 use Rattle.iox_lanes_threads_rule.specs.Rule.{held, Fits, Ruled, one}
-use Rattle.iox_lanes_threads_rule.specs.Steps.{learned, known_exchanged, Told, MayStore, MayExchange}
+use Rattle.iox_lanes_threads_rule.specs.Steps.{saw, learned, known_exchanged, Told, MayStore, MayExchange}
 use Rattle.iox_lanes_threads_rule.specs.declared.service.Service.{Service}
 use Rattle.iox_lanes_threads_rule.specs.declared.view.Port.{Port}
 use Rattle.iox_lanes_threads_rule.specs.declared.view.PortParty.{PortParty}
 use Rattle.iox_lanes_threads_rule.specs.declared.view.PortParty.TheVariants as party
 use Rattle.iox_lanes_threads_rule.specs.declared.view.View.{View}
 
--- words and ports fit, of some service
+-- words and ports of some service fit, and lanes stand behind them as long as the positions are early
 abbrev pub FitSome : List ℕ → List Port → Type 0
-FitSome words ports = (s : Service) × Fits s words ports
+FitSome words ports = (s : Service) × Fits s words ports × IsBacked s words ports
 
 -- the rule of the words, as threads keep it
 abbrev pub Holds : State ℕ View → Type 0
@@ -42,7 +43,7 @@ no_party = party.Subscriber (record {
 
 -- no port
 abbrev pub no_port : Port
-no_port = record { number = 0; name = Publisher 0; service = no_service; known = []; party = no_party }
+no_port = record { number = 0; name = Publisher 0; service = no_service; known = []; accesses = 0; party = no_party; seen = [] }
 
 -- the first of some ports
 abbrev pub first_port : List Port → Port
@@ -73,7 +74,7 @@ ToldBy p Local answer = answer ≡ 0
 
 -- the port after an access; what a local step changes it knows with its next access
 abbrev pub stepped : Port → SharedAccess → ℕ → (ℕ → PortParty) → Port
-stepped p (Load w) answer after = learned p (set p.known (number_of p.service.sizes w) answer) (after answer)
+stepped p (Load w) answer after = learned (saw p w) (set p.known (number_of p.service.sizes w) answer) (after answer)
 stepped p (Store w new) answer after = learned p (set p.known (number_of p.service.sizes w) new) (after answer)
 stepped p (Exchange w old new) answer after
     = learned p (known_exchanged p.name p.known (number_of p.service.sizes w) old new answer) (after answer)
@@ -81,8 +82,8 @@ stepped p Local answer after = p
 
 -- what a load of the word of a number tells the seat of a port
 abbrev pub loaded : Port → (ℕ → PortParty) → Step ℕ → Me ℕ View → ℕ → Me ℕ View → Type 0
-loaded p after step before found me = (me ≡ single (learned p (set p.known step.word found) (after found)))
-    × ((w : SharedWord) → IsWord p.service.sizes w → number_of p.service.sizes w ≡ step.word → Told p.service p w found)
+loaded p after step before found me = (w : SharedWord) → IsWord p.service.sizes w → number_of p.service.sizes w ≡ step.word
+    → (me ≡ single (learned (saw p w) (set p.known step.word found) (after found))) × Told p.service p w found
 
 -- what a store tells
 abbrev pub stored : Port → (ℕ → PortParty) → Step ℕ → Me ℕ View → ℕ → Me ℕ View → Type 0

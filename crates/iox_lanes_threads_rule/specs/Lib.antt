@@ -2,4 +2,7 @@
 pub mod Service
 pub mod Rule
 pub mod Steps
+pub mod Lanes
 pub mod Acts
+pub mod Slots
+pub mod Gathered

@@ -1,9 +1,12 @@
 -- What a port may do with a shared word, what that tells it, and what it knows then.
-use Rattle.std.specs.Prelude.{ℕ, ◌≡◌, ◌+◌, ◌-◌, ◌<◌, ◌≤◌, ◌^◌, max, List, set, slice_index, if◌then◌else◌, ◌==◌}
+use Rattle.std.specs.Prelude.{ℕ, ◌≡◌, ◌+◌, ◌-◌, ◌<◌, ◌≤◌, ◌^◌, max, Bool, false, List, [], ◌∷◌, ◌++◌, set, slice_index, if◌then◌else◌}
+use Rattle.std.specs.Prelude.{◌==◌}
 use mathlib.Core.Option.{some}
 use lib.ListN.{get_elem?}
 use Rattle.iox_lanes_parties.specs.LanesBase.Numbers.{number_of, IsWord}
 use Rattle.iox_lanes_parties.specs.LanesBase.declared.words.word.SharedWord.{SharedWord}
+use Rattle.iox_lanes_parties.specs.LanesBase.declared.words.word.SharedWord.TheVariants.{Ring, Slot}
+use Rattle.iox_lanes_parties.specs.Parties.{is_borrowed, place_of}
 use Rattle.iox_lanes_parties.specs.declared.call.Party.{Party}
 use Rattle.iox_lanes_parties.specs.declared.call.Party.TheVariants.{Publisher, Subscriber}
 use Rattle.iox_lanes_threads_rule.specs.Service.{Stores, IsPosition, IsCell, write_word, read_word}
@@ -12,10 +15,27 @@ use Rattle.iox_lanes_threads_rule.specs.declared.service.Line.{Line}
 use Rattle.iox_lanes_threads_rule.specs.declared.service.Service.{Service}
 use Rattle.iox_lanes_threads_rule.specs.declared.view.Port.{Port}
 use Rattle.iox_lanes_threads_rule.specs.declared.view.PortParty.{PortParty}
+use Rattle.iox_lanes_threads_rule.specs.declared.view.PortParty.TheVariants as port_party
 
--- a port that knows something new, and went on
+-- the word is one of a slot that a port has as a sample
+abbrev pub is_of_sample : PortParty → SharedWord → Bool
+is_of_sample (port_party.Publisher lane) w = false
+is_of_sample (port_party.Subscriber lane) (Ring connection ring word) = false
+is_of_sample (port_party.Subscriber lane) (Slot slot word) = is_borrowed (place_of slot lane)
+
+-- those of some words that are of samples
+abbrev pub of_samples : PortParty → List SharedWord → List SharedWord
+of_samples own [] = []
+of_samples own (w ∷ ws) = (if is_of_sample own w then w ∷ [] else []) ++ of_samples own ws
+
+-- a port that has loaded a word
+abbrev pub saw : Port → SharedWord → Port
+saw p w = record p { seen = w ∷ p.seen }
+
+-- a port that made one access more, knows something new, and went on: of what it has loaded, it keeps the words of samples that it has
+-- still
 abbrev pub learned : Port → List ℕ → PortParty → Port
-learned p known party = record p { known = known; party = party }
+learned p known party = record p { known = known; accesses = p.accesses + 1; party = party; seen = of_samples party p.seen }
 
 -- after an exchange was lost on the word of number `i`: a subscriber then knows that something waits, so that the write position,
 -- which is the word before, is beyond what was found
@@ -66,7 +86,7 @@ LoadsKeep = (s : Service) (words : List ℕ) (ports : List Port) (p : Port) (w :
     → held s words w < 2 ^ 64
     → Told s p w (held s words w)
     × Fits s (set words (number_of s.sizes w) (held s words w))
-    (set ports p.number (learned p (set p.known (number_of s.sizes w) (held s words w)) party))
+    (set ports p.number (learned (saw p w) (set p.known (number_of s.sizes w) (held s words w)) party))
 
 -- a store that a port may make keeps the rule
 abbrev pub StoresKeep : Type 0

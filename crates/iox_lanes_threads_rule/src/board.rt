@@ -3,6 +3,7 @@ ghost use Rattle.std.specs.Prelude.{◌≡◌};
 ghost use Rattle.iox_lanes_parties.specs.LanesBase.Numbers.{words_of, IsSmall};
 ghost use Rattle.iox_lanes_parties.specs.LanesBase.declared.words.access.SharedAccess.TheVariants as access;
 ghost use Rattle.iox_lanes_threads_rule.specs.Acts.{single, stepped, MayAct, ToldBy};
+ghost use Rattle.iox_lanes_threads_rule.specs.Lanes.{MakesNext};
 
 use crate::view::{Port, PortParty, View};
 use atomic_table::{Play, Seat, Shared, TableRule};
@@ -86,7 +87,7 @@ impl<M: Doing> Play<u8, View> for Exchanges<M> {
     ghost then = { exchanged M.port M.after };
 }
 
-/// Loads a word that the port may load.
+/// Loads a word that the port may load, and loads next.
 pub fn load<K: Opening, M: Doing>(
     words: &Words<K>,
     seat: &mut WordSeat,
@@ -96,6 +97,7 @@ pub fn load<K: Opening, M: Doing>(
     requires table { (seat.old.table_id ≡ words.now.table_id) × (words.now.table_id.words ≡ words_of sizes.now) × IsSmall sizes.now }
     requires seat { (seat.old.me ≡ single M.port) × (M.port.service.sizes ≡ sizes.now) }
     requires may { MayAct M.port (access.Load word) }
+    requires next { MakesNext M.port.party (access.Load word) M.after }
     ensures table { (seat.new.table_id ≡ seat.old.table_id) × (seat.new.id ≡ seat.old.id) }
     ensures port { seat.new.me ≡ single (stepped M.port (access.Load word) result M.after) }
     ensures told { ToldBy M.port (access.Load word) result }
@@ -103,7 +105,7 @@ pub fn load<K: Opening, M: Doing>(
     words.load::<Loads<M>>(seat, sizes.number(word) as usize)
 }
 
-/// Stores into a word that the port may store.
+/// Stores into a word that the port may store, and stores next.
 pub fn store<K: Opening, M: Doing>(
     words: &Words<K>,
     seat: &mut WordSeat,
@@ -114,13 +116,14 @@ pub fn store<K: Opening, M: Doing>(
     requires table { (seat.old.table_id ≡ words.now.table_id) × (words.now.table_id.words ≡ words_of sizes.now) × IsSmall sizes.now }
     requires seat { (seat.old.me ≡ single M.port) × (M.port.service.sizes ≡ sizes.now) }
     requires may { MayAct M.port (access.Store word new) }
+    requires next { MakesNext M.port.party (access.Store word new) M.after }
     ensures table { (seat.new.table_id ≡ seat.old.table_id) × (seat.new.id ≡ seat.old.id) }
     ensures port { seat.new.me ≡ single (stepped M.port (access.Store word new) 0 M.after) }
 {
     words.store::<Stores<M>>(seat, sizes.number(word) as usize, new);
 }
 
-/// Makes an exchange that the port may make, and gives what the word held.
+/// Makes an exchange that the port may make, and makes next, and gives what the word held.
 pub fn exchange<K: Opening, M: Doing>(
     words: &Words<K>,
     seat: &mut WordSeat,
@@ -132,6 +135,7 @@ pub fn exchange<K: Opening, M: Doing>(
     requires table { (seat.old.table_id ≡ words.now.table_id) × (words.now.table_id.words ≡ words_of sizes.now) × IsSmall sizes.now }
     requires seat { (seat.old.me ≡ single M.port) × (M.port.service.sizes ≡ sizes.now) }
     requires may { MayAct M.port (access.Exchange word old new) }
+    requires next { MakesNext M.port.party (access.Exchange word old new) M.after }
     ensures table { (seat.new.table_id ≡ seat.old.table_id) × (seat.new.id ≡ seat.old.id) }
     ensures port { seat.new.me ≡ single (stepped M.port (access.Exchange word old new) result M.after) }
     ensures told { ToldBy M.port (access.Exchange word old new) result }
@@ -139,7 +143,7 @@ pub fn exchange<K: Opening, M: Doing>(
     words.compare_exchange::<Exchanges<M>>(seat, sizes.number(word) as usize, old, new)
 }
 
-/// Makes the access of a port that may make it, and gives its answer; stores and local steps are answered 0.
+/// Makes the access of a port that may make it, and makes it next, and gives its answer; stores and local steps are answered 0.
 pub fn act<K: Opening, M: Doing>(
     words: &Words<K>,
     seat: &mut WordSeat,
@@ -149,6 +153,7 @@ pub fn act<K: Opening, M: Doing>(
     requires table { (seat.old.table_id ≡ words.now.table_id) × (words.now.table_id.words ≡ words_of sizes.now) × IsSmall sizes.now }
     requires seat { (seat.old.me ≡ single M.port) × (M.port.service.sizes ≡ sizes.now) }
     requires may { MayAct M.port access }
+    requires next { MakesNext M.port.party access M.after }
     ensures table { (seat.new.table_id ≡ seat.old.table_id) × (seat.new.id ≡ seat.old.id) }
     ensures port { seat.new.me ≡ single (stepped M.port access result M.after) }
     ensures told { ToldBy M.port access result }

@@ -1,4 +1,7 @@
 //! Each step that a port may make keeps the rule of the words: proved of the definitions that the contracts of ports name.
+ghost use Rattle.iox_lanes_threads_rule.specs.Slots.{LoadsLeaveLanes, StoresLeaveLanes, ExchangesLeaveLanes};
+ghost use Rattle.iox_lanes_threads_rule.specs.Slots.{SlotStoresAreOfLoans, SeenWordsStand};
+ghost use Rattle.iox_lanes_threads_rule.specs.Slots.{ReferencesAreCounted, PositionsAreNear};
 ghost use Rattle.iox_lanes_threads_rule.specs.Steps.{LoadsKeep, StoresKeep, ExchangesKeep};
 
 /// A load of any word keeps the rule, and tells its port what the rule says of the word.
@@ -15,4 +18,38 @@ pub fn stores_keep_the_rule()
 /// on, though not past the write position that it knows.
 pub fn exchanges_keep_the_rule()
     ensures { ExchangesKeep }
+{}
+
+/// Lanes stand behind words and ports after each access that a port may make and makes next, as long as no write position comes to
+/// 3 * 2^62. So all that lanes keep holds on threads between any two accesses: both rings of each connection hold what their ends
+/// know, and each connection has what its publisher's record says.
+pub fn accesses_leave_lanes()
+    ensures loads { LoadsLeaveLanes }
+    ensures stores { StoresLeaveLanes }
+    ensures exchanges { ExchangesLeaveLanes }
+{}
+
+/// No word of a slot is stored while a port's view has that slot as a sample, as long as no write position comes to 3 * 2^62: a
+/// publisher stores words of a loan of its own, which none of its connections has.
+pub fn slot_stores_are_of_loans()
+    ensures { SlotStoresAreOfLoans }
+{}
+
+/// What a subscriber has read of a sample that it has is what the words of its slot hold and what its publisher's view has, as long
+/// as no write position comes to 3 * 2^62. So two reads of one sample find the same.
+pub fn seen_words_stand()
+    ensures { SeenWordsStand }
+{}
+
+/// A connection has a slot by its publisher's view just if the slot stands there once, as long as no write position comes to
+/// 3 * 2^62: in a cell of the ring of messages between its positions, with the subscriber's view as a sample, or in a cell of the
+/// ring of samples given back.
+pub fn references_are_counted()
+    ensures { ReferencesAreCounted }
+{}
+
+/// No read position is beyond its write position, and no ring holds more than it has cells, as long as no write position comes to
+/// 3 * 2^62.
+pub fn positions_are_near()
+    ensures { PositionsAreNear }
 {}

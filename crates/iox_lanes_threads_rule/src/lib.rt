@@ -4,6 +4,7 @@
 //! - [`view`]: what a port knows.
 //! - [`laws`]: each step that a port may make keeps the rule.
 //! - [`board`]: one step on one of the words.
+//! - [`gathering`]: ports that come back to one seat, and what they have in common.
 //!
 //! A first call: one access of a port, by its own seat of the table that all threads share. `iox_lanes_threads_ports` makes it.
 //!
@@ -13,10 +14,12 @@
 #![tactic(auto)]
 
 pub mod board;
+pub mod gathering;
 pub mod laws;
 pub mod service;
 pub mod view;
 
 pub use board::{Doing, Opening, WordRule, WordSeat, Words, act, exchange, load, store};
+pub use gathering::{agree, gather};
 pub use service::{Line, Service, SlotRange};
 pub use view::{Port, PortParty, View};

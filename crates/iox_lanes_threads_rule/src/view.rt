@@ -1,5 +1,6 @@
 //! What a port knows of the words that threads share.
 use crate::service::Service;
+use iox_lanes_base::words::SharedWord;
 use iox_lanes_parties::{Party, PublisherLane, SubscriberLane};
 use std::collections::LinkedList;
 
@@ -22,8 +23,12 @@ pub struct Port {
     /// What it knows of each word, by the words' numbers: of one that it alone stores what it holds, of any other position how
     /// far it has come at least, of all else what it saw last.
     pub known: LinkedList<u64>,
+    /// How many accesses to shared words it made since it was opened.
+    pub accesses: u64,
     /// The port itself, as its last step on a shared word left it.
     pub party: PortParty,
+    /// The words that it has loaded of the samples that it has, each since it got the sample, the newest first.
+    pub seen: LinkedList<SharedWord>,
 }
 
 /// What a seat at the words knows: the ports that it has. No value is ever made.

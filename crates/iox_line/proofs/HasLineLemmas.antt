@@ -14,8 +14,8 @@ use Rattle.iox_domain_values.specs.declared.backpressure.BackpressureAction.{Bac
 use Rattle.iox_domain_values.specs.declared.backpressure.BackpressureAction.TheVariants as handler
 use Rattle.iox_domain_values.specs.declared.degradation.DegradationAction.{DegradationAction}
 use Rattle.iox_domain_values.specs.declared.degradation.DegradationAction.TheVariants as degradation
-use Rattle.iox_line.specs.Words.{AreWords, has_no_space, spaced}
-use Rattle.iox_line.specs.Numbers.{IfNumber, tag}
+use Rattle.iox_line.specs.Words.{AreWords, has_no_space, AllOf}
+use Rattle.iox_line.specs.Numbers.{tag, IsNumber}
 use Rattle.iox_line.specs.Values.{strategy_word, allocation_word, handler_word, degradation_word}
 use Rattle.iox_line.proofs.NumberLemmas.{decimal_no_space}
 use Rattle.iox_line.proofs.NoSpaceLemmas.{any_own, options_lack, number_lacks, text_lacks, pattern_no_space, named_words, named_so}
@@ -26,9 +26,12 @@ use Rattle.iox_line.proofs.SpellingLemmas.{pairs_are_words, requirement_words, r
 use Rattle.iox_line.proofs.WrittenLemmas.{foreign_words, foreign_so, foreign_are_words, list_words, lists_so, lists_are_words}
 use Rattle.iox_command.specs.Patterns.{pattern_of}
 use Rattle.iox_line.proofs.VisibleLemmas.{visible_no_space}
-use Rattle.iox_line.specs.PortOptions.{PublisherFits, publisher_keys, publisher_values, publisher_words, subscriber_keys}
-use Rattle.iox_line.specs.PortOptions.{subscriber_values, subscriber_words}
-use Rattle.iox_line.specs.Spelling.{AreNumbers, port_word, IsPort, Fits, Writes, Spells}
+use Rattle.iox_line.specs.PortOptions.{publisher_words}
+use Rattle.iox_line.specs.PortOptions.{subscriber_words}
+use Rattle.iox_line.specs.Spelling.{port_word, IsPort, Fits, Writes, Spells}
+use Rattle.iox_line.proofs.Shorthands.{publisher_keys, publisher_values, subscriber_keys, subscriber_values}
+use Rattle.std.specs.Prelude.{IfSome}
+use Rattle.iox_line.proofs.Shorthands.{spaced, PublisherFits}
 
 -- words that write a command, with its options in their order
 abbrev pub written : Command ℕ → List (List ℕ)
@@ -110,7 +113,7 @@ writes_so (command.Update port) f = refl
 writes_so (command.Leave port) f = refl
 writes_so (command.Has subscriber) f = refl
 
-values_are_words : (ns : List ℕ) → AreNumbers ns → AreWords (map decimal ns)
+values_are_words : (ns : List ℕ) → AllOf IsNumber ns → AreWords (map decimal ns)
 values_are_words [] a = tt
 values_are_words (n ∷ ns) a = (decimal_no_space n a.0, values_are_words ns a.1)
 
@@ -159,7 +162,7 @@ publisher_are_words o f = options_lack 32 publisher_keys (publisher_values o) re
   ),
 )
 
-subscriber_are_words : (o : SubscriberOptions) → IfNumber o.buffer_size → AreWords (subscriber_words o)
+subscriber_are_words : (o : SubscriberOptions) → IfSome o.buffer_size IsNumber → AreWords (subscriber_words o)
 subscriber_are_words o f = options_lack 32 subscriber_keys (subscriber_values o) refl
     (number_lacks 32 o.buffer_size refl f, (text_lacks 32 degradation_word degradation_no_space o.degradation_handler, tt))
 

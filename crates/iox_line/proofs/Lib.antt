@@ -1,3 +1,4 @@
+pub mod Shorthands
 pub mod WordLemmas
 pub mod SpacedLemmas
 pub mod AfterLemmas

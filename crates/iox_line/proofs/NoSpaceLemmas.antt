@@ -14,16 +14,19 @@ use Rattle.iox_command.specs.declared.service.RequestResponseOptions.{RequestRes
 use Rattle.iox_command.specs.declared.service.ServiceOptions.{ServiceOptions}
 use Rattle.iox_command.specs.declared.service.ServiceOptions.TheVariants as options
 use Rattle.iox_command.specs.Patterns.{pattern_of}
-use Rattle.iox_line.specs.Words.{AllLack, AreWords, lacks, has_no_space}
-use Rattle.iox_line.specs.Numbers.{IsNumber, IfNumber, is_digit, tag}
+use Rattle.iox_line.specs.Words.{AreWords, lacks, has_no_space}
+use Rattle.iox_line.specs.Numbers.{IsNumber, is_digit, tag}
 use Rattle.iox_line.specs.Options.{AnyOrder, option_words}
 use Rattle.iox_line.proofs.NumberLemmas.{decimal_lacks, decimal_no_space}
 use Rattle.iox_line.proofs.AfterLemmas.{and_left, and_right}
 use Rattle.iox_line.proofs.VisibleLemmas.{visible_no_space}
-use Rattle.iox_line.specs.Services.{pattern_word, IsName, switch_word, number_or_off_word, IsNumberOrOff, IfNumberOrOff}
-use Rattle.iox_line.specs.Services.{PublishSubscribeFits, EventFits, RequestResponseFits, service_words, ServiceFits, Names}
-use Rattle.iox_line.specs.Services.{publish_subscribe_keys, publish_subscribe_values, event_keys, event_values, request_response_keys}
-use Rattle.iox_line.specs.Services.{request_response_values}
+use Rattle.iox_line.specs.Services.{pattern_word, IsName, switch_word, number_or_off_word, IsNumberOrOff}
+use Rattle.iox_line.specs.Services.{service_words, ServiceFits, Names}
+use Rattle.iox_line.proofs.Shorthands.{PublishSubscribeFits, EventFits, RequestResponseFits, publish_subscribe_keys}
+use Rattle.iox_line.proofs.Shorthands.{publish_subscribe_values, event_keys, event_values, request_response_keys}
+use Rattle.iox_line.proofs.Shorthands.{request_response_values}
+use Rattle.std.specs.Prelude.{IfSome}
+use Rattle.iox_line.proofs.Shorthands.{AllLack}
 
 -- words are these words in some order
 pub any_own : (ws : List (List ℕ)) → AnyOrder ws ws
@@ -59,7 +62,7 @@ options_lack byte (key ∷ keys) (Some text ∷ values) k v = (
 )
 
 -- a number, where there is one, is written with digits alone
-pub number_lacks : (byte : ℕ) (o : Option ℕ) → is_digit byte ≡ false → IfNumber o → IfLacks byte (option_map decimal o)
+pub number_lacks : (byte : ℕ) (o : Option ℕ) → is_digit byte ≡ false → IfSome o IsNumber → IfLacks byte (option_map decimal o)
 number_lacks byte None d f = tt
 number_lacks byte (Some n) d f = decimal_lacks byte n d f
 
@@ -82,7 +85,7 @@ off_lacks : (byte : ℕ) (v : NumberOrOff) → Spares byte → IsNumberOrOff v �
 off_lacks byte (value.Number n) p f = decimal_lacks byte n p.0 f
 off_lacks byte value.Off p f = p.3
 
-if_off_lacks : (byte : ℕ) (o : Option NumberOrOff) → Spares byte → IfNumberOrOff o → IfLacks byte (option_map number_or_off_word o)
+if_off_lacks : (byte : ℕ) (o : Option NumberOrOff) → Spares byte → IfSome o IsNumberOrOff → IfLacks byte (option_map number_or_off_word o)
 if_off_lacks byte None p f = tt
 if_off_lacks byte (Some v) p f = off_lacks byte v p f
 

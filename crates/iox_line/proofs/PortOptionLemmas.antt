@@ -13,20 +13,23 @@ use Rattle.iox_domain_values.specs.declared.backpressure.BackpressureAction.{Bac
 use Rattle.iox_domain_values.specs.declared.backpressure.BackpressureAction.TheVariants as handler
 use Rattle.iox_domain_values.specs.declared.degradation.DegradationAction.{DegradationAction}
 use Rattle.iox_domain_values.specs.declared.degradation.DegradationAction.TheVariants as degradation
-use Rattle.iox_line.specs.Numbers.{IsNumber, IfNumber, number_of}
+use Rattle.iox_line.specs.Numbers.{IsNumber, number_of}
 use Rattle.iox_line.specs.Options.{AnyOrder, find, named, count, one}
 use Rattle.iox_line.specs.Values.{strategy_word, allocation_word, handler_word, degradation_word, strategies, allocations, handlers}
 use Rattle.iox_line.specs.Values.{degradations, strategy_of, allocation_of, handler_of, degradation_of}
 use Rattle.iox_line.proofs.NumberLemmas.{number_some, number_own}
 use Rattle.iox_line.proofs.ChoiceLemmas.{choice_some, named_some, named_own, IfThere}
 use Rattle.iox_line.proofs.OptionLemmas.{options_sound, options_complete}
-use Rattle.iox_line.specs.PortOptions.{PublisherFits, publisher_keys, publisher_values, publisher_words, subscriber_keys}
-use Rattle.iox_line.specs.PortOptions.{subscriber_values, subscriber_words}
+use Rattle.iox_line.specs.PortOptions.{publisher_words}
+use Rattle.iox_line.specs.PortOptions.{subscriber_words}
 use Rattle.iox_line.specs.Reading.{bind, publisher_of, subscriber_of, publisher_options, subscriber_options}
+use Rattle.iox_line.proofs.Shorthands.{publisher_keys, publisher_values, subscriber_keys, subscriber_values}
+use Rattle.std.specs.Prelude.{IfSome}
+use Rattle.iox_line.proofs.Shorthands.{PublisherFits}
 
 -- a subscriber's number has 64 bits
 abbrev pub SubscriberFits : SubscriberOptions → Type 0
-SubscriberFits o = IfNumber o.buffer_size
+SubscriberFits o = IfSome o.buffer_size IsNumber
 
 -- of what is made of what is read, what is read
 pub bind_some : {X Y : Type 0} (x : Option X) (make : X → Option Y) (y : Y) → bind x make ≡ Some y → (a : X) × (x ≡ Some a)
@@ -41,11 +44,11 @@ whole_at n m r o false e h = cc
 whole_own : {X : Type 0} (n m : ℕ) (o : X) → n ≡ m → cond (n == m) (Some o) None ≡ Some o
 whole_own n m o h = grind (arith, common_steps, h)
 
-if_number : (o : Option ℕ) → IfThere IsNumber o → IfNumber o
+if_number : (o : Option ℕ) → IfThere IsNumber o → IfSome o IsNumber
 if_number None g = tt
 if_number (Some n) g = g
 
-there_number : (o : Option ℕ) → IfNumber o → IfThere IsNumber o
+there_number : (o : Option ℕ) → IfSome o IsNumber → IfThere IsNumber o
 there_number None g = tt
 there_number (Some n) g = g
 

@@ -14,7 +14,7 @@ use Rattle.iox_line.specs.declared.services.service.NamedService.{NamedService}
 use Rattle.iox_line.specs.Services.{pattern_word, IsName, ServiceFits, Names}
 use Rattle.iox_line.specs.ServicesReading.{pattern_named, name_of, named_service, service_of}
 use Rattle.iox_line.proofs.ServiceLemmas.{pattern_some, pattern_own, name_some, name_own, service_some, service_own}
-use Rattle.iox_line.specs.Attributes.{SpecifierFits, VerifierFits, Defines, Requires}
+use Rattle.iox_line.specs.Attributes.{SpecifierFits, VerifierFits, Requires}
 use Rattle.iox_line.specs.AttributesReading.{specifier_of, verifier_of}
 use Rattle.iox_line.proofs.SpellingLemmas.{specifier_some, specifier_own, verifier_some, verifier_own, AreMarked, defined_marked}
 use Rattle.iox_line.proofs.SpellingLemmas.{required_marked, marked_unbarred, marked_starts}
@@ -36,7 +36,8 @@ use Rattle.iox_line.specs.Reading.{bind, both, three, only, with_number, with_tw
 use Rattle.iox_line.specs.Reading.{subscriber_of, publisher_command, subscriber_command, service_command, create_command, open_command}
 use Rattle.iox_line.specs.Reading.{open_or_create_command, foreign_parts, foreign_command, of_service, of_verb, of_read, of_words}
 use Rattle.iox_line.proofs.PortOptionLemmas.{bind_some, publisher_some, publisher_own, subscriber_some, subscriber_own}
-use Rattle.iox_line.specs.Spelling.{AreNumbers, port_word, IsPort, Fits, Writes}
+use Rattle.iox_line.specs.Spelling.{port_word, IsPort, Fits, Writes}
+use Rattle.iox_line.proofs.Shorthands.{Defines}
 
 both_some : {X Y : Type 0} (x : Option X) (y : Option Y) (p : X × Y) → both x y ≡ Some p → (x ≡ Some p.0) × (y ≡ Some p.1)
 both_some None y p h = cc
@@ -105,22 +106,22 @@ two_own letter n m k p q r =
 
 -- numbers
 
-numbers_some : (ws : List (List ℕ)) (ns : List ℕ) → numbers ws ≡ Some ns → AreNumbers ns × (ws ≡ map decimal ns)
-numbers_some [] ns h = let e : [] ≡ ns = cc in subst (λ l. AreNumbers l × ([] ≡ map decimal l)) e (tt, refl)
+numbers_some : (ws : List (List ℕ)) (ns : List ℕ) → numbers ws ≡ Some ns → AllOf IsNumber ns × (ws ≡ map decimal ns)
+numbers_some [] ns h = let e : [] ≡ ns = cc in subst (λ l. AllOf IsNumber l × ([] ≡ map decimal l)) e (tt, refl)
 numbers_some (w ∷ ws) ns h =
     let m = map_some (λ p. p.0 ∷ p.1) (both (number_of w) (numbers ws)) ns h in
     let b = both_some (number_of w) (numbers ws) m.0 m.1 in
     let s = number_some w m.0.0 b.0 in
     let r = numbers_some ws m.0.1 b.1 in
-    subst (λ l. AreNumbers l × (w ∷ ws ≡ map decimal l)) m.2 ((s.0, r.0), ap (λ x. x ∷ ws) s.1 ∙ ap (λ l. decimal m.0.0 ∷ l) r.1)
+    subst (λ l. AllOf IsNumber l × (w ∷ ws ≡ map decimal l)) m.2 ((s.0, r.0), ap (λ x. x ∷ ws) s.1 ∙ ap (λ l. decimal m.0.0 ∷ l) r.1)
 
-numbers_own : (ns : List ℕ) → AreNumbers ns → numbers (map decimal ns) ≡ Some ns
+numbers_own : (ns : List ℕ) → AllOf IsNumber ns → numbers (map decimal ns) ≡ Some ns
 numbers_own [] a = refl
 numbers_own (n ∷ ns) a = ap (option_map (λ p. p.0 ∷ p.1))
     (both_own (number_of (decimal n)) (numbers (map decimal ns)) n ns (number_own n a.0) (numbers_own ns a.1))
 
 values_some : (letter : ℕ) (ws : List (List ℕ)) (p : ℕ × List ℕ) → with_values letter ws ≡ Some p
-    → (IsNumber p.0 × AreNumbers p.1) × (ws ≡ tag letter p.0 ∷ map decimal p.1)
+    → (IsNumber p.0 × AllOf IsNumber p.1) × (ws ≡ tag letter p.0 ∷ map decimal p.1)
 values_some letter [] p h = cc
 values_some letter (w ∷ ws) p h =
     let b = both_some (tagged letter w) (numbers ws) p h in
@@ -128,7 +129,8 @@ values_some letter (w ∷ ws) p h =
     let r = numbers_some ws p.1 b.1 in
     ((s.0, r.0), ap (λ x. x ∷ ws) s.1 ∙ ap (λ l. tag letter p.0 ∷ l) r.1)
 
-values_own : (letter n : ℕ) (ns : List ℕ) → IsNumber n → AreNumbers ns → with_values letter (tag letter n ∷ map decimal ns) ≡ Some (n, ns)
+values_own : (letter n : ℕ) (ns : List ℕ) → IsNumber n → AllOf IsNumber ns → with_values letter (tag letter n ∷ map decimal ns)
+    ≡ Some (n, ns)
 values_own letter n ns p a = both_own (tagged letter (tag letter n)) (numbers (map decimal ns)) n ns (tagged_own letter n p)
     (numbers_own ns a)
 
@@ -175,7 +177,7 @@ one_number make letter text ws c fits writes h =
 
 -- commands of a made value and values
 one_message : (make : ℕ → List ℕ → Command ℕ) (letter : ℕ) (text : List ℕ) (ws : List (List ℕ)) (c : Command ℕ)
-    → ((n : ℕ) (ns : List ℕ) → IsNumber n × AreNumbers ns → Fits (make n ns))
+    → ((n : ℕ) (ns : List ℕ) → IsNumber n × AllOf IsNumber ns → Fits (make n ns))
     → ((n : ℕ) (ns : List ℕ) → Writes (make n ns) (text ∷ tag letter n ∷ map decimal ns))
     → option_map (λ p. make p.0 p.1) (with_values letter ws) ≡ Some c → Fits c × Writes c (text ∷ ws)
 one_message make letter text ws c fits writes h =

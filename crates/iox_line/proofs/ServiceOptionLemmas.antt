@@ -9,18 +9,19 @@ use Rattle.iox_command.specs.declared.service.PublishSubscribeOptions.{PublishSu
 use Rattle.iox_command.specs.declared.service.EventOptions.{EventOptions}
 use Rattle.iox_command.specs.declared.service.RequestResponseOptions.{RequestResponseOptions}
 use Rattle.iox_line.specs.Words.{same}
-use Rattle.iox_line.specs.Numbers.{IsNumber, IfNumber, number_of}
+use Rattle.iox_line.specs.Numbers.{IsNumber, number_of}
 use Rattle.iox_line.specs.Options.{AnyOrder, are_apart, find, named, count, one, option_words}
 use Rattle.iox_line.proofs.NumberLemmas.{number_some, number_own}
 use Rattle.iox_line.proofs.ChoiceLemmas.{same_is, choice_some, map_some, named_some, named_own, IfThere}
 use Rattle.iox_line.proofs.OptionLemmas.{Found, options_sound, options_complete}
-use Rattle.iox_line.specs.Services.{switch_word, number_or_off_word, IsNumberOrOff, IfNumberOrOff, PublishSubscribeFits}
-use Rattle.iox_line.specs.Services.{publish_subscribe_keys, publish_subscribe_values, EventFits, event_keys, event_values}
-use Rattle.iox_line.specs.Services.{RequestResponseFits, request_response_keys, request_response_values}
+use Rattle.iox_line.specs.Services.{switch_word, number_or_off_word, IsNumberOrOff}
 use Rattle.iox_line.specs.ServicesReading.{Pair, pair, only_if, switches, switch_of, number_or_off_of, publish_subscribe_options}
 use Rattle.iox_line.specs.ServicesReading.{publish_subscribe_parts, publish_subscribe_count, publish_subscribe_of, event_options}
 use Rattle.iox_line.specs.ServicesReading.{event_parts, event_count, event_of, request_response_options, request_response_parts}
 use Rattle.iox_line.specs.ServicesReading.{request_response_count, request_response_of}
+use Rattle.iox_line.proofs.Shorthands.{PublishSubscribeFits, publish_subscribe_keys, publish_subscribe_values, EventFits, event_keys}
+use Rattle.iox_line.proofs.Shorthands.{event_values, RequestResponseFits, request_response_keys, request_response_values}
+use Rattle.std.specs.Prelude.{IfSome}
 
 pair_some : {X Y : Type 0} (x : Option X) (y : Option Y) (p : Pair X Y) → pair x y ≡ Some p → (x ≡ Some p.first) × (y ≡ Some p.second)
 pair_some None y p h = cc
@@ -48,19 +49,19 @@ only_own test x o e t = ap (λ q. only_if test q) e ∙ ap (λ b. cond b (Some o
 abbrev Any : {X : Type 0} → X → Type 0
 Any x = Unit {0}
 
-if_number : (o : Option ℕ) → IfThere IsNumber o → IfNumber o
+if_number : (o : Option ℕ) → IfThere IsNumber o → IfSome o IsNumber
 if_number None g = tt
 if_number (Some n) g = g
 
-there_number : (o : Option ℕ) → IfNumber o → IfThere IsNumber o
+there_number : (o : Option ℕ) → IfSome o IsNumber → IfThere IsNumber o
 there_number None g = tt
 there_number (Some n) g = g
 
-if_number_or_off : (o : Option NumberOrOff) → IfThere IsNumberOrOff o → IfNumberOrOff o
+if_number_or_off : (o : Option NumberOrOff) → IfThere IsNumberOrOff o → IfSome o IsNumberOrOff
 if_number_or_off None g = tt
 if_number_or_off (Some n) g = g
 
-there_number_or_off : (o : Option NumberOrOff) → IfNumberOrOff o → IfThere IsNumberOrOff o
+there_number_or_off : (o : Option NumberOrOff) → IfSome o IsNumberOrOff → IfThere IsNumberOrOff o
 there_number_or_off None g = tt
 there_number_or_off (Some n) g = g
 
@@ -115,13 +116,13 @@ record Value {X : Type 0} (read : List ℕ → Option X) (text : X → List ℕ)
   some : (word : Option (List ℕ)) (o : Option X) → named read word ≡ Some o → Fit o × (word ≡ option_map text o)
   own : (o : Option X) → Fit o → named read (option_map text o) ≡ Some o
 
-number : Value number_of decimal IfNumber
+number : Value number_of decimal (λ o. IfSome o IsNumber)
 number = record {
   some = λ word o h. let r = named_some number_of decimal IsNumber number_some word o h in (if_number o r.0, r.1);
   own = λ o f. named_own number_of decimal IsNumber number_own o (there_number o f);
 }
 
-number_or_off : Value number_or_off_of number_or_off_word IfNumberOrOff
+number_or_off : Value number_or_off_of number_or_off_word (λ o. IfSome o IsNumberOrOff)
 number_or_off = record {
   some = λ word o h.
       let r = named_some number_or_off_of number_or_off_word IsNumberOrOff number_or_off_some word o h in
@@ -204,9 +205,9 @@ PublishSubscribeParts = Pair (Option ℕ) (Pair (Option ℕ) (Pair (Option ℕ) 
     (Pair (Option ℕ) (Option Bool))))))
 
 abbrev PublishSubscribeFit : PublishSubscribeParts → Type 0
-PublishSubscribeFit p = IfNumber p.first × (IfNumber p.second.first × (IfNumber p.second.second.first
-    × (IfNumber p.second.second.second.first × (IfNumber p.second.second.second.second.first
-    × (IfNumber p.second.second.second.second.second.first × Any p.second.second.second.second.second.second)))))
+PublishSubscribeFit p = IfSome p.first IsNumber × (IfSome p.second.first IsNumber × (IfSome p.second.second.first IsNumber
+    × (IfSome p.second.second.second.first IsNumber × (IfSome p.second.second.second.second.first IsNumber
+    × (IfSome p.second.second.second.second.second.first IsNumber × Any p.second.second.second.second.second.second)))))
 
 abbrev publish_subscribe_sum : PublishSubscribeParts → ℕ
 publish_subscribe_sum p = one p.first + (one p.second.first + (one p.second.second.first + (one p.second.second.second.first
@@ -247,10 +248,11 @@ EventParts = Pair (Option ℕ) (Pair (Option ℕ) (Pair (Option ℕ) (Pair (Opti
     (Pair (Option NumberOrOff) (Pair (Option NumberOrOff) (Option NumberOrOff)))))))
 
 abbrev EventFit : EventParts → Type 0
-EventFit p = IfNumber p.first × (IfNumber p.second.first × (IfNumber p.second.second.first × (IfNumber p.second.second.second.first
-    × (IfNumberOrOff p.second.second.second.second.first × (IfNumberOrOff p.second.second.second.second.second.first
-    × (IfNumberOrOff p.second.second.second.second.second.second.first
-    × IfNumberOrOff p.second.second.second.second.second.second.second))))))
+EventFit p = IfSome p.first IsNumber
+    × (IfSome p.second.first IsNumber × (IfSome p.second.second.first IsNumber × (IfSome p.second.second.second.first IsNumber
+    × (IfSome p.second.second.second.second.first IsNumberOrOff × (IfSome p.second.second.second.second.second.first IsNumberOrOff
+    × (IfSome p.second.second.second.second.second.second.first IsNumberOrOff
+    × IfSome p.second.second.second.second.second.second.second IsNumberOrOff))))))
 
 abbrev event_sum : EventParts → ℕ
 event_sum p = one p.first + (one p.second.first + (one p.second.second.first + (one p.second.second.second.first
@@ -287,9 +289,9 @@ RequestResponseParts = Pair (Option ℕ) (Pair (Option ℕ) (Pair (Option ℕ) (
     (Pair (Option ℕ) (Pair (Option Bool) (Pair (Option Bool) (Option Bool)))))))))
 
 abbrev RequestResponseFit : RequestResponseParts → Type 0
-RequestResponseFit p = IfNumber p.first × (IfNumber p.second.first × (IfNumber p.second.second.first
-    × (IfNumber p.second.second.second.first × (IfNumber p.second.second.second.second.first
-    × (IfNumber p.second.second.second.second.second.first × (IfNumber p.second.second.second.second.second.second.first
+RequestResponseFit p = IfSome p.first IsNumber × (IfSome p.second.first IsNumber × (IfSome p.second.second.first IsNumber
+    × (IfSome p.second.second.second.first IsNumber × (IfSome p.second.second.second.second.first IsNumber
+    × (IfSome p.second.second.second.second.second.first IsNumber × (IfSome p.second.second.second.second.second.second.first IsNumber
     × (Any p.second.second.second.second.second.second.second.first
     × (Any p.second.second.second.second.second.second.second.second.first
     × Any p.second.second.second.second.second.second.second.second.second))))))))

@@ -13,9 +13,10 @@ use Rattle.iox_line.proofs.WordLemmas.{whole, whole_text, before-separated, beyo
 use Rattle.iox_line.proofs.MarkLemmas.{Unmarked, starts}
 use Rattle.iox_line.proofs.AfterLemmas.{after_some, and_left, and_right}
 use Rattle.iox_line.proofs.VisibleLemmas.{at_most, at_most_own, visible_sound, visible_complete, visible_no_space, both_true}
-use Rattle.iox_line.specs.Attributes.{pair_word, key_word, IsKey, IsPair, SpecifierFits, VerifierFits, has_equals, Defines, Requires}
+use Rattle.iox_line.specs.Attributes.{pair_word, key_word, IsKey, IsPair, SpecifierFits, VerifierFits, has_equals, Requires}
 use Rattle.iox_line.specs.AttributesReading.{pair_parts, pair_in, pair_of, key_parts, key_in, key_of, pairs_of, require, requirements_of}
 use Rattle.iox_line.specs.AttributesReading.{few_pairs, specifier_of, few_requirements, verifier_of}
+use Rattle.iox_line.proofs.Shorthands.{Defines}
 
 -- one word
 

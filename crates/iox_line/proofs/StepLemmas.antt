@@ -7,7 +7,7 @@ use Rattle.iox_command.specs.declared.service.ServiceOptions.{ServiceOptions}
 use Rattle.iox_command.specs.declared.step.ForeignStep.{ForeignStep}
 use Rattle.iox_command.specs.declared.step.ForeignStep.TheVariants as step
 use Rattle.iox_command.specs.Patterns.{pattern_of}
-use Rattle.iox_line.specs.Words.{AllOf, AllLack, AreWritten, lacks, joined, pieces_of, pieces_left, before, beyond}
+use Rattle.iox_line.specs.Words.{AllOf, AreWritten, lacks, joined, pieces_of, pieces_left, before, beyond}
 use Rattle.iox_line.specs.Numbers.{IsNumber, tag, tagged}
 use Rattle.iox_line.specs.Options.{AnyOrder}
 use Rattle.iox_line.specs.Memory.{prepend}
@@ -25,6 +25,7 @@ use Rattle.iox_line.specs.declared.steps.step.StepVerb.TheVariants as verb
 use Rattle.iox_line.specs.Steps.{option_tail, WritesStep, StepFits, WritesSteps}
 use Rattle.iox_line.specs.StepsReading.{step_verb_word, step_verbs, step_verb_of, published, step_at, step_with, step_of, each_step}
 use Rattle.iox_line.specs.StepsReading.{steps_of}
+use Rattle.iox_line.proofs.Shorthands.{AllLack}
 
 -- a step without options
 

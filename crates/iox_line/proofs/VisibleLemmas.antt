@@ -4,8 +4,9 @@ use Rattle.std.specs.List.{list_all, slice_index_or}
 use Rattle.std.proofs.lemmas.List.Sums.{AllPass-from_list_all, list_all-from_AllPass}
 use Rattle.std.proofs.lemmas.Grind.{common_steps}
 use Rattle.iox_line.specs.Words.{has_no_space}
-use Rattle.iox_line.specs.Visible.{IsVisible, IsVisibleText, is_visible, is_visible_text}
+use Rattle.iox_line.specs.Visible.{IsVisibleText, is_visible, is_visible_text}
 use Rattle.iox_line.proofs.AfterLemmas.{and_left, and_right}
+use Rattle.iox_line.proofs.Shorthands.{IsVisible}
 
 visible : (b : ℕ) → is_visible b ≡ true → IsVisible b
 visible b h = search (rules, h)

@@ -1,18 +1,18 @@
 -- How attributes are written in a line.
-use Rattle.std.specs.Prelude.{ℕ, ◌≤◌, ◌≡◌, Bool, true, not, List, ◌∷◌, ◌++◌, length, filter, map}
+use Rattle.std.specs.Prelude.{ℕ, ◌≤◌, ◌≡◌, Bool, true, not, List, ◌∷◌, ◌++◌, codes, length, filter, map}
 use Rattle.iox_describe_base.specs.declared.attribute.Attribute.{Attribute}
 use Rattle.iox_describe_base.specs.Attributes.{Required}
 use Rattle.iox_line.specs.Words.{AllOf, lacks}
 use Rattle.iox_line.specs.Visible.{IsVisibleText}
-use Rattle.iox_line.specs.Letters.{at_sign, equals_sign}
+use Rattle.iox_line.specs.Letters.{equals_sign}
 
 -- a pair: @KEY=VALUE
 abbrev pub pair_word : Attribute → List ℕ
-pair_word a = at_sign ∷ (a.key ++ equals_sign ∷ a.value)
+pair_word a = codes "@" ++ (a.key ++ (codes "=" ++ a.value))
 
 -- a key alone: @KEY
 abbrev pub key_word : List ℕ → List ℕ
-key_word key = at_sign ∷ key
+key_word key = codes "@" ++ key
 
 -- a key: 1 to 64 bytes of 0x21 to 0x7E, none of them =
 abbrev pub IsKey : List ℕ → Type 0
@@ -33,10 +33,6 @@ VerifierFits r = (length r.pairs ≤ 8) × AllOf IsPair r.pairs × (length r.key
 -- whether there is a = in a word
 abbrev pub has_equals : List ℕ → Bool
 has_equals word = not (lacks equals_sign word)
-
--- the words define these pairs, in their order
-abbrev pub Defines : List Attribute → List (List ℕ) → Type 0
-Defines pairs words = words ≡ map pair_word pairs
 
 -- the words require this: those with a = the pairs, in their order, and the others the keys, in theirs
 abbrev pub Requires : Required → List (List ℕ) → Type 0

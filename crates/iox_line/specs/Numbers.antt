@@ -6,11 +6,6 @@ use Rattle.std.specs.Prelude.{if◌then◌else◌}
 abbrev pub IsNumber : ℕ → Type 0
 IsNumber n = n < 2 ^ 64
 
--- a number of 64 bits, where there is one
-abbrev pub IfNumber : Option ℕ → Type 0
-IfNumber None = Unit {0}
-IfNumber (Some n) = IsNumber n
-
 -- how a made value is written: the letter of its kind, and its number
 abbrev pub tag : ℕ → ℕ → List ℕ
 tag letter n = letter ∷ decimal n

@@ -1,20 +1,16 @@
 -- How a service is named in a line: by its node, its pattern, its name and its options.
-use Rattle.std.specs.Prelude.{ℕ, ◌≡◌, Bool, true, false, List, [], ◌∷◌, ◌++◌, Option, None, Some, codes, decimal}
+use Rattle.std.specs.Prelude.{ℕ, ◌≡◌, Bool, true, false, List, [], ◌∷◌, ◌++◌, codes, decimal, IfSome}
 use Rattle.std.specs.Option.{option_map}
 use Rattle.iox_command.specs.DescribeBase.declared.pattern.MessagingPattern.{MessagingPattern}
 use Rattle.iox_command.specs.DescribeBase.declared.pattern.MessagingPattern.TheVariants as pattern
 use Rattle.iox_command.specs.declared.service.NumberOrOff.{NumberOrOff}
 use Rattle.iox_command.specs.declared.service.NumberOrOff.TheVariants as value
-use Rattle.iox_command.specs.declared.service.PublishSubscribeOptions.{PublishSubscribeOptions}
-use Rattle.iox_command.specs.declared.service.EventOptions.{EventOptions}
-use Rattle.iox_command.specs.declared.service.RequestResponseOptions.{RequestResponseOptions}
 use Rattle.iox_command.specs.declared.service.ServiceOptions.{ServiceOptions}
 use Rattle.iox_command.specs.declared.service.ServiceOptions.TheVariants as options
 use Rattle.iox_command.specs.Patterns.{pattern_of}
-use Rattle.iox_line.specs.Numbers.{IsNumber, IfNumber, tag}
+use Rattle.iox_line.specs.Numbers.{IsNumber}
 use Rattle.iox_line.specs.Visible.{IsVisibleText}
 use Rattle.iox_line.specs.Options.{AnyOrder, option_words}
-use Rattle.iox_line.specs.Letters.{node_letter}
 
 -- how a pattern is written
 abbrev pub pattern_word : MessagingPattern → List ℕ
@@ -41,81 +37,51 @@ abbrev pub IsNumberOrOff : NumberOrOff → Type 0
 IsNumberOrOff (value.Number n) = IsNumber n
 IsNumberOrOff value.Off = Unit {0}
 
--- the same, where there is something
-abbrev pub IfNumberOrOff : Option NumberOrOff → Type 0
-IfNumberOrOff None = Unit {0}
-IfNumberOrOff (Some v) = IsNumberOrOff v
-
--- the keys of a publish-subscribe service's options
-abbrev pub publish_subscribe_keys : List (List ℕ)
-publish_subscribe_keys = codes "subscribers=" ∷ codes "publishers=" ∷ codes "nodes=" ∷ codes "buffer=" ∷ codes "borrowed="
-    ∷ codes "history=" ∷ codes "overflow=" ∷ []
-
--- their values
-abbrev pub publish_subscribe_values : PublishSubscribeOptions → List (Option (List ℕ))
-publish_subscribe_values o = option_map decimal o.max_subscribers ∷ option_map decimal o.max_publishers ∷ option_map decimal o.max_nodes
+-- the options that are named, each a word
+abbrev pub service_words : ServiceOptions → List (List ℕ)
+service_words (options.PublishSubscribe o) = option_words
+    (codes "subscribers=" ∷ codes "publishers=" ∷ codes "nodes=" ∷ codes "buffer=" ∷ codes "borrowed="
+    ∷ codes "history=" ∷ codes "overflow=" ∷ [])
+    (option_map decimal o.max_subscribers ∷ option_map decimal o.max_publishers ∷ option_map decimal o.max_nodes
     ∷ option_map decimal o.subscriber_max_buffer_size ∷ option_map decimal o.subscriber_max_borrowed_samples
     ∷ option_map decimal o.history_size
-    ∷ option_map switch_word o.enable_safe_overflow ∷ []
-
--- the numbers have 64 bits
-abbrev pub PublishSubscribeFits : PublishSubscribeOptions → Type 0
-PublishSubscribeFits o = IfNumber o.max_subscribers × IfNumber o.max_publishers × IfNumber o.max_nodes
-    × IfNumber o.subscriber_max_buffer_size
-    × IfNumber o.subscriber_max_borrowed_samples × IfNumber o.history_size
-
--- the keys of an event service's options
-abbrev pub event_keys : List (List ℕ)
-event_keys = codes "notifiers=" ∷ codes "listeners=" ∷ codes "nodes=" ∷ codes "maxid=" ∷ codes "deadline=" ∷ codes "created="
+    ∷ option_map switch_word o.enable_safe_overflow ∷ [])
+service_words (options.Event o) = option_words
+    (codes "notifiers=" ∷ codes "listeners=" ∷ codes "nodes=" ∷ codes "maxid=" ∷ codes "deadline=" ∷ codes "created="
     ∷ codes "dropped=" ∷ codes "dead="
-    ∷ []
-
--- their values
-abbrev pub event_values : EventOptions → List (Option (List ℕ))
-event_values o = option_map decimal o.max_notifiers ∷ option_map decimal o.max_listeners ∷ option_map decimal o.max_nodes
+    ∷ [])
+    (option_map decimal o.max_notifiers ∷ option_map decimal o.max_listeners ∷ option_map decimal o.max_nodes
     ∷ option_map decimal o.event_id_max_value
     ∷ option_map number_or_off_word o.deadline ∷ option_map number_or_off_word o.notifier_created_event
-    ∷ option_map number_or_off_word o.notifier_dropped_event ∷ option_map number_or_off_word o.notifier_dead_event ∷ []
-
--- the numbers have 64 bits
-abbrev pub EventFits : EventOptions → Type 0
-EventFits o = IfNumber o.max_notifiers × IfNumber o.max_listeners × IfNumber o.max_nodes × IfNumber o.event_id_max_value
-    × IfNumberOrOff o.deadline
-    × IfNumberOrOff o.notifier_created_event × IfNumberOrOff o.notifier_dropped_event × IfNumberOrOff o.notifier_dead_event
-
--- the keys of a request-response service's options
-abbrev pub request_response_keys : List (List ℕ)
-request_response_keys = codes "servers=" ∷ codes "clients=" ∷ codes "nodes=" ∷ codes "buffer=" ∷ codes "borrowed=" ∷ codes "active="
+    ∷ option_map number_or_off_word o.notifier_dropped_event ∷ option_map number_or_off_word o.notifier_dead_event ∷ [])
+service_words (options.RequestResponse o) = option_words
+    (codes "servers=" ∷ codes "clients=" ∷ codes "nodes=" ∷ codes "buffer=" ∷ codes "borrowed=" ∷ codes "active="
     ∷ codes "loans="
-    ∷ codes "overflow_requests=" ∷ codes "overflow_responses=" ∷ codes "fire=" ∷ []
-
--- their values
-abbrev pub request_response_values : RequestResponseOptions → List (Option (List ℕ))
-request_response_values o = option_map decimal o.max_servers ∷ option_map decimal o.max_clients ∷ option_map decimal o.max_nodes
+    ∷ codes "overflow_requests=" ∷ codes "overflow_responses=" ∷ codes "fire=" ∷ [])
+    (option_map decimal o.max_servers ∷ option_map decimal o.max_clients ∷ option_map decimal o.max_nodes
     ∷ option_map decimal o.max_response_buffer_size
     ∷ option_map decimal o.max_borrowed_responses_per_pending_response ∷ option_map decimal o.max_active_requests_per_client
     ∷ option_map decimal o.max_loaned_requests ∷ option_map switch_word o.enable_safe_overflow_for_requests
-    ∷ option_map switch_word o.enable_safe_overflow_for_responses ∷ option_map switch_word o.enable_fire_and_forget_requests ∷ []
-
--- the numbers have 64 bits
-abbrev pub RequestResponseFits : RequestResponseOptions → Type 0
-RequestResponseFits o = IfNumber o.max_servers × IfNumber o.max_clients × IfNumber o.max_nodes × IfNumber o.max_response_buffer_size
-    × IfNumber o.max_borrowed_responses_per_pending_response × IfNumber o.max_active_requests_per_client × IfNumber o.max_loaned_requests
-
--- the options that are named, each a word
-abbrev pub service_words : ServiceOptions → List (List ℕ)
-service_words (options.PublishSubscribe o) = option_words publish_subscribe_keys (publish_subscribe_values o)
-service_words (options.Event o) = option_words event_keys (event_values o)
-service_words (options.RequestResponse o) = option_words request_response_keys (request_response_values o)
+    ∷ option_map switch_word o.enable_safe_overflow_for_responses ∷ option_map switch_word o.enable_fire_and_forget_requests ∷ [])
 
 -- their numbers have 64 bits
 abbrev pub ServiceFits : ServiceOptions → Type 0
-ServiceFits (options.PublishSubscribe o) = PublishSubscribeFits o
-ServiceFits (options.Event o) = EventFits o
-ServiceFits (options.RequestResponse o) = RequestResponseFits o
+ServiceFits (options.PublishSubscribe o) = IfSome o.max_subscribers IsNumber × IfSome o.max_publishers IsNumber
+    × IfSome o.max_nodes IsNumber
+    × IfSome o.subscriber_max_buffer_size IsNumber
+    × IfSome o.subscriber_max_borrowed_samples IsNumber × IfSome o.history_size IsNumber
+ServiceFits (options.Event o) = IfSome o.max_notifiers IsNumber × IfSome o.max_listeners IsNumber × IfSome o.max_nodes IsNumber
+    × IfSome o.event_id_max_value IsNumber
+    × IfSome o.deadline IsNumberOrOff
+    × IfSome o.notifier_created_event IsNumberOrOff × IfSome o.notifier_dropped_event IsNumberOrOff
+    × IfSome o.notifier_dead_event IsNumberOrOff
+ServiceFits (options.RequestResponse o) = IfSome o.max_servers IsNumber × IfSome o.max_clients IsNumber × IfSome o.max_nodes IsNumber
+    × IfSome o.max_response_buffer_size IsNumber
+    × IfSome o.max_borrowed_responses_per_pending_response IsNumber × IfSome o.max_active_requests_per_client IsNumber
+    × IfSome o.max_loaned_requests IsNumber
 
 -- the words name the service: its node, its pattern, its name, its options in any order, and then words for attributes and for
 -- lists of steps
 abbrev pub Names : ℕ → List ℕ → ServiceOptions → List (List ℕ) → List (List ℕ) → List (List ℕ) → Type 0
 Names node name options attributes lists words = (chosen : List (List ℕ)) × AnyOrder chosen (service_words options)
-    × (words ≡ tag node_letter node ∷ pattern_word (pattern_of options) ∷ name ∷ (chosen ++ (attributes ++ lists)))
+    × (words ≡ (codes "n" ++ decimal node) ∷ pattern_word (pattern_of options) ∷ name ∷ (chosen ++ (attributes ++ lists)))

@@ -6,25 +6,25 @@ use Rattle.iox_command.specs.declared.step.ForeignStep.TheVariants as step
 use Rattle.iox_command.specs.declared.step.StepBefore.{StepBefore}
 use Rattle.iox_command.specs.Patterns.{pattern_of}
 use Rattle.iox_line.specs.Words.{joined}
-use Rattle.iox_line.specs.Numbers.{IsNumber, tag}
+use Rattle.iox_line.specs.Numbers.{IsNumber}
 use Rattle.iox_line.specs.Options.{AnyOrder}
-use Rattle.iox_line.specs.Letters.{bar, colon, comma, foreign_letter}
+use Rattle.iox_line.specs.Letters.{comma}
 use Rattle.iox_line.specs.Services.{service_words, ServiceFits}
 
 -- options after a colon, with a comma between each two; nothing where there are none
 abbrev pub option_tail : List (List ℕ) → List ℕ
 option_tail [] = []
-option_tail (w ∷ ws) = colon ∷ joined comma (w ∷ ws)
+option_tail (w ∷ ws) = codes ":" ++ joined comma (w ∷ ws)
 
 -- the word writes the step: its verb, a colon, an x and the number of its node; to publish also options, in any order
 abbrev pub WritesStep : ForeignStep → List ℕ → Type 0
-WritesStep (step.Lock node) word = word ≡ codes "lock:" ++ tag foreign_letter node
-WritesStep (step.GiveUp node) word = word ≡ codes "giveup:" ++ tag foreign_letter node
+WritesStep (step.Lock node) word = word ≡ codes "lock:x" ++ decimal node
+WritesStep (step.GiveUp node) word = word ≡ codes "giveup:x" ++ decimal node
 WritesStep (step.Publish node options) word = (chosen : List (List ℕ)) × AnyOrder chosen (service_words options)
-    × (word ≡ codes "publish:" ++ (tag foreign_letter node ++ option_tail chosen))
-WritesStep (step.Register node) word = word ≡ codes "register:" ++ tag foreign_letter node
-WritesStep (step.Leave node) word = word ≡ codes "leave:" ++ tag foreign_letter node
-WritesStep (step.Remove node) word = word ≡ codes "remove:" ++ tag foreign_letter node
+    × (word ≡ codes "publish:x" ++ (decimal node ++ option_tail chosen))
+WritesStep (step.Register node) word = word ≡ codes "register:x" ++ decimal node
+WritesStep (step.Leave node) word = word ≡ codes "leave:x" ++ decimal node
+WritesStep (step.Remove node) word = word ≡ codes "remove:x" ++ decimal node
 
 -- the numbers have 64 bits, and what is published is of the pattern
 abbrev pub StepFits : MessagingPattern → ForeignStep → Type 0
@@ -42,7 +42,7 @@ WritesSteps (s ∷ ss) words = (w : List ℕ) × (ws : List (List ℕ)) × Write
 
 -- what begins the list of an access, where the list that stands is that of another: a bar and the number
 abbrev pub beginning : ℕ → ℕ → List (List ℕ)
-beginning now access = if access == now then [] else (bar ∷ decimal access) ∷ []
+beginning now access = if access == now then [] else (codes "|" ++ decimal access) ∷ []
 
 -- the words write lists of steps: the steps in their order, and each list begins before its first step; the list of access `now` has begun
 abbrev pub WritesLists : ℕ → List StepBefore → List (List ℕ) → Type 0

@@ -2,13 +2,9 @@
 use Rattle.std.specs.Prelude.{ℕ, ◌≤◌, Bool, ◌&&◌, nat_le, List, length}
 use Rattle.std.specs.List.{All, list_all}
 
--- a byte of 0x21 to 0x7E
-abbrev pub IsVisible : ℕ → Type 0
-IsVisible b = (33 ≤ b) × (b ≤ 126)
-
--- a text of `least` to `most` such bytes
+-- a text of `least` to `most` bytes of 0x21 to 0x7E
 abbrev pub IsVisibleText : ℕ → ℕ → List ℕ → Type 0
-IsVisibleText least most text = (least ≤ length text) × (length text ≤ most) × All IsVisible text
+IsVisibleText least most text = (least ≤ length text) × (length text ≤ most) × All (λ byte. (33 ≤ byte) × (byte ≤ 126)) text
 
 -- whether a byte is one of 0x21 to 0x7E
 abbrev pub is_visible : ℕ → Bool

@@ -18,23 +18,15 @@ lacks byte text = list_all (λ b. not (b == byte)) text
 abbrev pub has_no_space : List ℕ → Bool
 has_no_space word = lacks space word
 
--- none of the texts has this byte
-abbrev pub AllLack : ℕ → List (List ℕ) → Type 0
-AllLack byte texts = AllOf (λ text. lacks byte text ≡ true) texts
-
 -- no byte of any of the words is a space
 abbrev pub AreWords : List (List ℕ) → Type 0
-AreWords words = AllLack space words
+AreWords words = AllOf (λ word. lacks space word ≡ true) words
 
 -- pieces with one such byte between each two
 abbrev pub joined : ℕ → List (List ℕ) → List ℕ
 joined separator [] = []
 joined separator (w ∷ []) = w
 joined separator (w ∷ v ∷ ws) = w ++ separator ∷ joined separator (v ∷ ws)
-
--- words with one space between each two
-abbrev pub spaced : List (List ℕ) → List ℕ
-spaced words = joined space words
 
 -- a byte stands before the first of the pieces
 abbrev pub onto_first : ℕ → List (List ℕ) → List (List ℕ)

@@ -4,6 +4,7 @@ use Rattle.std.proofs.Common.{ap, subst, inl, inr, arith, ◌∙◌, true≢fals
 use Rattle.std.proofs.lemmas.Bool.{eqb-true, eq-eqb, false_from_ne_true}
 use Rattle.std.specs.List.{AllByRecursion, IsDistinct, list_any}
 use Rattle.std.specs.Prelude.{◌==◌, filter, find, fold, option_map}
+use Rattle.iox_machine.specs.Choices.{Choices}
 use Rattle.iox_machine.specs.AgreementLaws.{agreed_in, IsPublished, AreApart, IsAgreed, IsIn, OneAgreement}
 use Rattle.iox_machine.specs.Asked.{settings_of}
 use Rattle.iox_machine.specs.Factories.{with_open, CreatesService, OpensService, OpensOrCreatesService}
@@ -425,7 +426,7 @@ module _ {T : Type 0} where
 
   -- ---- steps
 
-  module _ (types : MessageTypeDetails) (IsDefault : T → Type 0) (buffer : ℕ) where
+  module _ (types : MessageTypeDetails) (choices : Choices T) (buffer : ℕ) where
     pub acts-all : (factory : Factory) (old : State T) (stands : Stands old) (steps : List StepBefore)
         → AllByRecursion (λ (before : StepBefore). (phase : Phase)
         → Fits (tally factory.pattern factory.name old.factories) factory.pattern factory.name old.services phase
@@ -514,7 +515,7 @@ module _ {T : Type 0} where
         one false is = absurd (true≢false (sym is))
 
     pub step-stands : (asked : Command T) (old : State T) (answer : Reply T) (new : State T)
-        → Step types IsDefault buffer asked old answer new
+        → Step types choices buffer asked old answer new
         → Stands old → Stands new
     step-stands command.Node old answer new (inl (told, came)) stands =
         subst (λ (it : State T). Stands it) (sym came) (record {
@@ -560,10 +561,10 @@ module _ {T : Type 0} where
       ]
     ]
     step-stands asked old answer new h stands =
-        moved-stands asked old answer new stands (ports-move types IsDefault buffer asked old answer new refl h)
+        moved-stands asked old answer new stands (ports-move types choices buffer asked old answer new refl h)
 
     pub runs-stand : (asked : List (Command T)) (old : State T) (answers : List (Reply T)) (new : State T)
-        → Runs types IsDefault buffer asked old answers new → Stands old → Stands new
+        → Runs types choices buffer asked old answers new → Stands old → Stands new
     runs-stand [] old answers new run stands = subst (λ (it : State T). Stands it) (sym run.1) stands
     runs-stand (one ∷ more) old answers new run stands =
         runs-stand more run.1 run.2 new run.4 (step-stands one old run.0 run.1 run.3 stands)
@@ -626,7 +627,7 @@ module _ {T : Type 0} where
             λ same. served (subst (λ (it : MessagingPattern). same_pattern it messaging.PublishSubscribe ≡ true) (sym same) refl),
           )
 
-pub one-agreement : {T : Type 0} (IsDefault : T → Type 0) → OneAgreement IsDefault
-one-agreement IsDefault types buffer asked answers new run =
-    let stands : Stands new = runs-stand types IsDefault buffer asked new_state answers new run new-stands in
+pub one-agreement : {T : Type 0} (choices : Choices T) → OneAgreement choices
+one-agreement choices types buffer asked answers new run =
+    let stands : Stands new = runs-stand types choices buffer asked new_state answers new run new-stands in
     (stands.apart, agreed-so new stands, in-so new stands)

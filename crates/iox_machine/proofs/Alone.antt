@@ -6,6 +6,7 @@ use Rattle.std.specs.List.{list_any}
 use Rattle.std.specs.Option.{option_map_or}
 use Rattle.std.specs.Prelude.{◌==◌, nat_lt, nat_le, is_some, find, filter, fold, MatchBool, MatchOption, MatchResult}
 use Rattle.std.specs.Vec.{vec_items}
+use Rattle.iox_machine.specs.Choices.{Choices}
 use Rattle.iox_machine.specs.AgreementLaws.{agreed_in}
 use Rattle.iox_machine.specs.Agreement.{Agreement, unfit, event_verdict, publish_subscribe_verdict, request_response_verdict}
 use Rattle.iox_machine.specs.Arriving.{PublisherArrives, SubscriberArrives, new_publisher, new_subscriber}
@@ -134,8 +135,7 @@ module _ {T : Type 0} (pattern : MessagingPattern) (name : List ℕ) where
       → AtOne found Does old answer new → AtOne found Does (own_of old) answer (own_of new)
   own-one {V} found Does old answer new on kept h =
       elim (by-option (find (λ (other : Service T). is_some (found other)) old.services) (IsSkipped old answer new)
-      (λ service. (after : Service T) × MatchOption (found service) ⊥ (λ one. Does one service answer after)
-      × (new ≡ record old {
+      (λ service. (after : Service T) × MatchOption (found service) ⊥ (λ one. Does one service answer after) × (new ≡ record old {
         made = counted answer old.made;
         services = replaced (λ (other : Service T). is_some (found other)) after old.services;
       })) h) [
@@ -241,13 +241,13 @@ module _ {T : Type 0} (pattern : MessagingPattern) (name : List ℕ) where
   some-of true service is = refl
   some-of false service is = is
 
-  own-factory : (types : MessageTypeDetails) (IsDefault : T → Type 0) (buffer number : ℕ) (Does : Service T → Reply T → Service T → Type 0)
+  own-factory : (types : MessageTypeDetails) (choices : Choices T) (buffer number : ℕ) (Does : Service T → Reply T → Service T → Type 0)
       (old : State T) (answer : Reply T) (new : State T)
       → option_map_or (is_factory_of pattern name) (at number old.factories) false ≡ true
       → ((service after : Service T) → Does service answer after → Kept old.made service answer after)
-      → AtFactory types IsDefault buffer number Does old answer new
-      → AtFactory types IsDefault buffer number Does (own_of old) answer (own_of new)
-  own-factory types IsDefault buffer number Does old answer new on kept h =
+      → AtFactory types choices buffer number Does old answer new
+      → AtFactory types choices buffer number Does (own_of old) answer (own_of new)
+  own-factory types choices buffer number Does old answer new on kept h =
       elim (by-option (at number old.factories) (IsSkipped old answer new)
       (λ factory. AtOne (λ (service : Service T). cond (is_service_of factory service) (Some service) None)
       (λ (service : Service T). Does) old answer new) h) [
@@ -258,7 +258,7 @@ module _ {T : Type 0} (pattern : MessagingPattern) (name : List ℕ) where
       there : (factory : Factory) → at number old.factories ≡ Some factory
           → AtOne (λ (service : Service T). cond (is_service_of factory service) (Some service) None)
           (λ (service : Service T). Does) old answer new
-          → AtFactory types IsDefault buffer number Does (own_of old) answer (own_of new)
+          → AtFactory types choices buffer number Does (own_of old) answer (own_of new)
       there factory found did =
           let own : is_factory_of pattern name factory ≡ true =
           sym (ap (λ (o : Option Factory). option_map_or (is_factory_of pattern name) o false) found) ∙ on in
@@ -381,7 +381,7 @@ module _ {T : Type 0} (pattern : MessagingPattern) (name : List ℕ) where
                 (IsSkipped (own_of old) answer (own_of new)) (inr (w.0, skipped-own old answer new w.1))
           ]
 
-  module _ (types : MessageTypeDetails) (IsDefault : T → Type 0) (buffer : ℕ) where
+  module _ (types : MessageTypeDetails) (choices : Choices T) (buffer : ℕ) where
     own-creates : (steps : List StepBefore) (factory : Factory) (named : ServiceOptions) (attributes : List Attribute) (old : State T)
         (answer : Reply T) (new : State T) → factory.pattern ≡ pattern → factory.name ≡ name → Patterned new
         → CreatesService types steps factory named attributes old answer new
@@ -601,8 +601,8 @@ module _ {T : Type 0} (pattern : MessagingPattern) (name : List ℕ) where
             }) (closes-own number factory.node old answer new) did)
 
     pub own-step : (asked : Command T) (old : State T) (answer : Reply T) (new : State T) → Stands new
-        → Step types IsDefault buffer asked old answer new → concerns pattern name asked old ≡ true
-        → Step types IsDefault buffer asked (own_of old) answer (own_of new)
+        → Step types choices buffer asked old answer new → concerns pattern name asked old ≡ true
+        → Step types choices buffer asked (own_of old) answer (own_of new)
     own-step command.Node old answer new stands (inl (told, came)) on = inl (told, ap own_of came)
     own-step command.Node old answer new stands (inr refused) on = inr (refused-own (refusal.Hub OutOfMemory) old answer new refused)
     own-step (command.Create node other named attributes steps) old answer new stands h on =
@@ -626,14 +626,14 @@ module _ {T : Type 0} (pattern : MessagingPattern) (name : List ℕ) where
         (name-is other name (both-true (same_pattern one pattern) (same_name other name) on).1) h
     own-step (command.Close factory) old answer new stands h on = own-closes factory old answer new on h
     own-step (command.Publisher factory options) old answer new stands h on =
-        own-factory types IsDefault buffer factory
+        own-factory types choices buffer factory
         (λ (service : Service T). PublisherArrives (old.made.publishers + 1)
         (new_publisher factory options service.settings) service) old answer new on
         (λ service after did. publisher-arrives old.made service answer (old.made.publishers + 1)
         (new_publisher factory options service.settings)
         service after (itself old.made service) refl did) h
     own-step (command.Subscriber factory options) old answer new stands h on =
-        own-factory types IsDefault buffer factory
+        own-factory types choices buffer factory
         (λ (service : Service T). SubscriberArrives buffer (old.made.subscribers + 1)
         (new_subscriber factory options service.settings) service) old answer new on
         (λ service after did. subscriber-arrives old.made service answer buffer (old.made.subscribers + 1)
@@ -670,17 +670,17 @@ module _ {T : Type 0} (pattern : MessagingPattern) (name : List ℕ) where
         (by-asked (λ (other : Service T). is_some ((λ (service : Service T). at loan service.loans) other)) old on)
         (λ one service after did. drops old.made service answer loan service after (itself old.made service) did) h
     own-step (command.Send loan) old answer new stands h on =
-        own-one (λ (service : Service T). at loan service.loans) (SendsLoan loan) old answer new
+        own-one (λ (service : Service T). at loan service.loans) (SendsLoan choices loan) old answer new
         (by-asked (λ (other : Service T). is_some ((λ (service : Service T). at loan service.loans) other)) old on)
-        (λ one service after did. sends-loan old.made service answer loan one service after (itself old.made service) did) h
+        (λ one service after did. sends-loan old.made service answer choices loan one service after (itself old.made service) did) h
     own-step (command.Put publisher values) old answer new stands h on =
-        own-free publisher (Puts publisher values) old answer new on
-        (λ one service after did. puts old.made service answer publisher values one service after (itself old.made service) did) h
+        own-free publisher (Puts choices publisher values) old answer new on
+        (λ one service after did. puts old.made service answer choices publisher values one service after (itself old.made service) did) h
     own-step (command.Retry publisher nanoseconds) old answer new stands h on =
         own-blocked publisher
-        (λ (one : Publisher T) (send : Send T). GoesOn publisher one
+        (λ (one : Publisher T) (send : Send T). GoesOn choices publisher one
         (record send { retries = send.retries + 1; elapsed = nanoseconds })) old answer new on
-        (λ one send service after did. goes-on old.made service answer publisher one
+        (λ one send service after did. goes-on old.made service answer choices publisher one
         (record send { retries = send.retries + 1; elapsed = nanoseconds }) service after (itself old.made service) did) h
     own-step (command.GiveUp publisher) old answer new stands h on =
         own-blocked publisher
@@ -692,10 +692,10 @@ module _ {T : Type 0} (pattern : MessagingPattern) (name : List ℕ) where
         (publisher-turned old.made service answer publisher (record one { blocked = None }) service (itself old.made service)) did tt) h
     own-step (command.Receive subscriber) old answer new stands h on =
         own-one (subscriber_in subscriber)
-        (subscribing.UpdatesFirst buffer subscriber (λ failure. refusal.Receive (receive_error.ConnectionFailure failure))
+        (subscribing.UpdatesFirst choices buffer subscriber (λ failure. refusal.Receive (receive_error.ConnectionFailure failure))
         (Receives subscriber (old.made.samples + 1))) old answer new
         (by-asked (λ (other : Service T). is_some ((subscriber_in subscriber) other)) old on)
-        (λ one service after did. subscriber-updates old.made service answer buffer subscriber
+        (λ one service after did. subscriber-updates old.made service answer choices buffer subscriber
         (λ failure. refusal.Receive (receive_error.ConnectionFailure failure)) (Receives subscriber (old.made.samples + 1)) one service
         after (itself old.made service)
         (λ next mid k took. receives old.made service answer subscriber (old.made.samples + 1) next mid after k refl took) did) h
@@ -712,19 +712,19 @@ module _ {T : Type 0} (pattern : MessagingPattern) (name : List ℕ) where
         (λ one service after did. releases old.made service answer sample one service after (itself old.made service) did) h
     own-step (command.Update (port.Publisher number)) old answer new stands h on =
         own-free number
-        (publishing.UpdatesFirst number refusal.Connection
+        (publishing.UpdatesFirst choices number refusal.Connection
         (λ (one : Publisher T) (service : Service T) (answered : Reply T) (after : Service T). (answered ≡ reply.Done) × (after ≡ service)))
         old answer new on
-        (λ one service after did. updates-first old.made service answer number refusal.Connection
+        (λ one service after did. updates-first old.made service answer choices number refusal.Connection
         (λ (it : Publisher T) (mid : Service T) (answered : Reply T) (end : Service T). (answered ≡ reply.Done) × (end ≡ mid)) one service
         after (itself old.made service)
         (λ it mid k done. ends old.made service answer reply.Done mid after k done tt) did) h
     own-step (command.Update (port.Subscriber number)) old answer new stands h on =
         own-one (subscriber_in number)
-        (subscribing.UpdatesFirst buffer number refusal.Connection
+        (subscribing.UpdatesFirst choices buffer number refusal.Connection
         (λ (one : Subscriber) (service : Service T) (answered : Reply T) (after : Service T). (answered ≡ reply.Done) × (after ≡ service)))
         old answer new (by-asked (λ (other : Service T). is_some ((subscriber_in number) other)) old on)
-        (λ one service after did. subscriber-updates old.made service answer buffer number refusal.Connection
+        (λ one service after did. subscriber-updates old.made service answer choices buffer number refusal.Connection
         (λ (it : Subscriber) (mid : Service T) (answered : Reply T) (end : Service T). (answered ≡ reply.Done) × (end ≡ mid)) one service
         after (itself old.made service)
         (λ it mid k done. ends old.made service answer reply.Done mid after k done tt) did) h
@@ -745,11 +745,11 @@ module _ {T : Type 0} (pattern : MessagingPattern) (name : List ℕ) where
         (itself old.made service) did) h
     own-step (command.Has subscriber) old answer new stands h on =
         own-one (subscriber_in subscriber)
-        (subscribing.UpdatesFirst buffer subscriber refusal.Connection
+        (subscribing.UpdatesFirst choices buffer subscriber refusal.Connection
         (λ (one : Subscriber) (service : Service T) (answered : Reply T) (after : Service T).
         (answered ≡ reply.Has (has_samples subscriber one service))
         × (after ≡ service))) old answer new (by-asked (λ (other : Service T). is_some ((subscriber_in subscriber) other)) old on)
-        (λ one service after did. subscriber-updates old.made service answer buffer subscriber refusal.Connection
+        (λ one service after did. subscriber-updates old.made service answer choices buffer subscriber refusal.Connection
         (λ (it : Subscriber) (mid : Service T) (answered : Reply T) (end : Service T).
         (answered ≡ reply.Has (has_samples subscriber it mid)) × (end ≡ mid)) one service after (itself old.made service)
         (λ it mid k done. ends old.made service answer (reply.Has (has_samples subscriber it mid)) mid after k done tt) did) h
@@ -759,27 +759,27 @@ module _ {T : Type 0} (pattern : MessagingPattern) (name : List ℕ) where
     left-asks other old off = off
 
     alone : (asked : List (Command T)) (old : State T) (answers : List (Reply T)) (new : State T)
-        (run : Runs types IsDefault buffer asked old answers new) → Stands old
-        → IsAlone types IsDefault buffer pattern name asked old answers new run (own_of old)
+        (run : Runs types choices buffer asked old answers new) → Stands old
+        → IsAlone types choices buffer pattern name asked old answers new run (own_of old)
     alone [] old answers new run stands = tt
     alone (one ∷ more) old answers new run stands =
         here (concerns pattern name one old) refl
-        (alone more run.1 run.2 new run.4 (step-stands types IsDefault buffer one old run.0 run.1 run.3 stands))
+        (alone more run.1 run.2 new run.4 (step-stands types choices buffer one old run.0 run.1 run.3 stands))
       where
         here : (b : Bool) → concerns pattern name one old ≡ b
-            → IsAlone types IsDefault buffer pattern name more run.1 run.2 new run.4 (own_of run.1)
+            → IsAlone types choices buffer pattern name more run.1 run.2 new run.4 (own_of run.1)
             → MatchBool b
-            ((mid : State T) × Step types IsDefault buffer one (own_of old) run.0 mid
-            × IsAlone types IsDefault buffer pattern name more run.1 run.2 new run.4 mid)
-            (IsAlone types IsDefault buffer pattern name more run.1 run.2 new run.4 (record (own_of old) { made = run.1.made }))
+            ((mid : State T) × Step types choices buffer one (own_of old) run.0 mid
+            × IsAlone types choices buffer pattern name more run.1 run.2 new run.4 mid)
+            (IsAlone types choices buffer pattern name more run.1 run.2 new run.4 (record (own_of old) { made = run.1.made }))
         here true on rest = (
           own_of run.1,
-          own-step one old run.0 run.1 (step-stands types IsDefault buffer one old run.0 run.1 run.3 stands) run.3 on,
+          own-step one old run.0 run.1 (step-stands types choices buffer one old run.0 run.1 run.3 stands) run.3 on,
           rest,
         )
         here false off rest =
-            subst (λ (own : State T). IsAlone types IsDefault buffer pattern name more run.1 run.2 new run.4 own)
-            (own-left old run.1 (step-left pattern name types IsDefault buffer one old run.0 run.1 stands run.3 (left-asks one old off)))
+            subst (λ (own : State T). IsAlone types choices buffer pattern name more run.1 run.2 new run.4 own)
+            (own-left old run.1 (step-left pattern name types choices buffer one old run.0 run.1 stands run.3 (left-asks one old off)))
             rest
 
   pub own-new : own_of new_state ≡ new_state
@@ -794,7 +794,7 @@ module _ {T : Type 0} (pattern : MessagingPattern) (name : List ℕ) where
       here true = refl
       here false = refl
 
-pub as-if-alone : {T : Type 0} (IsDefault : T → Type 0) → ServicesAreAsIfAlone IsDefault
-as-if-alone {T} IsDefault types buffer asked answers new run pattern name =
-    subst (λ (own : State T). IsAlone types IsDefault buffer pattern name asked new_state answers new run own) (own-new pattern name)
-    (alone pattern name types IsDefault buffer asked new_state answers new run new-stands)
+pub as-if-alone : {T : Type 0} (choices : Choices T) → ServicesAreAsIfAlone choices
+as-if-alone {T} choices types buffer asked answers new run pattern name =
+    subst (λ (own : State T). IsAlone types choices buffer pattern name asked new_state answers new run own) (own-new pattern name)
+    (alone pattern name types choices buffer asked new_state answers new run new-stands)

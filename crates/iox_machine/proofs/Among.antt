@@ -6,6 +6,7 @@ use Rattle.std.specs.List.{list_any}
 use Rattle.std.specs.Option.{option_map_or}
 use Rattle.std.specs.Prelude.{◌==◌, nat_lt, is_some, find, MatchOption}
 use Rattle.std.specs.Vec.{vec_items}
+use Rattle.iox_machine.specs.Choices.{Choices}
 use Rattle.iox_machine.specs.AmongLaws.{with_services, StepsAmong, UnknownIsSkipped}
 use Rattle.iox_machine.specs.Arriving.{PublisherArrives, SubscriberArrives, new_publisher, new_subscriber}
 use Rattle.iox_machine.specs.Message.{Loan, Sample, is_written}
@@ -138,14 +139,14 @@ module _ {T : Type 0} (state : State T) (answer : Reply T) (before behind : List
                   (sym (replaced-past has later service before behind none is)),
             )
 
-  module _ (types : MessageTypeDetails) (IsDefault : T → Type 0) (buffer : ℕ) where
+  module _ (types : MessageTypeDetails) (choices : Choices T) (buffer : ℕ) where
     at-factory-among : (number : ℕ) (Does : Service T → Reply T → Service T → Type 0)
         → list_any (λ (other : Service T). option_map_or (λ (one : Factory). is_service_of one other) (at number state.factories) false)
         before ≡ false
         → list_any (λ (other : Service T). option_map_or (λ (one : Factory). is_service_of one other) (at number state.factories) false)
         behind ≡ false
-        → AtFactory types IsDefault buffer number Does alone answer alone_then
-        → AtFactory types IsDefault buffer number Does among answer among_then
+        → AtFactory types choices buffer number Does alone answer alone_then
+        → AtFactory types choices buffer number Does among answer among_then
     at-factory-among number Does none nothing h =
         elim (by-option (at number state.factories) (IsSkipped alone answer alone_then)
         (λ factory. AtOne (λ (other : Service T). cond (is_service_of factory other) (Some other) None)
@@ -160,7 +161,7 @@ module _ {T : Type 0} (state : State T) (answer : Reply T) (before behind : List
             → MatchOption o (IsSkipped among answer among_then)
             (λ factory. AtOne (λ (other : Service T). cond (is_service_of factory other) (Some other) None)
             (λ (other : Service T). Does) among answer among_then)
-            → AtFactory types IsDefault buffer number Does among answer among_then
+            → AtFactory types choices buffer number Does among answer among_then
         go same it =
             subst (λ (o : Option Factory). MatchOption o (IsSkipped among answer among_then)
             (λ factory. AtOne (λ (other : Service T). cond (is_service_of factory other) (Some other) None)
@@ -177,15 +178,15 @@ module _ {T : Type 0} (state : State T) (answer : Reply T) (before behind : List
 
 -- ---- each command on ports, loans and samples
 
-module _ {T : Type 0} (types : MessageTypeDetails) (IsDefault : T → Type 0) (buffer : ℕ) (factories : List (ℕ × Factory))
+module _ {T : Type 0} (types : MessageTypeDetails) (choices : Choices T) (buffer : ℕ) (factories : List (ℕ × Factory))
     (Has : (Service T → Bool) → Type 0) (Result : (State T → Reply T → State T → Type 0) → Type 0)
     (one : (V : Type 0) (found : Service T → Option V) (Does : Made → V → Service T → Reply T → Service T → Type 0)
     → Has (λ other. is_some (found other)) → Result (λ old answer new. AtOne found (Does old.made) old answer new))
     (at_one_of : (number : ℕ) (Does : Made → Service T → Reply T → Service T → Type 0)
     → Has (λ other. option_map_or (λ (factory : Factory). is_service_of factory other) (at number factories) false)
-    → Result (λ old answer new. AtFactory types IsDefault buffer number (Does old.made) old answer new))
+    → Result (λ old answer new. AtFactory types choices buffer number (Does old.made) old answer new))
     (some : (Does : T → State T → Reply T → State T → Type 0) → ((value : T) → Result (Does value))
-    → Result (λ old answer new. (value : T) × IsDefault value × Does value old answer new)) where
+    → Result (λ old answer new. (value : T) × choices.is_default value × Does value old answer new)) where
   free : (number : ℕ) (Does : Made → Publisher T → Service T → Reply T → Service T → Type 0)
       → Has (λ (other : Service T). is_some (publisher_in number other))
       → Result (λ old answer new. AtFree number (Does old.made) old answer new)
@@ -207,7 +208,7 @@ module _ {T : Type 0} (types : MessageTypeDetails) (IsDefault : T → Type 0) (b
   loaned number Does its = one (Loan T) (λ (other : Service T). at number other.loans) (λ made. Does) its
 
   -- what holds of each command at one service holds of all commands on ports, loans and samples
-  each-step : (asked : Command T) → is_on_ports asked ≡ true → Has (has_named factories asked) → Result (Step types IsDefault buffer asked)
+  each-step : (asked : Command T) → is_on_ports asked ≡ true → Has (has_named factories asked) → Result (Step types choices buffer asked)
   each-step command.Node on its = absurd (true≢false (sym on))
   each-step (command.Create node name options attributes steps) on its = absurd (true≢false (sym on))
   each-step (command.Open node name options required steps) on its = absurd (true≢false (sym on))
@@ -231,17 +232,17 @@ module _ {T : Type 0} (types : MessageTypeDetails) (IsDefault : T → Type 0) (b
       loaned loan (λ it. Writes loan it (length values == length it.values) (map Some values)) its
   each-step (command.Drop loan) on its =
       loaned loan (λ it old answer new. (answer ≡ reply.Done) × (new ≡ record old { loans = removed loan old.loans })) its
-  each-step (command.Send loan) on its = loaned loan (SendsLoan loan) its
-  each-step (command.Put publisher values) on its = free publisher (λ made. Puts publisher values) its
+  each-step (command.Send loan) on its = loaned loan (SendsLoan choices loan) its
+  each-step (command.Put publisher values) on its = free publisher (λ made. Puts choices publisher values) its
   each-step (command.Retry publisher nanoseconds) on its =
-      blocked publisher (λ it send. GoesOn publisher it (record send { retries = send.retries + 1; elapsed = nanoseconds })) its
+      blocked publisher (λ it send. GoesOn choices publisher it (record send { retries = send.retries + 1; elapsed = nanoseconds })) its
   each-step (command.GiveUp publisher) on its =
       blocked publisher
       (λ it send old answer new. (answer ≡ reply.Delivered send.delivered)
       × (new ≡ with_publisher publisher (record it { blocked = None }) old)) its
   each-step (command.Receive subscriber) on its =
       one Subscriber (subscriber_in subscriber)
-      (λ made. subscribing.UpdatesFirst buffer subscriber (λ failure. refusal.Receive (receive_error.ConnectionFailure failure))
+      (λ made. subscribing.UpdatesFirst choices buffer subscriber (λ failure. refusal.Receive (receive_error.ConnectionFailure failure))
       (Receives subscriber (made.samples + 1))) its
   each-step (command.Read sample) on its =
       one (Sample T) (λ (other : Service T). at sample other.samples)
@@ -250,10 +251,11 @@ module _ {T : Type 0} (types : MessageTypeDetails) (IsDefault : T → Type 0) (b
   each-step (command.Release sample) on its = one (Sample T) (λ (other : Service T). at sample other.samples) (λ made. Releases sample) its
   each-step (command.Update (port.Publisher number)) on its =
       free number
-      (λ made. publishing.UpdatesFirst number refusal.Connection (λ it old answer new. (answer ≡ reply.Done) × (new ≡ old))) its
+      (λ made. publishing.UpdatesFirst choices number refusal.Connection (λ it old answer new. (answer ≡ reply.Done) × (new ≡ old))) its
   each-step (command.Update (port.Subscriber number)) on its =
       one Subscriber (subscriber_in number)
-      (λ made. subscribing.UpdatesFirst buffer number refusal.Connection (λ it old answer new. (answer ≡ reply.Done) × (new ≡ old))) its
+      (λ made. subscribing.UpdatesFirst choices buffer number refusal.Connection
+      (λ it old answer new. (answer ≡ reply.Done) × (new ≡ old))) its
   each-step (command.Leave (port.Publisher number)) on its =
       free number
       (λ made it old answer new. (answer ≡ reply.Done)
@@ -265,19 +267,19 @@ module _ {T : Type 0} (types : MessageTypeDetails) (IsDefault : T → Type 0) (b
       (record old { subscriber_list = left number old.subscriber_list }))) its
   each-step (command.Has subscriber) on its =
       one Subscriber (subscriber_in subscriber)
-      (λ made. subscribing.UpdatesFirst buffer subscriber refusal.Connection
+      (λ made. subscribing.UpdatesFirst choices buffer subscriber refusal.Connection
       (λ it old answer new. (answer ≡ reply.Has (has_samples subscriber it old)) × (new ≡ old))) its
 
 -- ---- among others, and where nobody its what is named
 
-pub steps-among : {T : Type 0} (IsDefault : T → Type 0) → StepsAmong IsDefault
-steps-among {T} IsDefault types buffer asked state answer before behind service after on none nothing h =
-    each-step types IsDefault buffer state.factories
+pub steps-among : {T : Type 0} (choices : Choices T) → StepsAmong choices
+steps-among {T} choices types buffer asked state answer before behind service after on none nothing h =
+    each-step types choices buffer state.factories
     (λ test. (list_any test before ≡ false) × (list_any test behind ≡ false))
     (λ Does. Does (alone state answer before behind service after) answer (alone_then state answer before behind service after)
     → Does (among state answer before behind service after) answer (among_then state answer before behind service after))
     (λ V found Does its. one-among state answer before behind service after found (Does state.made) its.0 its.1)
-    (λ number Does its. at-factory-among state answer before behind service after types IsDefault buffer number (Does state.made) its.0
+    (λ number Does its. at-factory-among state answer before behind service after types choices buffer number (Does state.made) its.0
     its.1)
     (λ Does on_each did. (did.0, did.1, on_each did.0 did.2))
     asked on (none, nothing) h
@@ -294,25 +296,25 @@ module _ {T : Type 0} (state : State T) where
       × (state ≡ record state { services = replaced (λ (other : Service T). is_some (found other)) after state.services })))
       (sym (find-nothing (λ (other : Service T). is_some (found other)) state.services none)) (refl, refl)
 
-  factory-skipped : (types : MessageTypeDetails) (IsDefault : T → Type 0) (buffer number : ℕ)
+  factory-skipped : (types : MessageTypeDetails) (choices : Choices T) (buffer number : ℕ)
       (Does : Service T → Reply T → Service T → Type 0)
       → list_any (λ (other : Service T). option_map_or (λ (one : Factory). is_service_of one other) (at number state.factories) false)
       state.services ≡ false
-      → AtFactory types IsDefault buffer number Does state skips state
-  factory-skipped types IsDefault buffer number Does none = by_factory (at number state.factories) refl
+      → AtFactory types choices buffer number Does state skips state
+  factory-skipped types choices buffer number Does none = by_factory (at number state.factories) refl
     where
       went : {o : Option Factory} → at number state.factories ≡ o
           → MatchOption o (IsSkipped state skips state)
           (λ factory. AtOne (λ (other : Service T). cond (is_service_of factory other) (Some other) None)
           (λ (other : Service T). Does) state skips state)
-          → AtFactory types IsDefault buffer number Does state skips state
+          → AtFactory types choices buffer number Does state skips state
       went same it =
           subst (λ (o : Option Factory). MatchOption o (IsSkipped state skips state)
           (λ factory. AtOne (λ (other : Service T). cond (is_service_of factory other) (Some other) None)
           (λ (other : Service T). Does) state skips state)) (sym same) it
 
       by_factory : (o : Option Factory) → at number state.factories ≡ o
-          → AtFactory types IsDefault buffer number Does state skips state
+          → AtFactory types choices buffer number Does state skips state
       by_factory None gone = went gone (refl, refl)
       by_factory (Some factory) there =
           went there
@@ -321,10 +323,10 @@ module _ {T : Type 0} (state : State T) where
           (λ i other. (is-some-cond (is_service_of factory other) other
           ∙ sym (ap (λ (o : Option Factory). option_map_or (λ (one : Factory). is_service_of one other) o false) there)) i) ∙ none))
 
-pub unknown-skipped : {T : Type 0} (IsDefault : T → Type 0) → UnknownIsSkipped IsDefault
-unknown-skipped {T} IsDefault types buffer asked state value is on none =
-    each-step types IsDefault buffer state.factories (λ test. list_any test state.services ≡ false) (λ Does. Does state (skips state) state)
+pub unknown-skipped : {T : Type 0} (choices : Choices T) → UnknownIsSkipped choices
+unknown-skipped {T} choices types buffer asked state value is on none =
+    each-step types choices buffer state.factories (λ test. list_any test state.services ≡ false) (λ Does. Does state (skips state) state)
     (λ V found Does its. one-skipped state found (Does state.made) its)
-    (λ number Does its. factory-skipped state types IsDefault buffer number (Does state.made) its)
+    (λ number Does its. factory-skipped state types choices buffer number (Does state.made) its)
     (λ Does on_each. (value, is, on_each value))
     asked on none

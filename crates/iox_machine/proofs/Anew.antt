@@ -4,6 +4,7 @@ use Rattle.std.proofs.Common.{arith, ◌∙◌, true≢false}
 use Rattle.std.proofs.lemmas.Bool.{eqb-true, eq-eqb, false_from_ne_true}
 use Rattle.std.specs.List.{AllByRecursion, list_any}
 use Rattle.std.specs.Prelude.{◌==◌}
+use Rattle.iox_machine.specs.Choices.{Choices}
 use Rattle.iox_machine.specs.AgreementLaws.{AreAbove, IsLaterThan, LivesStartAnew}
 use Rattle.iox_machine.specs.NumberLaws.{publisher_told, subscriber_told, loan_told, sample_told}
 use Rattle.iox_machine.specs.Phase.{same_pattern}
@@ -128,7 +129,7 @@ module _ {T : Type 0} (name : List ℕ) (bound : Made) where
             ]),
       )
 
-  module _ (types : MessageTypeDetails) (IsDefault : T → Type 0) (buffer : ℕ) where
+  module _ (types : MessageTypeDetails) (choices : Choices T) (buffer : ℕ) where
     beside : (asked : Command T) (old : State T) (answer : Reply T) (new : State T) → Before bound old.made
         → IsBeside asked old answer new
         → AllByRecursion Later old.services → Keeps Later old answer new
@@ -145,7 +146,7 @@ module _ {T : Type 0} (name : List ℕ) (bound : Made) where
     negotiating factory old answer new h all = negotiated-keeps Later factory (λ c is. (tt, tt, tt, tt)) old answer new h all
 
     steps-later : (asked : Command T) (old : State T) (answer : Reply T) (new : State T) → Before bound old.made
-        → Step types IsDefault buffer asked old answer new → AllByRecursion Later old.services → Keeps Later old answer new
+        → Step types choices buffer asked old answer new → AllByRecursion Later old.services → Keeps Later old answer new
     steps-later command.Node old answer new before (inl (told, came)) all =
         (subst (λ (state : State T). AllByRecursion Later state.services) (sym came) all, ap (λ (state : State T). state.made) came)
     steps-later command.Node old answer new before (inr refused) all = (
@@ -172,10 +173,10 @@ module _ {T : Type 0} (name : List ℕ) (bound : Made) where
     steps-later (command.Close factory) old answer new before h all =
         closed-keeps Later factory old answer new (closed factory old answer new h) all
     steps-later asked old answer new before h all =
-        beside asked old answer new before (ports-move types IsDefault buffer asked old answer new refl h) all
+        beside asked old answer new before (ports-move types choices buffer asked old answer new refl h) all
 
     runs-later : (asked : List (Command T)) (old : State T) (answers : List (Reply T)) (new : State T) → Before bound old.made
-        → Runs types IsDefault buffer asked old answers new → AllByRecursion Later old.services → AllByRecursion Later new.services
+        → Runs types choices buffer asked old answers new → AllByRecursion Later old.services → AllByRecursion Later new.services
     runs-later [] old answers new before run all = subst (λ (state : State T). AllByRecursion Later state.services) (sym run.1) all
     runs-later (one ∷ more) old answers new before run all =
         let kept : Keeps Later old run.0 run.1 = steps-later one old run.0 run.1 before run.3 all in
@@ -200,12 +201,12 @@ no-service {T} state name stands none =
     (both-true (same_pattern entry.1.pattern messaging.PublishSubscribe) (same_name service.name entry.1.name) of).1))
     state.factories manned) ∙ none))) state.services stands.manned
 
-pub lives-start-anew : {T : Type 0} (IsDefault : T → Type 0) → LivesStartAnew IsDefault
-lives-start-anew {T} IsDefault types buffer before told old run name none =
+pub lives-start-anew : {T : Type 0} (choices : Choices T) → LivesStartAnew choices
+lives-start-anew {T} choices types buffer before told old run name none =
     let gone : AllByRecursion (λ (service : Service T). same_name service.name name ≡ false) old.services =
-    no-service old name (runs-stand types IsDefault buffer before new_state told old run new-stands) none in (
+    no-service old name (runs-stand types choices buffer before new_state told old run new-stands) none in (
       none-passes (λ (service : Service T). same_name service.name name) old.services gone,
-      (λ asked answers new ran. runs-later name old.made types IsDefault buffer asked old answers new
+      (λ asked answers new ran. runs-later name old.made types choices buffer asked old answers new
           (omega arith, omega arith, omega arith, omega arith) ran
           (all-weaker (λ (service : Service T). same_name service.name name ≡ false) (Later name old.made)
           (λ service off is. absurd (true≢false (sym is ∙ off))) old.services gone)),

@@ -1,6 +1,7 @@
 -- A service that stands after a command, and none of its name before, has nothing.
 use Rattle.std.proofs.Common.{◌≡◌, ◌⊎◌, ℕ, Bool, true, false, ◌||◌, List, [], ◌∷◌, refl, sym, subst, inl, inr}
 use Rattle.std.specs.List.{AllByRecursion, list_any}
+use Rattle.iox_machine.specs.Choices.{Choices}
 use Rattle.iox_machine.specs.AgreementLaws.{ServicesStartEmpty}
 use Rattle.iox_machine.specs.Run.{Step, factory_of}
 use Rattle.iox_machine.specs.Service.{Service, new_service}
@@ -41,7 +42,7 @@ module _ {T : Type 0} where
   abbrev Starts : List (Service T) → Service T → Type 0
   Starts services service = Named services service ⊎ (service ≡ new_service service.name service.settings)
 
-  module _ (types : MessageTypeDetails) (IsDefault : T → Type 0) (buffer : ℕ) where
+  module _ (types : MessageTypeDetails) (choices : Choices T) (buffer : ℕ) where
     beside : (asked : Command T) (old : State T) (answer : Reply T) (new : State T) → IsBeside asked old answer new
         → AllByRecursion (Starts old.services) new.services
     beside asked old answer new (inl skipped) =
@@ -59,7 +60,7 @@ module _ {T : Type 0} where
         (negotiated-keeps (Starts old.services) factory (λ c. inr refl) old answer new h
         (all-weaker (Named old.services) (Starts old.services) (λ service named. inl named) old.services (each-named old.services))).0
 
-    starts : (asked : Command T) (old : State T) (answer : Reply T) (new : State T) → Step types IsDefault buffer asked old answer new
+    starts : (asked : Command T) (old : State T) (answer : Reply T) (new : State T) → Step types choices buffer asked old answer new
         → AllByRecursion (Starts old.services) new.services
     starts command.Node old answer new (inl (told, came)) =
         subst (λ (state : State T). AllByRecursion (Starts old.services) state.services) (sym came)
@@ -85,7 +86,7 @@ module _ {T : Type 0} where
     starts (command.Close factory) old answer new h =
         (closed-keeps (Starts old.services) factory old answer new (closed factory old answer new h)
         (all-weaker (Named old.services) (Starts old.services) (λ service named. inl named) old.services (each-named old.services))).0
-    starts asked old answer new h = beside asked old answer new (ports-move types IsDefault buffer asked old answer new refl h)
+    starts asked old answer new h = beside asked old answer new (ports-move types choices buffer asked old answer new refl h)
 
-pub services-start-empty : {T : Type 0} (IsDefault : T → Type 0) → ServicesStartEmpty IsDefault
-services-start-empty IsDefault types buffer asked old answer new h = starts types IsDefault buffer asked old answer new h
+pub services-start-empty : {T : Type 0} (choices : Choices T) → ServicesStartEmpty choices
+services-start-empty choices types buffer asked old answer new h = starts types choices buffer asked old answer new h

@@ -4,6 +4,7 @@ use Rattle.std.proofs.Common.{Some, refl, sym, ap, subst, inl, inr, arith, ◌�
 use Rattle.std.proofs.lemmas.Bool.{and_from, le-leb, leb-true, ne_eqb}
 use Rattle.std.specs.List.{AllByRecursion, list_any}
 use Rattle.std.specs.Prelude.{◌==◌, filter, find, is_some, nat_le}
+use Rattle.iox_machine.specs.Choices.{Choices}
 use Rattle.iox_machine.specs.Arriving.{new_publisher, new_subscriber}
 use Rattle.iox_machine.specs.ConnectionLaws.{PairsConnectOnce, begins_in}
 use Rattle.iox_machine.specs.Factories.{with_open}
@@ -319,10 +320,10 @@ module _ {T : Type 0} where
             (never-begins (list_any is old.services) (list_any is new.services)
             (λ none. early-any new.made new.services early_too then))
 
-    module _ (types : MessageTypeDetails) (IsDefault : T → Type 0) (buffer : ℕ) where
+    module _ (types : MessageTypeDetails) (choices : Choices T) (buffer : ℕ) where
       run-left : (asked : List (Command T)) (old : State T) (answers : List (Reply T)) (new : State T)
-          (run : Runs types IsDefault buffer asked old answers new) → AreLinked old
-          → left_of new + begins_in types IsDefault buffer (λ (state : State T). list_any is state.services) asked old answers new run
+          (run : Runs types choices buffer asked old answers new) → AreLinked old
+          → left_of new + begins_in types choices buffer (λ (state : State T). list_any is state.services) asked old answers new run
           ≤ left_of old
       run-left [] old answers new run all =
           subst (λ (it : State T). left_of it + 0 ≤ left_of old) (sym run.1) (plain (left_of old))
@@ -331,21 +332,21 @@ module _ {T : Type 0} where
           plain x = omega arith
       run-left (one ∷ more) old answers new run all =
           let comes : Comes Turned turned-walks old run.0 run.1 =
-          step-comes Turned turned-walks types IsDefault buffer one old run.0 run.1 run.3 in
+          step-comes Turned turned-walks types choices buffer one old run.0 run.1 run.3 in
           let then : AreLinked run.1 = comes-linked old run.0 run.1 comes all in
           joined (left_of new) (left_of run.1) (left_of old) (begun old.services run.1.services)
-          (begins_in types IsDefault buffer (λ (state : State T). list_any is state.services) more run.1 run.2 new run.4)
+          (begins_in types choices buffer (λ (state : State T). list_any is state.services) more run.1 run.2 new run.4)
           (run-left more run.1 run.2 new run.4 then) (step-left old run.0 run.1 comes all then)
         where
           joined : (x y z c d : ℕ) → x + d ≤ y → y + c ≤ z → x + (c + d) ≤ z
           joined x y z c d h k = omega (arith, h, k)
 
       begins-once : (asked : List (Command T)) (answers : List (Reply T)) (new : State T)
-          (run : Runs types IsDefault buffer asked new_state answers new)
-          → begins_in types IsDefault buffer (λ (state : State T). list_any is state.services) asked new_state answers new run ≤ 1
+          (run : Runs types choices buffer asked new_state answers new)
+          → begins_in types choices buffer (λ (state : State T). list_any is state.services) asked new_state answers new run ≤ 1
       begins-once asked answers new run =
           few (left_of new)
-          (begins_in types IsDefault buffer (λ (state : State T). list_any is state.services) asked new_state answers new run)
+          (begins_in types choices buffer (λ (state : State T). list_any is state.services) asked new_state answers new run)
           (left_of new_state) (run-left asked new_state answers new run tt) (one-most (both (new_state {T = T}).made))
         where
           few : (x c y : ℕ) → x + c ≤ y → y ≤ 1 → c ≤ 1
@@ -566,10 +567,10 @@ module _ {T : Type 0} where
       later = both-later;
     }
 
-pub pairs-connect-once : {T : Type 0} (IsDefault : T → Type 0) → PairsConnectOnce IsDefault
-pairs-connect-once {T} IsDefault types buffer asked answers new run publisher subscriber = (
+pub pairs-connect-once : {T : Type 0} (choices : Choices T) → PairsConnectOnce choices
+pairs-connect-once {T} choices types buffer asked answers new run publisher subscriber = (
   begins-once (reach publisher subscriber) (has_publisher publisher subscriber) (subscriber_listed subscriber)
-      (both_made publisher subscriber) (reach-pairs publisher subscriber) types IsDefault buffer asked answers new run,
+      (both_made publisher subscriber) (reach-pairs publisher subscriber) types choices buffer asked answers new run,
   begins-once (hear publisher subscriber) (has_subscriber publisher subscriber) (publisher_listed publisher)
-      (both_made publisher subscriber) (hear-pairs publisher subscriber) types IsDefault buffer asked answers new run,
+      (both_made publisher subscriber) (hear-pairs publisher subscriber) types choices buffer asked answers new run,
 )

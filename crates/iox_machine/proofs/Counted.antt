@@ -4,6 +4,7 @@ use Rattle.std.proofs.Common.{ap, subst, inl, inr, arith, ◌∙◌, true≢fals
 use Rattle.std.proofs.lemmas.Bool.{eqb-true, eq-eqb, false_from_ne_true}
 use Rattle.std.specs.List.{AllByRecursion, IsDistinct, cons_option, list_any}
 use Rattle.std.specs.Prelude.{◌==◌, not, filter, filter_map, find, flat_map, fold, take}
+use Rattle.iox_machine.specs.Choices.{Choices}
 use Rattle.iox_machine.specs.Factories.{with_open}
 use Rattle.iox_machine.specs.Message.{Loan, Sample}
 use Rattle.iox_machine.specs.NumberLaws.{GoOn, AreToldOnce, NumbersGoUp, NumbersNameOne, numbers_in, node_told, factory_told}
@@ -289,9 +290,9 @@ module _ {T : Type 0} where
   sample-on made (reply.Received number values) next = (next, refl)
   sample-on made other next = refl
 
-  module _ (types : MessageTypeDetails) (IsDefault : T → Type 0) (buffer : ℕ) where
+  module _ (types : MessageTypeDetails) (choices : Choices T) (buffer : ℕ) where
     pub step-passes : (asked : Command T) (old : State T) (answer : Reply T) (new : State T)
-        → Step types IsDefault buffer asked old answer new
+        → Step types choices buffer asked old answer new
         → Passes old answer new
     step-passes command.Node old answer new (inl (told, came)) =
         rests (reply.NodeMade (old.made.nodes + 1)) old (record old { made = counted answer old.made }) new answer (told, came) refl
@@ -315,14 +316,14 @@ module _ {T : Type 0} where
         (with_phase pattern name (fold (acted types pattern) (old.phases pattern name) (take done steps)) old) new answer refused tt refl
         refl refl refl
     step-passes (command.Close factory) old answer new h = closing factory old answer new (closed factory old answer new h)
-    step-passes asked old answer new h = beside asked old answer new (ports-move types IsDefault buffer asked old answer new refl h)
+    step-passes asked old answer new h = beside asked old answer new (ports-move types choices buffer asked old answer new refl h)
 
     -- ---- a run
 
     run-goes-on : (last : Made → ℕ) (told : Reply T → Option ℕ)
         → ((made : Made) (answer : Reply T) → IsNext made answer → IsNextOf (told answer) (last made) (last (counted answer made)))
         → (asked : List (Command T)) (old : State T) (answers : List (Reply T)) (new : State T)
-        → Runs types IsDefault buffer asked old answers new → GoOn (last old.made) (filter_map told answers)
+        → Runs types choices buffer asked old answers new → GoOn (last old.made) (filter_map told answers)
     run-goes-on last told on [] old answers new run =
         subst (λ (it : List (Reply T)). GoOn (last old.made) (filter_map told it)) (sym run.0) tt
     run-goes-on last told on (one ∷ more) old answers new run =
@@ -338,7 +339,7 @@ module _ {T : Type 0} where
         → ((old : State T) (answer : Reply T) (new : State T) → Passes old answer new
         → (number : ℕ) → times number (of new) ≤ times number (of old) + of_told (told answer) number)
         → (asked : List (Command T)) (old : State T) (answers : List (Reply T)) (new : State T)
-        → Runs types IsDefault buffer asked old answers new
+        → Runs types choices buffer asked old answers new
         → (number : ℕ) → times number (of new) ≤ times number (of old) + times number (filter_map told answers)
     run-adds of told on [] old answers new run number =
         subst (λ (it : State T). times number (of it) ≤ times number (of old) + times number (filter_map told answers)) (sym run.1)
@@ -468,32 +469,32 @@ once-each told xs on few = (
 
 -- ---- the laws
 
-pub numbers-go-up : {T : Type 0} (IsDefault : T → Type 0) → NumbersGoUp IsDefault
-numbers-go-up {T} IsDefault types buffer asked answers new run = (
-  run-goes-on types IsDefault buffer (λ made. made.nodes) node_told node-on asked new_state answers new run,
-  run-goes-on types IsDefault buffer (λ made. made.factories) factory_told factory-on asked new_state answers new run,
-  run-goes-on types IsDefault buffer (λ made. made.publishers) publisher_told publisher-on asked new_state answers new run,
-  run-goes-on types IsDefault buffer (λ made. made.subscribers) subscriber_told subscriber-on asked new_state answers new run,
-  run-goes-on types IsDefault buffer (λ made. made.loans) loan_told loan-on asked new_state answers new run,
-  run-goes-on types IsDefault buffer (λ made. made.samples) sample_told sample-on asked new_state answers new run,
+pub numbers-go-up : {T : Type 0} (choices : Choices T) → NumbersGoUp choices
+numbers-go-up {T} choices types buffer asked answers new run = (
+  run-goes-on types choices buffer (λ made. made.nodes) node_told node-on asked new_state answers new run,
+  run-goes-on types choices buffer (λ made. made.factories) factory_told factory-on asked new_state answers new run,
+  run-goes-on types choices buffer (λ made. made.publishers) publisher_told publisher-on asked new_state answers new run,
+  run-goes-on types choices buffer (λ made. made.subscribers) subscriber_told subscriber-on asked new_state answers new run,
+  run-goes-on types choices buffer (λ made. made.loans) loan_told loan-on asked new_state answers new run,
+  run-goes-on types choices buffer (λ made. made.samples) sample_told sample-on asked new_state answers new run,
 )
 
-pub numbers-name-one : {T : Type 0} (IsDefault : T → Type 0) → NumbersNameOne IsDefault
-numbers-name-one {T} IsDefault types buffer asked answers new run =
-    let on = numbers-go-up IsDefault types buffer asked answers new run in (
+pub numbers-name-one : {T : Type 0} (choices : Choices T) → NumbersNameOne choices
+numbers-name-one {T} choices types buffer asked answers new run =
+    let on = numbers-go-up choices types buffer asked answers new run in (
       once-each (filter_map factory_told answers) (numbers_in new.factories) on.1
-          (run-adds types IsDefault buffer (λ (state : State T). numbers_in state.factories) factory_told
+          (run-adds types choices buffer (λ (state : State T). numbers_in state.factories) factory_told
           (λ old answer next it. it.factories) asked new_state answers new run),
       once-each (filter_map publisher_told answers) (standing (λ (service : Service T). service.publishers) new.services) on.2
-          (run-adds types IsDefault buffer (λ (state : State T). standing (λ (service : Service T). service.publishers) state.services)
+          (run-adds types choices buffer (λ (state : State T). standing (λ (service : Service T). service.publishers) state.services)
           publisher_told (λ old answer next it. it.publishers) asked new_state answers new run),
       once-each (filter_map subscriber_told answers) (standing (λ (service : Service T). service.subscribers) new.services) on.3
-          (run-adds types IsDefault buffer (λ (state : State T). standing (λ (service : Service T). service.subscribers) state.services)
+          (run-adds types choices buffer (λ (state : State T). standing (λ (service : Service T). service.subscribers) state.services)
           subscriber_told (λ old answer next it. it.subscribers) asked new_state answers new run),
       once-each (filter_map loan_told answers) (standing (λ (service : Service T). service.loans) new.services) on.4
-          (run-adds types IsDefault buffer (λ (state : State T). standing (λ (service : Service T). service.loans) state.services)
+          (run-adds types choices buffer (λ (state : State T). standing (λ (service : Service T). service.loans) state.services)
           loan_told (λ old answer next it. it.loans) asked new_state answers new run),
       once-each (filter_map sample_told answers) (standing (λ (service : Service T). service.samples) new.services) on.5
-          (run-adds types IsDefault buffer (λ (state : State T). standing (λ (service : Service T). service.samples) state.services)
+          (run-adds types choices buffer (λ (state : State T). standing (λ (service : Service T). service.samples) state.services)
           sample_told (λ old answer next it. it.samples) asked new_state answers new run),
     )

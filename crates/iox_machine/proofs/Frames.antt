@@ -4,21 +4,22 @@ use Rattle.std.proofs.Common.{ap, subst, inl, inr, ◌∙◌}
 use Rattle.std.proofs.lemmas.Bool.{eqb-true, eqb-false, eq-eqb, ne_eqb, and_from, and_right, cases_Bool}
 use Rattle.std.specs.List.{list_all}
 use Rattle.std.specs.Prelude.{◌^◌, ◌||◌, ◌==◌, nat_le, nat_lt, is_some, unwrap_or, option_map, option_and_then, fold, filter, slice_get}
-use Rattle.std.specs.Prelude.{MatchBool, MatchResult}
+use Rattle.std.specs.Prelude.{MatchBool, drop, zip}
 use Rattle.std.specs.Option.{option_map_or}
+use Rattle.iox_machine.specs.Choices.{Choices}
+use Rattle.iox_machine.proofs.Delivering.{Outcomes, by-outcome, first_of, offered, deliver, goes-on-so}
 use Rattle.iox_machine.specs.Arriving.{worst_case, PublisherArrives, SubscriberArrives}
 use Rattle.iox_machine.specs.Mailbox.{Mailbox, put, newest, given_back}
 use Rattle.iox_machine.specs.Message.{Message, Loan, is_written, sent_as}
 use Rattle.iox_machine.specs.PortList.{those, registered}
 use Rattle.iox_machine.specs.Ports.{publisher_in, subscriber_in, LendsLoan, Puts, SendsLoan, Writes}
 use Rattle.iox_machine.specs.PublisherUpdate as publishing
-use Rattle.iox_machine.specs.PublisherUpdate.{update_answer}
 use Rattle.iox_machine.specs.Replies.{IsSkipped, IsRefused}
-use Rattle.iox_machine.specs.Sending.{offered, deliver, decision_at, GoesOn, Begins, Sends}
+use Rattle.iox_machine.specs.Sending.{GoesOn, Begins, Sends}
 use Rattle.iox_machine.specs.Service.{Service, Publisher, Subscriber, Send, with_publisher, with_subscriber, mailbox, with_mailbox, connect}
 use Rattle.iox_machine.specs.SubscriberUpdate as subscribing
 use Rattle.iox_machine.specs.Table.{at, contains, removed}
-use Rattle.iox_machine.proofs.Cases.{by-bool, by-option, by-result, same-some, never-some, chosen, both-true}
+use Rattle.iox_machine.proofs.Cases.{by-bool, by-option, same-some, never-some, chosen, both-true}
 use Rattle.iox_machine.proofs.Tables.{at-changed, at-changed-other, at-appended-other}
 use Rattle.iox_command.specs.DomainValues.declared.backpressure.BackpressureDecision.{BackpressureDecision}
 use Rattle.iox_command.specs.DomainValues.declared.backpressure.BackpressureDecision.TheVariants.{Retry, DiscardData, DiscardDataAndFail}
@@ -280,21 +281,23 @@ module _ {T : Type 0} where
   by-offered number None DiscardDataAndFail subscriber more goes_on send service on =
       on (record send { retries = 0; elapsed = 0; fails = true }) service
 
-  pub by-deliver : (number : ℕ) (publisher : Publisher T) (left : List ℕ) (send : Send T) (service : Service T)
-      → ByPublisher number service (deliver number publisher left send service).1
-  by-deliver number publisher [] send service = by-none number service
-  by-deliver number publisher (subscriber ∷ more) send service =
+  pub by-deliver : (number : ℕ) (decisions : List BackpressureDecision) (left : List ℕ) (send : Send T) (service : Service T)
+      → ByPublisher number service (deliver number decisions left send service).1
+  by-deliver number decisions [] send service = by-none number service
+  by-deliver number decisions (subscriber ∷ more) send service =
       by-offered number (put service.settings.enable_safe_overflow send.message (mailbox number subscriber service))
-      (decision_at number publisher service subscriber) subscriber more (deliver number publisher more) send service
-      (λ next mid. by-deliver number publisher more next mid)
+      (first_of decisions) subscriber more (deliver number (drop 1 decisions) more) send service
+      (λ next mid. by-deliver number (drop 1 decisions) more next mid)
 
-  pub by-goes-on : (number : ℕ) (publisher : Publisher T) (send : Send T) (old : Service T) (answer : Reply T) (new : Service T)
-      → GoesOn number publisher send old answer new → ByPublisher number old new
-  by-goes-on number publisher send old answer new h =
-      let after : Send T × Service T = deliver number publisher send.left send old in
+  pub by-goes-on : (choices : Choices T) (number : ℕ) (publisher : Publisher T) (send : Send T) (old : Service T) (answer : Reply T)
+      (new : Service T)
+      → GoesOn choices number publisher send old answer new → ByPublisher number old new
+  by-goes-on choices number publisher send old answer new h =
+      let so = goes-on-so choices number publisher send old answer new h in
+      let after : Send T × Service T = deliver number so.0 send.left send old in
       let now : Publisher T = record publisher { blocked = cond (is_some (slice_get after.0.left 0)) (Some after.0) None } in
-      subst (λ (s : Service T). ByPublisher number old s) (sym h.1)
-      (by-both number old after.1 (with_publisher number now after.1) (by-deliver number publisher send.left send old)
+      subst (λ (s : Service T). ByPublisher number old s) (sym so.1.1)
+      (by-both number old after.1 (with_publisher number now after.1) (by-deliver number so.0 send.left send old)
       (by-set number now after.1))
 
   -- ---- a subscriber
@@ -363,56 +366,56 @@ module _ {T : Type 0} where
       )
 
   -- What a subscriber does after it brought its connections up to date; or it is refused then.
-  pub soft-updates : (R : Type 0) (buffer number : ℕ) (told : ConnectionFailure → Refusal)
+  pub soft-updates : (choices : Choices T) (R : Type 0) (buffer number : ℕ) (told : ConnectionFailure → Refusal)
       (Does : Subscriber → Service T → Reply T → Service T → Type 0) (subscriber : Subscriber) (old : Service T) (answer : Reply T)
       (new : Service T) → at number old.subscribers ≡ Some subscriber
       → ((after : Subscriber) (mid : Service T) → BySubscriber old mid → at number mid.subscribers ≡ Some after
       → holder_of after ≡ holder_of subscriber → Does after mid answer new → R)
       → ((why : Refusal) (mid : Service T) → BySubscriber old mid → IsRefused why mid answer new → R)
-      → subscribing.UpdatesFirst buffer number told Does subscriber old answer new → R
-  soft-updates R buffer number told Does subscriber old answer new found does refused h =
+      → subscribing.UpdatesFirst choices buffer number told Does subscriber old answer new → R
+  soft-updates choices R buffer number told Does subscriber old answer new found does refused h =
       elim (by-bool ((subscriber.seen == old.publisher_list.changes) && not subscriber.again) (Does subscriber old answer new)
       ((after : Subscriber) × (mid : Service T) × subscribing.Follows buffer number subscriber old after mid
-      × MatchResult (update_answer subscriber.degradation old.publisher_list.places after.connected)
+      × Outcomes (choices.subscriber_acts number subscriber.degradation) (zip old.publisher_list.places after.connected)
       (λ done. Does after mid answer new) (λ failure. IsRefused (told failure) mid answer new)) h) [
         | inl w ↦ does subscriber old (soft-none old) found refl w.1
         | inr w ↦ followed w.1.0 w.1.1 w.1.2 w.1.3
       ]
     where
       followed : (after : Subscriber) (mid : Service T) → subscribing.Follows buffer number subscriber old after mid
-          → MatchResult (update_answer subscriber.degradation old.publisher_list.places after.connected)
+          → Outcomes (choices.subscriber_acts number subscriber.degradation) (zip old.publisher_list.places after.connected)
           (λ done. Does after mid answer new) (λ failure. IsRefused (told failure) mid answer new) → R
       followed after mid came told_so =
           let on : BySubscriber old mid × (at number mid.subscribers ≡ Some after) × (holder_of after ≡ holder_of subscriber) =
           soft-follows buffer number subscriber old after mid found came in
-          elim (by-result (update_answer subscriber.degradation old.publisher_list.places after.connected)
+          elim (by-outcome (choices.subscriber_acts number subscriber.degradation) (zip old.publisher_list.places after.connected)
           (λ done. Does after mid answer new) (λ failure. IsRefused (told failure) mid answer new) told_so) [
             | inl r ↦ does after mid on.0 on.1 on.2 r.2
             | inr r ↦ refused (told r.0) mid on.0 r.2
           ]
 
   -- A publisher so; then it does what it does, or is refused.
-  pub by-updates : (R : Type 0) (number : ℕ) (told : ConnectionFailure → Refusal)
+  pub by-updates : (choices : Choices T) (R : Type 0) (number : ℕ) (told : ConnectionFailure → Refusal)
       (Does : Publisher T → Service T → Reply T → Service T → Type 0) (publisher : Publisher T) (old : Service T) (answer : Reply T)
       (new : Service T)
       → ((after : Publisher T) (mid : Service T) → ByPublisher number old mid → Does after mid answer new → R)
       → ((why : Refusal) (mid : Service T) → ByPublisher number old mid → IsRefused why mid answer new → R)
-      → publishing.UpdatesFirst number told Does publisher old answer new → R
-  by-updates R number told Does publisher old answer new does refused h =
+      → publishing.UpdatesFirst choices number told Does publisher old answer new → R
+  by-updates choices R number told Does publisher old answer new does refused h =
       elim (by-bool (publisher.seen == old.subscriber_list.changes) (Does publisher old answer new)
       ((after : Publisher T) × (mid : Service T) × publishing.Follows number publisher old after mid
-      × MatchResult (update_answer publisher.degradation old.subscriber_list.places after.connected)
+      × Outcomes (choices.publisher_acts number publisher.degradation) (zip old.subscriber_list.places after.connected)
       (λ done. Does after mid answer new) (λ failure. IsRefused (told failure) mid answer new)) h) [
         | inl w ↦ does publisher old (by-none number old) w.1
         | inr w ↦ followed w.1.0 w.1.1 w.1.2 w.1.3
       ]
     where
       followed : (after : Publisher T) (mid : Service T) → publishing.Follows number publisher old after mid
-          → MatchResult (update_answer publisher.degradation old.subscriber_list.places after.connected)
+          → Outcomes (choices.publisher_acts number publisher.degradation) (zip old.subscriber_list.places after.connected)
           (λ done. Does after mid answer new) (λ failure. IsRefused (told failure) mid answer new) → R
       followed after mid came told_so =
           let on : ByPublisher number old mid = by-follows number publisher old after mid came in
-          elim (by-result (update_answer publisher.degradation old.subscriber_list.places after.connected)
+          elim (by-outcome (choices.publisher_acts number publisher.degradation) (zip old.subscriber_list.places after.connected)
           (λ done. Does after mid answer new) (λ failure. IsRefused (told failure) mid answer new) told_so) [
             | inl r ↦ does after mid on r.2
             | inr r ↦ refused (told r.0) mid on r.2
@@ -420,10 +423,11 @@ module _ {T : Type 0} where
 
   -- ---- what a publisher's commands do
 
-  by-begins : (number : ℕ) (message : Message T) (publisher : Publisher T) (old : Service T) (answer : Reply T) (new : Service T)
-      → Begins number message publisher old answer new → ByPublisher number old new
-  by-begins number message publisher old answer new h =
-      by-goes-on number (record publisher { history = newest old.settings.history_size (publisher.history ++ message ∷ []) })
+  by-begins : (choices : Choices T) (number : ℕ) (message : Message T) (publisher : Publisher T) (old : Service T) (answer : Reply T)
+      (new : Service T)
+      → Begins choices number message publisher old answer new → ByPublisher number old new
+  by-begins choices number message publisher old answer new h =
+      by-goes-on choices number (record publisher { history = newest old.settings.history_size (publisher.history ++ message ∷ []) })
       (record {
         message = message;
         left = those publisher.connected;
@@ -437,16 +441,17 @@ module _ {T : Type 0} where
       → IsRefused why mid answer new → ByPublisher number old new
   by-refused number why old mid answer new on refused = subst (λ (s : Service T). ByPublisher number old s) (sym refused.1) on
 
-  pub by-sends : (number : ℕ) (message : Message T) (publisher : Publisher T) (old : Service T) (answer : Reply T) (new : Service T)
-      → Sends number message publisher old answer new → ByPublisher number old new
-  by-sends number message publisher old answer new h =
+  pub by-sends : (choices : Choices T) (number : ℕ) (message : Message T) (publisher : Publisher T) (old : Service T) (answer : Reply T)
+      (new : Service T)
+      → Sends choices number message publisher old answer new → ByPublisher number old new
+  by-sends choices number message publisher old answer new h =
       elim (by-bool publisher.stands
-      (publishing.UpdatesFirst number (λ failure. refusal.Send (error.ConnectionError failure))
-      (Begins number message) publisher old answer new)
+      (publishing.UpdatesFirst choices number (λ failure. refusal.Send (error.ConnectionError failure))
+      (Begins choices number message) publisher old answer new)
       (IsRefused (refusal.Send error.ConnectionBrokenSinceSenderNoLongerExists) old answer new) h) [
-        | inl w ↦ by-updates (ByPublisher number old new) number (λ failure. refusal.Send (error.ConnectionError failure))
-            (Begins number message) publisher old answer new
-            (λ after mid on begun. by-both number old mid new on (by-begins number message after mid answer new begun))
+        | inl w ↦ by-updates choices (ByPublisher number old new) number (λ failure. refusal.Send (error.ConnectionError failure))
+            (Begins choices number message) publisher old answer new
+            (λ after mid on begun. by-both number old mid new on (by-begins choices number message after mid answer new begun))
             (λ why mid on refused. by-refused number why old mid answer new on refused) w.1
         | inr w ↦ by-refused number (refusal.Send error.ConnectionBrokenSinceSenderNoLongerExists) old old answer new
             (by-none number old) w.1
@@ -459,26 +464,28 @@ module _ {T : Type 0} where
   by-lends-loan loan number count value publisher old answer new (Some why, after, lent, (told, same)) =
       subst (λ (s : Service T). ByPublisher number old s) (sym same) (by-none number old)
 
-  pub by-puts : (number : ℕ) (values : List T) (publisher : Publisher T) (old : Service T) (answer : Reply T) (new : Service T)
-      → Puts number values publisher old answer new → ByPublisher number old new
-  by-puts number values publisher old answer new (None, after, lent, sent) =
+  pub by-puts : (choices : Choices T) (number : ℕ) (values : List T) (publisher : Publisher T) (old : Service T) (answer : Reply T)
+      (new : Service T)
+      → Puts choices number values publisher old answer new → ByPublisher number old new
+  by-puts choices number values publisher old answer new (None, after, lent, sent) =
       by-both number old (with_publisher number after old) new (by-set number after old)
-      (by-sends number (record { number = publisher.next; values = values }) after (with_publisher number after old) answer new sent)
-  by-puts number values publisher old answer new (Some why, after, lent, (told, same)) =
+      (by-sends choices number (record { number = publisher.next; values = values }) after (with_publisher number after old) answer new
+      sent)
+  by-puts choices number values publisher old answer new (Some why, after, lent, (told, same)) =
       subst (λ (s : Service T). ByPublisher number old s) (sym same) (by-none number old)
 
-  pub by-sends-loan : (number : ℕ) (loan : Loan T) (old : Service T) (answer : Reply T) (new : Service T)
-      → SendsLoan number loan old answer new → ByPublisher loan.publisher old new
-  by-sends-loan number loan old answer new h =
+  pub by-sends-loan : (choices : Choices T) (number : ℕ) (loan : Loan T) (old : Service T) (answer : Reply T) (new : Service T)
+      → SendsLoan choices number loan old answer new → ByPublisher loan.publisher old new
+  by-sends-loan choices number loan old answer new h =
       elim (by-option (at loan.publisher old.publishers) (IsSkipped old answer new)
       (λ publisher. MatchBool (is_written loan && not (is_some publisher.blocked))
-      (Sends loan.publisher (sent_as loan) publisher (record old { loans = removed number old.loans }) answer new)
+      (Sends choices loan.publisher (sent_as loan) publisher (record old { loans = removed number old.loans }) answer new)
       (IsSkipped old answer new)) h) [
         | inl w ↦ subst (λ (s : Service T). ByPublisher loan.publisher old s) (sym w.1.1) (by-none loan.publisher old)
         | inr w ↦ elim (by-bool (is_written loan && not (is_some w.0.blocked))
-            (Sends loan.publisher (sent_as loan) w.0 (record old { loans = removed number old.loans }) answer new)
+            (Sends choices loan.publisher (sent_as loan) w.0 (record old { loans = removed number old.loans }) answer new)
             (IsSkipped old answer new) w.2) [
-              | inl k ↦ by-sends loan.publisher (sent_as loan) w.0 (record old { loans = removed number old.loans }) answer new k.1
+              | inl k ↦ by-sends choices loan.publisher (sent_as loan) w.0 (record old { loans = removed number old.loans }) answer new k.1
               | inr k ↦ subst (λ (s : Service T). ByPublisher loan.publisher old s) (sym k.1.1) (by-none loan.publisher old)
             ]
       ]

@@ -7,13 +7,17 @@ use Rattle.std.specs.List.{AllByRecursion, list_any, list_all}
 use Rattle.std.specs.Prelude.{◌==◌, nat_lt, nat_le, is_some, filter, find, fold, slice_get, unwrap_or, zip, MatchBool, MatchOption}
 use Rattle.std.specs.Prelude.{MatchResult}
 use Rattle.std.specs.Vec.{vec_items}
+use Rattle.iox_machine.specs.Choices.{Choices}
+use Rattle.iox_machine.proofs.AlwaysChosen.{answers-go, delivers-goes}
+use Rattle.iox_machine.proofs.Delivering.{Outcomes}
+use Rattle.iox_machine.specs.PublisherUpdate.{UpdateAnswers}
 use Rattle.iox_machine.specs.Agreement.{unfit, event_verdict, publish_subscribe_verdict, request_response_verdict}
 use Rattle.iox_machine.specs.Arriving.{PublisherArrives, SubscriberArrives, new_publisher, new_subscriber, worst_case}
 use Rattle.iox_machine.specs.Asked.{settings_of}
 use Rattle.iox_machine.specs.Closing.{Closes, is_used_by}
 use Rattle.iox_machine.specs.Factories.{Negotiates, Enters, CreatesService, OpensService, OpensOrCreatesService, create_refusal}
 use Rattle.iox_machine.specs.Factories.{RefusesNode, either_lacking}
-use Rattle.iox_machine.specs.GoingLaws.{EachIsAnswered}
+use Rattle.iox_machine.specs.GoingLaws.{EachIsAnswered, AlwaysChoose}
 use Rattle.iox_machine.specs.Lending.{Lends, LendsLonger, loan_refusal}
 use Rattle.iox_machine.specs.Mailbox.{Mailbox, has_data, newest, taken, given_back}
 use Rattle.iox_machine.specs.Message.{Message, Loan, Sample, is_written, sent_as}
@@ -22,12 +26,11 @@ use Rattle.iox_machine.specs.Phase.{Own, acted, closed_by, same_pattern}
 use Rattle.iox_machine.specs.PortList.{those, unless, left, registered}
 use Rattle.iox_machine.specs.Ports.{AtFree, AtBlocked, publisher_in, subscriber_in, LendsLoan, Puts, SendsLoan, Writes, Releases}
 use Rattle.iox_machine.specs.PublisherUpdate as publishing
-use Rattle.iox_machine.specs.PublisherUpdate.{update_answer}
 use Rattle.iox_machine.specs.Receiving.{Receives, Takes, IsGiver, gives, has_samples, lasting}
 use Rattle.iox_machine.specs.Replies.{IsSkipped, IsRefused}
 use Rattle.iox_machine.specs.Run.{Step, AtFactory, factory_of}
 use Rattle.iox_machine.specs.RunLaws.{AllMessages}
-use Rattle.iox_machine.specs.Sending.{GoesOn, Begins, Sends, deliver}
+use Rattle.iox_machine.specs.Sending.{GoesOn, Begins, Sends}
 use Rattle.iox_machine.specs.Service.{Service, Publisher, Subscriber, Send, with_publisher, with_subscriber, mailbox, with_mailbox, connect}
 use Rattle.iox_machine.specs.State.{State, Factory, AtOne, is_service_of, counted, replaced, same_name, with_phase}
 use Rattle.iox_machine.specs.SubscriberUpdate as subscribing
@@ -65,6 +68,8 @@ use Rattle.iox_command.specs.declared.reply.Reply.TheVariants as reply
 use Rattle.iox_command.specs.declared.service.ServiceOptions.{ServiceOptions}
 use Rattle.iox_command.specs.declared.service.ServiceOptions.TheVariants as options
 use Rattle.iox_command.specs.declared.step.StepBefore.{StepBefore}
+use Rattle.iox_command.specs.DomainValues.declared.backpressure.BackpressureDecision.TheVariants.{Retry}
+use Rattle.iox_command.specs.DomainValues.declared.degradation.DegradationAction.{DegradationAction}
 
 -- ---- cases
 
@@ -89,12 +94,6 @@ module _ {T S : Type 0} where
       → Answered (λ answer new. MatchOption o (A answer new) (λ v. B v answer new))
   if-option None A B a other = a
   if-option (Some v) A B a other = other v refl
-
-  if-result : {V E : Type 0} (r : Result V E) (A : V → Reply T → S → Type 0) (B : E → Reply T → S → Type 0)
-      → ((v : V) → Answered (A v)) → ((e : E) → Answered (B e))
-      → Answered (λ answer new. MatchResult r (λ v. A v answer new) (λ e. B e answer new))
-  if-result (Ok v) A B a other = a v
-  if-result (Err e) A B a other = other e
 
 -- ---- lists
 
@@ -127,7 +126,19 @@ any-one test (y ∷ xs) is = here (test y) refl is (any-one test xs)
 
 -- ---- a service
 
-module _ {T : Type 0} where
+module _ {T : Type 0} (choices : Choices T) (always : AlwaysChoose choices) where
+  -- what comes of something that an update answers
+  if-outcome : (May : DegradationAction → Type 0) (places : List (Option ℕ × Option ℕ)) (A : Unit {0} → Reply T → Service T → Type 0)
+      (B : ConnectionFailure → Reply T → Service T → Type 0) → ((action : DegradationAction) × May action)
+      → ((v : Unit {0}) → Answered (A v)) → ((e : ConnectionFailure) → Answered (B e))
+      → Answered (λ answer new. Outcomes May places (λ v. A v answer new) (λ e. B e answer new))
+  if-outcome May places A B may a other = here (answers-go May may.0 may.1 places)
+    where
+      here : (outcome : Result (Unit {0}) ConnectionFailure) × UpdateAnswers May places outcome
+          → Answered (λ answer new. Outcomes May places (λ v. A v answer new) (λ e. B e answer new))
+      here (Ok v, answers) = let did = a v in (did.0, did.1, (Ok v, answers, did.2))
+      here (Err e, answers) = let did = other e in (did.0, did.1, (Err e, answers, did.2))
+
   at-one-goes : {V : Type 0} (found : Service T → Option V) (Does : V → Service T → Reply T → Service T → Type 0) (old : State T)
       → ((one : V) (service : Service T) → find (λ (other : Service T). is_some (found other)) old.services ≡ Some service
       → found service ≡ Some one → Answered (Does one service))
@@ -179,10 +190,10 @@ module _ {T : Type 0} where
       old (λ one service first found. if-option one.blocked (IsSkipped service) (λ send. Does one send service) (skip service)
       (λ send is. does one send service))
 
-  at-factory-goes : (types : MessageTypeDetails) (IsDefault : T → Type 0) (buffer number : ℕ)
+  at-factory-goes : (types : MessageTypeDetails) (choices : Choices T) (buffer number : ℕ)
       (Does : Service T → Reply T → Service T → Type 0) (old : State T)
-      → ((service : Service T) → Answered (Does service)) → Answered (AtFactory types IsDefault buffer number Does old)
-  at-factory-goes types IsDefault buffer number Does old does =
+      → ((service : Service T) → Answered (Does service)) → Answered (AtFactory types choices buffer number Does old)
+  at-factory-goes types choices buffer number Does old does =
       if-option (at number old.factories) (IsSkipped old)
       (λ factory. AtOne (λ (service : Service T). cond (is_service_of factory service) (Some service) None)
       (λ (service : Service T). Does) old) (skip old)
@@ -206,41 +217,48 @@ module _ {T : Type 0} where
 
   publisher-updates : (number : ℕ) (told : ConnectionFailure → Refusal) (Does : Publisher T → Service T → Reply T → Service T → Type 0)
       (publisher : Publisher T) (old : Service T) → ((one : Publisher T) (mid : Service T) → Answered (Does one mid))
-      → Answered (publishing.UpdatesFirst number told Does publisher old)
+      → Answered (publishing.UpdatesFirst choices number told Does publisher old)
   publisher-updates number told Does publisher old does =
       if-bool (publisher.seen == old.subscriber_list.changes) (Does publisher old)
       (λ answer new. (after : Publisher T) × (mid : Service T) × publishing.Follows number publisher old after mid
-      × MatchResult (update_answer publisher.degradation old.subscriber_list.places after.connected)
+      × Outcomes (choices.publisher_acts number publisher.degradation) (zip old.subscriber_list.places after.connected)
       (λ done. Does after mid answer new) (λ failure. IsRefused (told failure) mid answer new))
       (λ is. does publisher old) (λ is. followed (publisher-follows number publisher old))
     where
       followed : (after : Publisher T) × (mid : Service T) × publishing.Follows number publisher old after mid
           → Answered (λ answer new. (after : Publisher T) × (mid : Service T) × publishing.Follows number publisher old after mid
-          × MatchResult (update_answer publisher.degradation old.subscriber_list.places after.connected)
+          × Outcomes (choices.publisher_acts number publisher.degradation) (zip old.subscriber_list.places after.connected)
           (λ done. Does after mid answer new) (λ failure. IsRefused (told failure) mid answer new))
       followed (after, mid, came) =
-          let did : Answered (λ answer new. MatchResult (update_answer publisher.degradation old.subscriber_list.places after.connected)
+          let did : Answered (λ answer new. Outcomes (choices.publisher_acts number publisher.degradation)
+          (zip old.subscriber_list.places after.connected)
           (λ done. Does after mid answer new) (λ failure. IsRefused (told failure) mid answer new)) =
-          if-result (update_answer publisher.degradation old.subscriber_list.places after.connected)
-          (λ done. Does after mid) (λ failure. IsRefused (told failure) mid) (λ done. does after mid)
+          if-outcome (choices.publisher_acts number publisher.degradation) (zip old.subscriber_list.places after.connected)
+          (λ done. Does after mid) (λ failure. IsRefused (told failure) mid) (always.1 number publisher.degradation)
+          (λ done. does after mid)
           (λ failure. refuse (told failure) mid) in
           (did.0, did.1, (after, mid, came, did.2))
 
-  goes-on-goes : (number : ℕ) (publisher : Publisher T) (send : Send T) (old : Service T) → Answered (GoesOn number publisher send old)
+  goes-on-goes : (number : ℕ) (publisher : Publisher T) (send : Send T) (old : Service T)
+      → Answered (GoesOn choices number publisher send old)
   goes-on-goes number publisher send old =
-      let after : Send T × Service T = deliver number publisher send.left send old in (
-        cond (is_some (slice_get after.0.left 0)) reply.Blocked
-            (cond after.0.fails (reply.Refused (refusal.Send error.UnableToDeliver)) (reply.Delivered after.0.delivered)),
-        with_publisher number (record publisher { blocked = cond (is_some (slice_get after.0.left 0)) (Some after.0) None }) after.1,
-        (refl, refl),
+      let went = delivers-goes choices always number publisher send.left send old in
+      let after : Send T = went.0 in (
+        cond (is_some (slice_get after.left 0)) reply.Blocked
+            (cond after.fails (reply.Refused (refusal.Send error.UnableToDeliver)) (reply.Delivered after.delivered)),
+        with_publisher number (record publisher { blocked = cond (is_some (slice_get after.left 0)) (Some after) None }) went.1,
+        (after, went.1, went.2, refl, refl),
       )
 
-  sends-go : (number : ℕ) (message : Message T) (publisher : Publisher T) (old : Service T) → Answered (Sends number message publisher old)
+  sends-go : (number : ℕ) (message : Message T) (publisher : Publisher T) (old : Service T)
+      → Answered (Sends choices number message publisher old)
   sends-go number message publisher old =
       if-bool publisher.stands
-      (publishing.UpdatesFirst number (λ failure. refusal.Send (error.ConnectionError failure)) (Begins number message) publisher old)
+      (publishing.UpdatesFirst choices number (λ failure. refusal.Send (error.ConnectionError failure)) (Begins choices number message)
+      publisher old)
       (IsRefused (refusal.Send error.ConnectionBrokenSinceSenderNoLongerExists) old)
-      (λ is. publisher-updates number (λ failure. refusal.Send (error.ConnectionError failure)) (Begins number message) publisher old
+      (λ is. publisher-updates number (λ failure. refusal.Send (error.ConnectionError failure)) (Begins choices number message) publisher
+      old
       (λ one mid. goes-on-goes number
       (record one { history = newest mid.settings.history_size (one.history ++ message ∷ []) })
       (record { message = message; left = those one.connected; retries = 0; elapsed = 0; delivered = 0; fails = false }) mid))
@@ -279,13 +297,15 @@ module _ {T : Type 0} where
       )
       here (Some why, after, lent) = (reply.Refused (refusal.Loan why), old, (Some why, after, lent, (refl, refl)))
 
-  put-goes : (number : ℕ) (values : List T) (publisher : Publisher T) (old : Service T) → Answered (Puts number values publisher old)
+  put-goes : (number : ℕ) (values : List T) (publisher : Publisher T) (old : Service T)
+      → Answered (Puts choices number values publisher old)
   put-goes number values publisher old = here (lends-goes number (length values) publisher old)
     where
       here : (refused : Option LoanError) × (after : Publisher T) × Lends number (length values) publisher old refused after
-          → Answered (Puts number values publisher old)
+          → Answered (Puts choices number values publisher old)
       here (None, after, lent) =
-          let did : Answered (Sends number (record { number = publisher.next; values = values }) after (with_publisher number after old)) =
+          let did : Answered (Sends choices number (record { number = publisher.next; values = values }) after
+          (with_publisher number after old)) =
           sends-go number (record { number = publisher.next; values = values }) after (with_publisher number after old) in
           (did.0, did.1, (None, after, lent, did.2))
       here (Some why, after, lent) = (
@@ -294,14 +314,14 @@ module _ {T : Type 0} where
         (Some why, after, lent, (refl, refl)),
       )
 
-  send-goes : (number : ℕ) (loan : Loan T) (old : Service T) → Answered (SendsLoan number loan old)
+  send-goes : (number : ℕ) (loan : Loan T) (old : Service T) → Answered (SendsLoan choices number loan old)
   send-goes number loan old =
       if-option (at loan.publisher old.publishers) (IsSkipped old)
       (λ publisher answer new. MatchBool (is_written loan && not (is_some publisher.blocked))
-      (Sends loan.publisher (sent_as loan) publisher (record old { loans = removed number old.loans }) answer new)
+      (Sends choices loan.publisher (sent_as loan) publisher (record old { loans = removed number old.loans }) answer new)
       (IsSkipped old answer new)) (skip old)
       (λ publisher is. if-bool (is_written loan && not (is_some publisher.blocked))
-      (Sends loan.publisher (sent_as loan) publisher (record old { loans = removed number old.loans })) (IsSkipped old)
+      (Sends choices loan.publisher (sent_as loan) publisher (record old { loans = removed number old.loans })) (IsSkipped old)
       (λ fit. sends-go loan.publisher (sent_as loan) publisher (record old { loans = removed number old.loans })) (λ unfit. skip old))
 
   write-goes : (number : ℕ) (loan : Loan T) (fit : Bool) (values : List (Option T)) (old : Service T)
@@ -379,11 +399,11 @@ module _ {T : Type 0} where
   subscriber-updates : (buffer number : ℕ) (told : ConnectionFailure → Refusal)
       (Does : Subscriber → Service T → Reply T → Service T → Type 0) (subscriber : Subscriber) (old : Service T)
       → ((one : Subscriber) (mid : Service T) → WaitsAsBefore old mid → Answered (Does one mid))
-      → Answered (subscribing.UpdatesFirst buffer number told Does subscriber old)
+      → Answered (subscribing.UpdatesFirst choices buffer number told Does subscriber old)
   subscriber-updates buffer number told Does subscriber old does =
       if-bool ((subscriber.seen == old.publisher_list.changes) && not subscriber.again) (Does subscriber old)
       (λ answer new. (after : Subscriber) × (mid : Service T) × subscribing.Follows buffer number subscriber old after mid
-      × MatchResult (update_answer subscriber.degradation old.publisher_list.places after.connected)
+      × Outcomes (choices.subscriber_acts number subscriber.degradation) (zip old.publisher_list.places after.connected)
       (λ done. Does after mid answer new) (λ failure. IsRefused (told failure) mid answer new))
       (λ is. does subscriber old (λ one other. refl)) (λ is. followed (subscriber-follows buffer number subscriber old))
     where
@@ -391,14 +411,15 @@ module _ {T : Type 0} where
           × WaitsAsBefore old mid
           → Answered (λ answer new. (after : Subscriber) × (mid : Service T)
           × subscribing.Follows buffer number subscriber old after mid
-          × MatchResult (update_answer subscriber.degradation old.publisher_list.places after.connected)
+          × Outcomes (choices.subscriber_acts number subscriber.degradation) (zip old.publisher_list.places after.connected)
           (λ done. Does after mid answer new) (λ failure. IsRefused (told failure) mid answer new))
       followed (after, mid, came, same) =
-          let did : Answered (λ answer new. MatchResult
-          (update_answer subscriber.degradation old.publisher_list.places after.connected)
+          let did : Answered (λ answer new. Outcomes (choices.subscriber_acts number subscriber.degradation)
+          (zip old.publisher_list.places after.connected)
           (λ done. Does after mid answer new) (λ failure. IsRefused (told failure) mid answer new)) =
-          if-result (update_answer subscriber.degradation old.publisher_list.places after.connected)
-          (λ done. Does after mid) (λ failure. IsRefused (told failure) mid) (λ done. does after mid same)
+          if-outcome (choices.subscriber_acts number subscriber.degradation) (zip old.publisher_list.places after.connected)
+          (λ done. Does after mid) (λ failure. IsRefused (told failure) mid) (always.2 number subscriber.degradation)
+          (λ done. does after mid same)
           (λ failure. refuse (told failure) mid) in
           (did.0, did.1, (after, mid, came, did.2))
 
@@ -547,7 +568,7 @@ module _ {T : Type 0} where
           × subscribing.Follows buffer number one (record old { subscribers = old.subscribers ++ (number, one) ∷ [] }) after mid
           × (answer ≡ reply.SubscriberMade number) × (new ≡ record mid { subscriber_list = registered place number mid.subscriber_list }))
 
-  module _ (types : MessageTypeDetails) (IsDefault : T → Type 0) (buffer : ℕ) (default : T) (is_default : IsDefault default) where
+  module _ (types : MessageTypeDetails) (buffer : ℕ) (default : T) (is_default : choices.is_default default) where
     creation-goes : (steps : List StepBefore) (factory : Factory) (named : ServiceOptions) (attributes : List Attribute) (old : State T)
         → Answered (CreatesService types steps factory named attributes old)
     creation-goes steps factory named attributes old =
@@ -592,7 +613,7 @@ module _ {T : Type 0} where
 
     -- What each command comes to.
     goes : (old : State T) → AllByRecursion (AllMessages (λ publisher message. Fits message)) old.services → (asked : Command T)
-        → Answered (Step types IsDefault buffer asked old)
+        → Answered (Step types choices buffer asked old)
     goes old told command.Node = (reply.Refused (refusal.Hub OutOfMemory), old, inr (refl, refl))
     goes old told (command.Create node name named attributes steps) =
         creation-goes steps (factory_of node name named) named attributes old
@@ -602,11 +623,11 @@ module _ {T : Type 0} where
         (reply.Done, with_phase pattern name (fold (acted types pattern) (old.phases pattern name) steps) old, inl (refl, refl))
     goes old told (command.Close factory) = close-goes factory old
     goes old told (command.Publisher factory named) =
-        at-factory-goes types IsDefault buffer factory
+        at-factory-goes types choices buffer factory
         (λ service. PublisherArrives (old.made.publishers + 1) (new_publisher factory named service.settings) service) old
         (λ service. publisher-goes (old.made.publishers + 1) (new_publisher factory named service.settings) service)
     goes old told (command.Subscriber factory named) =
-        at-factory-goes types IsDefault buffer factory
+        at-factory-goes types choices buffer factory
         (λ service. SubscriberArrives buffer (old.made.subscribers + 1) (new_subscriber factory named service.settings) service) old
         (λ service. subscriber-goes buffer (old.made.subscribers + 1) (new_subscriber factory named service.settings) service)
     goes old told (command.Loan publisher count) =
@@ -632,13 +653,13 @@ module _ {T : Type 0} where
         × (after ≡ record service { loans = removed loan service.loans })) old
         (λ one service first found. (reply.Done, record service { loans = removed loan service.loans }, (refl, refl)))
     goes old told (command.Send loan) =
-        at-one-goes (λ (service : Service T). at loan service.loans) (SendsLoan loan) old
+        at-one-goes (λ (service : Service T). at loan service.loans) (SendsLoan choices loan) old
         (λ one service first found. send-goes loan one service)
     goes old told (command.Put publisher values) =
-        at-free-goes publisher (Puts publisher values) old (λ one service. put-goes publisher values one service)
+        at-free-goes publisher (Puts choices publisher values) old (λ one service. put-goes publisher values one service)
     goes old told (command.Retry publisher nanoseconds) =
         at-blocked-goes publisher
-        (λ (one : Publisher T) (send : Send T). GoesOn publisher one
+        (λ (one : Publisher T) (send : Send T). GoesOn choices publisher one
         (record send { retries = send.retries + 1; elapsed = nanoseconds })) old
         (λ one send service. goes-on-goes publisher one (record send { retries = send.retries + 1; elapsed = nanoseconds }) service)
     goes old told (command.GiveUp publisher) =
@@ -653,7 +674,7 @@ module _ {T : Type 0} where
         ))
     goes old told (command.Receive subscriber) =
         at-one-goes (subscriber_in subscriber)
-        (subscribing.UpdatesFirst buffer subscriber (λ failure. refusal.Receive (receive_error.ConnectionFailure failure))
+        (subscribing.UpdatesFirst choices buffer subscriber (λ failure. refusal.Receive (receive_error.ConnectionFailure failure))
         (Receives subscriber (old.made.samples + 1))) old
         (λ one service first found. subscriber-updates buffer subscriber
         (λ failure. refusal.Receive (receive_error.ConnectionFailure failure)) (Receives subscriber (old.made.samples + 1)) one service
@@ -682,7 +703,7 @@ module _ {T : Type 0} where
         ))
     goes old told (command.Update (port.Publisher number)) =
         at-free-goes number
-        (publishing.UpdatesFirst number refusal.Connection
+        (publishing.UpdatesFirst choices number refusal.Connection
         (λ (one : Publisher T) (service : Service T) (answered : Reply T) (after : Service T). (answered ≡ reply.Done) × (after ≡ service)))
         old
         (λ one service. publisher-updates number refusal.Connection
@@ -690,7 +711,7 @@ module _ {T : Type 0} where
         service (λ it mid. (reply.Done, mid, (refl, refl))))
     goes old told (command.Update (port.Subscriber number)) =
         at-one-goes (subscriber_in number)
-        (subscribing.UpdatesFirst buffer number refusal.Connection
+        (subscribing.UpdatesFirst choices buffer number refusal.Connection
         (λ (one : Subscriber) (service : Service T) (answered : Reply T) (after : Service T). (answered ≡ reply.Done) × (after ≡ service)))
         old
         (λ one service first found. subscriber-updates buffer number refusal.Connection
@@ -720,7 +741,7 @@ module _ {T : Type 0} where
         ))
     goes old told (command.Has subscriber) =
         at-one-goes (subscriber_in subscriber)
-        (subscribing.UpdatesFirst buffer subscriber refusal.Connection
+        (subscribing.UpdatesFirst choices buffer subscriber refusal.Connection
         (λ (one : Subscriber) (service : Service T) (answered : Reply T) (after : Service T).
         (answered ≡ reply.Has (has_samples subscriber one service))
         × (after ≡ service))) old
@@ -729,6 +750,6 @@ module _ {T : Type 0} where
         (answered ≡ reply.Has (has_samples subscriber it mid)) × (after ≡ mid)) one service
         (λ it mid same. (reply.Has (has_samples subscriber it mid), mid, (refl, refl))))
 
-pub each-is-answered : {T : Type 0} (IsDefault : T → Type 0) → EachIsAnswered IsDefault
-each-is-answered {T} IsDefault types buffer default is_default old told asked =
-    goes types IsDefault buffer default is_default old told asked
+pub each-is-answered : {T : Type 0} (choices : Choices T) → EachIsAnswered choices
+each-is-answered {T} choices types buffer default is_default always old told asked =
+    goes choices always types buffer default is_default old told asked

@@ -7,6 +7,7 @@ use Rattle.std.specs.List.{AllByRecursion, list_any}
 use Rattle.std.specs.Option.{option_map_or}
 use Rattle.std.specs.Prelude.{◌==◌, nat_lt, is_some, find, filter, fold, MatchOption}
 use Rattle.std.specs.Vec.{vec_items}
+use Rattle.iox_machine.specs.Choices.{Choices}
 use Rattle.iox_machine.specs.Arriving.{PublisherArrives, SubscriberArrives, new_publisher, new_subscriber}
 use Rattle.iox_machine.specs.Closing.{is_used_by}
 use Rattle.iox_machine.specs.Factories.{with_open}
@@ -159,15 +160,16 @@ module _ {T : Type 0} (sample : ℕ) where
       ]) h all
 
   -- a subscriber does something after it brought its connections up to date, which changes nothing that is looked at here
-  stays-subscriber : (releases : Bool) (buffer number : ℕ) (told : ConnectionFailure → Refusal)
+  stays-subscriber : (choices : Choices T) (releases : Bool) (buffer number : ℕ) (told : ConnectionFailure → Refusal)
       (Does : Subscriber → Service T → Reply T → Service T → Type 0) (old : State T) (answer : Reply T) (new : State T)
       → ((one : Subscriber) (service after : Service T) → at number service.subscribers ≡ Some one → one.stands ≡ true
       → Does one service answer after → Keeps sample releases old.factories service after)
-      → AtOne (subscriber_in number) (subscribing.UpdatesFirst buffer number told Does) old answer new → AreOwned old
+      → AtOne (subscriber_in number) (subscribing.UpdatesFirst choices buffer number told Does) old answer new → AreOwned old
       → Stays releases old new
-  stays-subscriber releases buffer number told Does old answer new does h all =
-      stays-at-one releases (subscriber_in number) (subscribing.UpdatesFirst buffer number told Does) old answer new
-      (λ one service after is own did. soft-updates (Keeps sample releases old.factories service after) buffer number told Does one service
+  stays-subscriber choices releases buffer number told Does old answer new does h all =
+      stays-at-one releases (subscriber_in number) (subscribing.UpdatesFirst choices buffer number told Does) old answer new
+      (λ one service after is own did. soft-updates choices (Keeps sample releases old.factories service after) buffer number told Does
+      one service
       answer after (subscriber-stands number service one is).0
       (λ now mid soft found same done. keeps-both sample releases old.factories service mid after
       (keeps-soft sample releases old.factories service mid soft)
@@ -175,12 +177,12 @@ module _ {T : Type 0} (sample : ℕ) where
       (λ why mid soft refused. subst (λ (s : Service T). Keeps sample releases old.factories service s) (sym refused.1)
       (keeps-soft sample releases old.factories service mid soft)) did) h all
 
-  stays-factory : (types : MessageTypeDetails) (IsDefault : T → Type 0) (releases : Bool) (buffer number : ℕ)
+  stays-factory : (types : MessageTypeDetails) (choices : Choices T) (releases : Bool) (buffer number : ℕ)
       (Does : Service T → Reply T → Service T → Type 0) (old : State T) (answer : Reply T) (new : State T)
       → ((service after : Service T) → IsOpen old.factories service.name number → Does service answer after
       → Keeps sample releases old.factories service after)
-      → AtFactory types IsDefault buffer number Does old answer new → AreOwned old → Stays releases old new
-  stays-factory types IsDefault releases buffer number Does old answer new does h all =
+      → AtFactory types choices buffer number Does old answer new → AreOwned old → Stays releases old new
+  stays-factory types choices releases buffer number Does old answer new does h all =
       elim (by-option (at number old.factories) (IsSkipped old answer new)
       (λ factory. AtOne (λ (service : Service T). cond (is_service_of factory service) (Some service) None)
       (λ (service : Service T). Does) old answer new) h) [
@@ -432,9 +434,9 @@ module _ {T : Type 0} (sample : ℕ) where
 
   -- ---- each command
 
-  module _ (types : MessageTypeDetails) (IsDefault : T → Type 0) (buffer : ℕ) where
+  module _ (types : MessageTypeDetails) (choices : Choices T) (buffer : ℕ) where
     step-stays : (asked : Command T) (old : State T) (answer : Reply T) (new : State T)
-        → Step types IsDefault buffer asked old answer new → AreOwned old → Stays (is_release_of sample asked) old new
+        → Step types choices buffer asked old answer new → AreOwned old → Stays (is_release_of sample asked) old new
     step-stays command.Node old answer new (inl (told, came)) all =
         stays-none false old new (ap (λ (s : State T). s.services) came) (ap (λ (s : State T). s.factories) came) all
     step-stays command.Node old answer new (inr refused) all =
@@ -457,14 +459,14 @@ module _ {T : Type 0} (sample : ℕ) where
     step-stays (command.Close factory) old answer new h all =
         stays-closed false factory old answer new (closed factory old answer new h) all
     step-stays (command.Publisher factory options) old answer new h all =
-        stays-factory types IsDefault false buffer factory
+        stays-factory types choices false buffer factory
         (λ (service : Service T). PublisherArrives (old.made.publishers + 1)
         (new_publisher factory options service.settings) service) old answer new
         (λ service after open_one did. keeps-by sample false old.factories (old.made.publishers + 1) service after
         (by-publisher-arrives (old.made.publishers + 1) (new_publisher factory options service.settings) service answer after did))
         h all
     step-stays (command.Subscriber factory options) old answer new h all =
-        stays-factory types IsDefault false buffer factory
+        stays-factory types choices false buffer factory
         (λ (service : Service T). SubscriberArrives buffer (old.made.subscribers + 1)
         (new_subscriber factory options service.settings) service) old answer new
         (λ service after open_one did. keeps-arrives sample false old.factories buffer (old.made.subscribers + 1)
@@ -495,17 +497,17 @@ module _ {T : Type 0} (sample : ℕ) where
         (λ one service after is own did. subst (λ (s : Service T). Keeps sample false old.factories service s) (sym did.1)
         (keeps-none sample false old.factories service)) h all
     step-stays (command.Send loan) old answer new h all =
-        stays-at-one false (λ (service : Service T). at loan service.loans) (SendsLoan loan) old answer new
+        stays-at-one false (λ (service : Service T). at loan service.loans) (SendsLoan choices loan) old answer new
         (λ one service after is own did. keeps-by sample false old.factories one.publisher service after
-        (by-sends-loan loan one service answer after did)) h all
+        (by-sends-loan choices loan one service answer after did)) h all
     step-stays (command.Put publisher values) old answer new h all =
-        stays-free false publisher (Puts publisher values) old answer new
-        (λ one service after did. by-puts publisher values one service answer after did) h all
+        stays-free false publisher (Puts choices publisher values) old answer new
+        (λ one service after did. by-puts choices publisher values one service answer after did) h all
     step-stays (command.Retry publisher nanoseconds) old answer new h all =
         stays-blocked false publisher
-        (λ (one : Publisher T) (send : Send T). GoesOn publisher one
+        (λ (one : Publisher T) (send : Send T). GoesOn choices publisher one
         (record send { retries = send.retries + 1; elapsed = nanoseconds })) old answer new
-        (λ one send service after did. by-goes-on publisher one (record send { retries = send.retries + 1; elapsed = nanoseconds })
+        (λ one send service after did. by-goes-on choices publisher one (record send { retries = send.retries + 1; elapsed = nanoseconds })
         service answer after did) h all
     step-stays (command.GiveUp publisher) old answer new h all =
         stays-blocked false publisher
@@ -515,7 +517,7 @@ module _ {T : Type 0} (sample : ℕ) where
         (λ one send service after did. subst (λ (s : Service T). ByPublisher publisher service s) (sym did.1)
         (by-set publisher (record one { blocked = None }) service)) h all
     step-stays (command.Receive subscriber) old answer new h all =
-        stays-subscriber false buffer subscriber (λ failure. refusal.Receive (receive_error.ConnectionFailure failure))
+        stays-subscriber choices false buffer subscriber (λ failure. refusal.Receive (receive_error.ConnectionFailure failure))
         (Receives subscriber (old.made.samples + 1)) old answer new
         (λ one service after found stands did. (receives-keep subscriber (old.made.samples + 1) old.factories one service answer after found
         stands did).0) h all
@@ -530,16 +532,16 @@ module _ {T : Type 0} (sample : ℕ) where
         (λ one service after is own did. keeps-releases sample old.factories number one service answer after did) h all
     step-stays (command.Update (port.Publisher number)) old answer new h all =
         stays-free false number
-        (publishing.UpdatesFirst number refusal.Connection
+        (publishing.UpdatesFirst choices number refusal.Connection
         (λ (one : Publisher T) (service : Service T) (answered : Reply T) (after : Service T). (answered ≡ reply.Done) × (after ≡ service)))
         old answer new
-        (λ one service after did. by-updates (ByPublisher number service after) number refusal.Connection
+        (λ one service after did. by-updates choices (ByPublisher number service after) number refusal.Connection
         (λ (it : Publisher T) (mid : Service T) (answered : Reply T) (end : Service T). (answered ≡ reply.Done) × (end ≡ mid)) one service
         answer after
         (λ it mid by done. subst (λ (s : Service T). ByPublisher number service s) (sym done.1) by)
         (λ why mid by refused. subst (λ (s : Service T). ByPublisher number service s) (sym refused.1) by) did) h all
     step-stays (command.Update (port.Subscriber number)) old answer new h all =
-        stays-subscriber false buffer number refusal.Connection
+        stays-subscriber choices false buffer number refusal.Connection
         (λ (one : Subscriber) (service : Service T) (answered : Reply T) (after : Service T). (answered ≡ reply.Done) × (after ≡ service))
         old answer new
         (λ one service after found stands did. subst (λ (s : Service T). Keeps sample false old.factories service s) (sym did.1)
@@ -559,7 +561,7 @@ module _ {T : Type 0} (sample : ℕ) where
         (λ one service after is own did. subst (λ (s : Service T). Keeps sample false old.factories service s) (sym did.1)
         (keeps-leaves sample false old.factories number one service (subscriber-stands number service one is).0)) h all
     step-stays (command.Has subscriber) old answer new h all =
-        stays-subscriber false buffer subscriber refusal.Connection
+        stays-subscriber choices false buffer subscriber refusal.Connection
         (λ (one : Subscriber) (service : Service T) (answered : Reply T) (after : Service T).
         (answered ≡ reply.Has (has_samples subscriber one service)) × (after ≡ service)) old answer new
         (λ one service after found stands did. subst (λ (s : Service T). Keeps sample false old.factories service s) (sym did.1)
@@ -568,13 +570,13 @@ module _ {T : Type 0} (sample : ℕ) where
     -- ---- each run
 
     pub run-owned : (asked : List (Command T)) (old : State T) (answers : List (Reply T)) (new : State T)
-        → Runs types IsDefault buffer asked old answers new → AreOwned old → AreOwned new
+        → Runs types choices buffer asked old answers new → AreOwned old → AreOwned new
     run-owned [] old answers new run all = subst AreOwned (sym run.1) all
     run-owned (one ∷ more) old answers new run all =
         run-owned more run.1 run.2 new run.4 (step-stays one old run.0 run.1 run.3 all).0
 
     run-there : (asked : List (Command T)) (old : State T) (answers : List (Reply T)) (new : State T)
-        → Runs types IsDefault buffer asked old answers new → list_any (is_release_of sample) asked ≡ false → AreOwned old → IsThere old
+        → Runs types choices buffer asked old answers new → list_any (is_release_of sample) asked ≡ false → AreOwned old → IsThere old
         → IsThere new
     run-there [] old answers new run held all there = subst IsThere (sym run.1) there
     run-there (one ∷ more) old answers new run held all there =
@@ -583,14 +585,14 @@ module _ {T : Type 0} (sample : ℕ) where
         let step : Stays (is_release_of sample one) old run.1 = step-stays one old run.0 run.1 run.3 all in
         run-there more run.1 run.2 new run.4 kept.1 step.0 (step.1 kept.0 there)
 
-module _ {T : Type 0} (IsDefault : T → Type 0) (types : MessageTypeDetails) (buffer : ℕ) where
+module _ {T : Type 0} (choices : Choices T) (types : MessageTypeDetails) (buffer : ℕ) where
   -- the sample that a receive makes is there
   received-there : (subscriber sample : ℕ) (old : State T) (values : Vec T) (new : State T)
-      → Step types IsDefault buffer (command.Receive subscriber) old (reply.Received sample values) new → sample ≡ old.made.samples + 1
+      → Step types choices buffer (command.Receive subscriber) old (reply.Received sample values) new → sample ≡ old.made.samples + 1
       → IsThere sample new
   received-there subscriber sample old values new h is =
       elim (at-one (subscriber_in subscriber)
-      (subscribing.UpdatesFirst buffer subscriber (λ failure. refusal.Receive (receive_error.ConnectionFailure failure))
+      (subscribing.UpdatesFirst choices buffer subscriber (λ failure. refusal.Receive (receive_error.ConnectionFailure failure))
       (Receives subscriber (old.made.samples + 1))) old (reply.Received sample values) new h) [
         | inl w ↦ never-told (reply.Received sample values) reply.Skipped w.0 refl refl
         | inr w ↦ subst (λ (s : State T). IsThere sample s) (sym w.6)
@@ -600,11 +602,11 @@ module _ {T : Type 0} (IsDefault : T → Type 0) (types : MessageTypeDetails) (b
       ]
     where
       made : (service : Service T) (one : Subscriber) (after : Service T) → subscriber_in subscriber service ≡ Some one
-          → subscribing.UpdatesFirst buffer subscriber (λ failure. refusal.Receive (receive_error.ConnectionFailure failure))
+          → subscribing.UpdatesFirst choices buffer subscriber (λ failure. refusal.Receive (receive_error.ConnectionFailure failure))
           (Receives subscriber (old.made.samples + 1)) one service (reply.Received sample values) after
           → is_some (at sample after.samples) ≡ true
       made service one after found did =
-          soft-updates (is_some (at sample after.samples) ≡ true) buffer subscriber
+          soft-updates choices (is_some (at sample after.samples) ≡ true) buffer subscriber
           (λ failure. refusal.Receive (receive_error.ConnectionFailure failure)) (Receives subscriber (old.made.samples + 1)) one service
           (reply.Received sample values) after (subscriber-stands subscriber service one found).0
           (λ now mid soft there same took. subst (λ (k : ℕ). is_some (at k after.samples) ≡ true) (sym is)
@@ -613,16 +615,16 @@ module _ {T : Type 0} (IsDefault : T → Type 0) (types : MessageTypeDetails) (b
           (ap (λ (k : ℕ). reply.Received k values) is)))
           (λ why mid soft refused. never-told (reply.Received sample values) (reply.Refused why) refused.0 refl refl) did
 
-pub held-is-read : {T : Type 0} (IsDefault : T → Type 0) → HeldIsRead IsDefault
-held-is-read {T} IsDefault types buffer asked answers old run subscriber sample values mid received meanwhile told later ran held answer new
+pub held-is-read : {T : Type 0} (choices : Choices T) → HeldIsRead choices
+held-is-read {T} choices types buffer asked answers old run subscriber sample values mid received meanwhile told later ran held answer new
     h =
-    let owned : AreOwned sample old = run-owned sample types IsDefault buffer asked new_state answers old run tt in
+    let owned : AreOwned sample old = run-owned sample types choices buffer asked new_state answers old run tt in
     let next : sample ≡ old.made.samples + 1 =
-    received-number types IsDefault buffer asked answers old run subscriber sample values mid received in
+    received-number types choices buffer asked answers old run subscriber sample values mid received in
     let there : IsThere sample later =
-    run-there sample types IsDefault buffer meanwhile mid told later ran held
-    (step-stays sample types IsDefault buffer (command.Receive subscriber) old (reply.Received sample values) mid received owned).0
-    (received-there IsDefault types buffer subscriber sample old values mid received next) in
+    run-there sample types choices buffer meanwhile mid told later ran held
+    (step-stays sample types choices buffer (command.Receive subscriber) old (reply.Received sample values) mid received owned).0
+    (received-there choices types buffer subscriber sample old values mid received next) in
     elim (by-option (find (λ (service : Service T). is_some (at sample service.samples)) later.services) (IsSkipped later answer new)
     (λ service. (after : Service T) × MatchOption (at sample service.samples) ⊥
     (λ one. (read : Vec T) × (vec_items read ≡ one.message.values) × (answer ≡ reply.Values read) × (after ≡ service))
@@ -644,7 +646,7 @@ held-is-read {T} IsDefault types buffer asked answers old run subscriber sample 
           | inr w ↦ (
             w.2.0,
             w.2.2,
-            samples-read IsDefault types buffer asked answers old run subscriber sample values mid received meanwhile told later ran w.2.0
-                new (subst (λ (told_so : Reply T). Step types IsDefault buffer (command.Read sample) later told_so new) w.2.2 h),
+            samples-read choices types buffer asked answers old run subscriber sample values mid received meanwhile told later ran w.2.0
+                new (subst (λ (told_so : Reply T). Step types choices buffer (command.Read sample) later told_so new) w.2.2 h),
           )
         ]

@@ -4,7 +4,9 @@ use Rattle.std.proofs.Common.{Some, refl, sym, subst, inl, inr, ◌∙◌}
 use Rattle.std.proofs.lemmas.List.{length-map, length-set}
 use Rattle.std.specs.List.{list_any, list_all}
 use Rattle.std.specs.Option.{option_map_or}
-use Rattle.std.specs.Prelude.{◌==◌, ⊤, nat_lt, nat_le, is_some, filter, slice_get, replicate, MatchBool, MatchResult}
+use Rattle.std.specs.Prelude.{◌==◌, ⊤, nat_lt, nat_le, is_some, filter, slice_get, replicate, MatchBool, drop, zip}
+use Rattle.iox_machine.specs.Choices.{Choices}
+use Rattle.iox_machine.proofs.Delivering.{Outcomes, by-outcome, first_of, offered, deliver, goes-on-so}
 use Rattle.iox_machine.specs.Arriving.{worst_case, PublisherArrives, SubscriberArrives}
 use Rattle.iox_machine.specs.Mailbox.{Mailbox, newest, put, given_back}
 use Rattle.iox_machine.specs.Message.{Message, Loan, Sample, sent_as, is_written}
@@ -12,15 +14,14 @@ use Rattle.iox_machine.specs.NumberLaws.{publisher_told, subscriber_told, loan_t
 use Rattle.iox_machine.specs.PortList.{those, unless, registered, left}
 use Rattle.iox_machine.specs.Ports.{LendsLoan, Puts, SendsLoan, Writes, Releases}
 use Rattle.iox_machine.specs.PublisherUpdate as publishing
-use Rattle.iox_machine.specs.PublisherUpdate.{update_answer}
 use Rattle.iox_machine.specs.Receiving.{Receives, Takes, lasting, has_samples}
 use Rattle.iox_machine.specs.Replies.{IsSkipped, IsRefused}
-use Rattle.iox_machine.specs.Sending.{offered, deliver, decision_at, GoesOn, Begins, Sends}
+use Rattle.iox_machine.specs.Sending.{GoesOn, Begins, Sends}
 use Rattle.iox_machine.specs.Service.{Service, Publisher, Subscriber, Send, with_publisher, with_subscriber, mailbox, with_mailbox, connect}
 use Rattle.iox_machine.specs.State.{Made}
 use Rattle.iox_machine.specs.SubscriberUpdate as subscribing
 use Rattle.iox_machine.specs.Table.{at, changed, removed}
-use Rattle.iox_machine.proofs.Cases.{by-bool, by-option, by-result}
+use Rattle.iox_machine.proofs.Cases.{by-bool, by-option}
 use Rattle.iox_machine.proofs.Counts.{Adds, adds-itself, adds-still, adds-changed, adds-filtered, adds-joined, adds-on}
 use Rattle.iox_machine.proofs.Lists.{fold-keeps}
 use Rattle.iox_command.specs.DomainValues.declared.backpressure.BackpressureDecision.{BackpressureDecision}
@@ -188,25 +189,26 @@ module _ {T : Type 0} (counts : Made) (origin : Service T) (answer : Reply T) wh
       (with_publisher number after (publishing.ended number old))
       (publisher-turned number after (publishing.ended number old) (ended-turned number old k)))
 
-  pub updates-first : (number : ℕ) (told : ConnectionFailure → Refusal) (Does : Publisher T → Service T → Reply T → Service T → Type 0)
+  pub updates-first : (choices : Choices T) (number : ℕ) (told : ConnectionFailure → Refusal)
+      (Does : Publisher T → Service T → Reply T → Service T → Type 0)
       (publisher : Publisher T) (old new : Service T) → K old
       → ((one : Publisher T) (mid : Service T) → K mid → Does one mid answer new → R new)
-      → publishing.UpdatesFirst number told Does publisher old answer new → R new
-  updates-first number told Does publisher old new k does h =
+      → publishing.UpdatesFirst choices number told Does publisher old answer new → R new
+  updates-first choices number told Does publisher old new k does h =
       elim (by-bool (publisher.seen == old.subscriber_list.changes) (Does publisher old answer new)
       ((after : Publisher T) × (mid : Service T) × publishing.Follows number publisher old after mid
-      × MatchResult (update_answer publisher.degradation old.subscriber_list.places after.connected)
+      × Outcomes (choices.publisher_acts number publisher.degradation) (zip old.subscriber_list.places after.connected)
       (λ done. Does after mid answer new) (λ failure. IsRefused (told failure) mid answer new)) h) [
         | inl w ↦ does publisher old k w.1
         | inr w ↦ followed w.1.0 w.1.1 w.1.2 w.1.3
       ]
     where
       followed : (after : Publisher T) (mid : Service T) → publishing.Follows number publisher old after mid
-          → MatchResult (update_answer publisher.degradation old.subscriber_list.places after.connected)
+          → Outcomes (choices.publisher_acts number publisher.degradation) (zip old.subscriber_list.places after.connected)
           (λ done. Does after mid answer new) (λ failure. IsRefused (told failure) mid answer new) → R new
       followed after mid came told_so =
           let on : K mid = follows number publisher old after mid k came in
-          elim (by-result (update_answer publisher.degradation old.subscriber_list.places after.connected)
+          elim (by-outcome (choices.publisher_acts number publisher.degradation) (zip old.subscriber_list.places after.connected)
           (λ done. Does after mid answer new) (λ failure. IsRefused (told failure) mid answer new) told_so) [
             | inl r ↦ does after mid on r.2
             | inr r ↦ ends (reply.Refused (told r.0)) mid new on r.2 tt
@@ -230,43 +232,46 @@ module _ {T : Type 0} (counts : Made) (origin : Service T) (answer : Reply T) wh
   offered-kept number None DiscardDataAndFail subscriber more goes_on send service on k =
       on (record send { retries = 0; elapsed = 0; fails = true }) service k
 
-  delivered : (number : ℕ) (publisher : Publisher T) (left : List ℕ) (send : Send T) (service : Service T) → K service
-      → K (deliver number publisher left send service).1
-  delivered number publisher [] send service k = k
-  delivered number publisher (subscriber ∷ more) send service k =
+  delivered : (number : ℕ) (decisions : List BackpressureDecision) (left : List ℕ) (send : Send T) (service : Service T) → K service
+      → K (deliver number decisions left send service).1
+  delivered number decisions [] send service k = k
+  delivered number decisions (subscriber ∷ more) send service k =
       offered-kept number (put service.settings.enable_safe_overflow send.message (mailbox number subscriber service))
-      (decision_at number publisher service subscriber) subscriber more (deliver number publisher more) send service
-      (λ next mid. delivered number publisher more next mid) k
+      (first_of decisions) subscriber more (deliver number (drop 1 decisions) more) send service
+      (λ next mid. delivered number (drop 1 decisions) more next mid) k
 
-  pub goes-on : (number : ℕ) (publisher : Publisher T) (send : Send T) (old new : Service T) → K old
-      → GoesOn number publisher send old answer new → R new
-  goes-on number publisher send old new k h =
-      let after : Send T × Service T = deliver number publisher send.left send old in
+  pub goes-on : (choices : Choices T) (number : ℕ) (publisher : Publisher T) (send : Send T) (old new : Service T) → K old
+      → GoesOn choices number publisher send old answer new → R new
+  goes-on choices number publisher send old new k h =
+      let so = goes-on-so choices number publisher send old answer new h in
+      let after : Send T × Service T = deliver number so.0 send.left send old in
       ends (cond (is_some (slice_get after.0.left 0)) reply.Blocked
       (cond after.0.fails (reply.Refused (refusal.Send error.UnableToDeliver)) (reply.Delivered after.0.delivered)))
       (with_publisher number (record publisher { blocked = cond (is_some (slice_get after.0.left 0)) (Some after.0) None }) after.1) new
       (publisher-turned number (record publisher { blocked = cond (is_some (slice_get after.0.left 0)) (Some after.0) None }) after.1
-      (delivered number publisher send.left send old k)) h
+      (delivered number so.0 send.left send old k)) so.1
       (next-of (is_some (slice_get after.0.left 0)) reply.Blocked
       (cond after.0.fails (reply.Refused (refusal.Send error.UnableToDeliver)) (reply.Delivered after.0.delivered)) tt
       (next-of after.0.fails (reply.Refused (refusal.Send error.UnableToDeliver)) (reply.Delivered after.0.delivered) tt tt))
 
-  begins : (number : ℕ) (message : Message T) (publisher : Publisher T) (old new : Service T) → K old
-      → Begins number message publisher old answer new → R new
-  begins number message publisher old new k h =
-      goes-on number (record publisher { history = newest old.settings.history_size (publisher.history ++ message ∷ []) })
+  begins : (choices : Choices T) (number : ℕ) (message : Message T) (publisher : Publisher T) (old new : Service T) → K old
+      → Begins choices number message publisher old answer new → R new
+  begins choices number message publisher old new k h =
+      goes-on choices number (record publisher { history = newest old.settings.history_size (publisher.history ++ message ∷ []) })
       (record { message = message; left = those publisher.connected; retries = 0; elapsed = 0; delivered = 0; fails = false })
       old new k h
 
-  pub sends : (number : ℕ) (message : Message T) (publisher : Publisher T) (old new : Service T) → K old
-      → Sends number message publisher old answer new → R new
-  sends number message publisher old new k h =
+  pub sends : (choices : Choices T) (number : ℕ) (message : Message T) (publisher : Publisher T) (old new : Service T) → K old
+      → Sends choices number message publisher old answer new → R new
+  sends choices number message publisher old new k h =
       elim (by-bool publisher.stands
-      (publishing.UpdatesFirst number (λ failure. refusal.Send (error.ConnectionError failure)) (Begins number message) publisher old answer
+      (publishing.UpdatesFirst choices number (λ failure. refusal.Send (error.ConnectionError failure)) (Begins choices number message)
+      publisher old answer
       new)
       (IsRefused (refusal.Send error.ConnectionBrokenSinceSenderNoLongerExists) old answer new) h) [
-        | inl w ↦ updates-first number (λ failure. refusal.Send (error.ConnectionError failure)) (Begins number message) publisher old new k
-            (λ one mid on begun. begins number message one mid new on begun) w.1
+        | inl w ↦ updates-first choices number (λ failure. refusal.Send (error.ConnectionError failure)) (Begins choices number message)
+            publisher old new k
+            (λ one mid on begun. begins choices number message one mid new on begun) w.1
         | inr w ↦ ends (reply.Refused (refusal.Send error.ConnectionBrokenSinceSenderNoLongerExists)) old new k w.1 tt
       ]
 
@@ -291,12 +296,12 @@ module _ {T : Type 0} (counts : Made) (origin : Service T) (answer : Reply T) wh
   lends-loan loan number count value publisher old new k next (Some why, after, lent, refused) =
       ends (reply.Refused (refusal.Loan why)) old new k refused tt
 
-  pub puts : (number : ℕ) (values : List T) (publisher : Publisher T) (old new : Service T) → K old
-      → Puts number values publisher old answer new → R new
-  puts number values publisher old new k (None, after, lent, sent) =
-      sends number (record { number = publisher.next; values = values }) after (with_publisher number after old) new
+  pub puts : (choices : Choices T) (number : ℕ) (values : List T) (publisher : Publisher T) (old new : Service T) → K old
+      → Puts choices number values publisher old answer new → R new
+  puts choices number values publisher old new k (None, after, lent, sent) =
+      sends choices number (record { number = publisher.next; values = values }) after (with_publisher number after old) new
       (publisher-turned number after old k) sent
-  puts number values publisher old new k (Some why, after, lent, refused) =
+  puts choices number values publisher old new k (Some why, after, lent, refused) =
       ends (reply.Refused (refusal.Send (error.LoanError why))) old new k refused tt
 
   loans-fewer : (number : ℕ) (service : Service T) → K service → K (record service { loans = removed number service.loans })
@@ -316,24 +321,25 @@ module _ {T : Type 0} (counts : Made) (origin : Service T) (answer : Reply T) wh
       → (answer ≡ reply.Done) × (new ≡ record old { loans = removed number old.loans }) → R new
   drops number old new k h = ends reply.Done (record old { loans = removed number old.loans }) new (loans-fewer number old k) h tt
 
-  pub sends-loan : (number : ℕ) (loan : Loan T) (old new : Service T) → K old → SendsLoan number loan old answer new → R new
-  sends-loan number loan old new k h =
+  pub sends-loan : (choices : Choices T) (number : ℕ) (loan : Loan T) (old new : Service T) → K old
+      → SendsLoan choices number loan old answer new → R new
+  sends-loan choices number loan old new k h =
       elim (by-option (at loan.publisher old.publishers) (IsSkipped old answer new)
       (λ publisher. MatchBool (is_written loan && not (is_some publisher.blocked))
-      (Sends loan.publisher (sent_as loan) publisher (record old { loans = removed number old.loans }) answer new)
+      (Sends choices loan.publisher (sent_as loan) publisher (record old { loans = removed number old.loans }) answer new)
       (IsSkipped old answer new)) h) [
         | inl w ↦ ends reply.Skipped old new k w.1 tt
         | inr w ↦ sent w.0 w.2
       ]
     where
       sent : (publisher : Publisher T) → MatchBool (is_written loan && not (is_some publisher.blocked))
-          (Sends loan.publisher (sent_as loan) publisher (record old { loans = removed number old.loans }) answer new)
+          (Sends choices loan.publisher (sent_as loan) publisher (record old { loans = removed number old.loans }) answer new)
           (IsSkipped old answer new) → R new
       sent publisher h =
           elim (by-bool (is_written loan && not (is_some publisher.blocked))
-          (Sends loan.publisher (sent_as loan) publisher (record old { loans = removed number old.loans }) answer new)
+          (Sends choices loan.publisher (sent_as loan) publisher (record old { loans = removed number old.loans }) answer new)
           (IsSkipped old answer new) h) [
-            | inl w ↦ sends loan.publisher (sent_as loan) publisher (record old { loans = removed number old.loans }) new
+            | inl w ↦ sends choices loan.publisher (sent_as loan) publisher (record old { loans = removed number old.loans }) new
                 (loans-fewer number old k) w.1
             | inr w ↦ ends reply.Skipped old new k w.1 tt
           ]
@@ -364,26 +370,26 @@ module _ {T : Type 0} (counts : Made) (origin : Service T) (answer : Reply T) wh
       (λ service publisher on. connected subscriber.buffer_size publisher number service on)
       (those listed) (with_subscriber number after old) (subscriber-turned number after old k))
 
-  pub subscriber-updates : (buffer number : ℕ) (told : ConnectionFailure → Refusal)
+  pub subscriber-updates : (choices : Choices T) (buffer number : ℕ) (told : ConnectionFailure → Refusal)
       (Does : Subscriber → Service T → Reply T → Service T → Type 0)
       (subscriber : Subscriber) (old new : Service T) → K old
       → ((one : Subscriber) (mid : Service T) → K mid → Does one mid answer new → R new)
-      → subscribing.UpdatesFirst buffer number told Does subscriber old answer new → R new
-  subscriber-updates buffer number told Does subscriber old new k does h =
+      → subscribing.UpdatesFirst choices buffer number told Does subscriber old answer new → R new
+  subscriber-updates choices buffer number told Does subscriber old new k does h =
       elim (by-bool ((subscriber.seen == old.publisher_list.changes) && not subscriber.again) (Does subscriber old answer new)
       ((after : Subscriber) × (mid : Service T) × subscribing.Follows buffer number subscriber old after mid
-      × MatchResult (update_answer subscriber.degradation old.publisher_list.places after.connected)
+      × Outcomes (choices.subscriber_acts number subscriber.degradation) (zip old.publisher_list.places after.connected)
       (λ done. Does after mid answer new) (λ failure. IsRefused (told failure) mid answer new)) h) [
         | inl w ↦ does subscriber old k w.1
         | inr w ↦ followed w.1.0 w.1.1 w.1.2 w.1.3
       ]
     where
       followed : (after : Subscriber) (mid : Service T) → subscribing.Follows buffer number subscriber old after mid
-          → MatchResult (update_answer subscriber.degradation old.publisher_list.places after.connected)
+          → Outcomes (choices.subscriber_acts number subscriber.degradation) (zip old.publisher_list.places after.connected)
           (λ done. Does after mid answer new) (λ failure. IsRefused (told failure) mid answer new) → R new
       followed after mid came told_so =
           let on : K mid = subscriber-follows buffer number subscriber old after mid k came in
-          elim (by-result (update_answer subscriber.degradation old.publisher_list.places after.connected)
+          elim (by-outcome (choices.subscriber_acts number subscriber.degradation) (zip old.publisher_list.places after.connected)
           (λ done. Does after mid answer new) (λ failure. IsRefused (told failure) mid answer new) told_so) [
             | inl r ↦ does after mid on r.2
             | inr r ↦ ends (reply.Refused (told r.0)) mid new on r.2 tt

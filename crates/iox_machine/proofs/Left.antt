@@ -5,6 +5,7 @@ use Rattle.std.proofs.lemmas.Bool.{eqb-true, eq-eqb, false_from_ne_true}
 use Rattle.std.specs.List.{list_any}
 use Rattle.std.specs.Option.{option_map_or}
 use Rattle.std.specs.Prelude.{◌==◌, find, filter, fold, take, option_map}
+use Rattle.iox_machine.specs.Choices.{Choices}
 use Rattle.iox_machine.specs.Factories.{with_open}
 use Rattle.iox_machine.specs.IndependenceLaws.{is_factory_of, is_of, asks, AsksNothing, IsLeft, OthersAreLeft}
 use Rattle.iox_machine.specs.Phase.{Phase, same_pattern, closed_by, acted}
@@ -134,9 +135,9 @@ module _ {T : Type 0} (pattern : MessagingPattern) (name : List ℕ) where
           (subst (λ (it : MessagingPattern). same_pattern it messaging.PublishSubscribe ≡ true) (sym is) refl)
           (name-itself factory.name)
 
-  module _ (types : MessageTypeDetails) (IsDefault : T → Type 0) (buffer : ℕ) where
+  module _ (types : MessageTypeDetails) (choices : Choices T) (buffer : ℕ) where
     settled-left : (steps : List StepBefore) (factory : Factory) (old : State T) (answer : Reply T) (new : State T) (stands : Stands old)
-        → is_factory_of pattern name factory ≡ false → Settled types IsDefault buffer steps factory old answer new stands
+        → is_factory_of pattern name factory ≡ false → Settled types choices buffer steps factory old answer new stands
         → IsLeft pattern name old new
     settled-left steps factory old answer new stands off (inl skipped) = left-itself old new skipped.1
     settled-left steps factory old answer new stands off (inr (inl (why, refused))) = left-itself old new refused.1
@@ -190,19 +191,19 @@ module _ {T : Type 0} (pattern : MessagingPattern) (name : List ℕ) where
             filter-twice (is_of pattern name) (λ (service : Service T). not (is_service_of factory service)) stays old.services
 
     pub step-left : (asked : Command T) (old : State T) (answer : Reply T) (new : State T) → Stands old
-        → Step types IsDefault buffer asked old answer new → asks pattern name asked old ≡ false → IsLeft pattern name old new
+        → Step types choices buffer asked old answer new → asks pattern name asked old ≡ false → IsLeft pattern name old new
     step-left command.Node old answer new stands (inl (told, came)) off =
         subst (λ (it : State T). IsLeft pattern name old it) (sym came) (refl, refl, refl)
     step-left command.Node old answer new stands (inr refused) off = left-itself old new refused.1
     step-left (command.Create node other named attributes steps) old answer new stands h off =
         settled-left steps (factory_of node other named) old answer new stands off
-        (create-view types IsDefault buffer node other named attributes steps old answer new stands h)
+        (create-view types choices buffer node other named attributes steps old answer new stands h)
     step-left (command.Open node other named required steps) old answer new stands h off =
         settled-left steps (factory_of node other named) old answer new stands off
-        (open-view types IsDefault buffer node other named required steps old answer new stands h)
+        (open-view types choices buffer node other named required steps old answer new stands h)
     step-left (command.OpenOrCreate node other named required steps) old answer new stands h off =
         settled-left steps (factory_of node other named) old answer new stands off
-        (either-view types IsDefault buffer node other named required steps old answer new stands h)
+        (either-view types choices buffer node other named required steps old answer new stands h)
     step-left (command.Foreign one other steps) old answer new stands (inl (told, came)) off =
         subst (λ (it : State T). IsLeft pattern name old it) (sym came)
         (phase-off one other (fold (acted types one) (old.phases one other) steps) old off, refl, refl)
@@ -212,22 +213,22 @@ module _ {T : Type 0} (pattern : MessagingPattern) (name : List ℕ) where
     step-left (command.Close factory) old answer new stands h off =
         closing-left factory old answer new stands off (closed factory old answer new h)
     step-left asked old answer new stands h off =
-        moved-left asked old answer new off (ports-move types IsDefault buffer asked old answer new refl h)
+        moved-left asked old answer new off (ports-move types choices buffer asked old answer new refl h)
 
-runs-left : {T : Type 0} (pattern : MessagingPattern) (name : List ℕ) (types : MessageTypeDetails) (IsDefault : T → Type 0) (buffer : ℕ)
+runs-left : {T : Type 0} (pattern : MessagingPattern) (name : List ℕ) (types : MessageTypeDetails) (choices : Choices T) (buffer : ℕ)
     (asked : List (Command T)) (old : State T) (answers : List (Reply T)) (new : State T)
-    (run : Runs types IsDefault buffer asked old answers new) → Stands old
-    → AsksNothing types IsDefault buffer pattern name asked old answers new run → IsLeft pattern name old new
-runs-left pattern name types IsDefault buffer [] old answers new run stands none = left-itself pattern name old new run.1
-runs-left pattern name types IsDefault buffer (one ∷ more) old answers new run stands none =
+    (run : Runs types choices buffer asked old answers new) → Stands old
+    → AsksNothing types choices buffer pattern name asked old answers new run → IsLeft pattern name old new
+runs-left pattern name types choices buffer [] old answers new run stands none = left-itself pattern name old new run.1
+runs-left pattern name types choices buffer (one ∷ more) old answers new run stands none =
     let first : IsLeft pattern name old run.1 =
-    step-left pattern name types IsDefault buffer one old run.0 run.1 stands run.3 none.0 in
+    step-left pattern name types choices buffer one old run.0 run.1 stands run.3 none.0 in
     let rest : IsLeft pattern name run.1 new =
-    runs-left pattern name types IsDefault buffer more run.1 run.2 new run.4
-    (step-stands types IsDefault buffer one old run.0 run.1 run.3 stands) none.1 in
+    runs-left pattern name types choices buffer more run.1 run.2 new run.4
+    (step-stands types choices buffer one old run.0 run.1 run.3 stands) none.1 in
     (rest.0 ∙ first.0, rest.1 ∙ first.1, rest.2 ∙ first.2)
 
-pub others-left : {T : Type 0} (IsDefault : T → Type 0) → OthersAreLeft IsDefault
-others-left IsDefault types buffer before told old ran asked answers new run pattern name none =
-    runs-left pattern name types IsDefault buffer asked old answers new run
-    (runs-stand types IsDefault buffer before new_state told old ran new-stands) none
+pub others-left : {T : Type 0} (choices : Choices T) → OthersAreLeft choices
+others-left choices types buffer before told old ran asked answers new run pattern name none =
+    runs-left pattern name types choices buffer asked old answers new run
+    (runs-stand types choices buffer before new_state told old ran new-stands) none

@@ -5,8 +5,10 @@ use Rattle.std.proofs.lemmas.Bool.{and_from, or_left, or_right, or_parts}
 use Rattle.std.specs.Global.{Vec}
 use Rattle.std.specs.List.{AllByRecursion, list_any}
 use Rattle.std.specs.Option.{option_map_or}
-use Rattle.std.specs.Prelude.{◌==◌, nat_lt, is_some, find, filter, fold, option_and_then, option_map, MatchOption, MatchResult}
+use Rattle.std.specs.Prelude.{◌==◌, nat_lt, is_some, find, filter, fold, option_and_then, option_map, MatchOption, zip}
 use Rattle.std.specs.Vec.{vec_items}
+use Rattle.iox_machine.specs.Choices.{Choices}
+use Rattle.iox_machine.proofs.Delivering.{Outcomes, by-outcome}
 use Rattle.iox_machine.specs.Arriving.{PublisherArrives, SubscriberArrives, new_publisher, new_subscriber}
 use Rattle.iox_machine.specs.Closing.{is_used_by}
 use Rattle.iox_machine.specs.Message.{Loan, Sample, is_written}
@@ -14,7 +16,6 @@ use Rattle.iox_machine.specs.Phase.{acted, same_pattern}
 use Rattle.iox_machine.specs.PortList.{left, registered}
 use Rattle.iox_machine.specs.Ports.{AtFree, AtBlocked, publisher_in, subscriber_in, LendsLoan, Puts, SendsLoan, Writes, Releases}
 use Rattle.iox_machine.specs.PublisherUpdate as publishing
-use Rattle.iox_machine.specs.PublisherUpdate.{update_answer}
 use Rattle.iox_machine.specs.Receiving.{Receives, has_samples}
 use Rattle.iox_machine.specs.Replies.{IsSkipped, IsRefused}
 use Rattle.iox_machine.specs.Run.{Step, Runs, AtFactory, factory_of}
@@ -24,7 +25,7 @@ use Rattle.iox_machine.specs.State.{State, Factory, AtOne, is_service_of, same_n
 use Rattle.iox_machine.specs.SubscriberUpdate as subscribing
 use Rattle.iox_machine.specs.Table.{at, removed}
 use Rattle.iox_machine.specs.UseLaws.{IsOpen, IsOfOpenFactories, UseIsOwned}
-use Rattle.iox_machine.proofs.Cases.{by-bool, by-option, by-result, chosen, same-some, never-some}
+use Rattle.iox_machine.proofs.Cases.{by-bool, by-option, chosen, same-some, never-some}
 use Rattle.iox_machine.proofs.Frames.{BySubscriber, holder_of, holder_at, publisher-stands, subscriber-stands, subscriber-comes}
 use Rattle.iox_machine.proofs.Frames.{soft-followed, soft-follows}
 use Rattle.iox_machine.proofs.Held.{IsOwned, any-at, never, holder-at}
@@ -137,29 +138,30 @@ module _ {T : Type 0} where
 
   -- ---- a subscriber
 
-  lenders-attend : (factories : List (ℕ × Factory)) (Q : Type 0) (buffer number : ℕ) (told : ConnectionFailure → Refusal)
+  lenders-attend : (choices : Choices T) (factories : List (ℕ × Factory)) (Q : Type 0) (buffer number : ℕ)
+      (told : ConnectionFailure → Refusal)
       (Does : Subscriber → Service T → Reply T → Service T → Type 0) (subscriber : Subscriber) (old : Service T) (answer : Reply T)
       (new : Service T) → at number old.subscribers ≡ Some subscriber
       → ((after : Subscriber) (mid : Service T) → KeepsLenders factories old mid → Does after mid answer new → Q)
       → ((why : Refusal) (mid : Service T) → KeepsLenders factories old mid → IsRefused why mid answer new → Q)
-      → subscribing.UpdatesFirst buffer number told Does subscriber old answer new → Q
-  lenders-attend factories Q buffer number told Does subscriber old answer new found does refused h =
+      → subscribing.UpdatesFirst choices buffer number told Does subscriber old answer new → Q
+  lenders-attend choices factories Q buffer number told Does subscriber old answer new found does refused h =
       elim (by-bool ((subscriber.seen == old.publisher_list.changes) && not subscriber.again) (Does subscriber old answer new)
       ((after : Subscriber) × (mid : Service T) × subscribing.Follows buffer number subscriber old after mid
-      × MatchResult (update_answer subscriber.degradation old.publisher_list.places after.connected)
+      × Outcomes (choices.subscriber_acts number subscriber.degradation) (zip old.publisher_list.places after.connected)
       (λ done. Does after mid answer new) (λ failure. IsRefused (told failure) mid answer new)) h) [
         | inl w ↦ does subscriber old (λ own. own) w.1
         | inr w ↦ followed w.1.0 w.1.1 w.1.2 w.1.3
       ]
     where
       followed : (after : Subscriber) (mid : Service T) → subscribing.Follows buffer number subscriber old after mid
-          → MatchResult (update_answer subscriber.degradation old.publisher_list.places after.connected)
+          → Outcomes (choices.subscriber_acts number subscriber.degradation) (zip old.publisher_list.places after.connected)
           (λ done. Does after mid answer new) (λ failure. IsRefused (told failure) mid answer new) → Q
       followed after mid came told_so =
           let soft : BySubscriber old mid = (soft-follows buffer number subscriber old after mid found came).0 in
           let same : Same old mid = same-subscriber-follows buffer number subscriber old after mid came in
           let on : KeepsLenders factories old mid = lenders-same factories old mid soft.0 soft.3 same.0 in
-          elim (by-result (update_answer subscriber.degradation old.publisher_list.places after.connected)
+          elim (by-outcome (choices.subscriber_acts number subscriber.degradation) (zip old.publisher_list.places after.connected)
           (λ done. Does after mid answer new) (λ failure. IsRefused (told failure) mid answer new) told_so) [
             | inl r ↦ does after mid on r.2
             | inr r ↦ refused (told r.0) mid on r.2
@@ -191,25 +193,27 @@ module _ {T : Type 0} where
           lenders-same factories old new (ap (λ (s : Service T). s.name) is ∙ soft.0)
           (ap (λ (s : Service T). s.publishers) is ∙ soft.3) (ap (λ (s : Service T). s.loans) is ∙ same.0)
 
-  all-subscriber : (buffer number : ℕ) (told : ConnectionFailure → Refusal)
+  all-subscriber : (choices : Choices T) (buffer number : ℕ) (told : ConnectionFailure → Refusal)
       (Does : Subscriber → Service T → Reply T → Service T → Type 0) (old : State T) (answer : Reply T) (new : State T)
       → ((one : Subscriber) (service after : Service T) → Does one service answer after → KeepsLenders old.factories service after)
-      → AtOne (subscriber_in number) (subscribing.UpdatesFirst buffer number told Does) old answer new → AllLenders old → AllLenders new
-  all-subscriber buffer number told Does old answer new does h all =
-      all-at-one (subscriber_in number) (subscribing.UpdatesFirst buffer number told Does) old answer new
-      (λ one service after is did. lenders-attend old.factories (KeepsLenders old.factories service after) buffer number told Does one
+      → AtOne (subscriber_in number) (subscribing.UpdatesFirst choices buffer number told Does) old answer new → AllLenders old
+      → AllLenders new
+  all-subscriber choices buffer number told Does old answer new does h all =
+      all-at-one (subscriber_in number) (subscribing.UpdatesFirst choices buffer number told Does) old answer new
+      (λ one service after is did. lenders-attend choices old.factories (KeepsLenders old.factories service after) buffer number told Does
+      one
       service answer after (subscriber-stands number service one is).0
       (λ now mid on done own. does now mid after done (on own))
       (λ why mid on refused. lenders-refused old.factories why service mid answer after on refused) did) h all
 
   -- ---- services that come and go
 
-  all-factory : (types : MessageTypeDetails) (IsDefault : T → Type 0) (buffer number : ℕ)
+  all-factory : (types : MessageTypeDetails) (choices : Choices T) (buffer number : ℕ)
       (Does : Service T → Reply T → Service T → Type 0) (old : State T) (answer : Reply T) (new : State T)
       → ((service after : Service T) → IsOpen old.factories service.name number → Does service answer after
       → KeepsLenders old.factories service after)
-      → AtFactory types IsDefault buffer number Does old answer new → AllLenders old → AllLenders new
-  all-factory types IsDefault buffer number Does old answer new does h all =
+      → AtFactory types choices buffer number Does old answer new → AllLenders old → AllLenders new
+  all-factory types choices buffer number Does old answer new does h all =
       elim (by-option (at number old.factories) (IsSkipped old answer new)
       (λ factory. AtOne (λ (service : Service T). cond (is_service_of factory service) (Some service) None)
       (λ (service : Service T). Does) old answer new) h) [
@@ -328,9 +332,9 @@ module _ {T : Type 0} where
 
   -- ---- each command
 
-  module _ (types : MessageTypeDetails) (IsDefault : T → Type 0) (buffer : ℕ) where
+  module _ (types : MessageTypeDetails) (choices : Choices T) (buffer : ℕ) where
     step-lenders : (asked : Command T) (old : State T) (answer : Reply T) (new : State T)
-        → Step types IsDefault buffer asked old answer new → AllLenders old → AllLenders new
+        → Step types choices buffer asked old answer new → AllLenders old → AllLenders new
     step-lenders command.Node old answer new (inl (told, came)) all =
         all-same old new (ap (λ (s : State T). s.services) came) (ap (λ (s : State T). s.factories) came) all
     step-lenders command.Node old answer new (inr refused) all =
@@ -353,13 +357,13 @@ module _ {T : Type 0} where
     step-lenders (command.Close factory) old answer new h all =
         all-closed factory old answer new (closed factory old answer new h) all
     step-lenders (command.Publisher factory options) old answer new h all =
-        all-factory types IsDefault buffer factory
+        all-factory types choices buffer factory
         (λ (service : Service T). PublisherArrives (old.made.publishers + 1)
         (new_publisher factory options service.settings) service) old answer new
         (λ service after open_one did. lenders-arrive old.factories (old.made.publishers + 1)
         (new_publisher factory options service.settings) service answer after open_one did) h all
     step-lenders (command.Subscriber factory options) old answer new h all =
-        all-factory types IsDefault buffer factory
+        all-factory types choices buffer factory
         (λ (service : Service T). SubscriberArrives buffer (old.made.subscribers + 1)
         (new_subscriber factory options service.settings) service) old answer new
         (λ service after open_one did. lenders-admit old.factories buffer (old.made.subscribers + 1)
@@ -390,16 +394,16 @@ module _ {T : Type 0} where
         (λ one service after is did. subst (λ (s : Service T). KeepsLenders old.factories service s) (sym did.1)
         (lenders-fewer old.factories loan service)) h all
     step-lenders (command.Send loan) old answer new h all =
-        all-at-one (λ (service : Service T). at loan service.loans) (SendsLoan loan) old answer new
-        (λ one service after is did. lenders-send-loan old.factories loan one service answer after did) h all
+        all-at-one (λ (service : Service T). at loan service.loans) (SendsLoan choices loan) old answer new
+        (λ one service after is did. lenders-send-loan old.factories choices loan one service answer after did) h all
     step-lenders (command.Put publisher values) old answer new h all =
-        all-free publisher (Puts publisher values) old answer new
-        (λ one service after found stands did. lenders-put old.factories publisher values one service answer after found did) h all
+        all-free publisher (Puts choices publisher values) old answer new
+        (λ one service after found stands did. lenders-put old.factories choices publisher values one service answer after found did) h all
     step-lenders (command.Retry publisher nanoseconds) old answer new h all =
         all-blocked publisher
-        (λ (one : Publisher T) (send : Send T). GoesOn publisher one
+        (λ (one : Publisher T) (send : Send T). GoesOn choices publisher one
         (record send { retries = send.retries + 1; elapsed = nanoseconds })) old answer new
-        (λ one send service after found did. lenders-go-on old.factories publisher one one
+        (λ one send service after found did. lenders-go-on old.factories choices publisher one one
         (record send { retries = send.retries + 1; elapsed = nanoseconds }) service answer after found refl refl did) h all
     step-lenders (command.GiveUp publisher) old answer new h all =
         all-blocked publisher
@@ -409,7 +413,7 @@ module _ {T : Type 0} where
         (λ one send service after found did. subst (λ (s : Service T). KeepsLenders old.factories service s) (sym did.1)
         (lenders-turned old.factories publisher one (record one { blocked = None }) service found refl (λ up. up))) h all
     step-lenders (command.Receive subscriber) old answer new h all =
-        all-subscriber buffer subscriber (λ failure. refusal.Receive (receive_error.ConnectionFailure failure))
+        all-subscriber choices buffer subscriber (λ failure. refusal.Receive (receive_error.ConnectionFailure failure))
         (Receives subscriber (old.made.samples + 1)) old answer new
         (λ one service after did. lenders-receive old.factories subscriber (old.made.samples + 1) one service answer after did) h all
     step-lenders (command.Read number) old answer new h all =
@@ -423,17 +427,17 @@ module _ {T : Type 0} where
         (λ own. own)) h all
     step-lenders (command.Update (port.Publisher number)) old answer new h all =
         all-free number
-        (publishing.UpdatesFirst number refusal.Connection
+        (publishing.UpdatesFirst choices number refusal.Connection
         (λ (one : Publisher T) (service : Service T) (answered : Reply T) (after : Service T). (answered ≡ reply.Done) × (after ≡ service)))
         old answer new
-        (λ one service after found stands did. lenders-update old.factories (KeepsLenders old.factories service after) number
+        (λ one service after found stands did. lenders-update old.factories choices (KeepsLenders old.factories service after) number
         refusal.Connection
         (λ (it : Publisher T) (mid : Service T) (answered : Reply T) (end : Service T). (answered ≡ reply.Done) × (end ≡ mid)) one service
         answer after found
         (λ it mid on there done. subst (λ (s : Service T). KeepsLenders old.factories service s) (sym done.1) on)
         (λ why mid on refused. lenders-refused old.factories why service mid answer after on refused) did) h all
     step-lenders (command.Update (port.Subscriber number)) old answer new h all =
-        all-subscriber buffer number refusal.Connection
+        all-subscriber choices buffer number refusal.Connection
         (λ (one : Subscriber) (service : Service T) (answered : Reply T) (after : Service T). (answered ≡ reply.Done) × (after ≡ service))
         old answer new
         (λ one service after did. lenders-alike old.factories service after did.1) h all
@@ -455,19 +459,19 @@ module _ {T : Type 0} where
         (λ one service after is did. subst (λ (s : Service T). KeepsLenders old.factories service s) (sym did.1)
         (λ own. own)) h all
     step-lenders (command.Has subscriber) old answer new h all =
-        all-subscriber buffer subscriber refusal.Connection
+        all-subscriber choices buffer subscriber refusal.Connection
         (λ (one : Subscriber) (service : Service T) (answered : Reply T) (after : Service T).
         (answered ≡ reply.Has (has_samples subscriber one service)) × (after ≡ service)) old answer new
         (λ one service after did. lenders-alike old.factories service after did.1) h all
 
     run-lenders : (asked : List (Command T)) (old : State T) (answers : List (Reply T)) (new : State T)
-        → Runs types IsDefault buffer asked old answers new → AllLenders old → AllLenders new
+        → Runs types choices buffer asked old answers new → AllLenders old → AllLenders new
     run-lenders [] old answers new run all = subst AllLenders (sym run.1) all
     run-lenders (one ∷ more) old answers new run all =
         run-lenders more run.1 run.2 new run.4 (step-lenders one old run.0 run.1 run.3 all)
 
-pub use-is-owned : {T : Type 0} (IsDefault : T → Type 0) → UseIsOwned IsDefault
-use-is-owned {T} IsDefault types buffer asked answers new run =
+pub use-is-owned : {T : Type 0} (choices : Choices T) → UseIsOwned choices
+use-is-owned {T} choices types buffer asked answers new run =
     all-both (HasLenders new.factories) (IsOwned new.factories) (IsOfOpenFactories new.factories)
     (λ service lenders owned. record {
       publishers = lenders.0;
@@ -480,5 +484,5 @@ use-is-owned {T} IsDefault types buffer asked answers new run =
           holder-at (at held.subscriber service.subscribers) it.0 it.1 in
           (sub.0, sub.1, subst (λ (h : ℕ × Bool). IsOpen new.factories service.name h.0) (sym sub.2) it.2);
     }) new.services
-    (run-lenders types IsDefault buffer asked new_state answers new run tt)
-    (run-owned 0 types IsDefault buffer asked new_state answers new run tt)
+    (run-lenders types choices buffer asked new_state answers new run tt)
+    (run-owned 0 types choices buffer asked new_state answers new run tt)

@@ -4,7 +4,9 @@ use Rattle.std.proofs.Common.{Some}
 use Rattle.std.proofs.Common.{refl, sym, ap, subst, inl, inr, ◌∙◌}
 use Rattle.std.proofs.lemmas.Bool.{eqb-true, eqb-false, cases_Bool}
 use Rattle.std.specs.Option.{option_map_or}
-use Rattle.std.specs.Prelude.{◌==◌, nat_lt, is_some, filter, fold, slice_get, MatchBool, MatchResult}
+use Rattle.std.specs.Prelude.{◌==◌, nat_lt, is_some, filter, fold, slice_get, MatchBool, drop, zip}
+use Rattle.iox_machine.specs.Choices.{Choices}
+use Rattle.iox_machine.proofs.Delivering.{Outcomes, by-outcome, first_of, offered, deliver, goes-on-so}
 use Rattle.iox_machine.specs.Arriving.{PublisherArrives}
 use Rattle.iox_machine.specs.Lending.{Lends, LendsLonger, loan_refusal}
 use Rattle.iox_machine.specs.Mailbox.{Mailbox, newest, put}
@@ -12,14 +14,13 @@ use Rattle.iox_machine.specs.Message.{Loan, Message, is_written, sent_as}
 use Rattle.iox_machine.specs.PortList.{those, registered}
 use Rattle.iox_machine.specs.Ports.{LendsLoan, Puts, SendsLoan, Writes}
 use Rattle.iox_machine.specs.PublisherUpdate as publishing
-use Rattle.iox_machine.specs.PublisherUpdate.{update_answer}
 use Rattle.iox_machine.specs.Replies.{IsRefused, IsSkipped}
-use Rattle.iox_machine.specs.Sending.{Begins, GoesOn, Sends, decision_at, deliver, offered}
+use Rattle.iox_machine.specs.Sending.{Begins, GoesOn, Sends}
 use Rattle.iox_machine.specs.Service.{Publisher, Send, Service, Subscriber, connect, mailbox, with_mailbox, with_publisher}
 use Rattle.iox_machine.specs.State.{Factory}
 use Rattle.iox_machine.specs.Table.{at, changed, contains, removed}
 use Rattle.iox_machine.specs.UseLaws.{IsOpen}
-use Rattle.iox_machine.proofs.Cases.{by-bool, by-option, by-result, same-some}
+use Rattle.iox_machine.proofs.Cases.{by-bool, by-option, same-some}
 use Rattle.iox_machine.proofs.Frames.{publisher-comes}
 use Rattle.iox_machine.proofs.Order.{follows-publishers}
 use Rattle.iox_machine.proofs.Tables.{at-changed, at-changed-other, at-changed-either, at-removed, at-kept, at-either}
@@ -204,13 +205,13 @@ module _ {T : Type 0} (factories : List (ℕ × Factory)) where
   boxed-offered number None DiscardDataAndFail subscriber more goes_on send service on =
       on (record send { retries = 0; elapsed = 0; fails = true }) service
 
-  boxed-deliver : (number : ℕ) (publisher : Publisher T) (left : List ℕ) (send : Send T) (service : Service T)
-      → Boxed service (deliver number publisher left send service).1
-  boxed-deliver number publisher [] send service = (refl, refl, refl)
-  boxed-deliver number publisher (subscriber ∷ more) send service =
+  boxed-deliver : (number : ℕ) (decisions : List BackpressureDecision) (left : List ℕ) (send : Send T) (service : Service T)
+      → Boxed service (deliver number decisions left send service).1
+  boxed-deliver number decisions [] send service = (refl, refl, refl)
+  boxed-deliver number decisions (subscriber ∷ more) send service =
       boxed-offered number (put service.settings.enable_safe_overflow send.message (mailbox number subscriber service))
-      (decision_at number publisher service subscriber) subscriber more (deliver number publisher more) send service
-      (λ next mid. boxed-deliver number publisher more next mid)
+      (first_of decisions) subscriber more (deliver number (drop 1 decisions) more) send service
+      (λ next mid. boxed-deliver number (drop 1 decisions) more next mid)
 
   lenders-boxed : (old new : Service T) → Boxed old new → KeepsLenders old new
   lenders-boxed old new h = lenders-same old new h.0 h.1 h.2
@@ -239,28 +240,28 @@ module _ {T : Type 0} (factories : List (ℕ × Factory)) where
       (lenders-turned number publisher after (publishing.ended number old) found (ap (λ (p : Publisher T). p.factory) h.2)
       (λ stands. sym (ap (λ (p : Publisher T). p.stands) h.2) ∙ stands))
 
-  pub lenders-update : (Q : Type 0) (number : ℕ) (told : ConnectionFailure → Refusal)
+  pub lenders-update : (choices : Choices T) (Q : Type 0) (number : ℕ) (told : ConnectionFailure → Refusal)
       (Does : Publisher T → Service T → Reply T → Service T → Type 0) (publisher : Publisher T) (old : Service T) (answer : Reply T)
       (new : Service T) → at number old.publishers ≡ Some publisher
       → ((after : Publisher T) (mid : Service T) → KeepsLenders old mid → at number mid.publishers ≡ Some after
       → Does after mid answer new → Q)
       → ((why : Refusal) (mid : Service T) → KeepsLenders old mid → IsRefused why mid answer new → Q)
-      → publishing.UpdatesFirst number told Does publisher old answer new → Q
-  lenders-update Q number told Does publisher old answer new found does refused h =
+      → publishing.UpdatesFirst choices number told Does publisher old answer new → Q
+  lenders-update choices Q number told Does publisher old answer new found does refused h =
       elim (by-bool (publisher.seen == old.subscriber_list.changes) (Does publisher old answer new)
       ((after : Publisher T) × (mid : Service T) × publishing.Follows number publisher old after mid
-      × MatchResult (update_answer publisher.degradation old.subscriber_list.places after.connected)
+      × Outcomes (choices.publisher_acts number publisher.degradation) (zip old.subscriber_list.places after.connected)
       (λ done. Does after mid answer new) (λ failure. IsRefused (told failure) mid answer new)) h) [
         | inl w ↦ does publisher old (λ own. own) found w.1
         | inr w ↦ followed w.1.0 w.1.1 w.1.2 w.1.3
       ]
     where
       followed : (after : Publisher T) (mid : Service T) → publishing.Follows number publisher old after mid
-          → MatchResult (update_answer publisher.degradation old.subscriber_list.places after.connected)
+          → Outcomes (choices.publisher_acts number publisher.degradation) (zip old.subscriber_list.places after.connected)
           (λ done. Does after mid answer new) (λ failure. IsRefused (told failure) mid answer new) → Q
       followed after mid came told_so =
           let on : KeepsLenders old mid = lenders-followed number publisher old after mid found came in
-          elim (by-result (update_answer publisher.degradation old.subscriber_list.places after.connected)
+          elim (by-outcome (choices.publisher_acts number publisher.degradation) (zip old.subscriber_list.places after.connected)
           (λ done. Does after mid answer new) (λ failure. IsRefused (told failure) mid answer new) told_so) [
             | inl r ↦ does after mid on (follows-publishers number 0 publisher old after mid found came) r.2
             | inr r ↦ refused (told r.0) mid on r.2
@@ -273,35 +274,39 @@ module _ {T : Type 0} (factories : List (ℕ × Factory)) where
   pub lenders-alike : (old new : Service T) → new ≡ old → KeepsLenders old new
   lenders-alike old new same own = subst HasLenders (sym same) own
 
-  pub lenders-go-on : (number : ℕ) (was publisher : Publisher T) (send : Send T) (old : Service T) (answer : Reply T) (new : Service T)
+  pub lenders-go-on : (choices : Choices T) (number : ℕ) (was publisher : Publisher T) (send : Send T) (old : Service T)
+      (answer : Reply T) (new : Service T)
       → at number old.publishers ≡ Some was → publisher.factory ≡ was.factory → publisher.stands ≡ was.stands
-      → GoesOn number publisher send old answer new → KeepsLenders old new
-  lenders-go-on number was publisher send old answer new found same stands h own =
-      let after : Send T × Service T = deliver number publisher send.left send old in
+      → GoesOn choices number publisher send old answer new → KeepsLenders old new
+  lenders-go-on choices number was publisher send old answer new found same stands h own =
+      let so = goes-on-so choices number publisher send old answer new h in
+      let after : Send T × Service T = deliver number so.0 send.left send old in
       let now : Publisher T = record publisher { blocked = cond (is_some (slice_get after.0.left 0)) (Some after.0) None } in
-      let on : Boxed old after.1 = boxed-deliver number publisher send.left send old in
-      subst HasLenders (sym h.1)
+      let on : Boxed old after.1 = boxed-deliver number so.0 send.left send old in
+      subst HasLenders (sym so.1.1)
       (lenders-turned number was now after.1 (ap (at number) on.1 ∙ found) same (λ up. sym stands ∙ up)
       (lenders-boxed old after.1 on own))
 
-  lenders-send : (number : ℕ) (message : Message T) (publisher : Publisher T) (old : Service T) (answer : Reply T) (new : Service T)
-      → at number old.publishers ≡ Some publisher → Sends number message publisher old answer new → KeepsLenders old new
-  lenders-send number message publisher old answer new found h =
+  lenders-send : (choices : Choices T) (number : ℕ) (message : Message T) (publisher : Publisher T) (old : Service T) (answer : Reply T)
+      (new : Service T)
+      → at number old.publishers ≡ Some publisher → Sends choices number message publisher old answer new → KeepsLenders old new
+  lenders-send choices number message publisher old answer new found h =
       elim (by-bool publisher.stands
-      (publishing.UpdatesFirst number (λ failure. refusal.Send (error.ConnectionError failure)) (Begins number message) publisher old answer
+      (publishing.UpdatesFirst choices number (λ failure. refusal.Send (error.ConnectionError failure)) (Begins choices number message)
+      publisher old answer
       new)
       (IsRefused (refusal.Send error.ConnectionBrokenSinceSenderNoLongerExists) old answer new) h) [
-        | inl w ↦ lenders-update (KeepsLenders old new) number (λ failure. refusal.Send (error.ConnectionError failure))
-            (Begins number message) publisher old answer new found
+        | inl w ↦ lenders-update choices (KeepsLenders old new) number (λ failure. refusal.Send (error.ConnectionError failure))
+            (Begins choices number message) publisher old answer new found
             (λ after mid on there begun own. begins after mid there begun (on own))
             (λ why mid on refused. lenders-refused why old mid answer new on refused) w.1
         | inr w ↦ lenders-refused (refusal.Send error.ConnectionBrokenSinceSenderNoLongerExists) old old answer new (λ own. own) w.1
       ]
     where
       begins : (after : Publisher T) (mid : Service T) → at number mid.publishers ≡ Some after
-          → Begins number message after mid answer new → KeepsLenders mid new
+          → Begins choices number message after mid answer new → KeepsLenders mid new
       begins after mid there begun =
-          lenders-go-on number after (record after { history = newest mid.settings.history_size (after.history ++ message ∷ []) })
+          lenders-go-on choices number after (record after { history = newest mid.settings.history_size (after.history ++ message ∷ []) })
           (record { message = message; left = those after.connected; retries = 0; elapsed = 0; delivered = 0; fails = false })
           mid answer new there refl refl begun
 
@@ -340,29 +345,31 @@ module _ {T : Type 0} (factories : List (ℕ × Factory)) where
       (lenders-more loan number after out (with_publisher number after old) (at-changed number after publisher old.publishers found)
       (kept.1 ∙ stands) refl (lenders-turned number publisher after old found kept.0 (λ up. sym kept.1 ∙ up) own)))
 
-  pub lenders-put : (number : ℕ) (values : List T) (publisher : Publisher T) (old : Service T) (answer : Reply T) (new : Service T)
-      → at number old.publishers ≡ Some publisher → Puts number values publisher old answer new → KeepsLenders old new
-  lenders-put number values publisher old answer new found (Some why, after, lent, refused) =
+  pub lenders-put : (choices : Choices T) (number : ℕ) (values : List T) (publisher : Publisher T) (old : Service T) (answer : Reply T)
+      (new : Service T)
+      → at number old.publishers ≡ Some publisher → Puts choices number values publisher old answer new → KeepsLenders old new
+  lenders-put choices number values publisher old answer new found (Some why, after, lent, refused) =
       lenders-refused (refusal.Send (error.LoanError why)) old old answer new (λ own. own) refused
-  lenders-put number values publisher old answer new found (None, after, lent, sent) =
+  lenders-put choices number values publisher old answer new found (None, after, lent, sent) =
       let kept : Stays publisher after = lends-stays number (length values) publisher old None after lent in
       let mid : Service T = with_publisher number after old in
-      (λ own. lenders-send number (record { number = publisher.next; values = values }) after mid answer new
+      (λ own. lenders-send choices number (record { number = publisher.next; values = values }) after mid answer new
       (at-changed number after publisher old.publishers found) sent
       (lenders-turned number publisher after old found kept.0 (λ up. sym kept.1 ∙ up) own))
 
-  pub lenders-send-loan : (number : ℕ) (loan : Loan T) (old : Service T) (answer : Reply T) (new : Service T)
-      → SendsLoan number loan old answer new → KeepsLenders old new
-  lenders-send-loan number loan old answer new h =
+  pub lenders-send-loan : (choices : Choices T) (number : ℕ) (loan : Loan T) (old : Service T) (answer : Reply T) (new : Service T)
+      → SendsLoan choices number loan old answer new → KeepsLenders old new
+  lenders-send-loan choices number loan old answer new h =
       elim (by-option (at loan.publisher old.publishers) (IsSkipped old answer new)
       (λ publisher. MatchBool (is_written loan && not (is_some publisher.blocked))
-      (Sends loan.publisher (sent_as loan) publisher (record old { loans = removed number old.loans }) answer new)
+      (Sends choices loan.publisher (sent_as loan) publisher (record old { loans = removed number old.loans }) answer new)
       (IsSkipped old answer new)) h) [
         | inl w ↦ lenders-alike old new w.1.1
         | inr w ↦ elim (by-bool (is_written loan && not (is_some w.0.blocked))
-            (Sends loan.publisher (sent_as loan) w.0 (record old { loans = removed number old.loans }) answer new)
+            (Sends choices loan.publisher (sent_as loan) w.0 (record old { loans = removed number old.loans }) answer new)
             (IsSkipped old answer new) w.2) [
-              | inl k ↦ (λ own. lenders-send loan.publisher (sent_as loan) w.0 (record old { loans = removed number old.loans }) answer new
+              | inl k ↦ (λ own. lenders-send choices loan.publisher (sent_as loan) w.0 (record old { loans = removed number old.loans })
+                  answer new
                   w.1 k.1 (lenders-fewer number old own))
               | inr k ↦ lenders-alike old new k.1.1
             ]

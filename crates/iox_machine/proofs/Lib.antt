@@ -1,6 +1,8 @@
 mod Skipping
 mod Overflow
 pub mod Cases
+pub mod Delivering
+mod AlwaysChosen
 mod Unfit
 mod Lists
 mod Sound

@@ -5,6 +5,7 @@ use Rattle.std.proofs.lemmas.Bool.{cases_Bool, eq-eqb, eqb-false, eqb-true, ne_e
 use Rattle.std.specs.List.{AllByRecursion, IsDistinct}
 use Rattle.std.specs.Option.{option_map_or}
 use Rattle.std.specs.Prelude.{◌==◌, filter, is_some, option_and_then, option_map, replicate, slice_get, unwrap_or, MatchBool}
+use Rattle.iox_machine.specs.Choices.{Choices}
 use Rattle.iox_machine.specs.Arriving.{new_publisher, new_subscriber}
 use Rattle.iox_machine.specs.ConnectionLaws.{ConnectedAreJoined, JoinsWhoIsConnected, ListsWhoStands, StandingAreListed}
 use Rattle.iox_machine.specs.Factories.{with_open}
@@ -740,25 +741,25 @@ module _ {T : Type 0} where
       by (inr (inr (inr (test, ended)))) =
           subst (AllByRecursion (Linked later)) (sym ended) (all-filtered (Linked later) test old.services later-all)
 
-  module _ (types : MessageTypeDetails) (IsDefault : T → Type 0) (buffer : ℕ) where
+  module _ (types : MessageTypeDetails) (choices : Choices T) (buffer : ℕ) where
     runs-linked : (asked : List (Command T)) (old : State T) (answers : List (Reply T)) (new : State T)
-        → Runs types IsDefault buffer asked old answers new → AreLinked old → AreLinked new
+        → Runs types choices buffer asked old answers new → AreLinked old → AreLinked new
     runs-linked [] old answers new run all = subst AreLinked (sym run.1) all
     runs-linked (one ∷ more) old answers new run all =
         runs-linked more run.1 run.2 new run.4
-        (comes-linked old run.0 run.1 (step-comes Turned turned-walks types IsDefault buffer one old run.0 run.1 run.3) all)
+        (comes-linked old run.0 run.1 (step-comes Turned turned-walks types choices buffer one old run.0 run.1 run.3) all)
 
-pub standing-are-listed : {T : Type 0} (IsDefault : T → Type 0) → StandingAreListed IsDefault
-standing-are-listed {T} IsDefault types buffer asked answers new run =
+pub standing-are-listed : {T : Type 0} (choices : Choices T) → StandingAreListed choices
+standing-are-listed {T} choices types buffer asked answers new run =
     all-weaker (Linked new.made) ListsWhoStands
     (λ (service : Service T) (l : Linked new.made service). (
       l.publishers_listed,
       l.subscribers_listed,
       once-distinct (those service.publisher_list.places) l.publishers_once,
       once-distinct (those service.subscriber_list.places) l.subscribers_once,
-    )) new.services (runs-linked types IsDefault buffer asked new_state answers new run tt)
+    )) new.services (runs-linked types choices buffer asked new_state answers new run tt)
 
-pub connected-are-joined : {T : Type 0} (IsDefault : T → Type 0) → ConnectedAreJoined IsDefault
-connected-are-joined {T} IsDefault types buffer asked answers new run =
+pub connected-are-joined : {T : Type 0} (choices : Choices T) → ConnectedAreJoined choices
+connected-are-joined {T} choices types buffer asked answers new run =
     all-weaker (Linked new.made) JoinsWhoIsConnected (λ (service : Service T) (l : Linked new.made service). (l.reached, l.heard))
-    new.services (runs-linked types IsDefault buffer asked new_state answers new run tt)
+    new.services (runs-linked types choices buffer asked new_state answers new run tt)

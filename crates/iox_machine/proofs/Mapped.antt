@@ -40,11 +40,6 @@ module _ {X Y : Type 0} (f : X → Y) where
   get-by (x ∷ xs) zero = refl
   get-by (x ∷ xs) (suc i) = get-by xs i
 
-  pub filter_map-same : {Z : Type 0} (g : Y → Option Z) (h : X → Option Z) → ((x : X) → g (f x) ≡ h x) → (xs : List X)
-      → filter_map g (map f xs) ≡ filter_map h xs
-  filter_map-same g h on [] = refl
-  filter_map-same g h on (x ∷ xs) = ap₂ cons_option (on x) (filter_map-same g h on xs)
-
   pub flat_map-same : {Z : Type 0} (g : Y → List Z) (h : X → List Z) → ((x : X) → g (f x) ≡ h x) → (xs : List X)
       → flat_map g (map f xs) ≡ flat_map h xs
   flat_map-same {Z} g h on [] = refl

@@ -2,6 +2,7 @@
 use Rattle.std.proofs.Common.{◌≡◌, ◌⊎◌, ◌+◌, ℕ, zero, suc, Bool, true, false, cond, ◌&&◌, ◌||◌, List, [], ◌∷◌, ◌++◌, length, take, None}
 use Rattle.std.proofs.Common.{Some, Result, Ok, Err, refl, sym, ap, subst, inl, inr, arith, ◌∙◌, append-nil, true≢false}
 use Rattle.std.specs.Prelude.{◌==◌, nat_le, nat_lt, fold, MatchResult}
+use Rattle.iox_machine.specs.Choices.{Choices}
 use Rattle.iox_machine.specs.Agreement.{Agreement, unfit, event_verdict, publish_subscribe_verdict, request_response_verdict}
 use Rattle.iox_machine.specs.Asked.{settings_of}
 use Rattle.iox_machine.specs.Factories.{Negotiates, Enters, OpensService, OpensOrCreatesService, create_refusal, either_lacking}
@@ -435,11 +436,11 @@ at-same types old new one pattern other name these steps same is all so =
     (subst (λ (n : List ℕ). IsLeftBySteps types one steps (old.phases one n) (new.phases one n)) is
     (subst (λ (l : List StepBefore). IsLeftBySteps types one l (old.phases one other) (new.phases one other)) all so))
 
-pub refused-calls-leave-steps : {T : Type 0} (IsDefault : T → Type 0) → RefusedCallsLeaveSteps IsDefault
-refused-calls-leave-steps {T} IsDefault types buffer before told old run pattern name steps
+pub refused-calls-leave-steps : {T : Type 0} (choices : Choices T) → RefusedCallsLeaveSteps choices
+refused-calls-leave-steps {T} choices types buffer before told old run pattern name steps
     (command.Create node other named attributes meanwhile) new why (same, is, all) h =
     let whole : Whole (old.phases (pattern_of named) other) =
-    runs-whole types IsDefault buffer before new_state told old run (λ one another. tt) (pattern_of named) other in
+    runs-whole types choices buffer before new_state told old run (λ one another. tt) (pattern_of named) other in
     at-same types old new (pattern_of named) pattern other name meanwhile steps same is all
     (elim (by-fitness types meanwhile (factory_of node other named) named attributes old (reply.Refused why) new h) [
       | inl negotiates ↦ settles types meanwhile (factory_of node other named) old why new whole {F = CreateFailure}
@@ -451,14 +452,14 @@ refused-calls-leave-steps {T} IsDefault types buffer before told old run pattern
       | inr (inl skipped) ↦ absurd (true≢false (ap tells_refused skipped.0))
       | inr (inr refused) ↦ unmoved types meanwhile (factory_of node other named) old why new whole refused.0 refused.1
     ])
-refused-calls-leave-steps {T} IsDefault types buffer before told old run pattern name steps
+refused-calls-leave-steps {T} choices types buffer before told old run pattern name steps
     (command.Open node other named required meanwhile) new why (same, is, all) h =
     at-same types old new (pattern_of named) pattern other name meanwhile steps same is all
     (open-leaves types meanwhile (factory_of node other named) old why new
-    (runs-whole types IsDefault buffer before new_state told old run (λ one another. tt) (pattern_of named) other) named required h)
-refused-calls-leave-steps {T} IsDefault types buffer before told old run pattern name steps
+    (runs-whole types choices buffer before new_state told old run (λ one another. tt) (pattern_of named) other) named required h)
+refused-calls-leave-steps {T} choices types buffer before told old run pattern name steps
     (command.OpenOrCreate node other named required meanwhile) new why (same, is, all) h =
     at-same types old new (pattern_of named) pattern other name meanwhile steps same is all
     (either-leaves types meanwhile (factory_of node other named) old why new
-    (runs-whole types IsDefault buffer before new_state told old run (λ one another. tt) (pattern_of named) other) named required h)
-refused-calls-leave-steps IsDefault types buffer before told old run pattern name steps asked new why never h = absurd never
+    (runs-whole types choices buffer before new_state told old run (λ one another. tt) (pattern_of named) other) named required h)
+refused-calls-leave-steps choices types buffer before told old run pattern name steps asked new why never h = absurd never

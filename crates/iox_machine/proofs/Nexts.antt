@@ -3,19 +3,20 @@ use Rattle.std.proofs.Common.{◌≡◌, ◌+◌, ℕ, Bool, true, false, cond, 
 use Rattle.std.proofs.Common.{subst, inl, inr, ◌∙◌}
 use Rattle.std.proofs.lemmas.Bool.{eqb-true, eqb-false, cases_Bool}
 use Rattle.std.specs.Option.{option_map_or}
-use Rattle.std.specs.Prelude.{◌==◌, is_some, option_map, fold, filter, slice_get, MatchResult}
+use Rattle.std.specs.Prelude.{◌==◌, is_some, option_map, fold, filter, slice_get, drop, zip}
+use Rattle.iox_machine.specs.Choices.{Choices}
+use Rattle.iox_machine.proofs.Delivering.{Outcomes, by-outcome, first_of, offered, deliver, goes-on-so}
 use Rattle.iox_machine.specs.Mailbox.{Mailbox, put, newest}
 use Rattle.iox_machine.specs.Message.{Message}
 use Rattle.iox_machine.specs.PortList.{those}
 use Rattle.iox_machine.specs.PublisherUpdate as publishing
-use Rattle.iox_machine.specs.PublisherUpdate.{update_answer}
 use Rattle.iox_machine.specs.Receiving.{Receives}
 use Rattle.iox_machine.specs.Replies.{IsRefused}
-use Rattle.iox_machine.specs.Sending.{offered, deliver, decision_at, GoesOn, Begins, Sends}
+use Rattle.iox_machine.specs.Sending.{GoesOn, Begins, Sends}
 use Rattle.iox_machine.specs.Service.{Service, Publisher, Subscriber, Send, with_publisher, with_subscriber, mailbox, with_mailbox, connect}
 use Rattle.iox_machine.specs.SubscriberUpdate as subscribing
 use Rattle.iox_machine.specs.Table.{at, contains}
-use Rattle.iox_machine.proofs.Cases.{by-bool, by-result, never-some}
+use Rattle.iox_machine.proofs.Cases.{by-bool, never-some}
 use Rattle.iox_machine.proofs.Tables.{at-changed, at-changed-other}
 use Rattle.iox_command.specs.DomainValues.declared.backpressure.BackpressureDecision.{BackpressureDecision}
 use Rattle.iox_command.specs.DomainValues.declared.backpressure.BackpressureDecision.TheVariants.{Retry, DiscardData, DiscardDataAndFail}
@@ -113,27 +114,27 @@ module _ {T : Type 0} where
       (same-both old begun new (ready.0, ready.1) on.0, on.1)
 
   -- A publisher does something after it brought its connections up to date, or is refused then.
-  pub same-updates : (R : Type 0) (number : ℕ) (told : ConnectionFailure → Refusal)
+  pub same-updates : (choices : Choices T) (R : Type 0) (number : ℕ) (told : ConnectionFailure → Refusal)
       (Does : Publisher T → Service T → Reply T → Service T → Type 0) (publisher : Publisher T) (old : Service T) (answer : Reply T)
       (new : Service T) → next_at number old ≡ Some publisher.next
       → ((after : Publisher T) (mid : Service T) → Same old mid → next_at number mid ≡ Some after.next → Does after mid answer new → R)
       → ((why : Refusal) (mid : Service T) → Same old mid → IsRefused why mid answer new → R)
-      → publishing.UpdatesFirst number told Does publisher old answer new → R
-  same-updates R number told Does publisher old answer new is does refused h =
+      → publishing.UpdatesFirst choices number told Does publisher old answer new → R
+  same-updates choices R number told Does publisher old answer new is does refused h =
       elim (by-bool (publisher.seen == old.subscriber_list.changes) (Does publisher old answer new)
       ((after : Publisher T) × (mid : Service T) × publishing.Follows number publisher old after mid
-      × MatchResult (update_answer publisher.degradation old.subscriber_list.places after.connected)
+      × Outcomes (choices.publisher_acts number publisher.degradation) (zip old.subscriber_list.places after.connected)
       (λ done. Does after mid answer new) (λ failure. IsRefused (told failure) mid answer new)) h) [
         | inl w ↦ does publisher old (same-itself old) is w.1
         | inr w ↦ followed w.1.0 w.1.1 w.1.2 w.1.3
       ]
     where
       followed : (after : Publisher T) (mid : Service T) → publishing.Follows number publisher old after mid
-          → MatchResult (update_answer publisher.degradation old.subscriber_list.places after.connected)
+          → Outcomes (choices.publisher_acts number publisher.degradation) (zip old.subscriber_list.places after.connected)
           (λ done. Does after mid answer new) (λ failure. IsRefused (told failure) mid answer new) → R
       followed after mid came told_so =
           let on : Same old mid × (after.next ≡ publisher.next) = same-follows number publisher old after mid is came in
-          elim (by-result (update_answer publisher.degradation old.subscriber_list.places after.connected)
+          elim (by-outcome (choices.publisher_acts number publisher.degradation) (zip old.subscriber_list.places after.connected)
           (λ done. Does after mid answer new) (λ failure. IsRefused (told failure) mid answer new) told_so) [
             | inl r ↦ does after mid on.0 (on.0.1 number ∙ (is ∙ ap (λ (n : ℕ). Some n) (sym on.1))) r.2
             | inr r ↦ refused (told r.0) mid on.0 r.2
@@ -152,27 +153,30 @@ module _ {T : Type 0} where
   same-offered number None DiscardDataAndFail subscriber more goes_on send service on =
       on (record send { retries = 0; elapsed = 0; fails = true }) service
 
-  same-deliver : (number : ℕ) (publisher : Publisher T) (left : List ℕ) (send : Send T) (service : Service T)
-      → Same service (deliver number publisher left send service).1
-  same-deliver number publisher [] send service = same-itself service
-  same-deliver number publisher (subscriber ∷ more) send service =
+  same-deliver : (number : ℕ) (decisions : List BackpressureDecision) (left : List ℕ) (send : Send T) (service : Service T)
+      → Same service (deliver number decisions left send service).1
+  same-deliver number decisions [] send service = same-itself service
+  same-deliver number decisions (subscriber ∷ more) send service =
       same-offered number (put service.settings.enable_safe_overflow send.message (mailbox number subscriber service))
-      (decision_at number publisher service subscriber) subscriber more (deliver number publisher more) send service
-      (λ next mid. same-deliver number publisher more next mid)
+      (first_of decisions) subscriber more (deliver number (drop 1 decisions) more) send service
+      (λ next mid. same-deliver number (drop 1 decisions) more next mid)
 
-  pub same-goes-on : (number : ℕ) (publisher : Publisher T) (send : Send T) (old : Service T) (answer : Reply T) (new : Service T)
-      → next_at number old ≡ Some publisher.next → GoesOn number publisher send old answer new → Same old new
-  same-goes-on number publisher send old answer new is h =
-      let after : Send T × Service T = deliver number publisher send.left send old in
+  pub same-goes-on : (choices : Choices T) (number : ℕ) (publisher : Publisher T) (send : Send T) (old : Service T) (answer : Reply T)
+      (new : Service T)
+      → next_at number old ≡ Some publisher.next → GoesOn choices number publisher send old answer new → Same old new
+  same-goes-on choices number publisher send old answer new is h =
+      let so = goes-on-so choices number publisher send old answer new h in
+      let after : Send T × Service T = deliver number so.0 send.left send old in
       let now : Publisher T = record publisher { blocked = cond (is_some (slice_get after.0.left 0)) (Some after.0) None } in
-      let on : Same old after.1 = same-deliver number publisher send.left send old in
-      subst (λ (s : Service T). Same old s) (sym h.1)
+      let on : Same old after.1 = same-deliver number so.0 send.left send old in
+      subst (λ (s : Service T). Same old s) (sym so.1.1)
       (same-both old after.1 (with_publisher number now after.1) on (same-set number now after.1 (on.1 number ∙ is)))
 
-  same-begins : (number : ℕ) (message : Message T) (publisher : Publisher T) (old : Service T) (answer : Reply T) (new : Service T)
-      → next_at number old ≡ Some publisher.next → Begins number message publisher old answer new → Same old new
-  same-begins number message publisher old answer new is h =
-      same-goes-on number (record publisher { history = newest old.settings.history_size (publisher.history ++ message ∷ []) })
+  same-begins : (choices : Choices T) (number : ℕ) (message : Message T) (publisher : Publisher T) (old : Service T) (answer : Reply T)
+      (new : Service T)
+      → next_at number old ≡ Some publisher.next → Begins choices number message publisher old answer new → Same old new
+  same-begins choices number message publisher old answer new is h =
+      same-goes-on choices number (record publisher { history = newest old.settings.history_size (publisher.history ++ message ∷ []) })
       (record { message = message; left = those publisher.connected; retries = 0; elapsed = 0; delivered = 0; fails = false })
       old answer new is h
 
@@ -180,16 +184,19 @@ module _ {T : Type 0} where
       → IsRefused why mid answer new → Same old new
   same-refused why old mid answer new on refused = subst (λ (s : Service T). Same old s) (sym refused.1) on
 
-  pub same-sends : (number : ℕ) (message : Message T) (publisher : Publisher T) (old : Service T) (answer : Reply T) (new : Service T)
-      → next_at number old ≡ Some publisher.next → Sends number message publisher old answer new → Same old new
-  same-sends number message publisher old answer new is h =
+  pub same-sends : (choices : Choices T) (number : ℕ) (message : Message T) (publisher : Publisher T) (old : Service T) (answer : Reply T)
+      (new : Service T)
+      → next_at number old ≡ Some publisher.next → Sends choices number message publisher old answer new → Same old new
+  same-sends choices number message publisher old answer new is h =
       elim (by-bool publisher.stands
-      (publishing.UpdatesFirst number (λ failure. refusal.Send (error.ConnectionError failure)) (Begins number message) publisher old answer
+      (publishing.UpdatesFirst choices number (λ failure. refusal.Send (error.ConnectionError failure)) (Begins choices number message)
+      publisher old answer
       new)
       (IsRefused (refusal.Send error.ConnectionBrokenSinceSenderNoLongerExists) old answer new) h) [
-        | inl w ↦ same-updates (Same old new) number (λ failure. refusal.Send (error.ConnectionError failure)) (Begins number message)
+        | inl w ↦ same-updates choices (Same old new) number (λ failure. refusal.Send (error.ConnectionError failure))
+            (Begins choices number message)
             publisher old answer new is
-            (λ after mid on known begun. same-both old mid new on (same-begins number message after mid answer new known begun))
+            (λ after mid on known begun. same-both old mid new on (same-begins choices number message after mid answer new known begun))
             (λ why mid on refused. same-refused why old mid answer new on refused) w.1
         | inr w ↦ same-refused (refusal.Send error.ConnectionBrokenSinceSenderNoLongerExists) old old answer new (same-itself old) w.1
       ]
@@ -211,27 +218,27 @@ module _ {T : Type 0} where
       subst (λ (s : Service T). Same old s) (sym came)
       (same-connects subscriber.buffer_size number (those connected) (with_subscriber number after old))
 
-  pub same-subscriber-updates : (R : Type 0) (buffer number : ℕ) (told : ConnectionFailure → Refusal)
+  pub same-subscriber-updates : (choices : Choices T) (R : Type 0) (buffer number : ℕ) (told : ConnectionFailure → Refusal)
       (Does : Subscriber → Service T → Reply T → Service T → Type 0) (subscriber : Subscriber) (old : Service T) (answer : Reply T)
       (new : Service T)
       → ((after : Subscriber) (mid : Service T) → Same old mid → Does after mid answer new → R)
       → ((why : Refusal) (mid : Service T) → Same old mid → IsRefused why mid answer new → R)
-      → subscribing.UpdatesFirst buffer number told Does subscriber old answer new → R
-  same-subscriber-updates R buffer number told Does subscriber old answer new does refused h =
+      → subscribing.UpdatesFirst choices buffer number told Does subscriber old answer new → R
+  same-subscriber-updates choices R buffer number told Does subscriber old answer new does refused h =
       elim (by-bool ((subscriber.seen == old.publisher_list.changes) && not subscriber.again) (Does subscriber old answer new)
       ((after : Subscriber) × (mid : Service T) × subscribing.Follows buffer number subscriber old after mid
-      × MatchResult (update_answer subscriber.degradation old.publisher_list.places after.connected)
+      × Outcomes (choices.subscriber_acts number subscriber.degradation) (zip old.publisher_list.places after.connected)
       (λ done. Does after mid answer new) (λ failure. IsRefused (told failure) mid answer new)) h) [
         | inl w ↦ does subscriber old (same-itself old) w.1
         | inr w ↦ followed w.1.0 w.1.1 w.1.2 w.1.3
       ]
     where
       followed : (after : Subscriber) (mid : Service T) → subscribing.Follows buffer number subscriber old after mid
-          → MatchResult (update_answer subscriber.degradation old.publisher_list.places after.connected)
+          → Outcomes (choices.subscriber_acts number subscriber.degradation) (zip old.publisher_list.places after.connected)
           (λ done. Does after mid answer new) (λ failure. IsRefused (told failure) mid answer new) → R
       followed after mid came told_so =
           let on : Same old mid = same-subscriber-follows buffer number subscriber old after mid came in
-          elim (by-result (update_answer subscriber.degradation old.publisher_list.places after.connected)
+          elim (by-outcome (choices.subscriber_acts number subscriber.degradation) (zip old.publisher_list.places after.connected)
           (λ done. Does after mid answer new) (λ failure. IsRefused (told failure) mid answer new) told_so) [
             | inl r ↦ does after mid on r.2
             | inr r ↦ refused (told r.0) mid on r.2

@@ -4,6 +4,7 @@ use Rattle.std.proofs.Common.{subst, inl, inr, arith, true≢false}
 use Rattle.std.proofs.lemmas.Bool.{ltb-true, or_cases}
 use Rattle.std.specs.List.{AllByRecursion}
 use Rattle.std.specs.Prelude.{⊤, nat_le, nat_lt}
+use Rattle.iox_machine.specs.Choices.{Choices}
 use Rattle.iox_machine.specs.Agreement.{Agreement, are_within_limits}
 use Rattle.iox_machine.specs.AgreementLaws.{NodesAreAgreed}
 use Rattle.iox_machine.specs.Asked.{settings_of}
@@ -160,19 +161,19 @@ begins-few types (command.Foreign pattern name steps) =
     (λ one phase few. acted-few types pattern phase one few) steps
 begins-few types other = tt
 
-runs-few : {T : Type 0} (types : MessageTypeDetails) (IsDefault : T → Type 0) (buffer : ℕ) (asked : List (Command T)) (old : State T)
-    (answers : List (Reply T)) (new : State T) → Runs types IsDefault buffer asked old answers new
+runs-few : {T : Type 0} (types : MessageTypeDetails) (choices : Choices T) (buffer : ℕ) (asked : List (Command T)) (old : State T)
+    (answers : List (Reply T)) (new : State T) → Runs types choices buffer asked old answers new
     → ((pattern : MessagingPattern) (name : List ℕ) → Few (old.phases pattern name))
     → (pattern : MessagingPattern) (name : List ℕ) → Few (new.phases pattern name)
-runs-few types IsDefault buffer [] old answers new run all =
+runs-few types choices buffer [] old answers new run all =
     subst (λ (state : State _). (pattern : MessagingPattern) (name : List ℕ) → Few (state.phases pattern name)) (sym run.1) all
-runs-few types IsDefault buffer (one ∷ more) old answers new run all =
-    runs-few types IsDefault buffer more run.1 run.2 new run.4
+runs-few types choices buffer (one ∷ more) old answers new run all =
+    runs-few types choices buffer more run.1 run.2 new run.4
     (phases-move types FewOf (λ pattern name lives few. tt)
     (λ pattern name node life agreed nodes room few. entered-few node agreed nodes room few)
     (λ pattern name node phase few. closed-few node phase few)
-    IsDefault buffer one old run.0 run.1 (begins-few types one) run.3 all)
+    choices buffer one old run.0 run.1 (begins-few types one) run.3 all)
 
-pub nodes-are-agreed : {T : Type 0} (IsDefault : T → Type 0) → NodesAreAgreed IsDefault
-nodes-are-agreed {T} IsDefault types buffer asked answers new run pattern name life agreed nodes is =
-    subst Few is (runs-few types IsDefault buffer asked new_state answers new run (λ one other. tt) pattern name)
+pub nodes-are-agreed : {T : Type 0} (choices : Choices T) → NodesAreAgreed choices
+nodes-are-agreed {T} choices types buffer asked answers new run pattern name life agreed nodes is =
+    subst Few is (runs-few types choices buffer asked new_state answers new run (λ one other. tt) pattern name)

@@ -5,6 +5,7 @@ use Rattle.std.specs.Global.{Vec}
 use Rattle.std.specs.List.{cons_option, list_any}
 use Rattle.std.specs.Prelude.{◌==◌, nat_lt, find, is_some, filter, filter_map, fold, option_and_then, option_map, take, MatchOption}
 use Rattle.std.specs.Vec.{vec_items}
+use Rattle.iox_machine.specs.Choices.{Choices}
 use Rattle.iox_machine.specs.Arriving.{PublisherArrives, SubscriberArrives, new_publisher, new_subscriber}
 use Rattle.iox_machine.specs.Factories.{with_open}
 use Rattle.iox_machine.specs.Message.{Loan, Message, Sample, sent_as, is_written}
@@ -138,21 +139,21 @@ module _ {T : Type 0} (p n : ℕ) where
         | inr w ↦ does one w.0 service after (ap next_of (publisher-stands number service one is)) w.2
       ]) h
 
-  quiet-subscriber : (buffer number : ℕ) (told : ConnectionFailure → Refusal)
+  quiet-subscriber : (choices : Choices T) (buffer number : ℕ) (told : ConnectionFailure → Refusal)
       (Does : Subscriber → Service T → Reply T → Service T → Type 0) (old : State T) (answer : Reply T) (new : State T)
       → ((one : Subscriber) (service after : Service T) → Does one service answer after → Same service after)
-      → AtOne (subscriber_in number) (subscribing.UpdatesFirst buffer number told Does) old answer new → Goes old answer new 0
-  quiet-subscriber buffer number told Does old answer new does h =
-      quiet-goes (subscriber_in number) (subscribing.UpdatesFirst buffer number told Does) old answer new
-      (λ one service after is did. same-subscriber-updates (Same service after) buffer number told Does one service answer after
+      → AtOne (subscriber_in number) (subscribing.UpdatesFirst choices buffer number told Does) old answer new → Goes old answer new 0
+  quiet-subscriber choices buffer number told Does old answer new does h =
+      quiet-goes (subscriber_in number) (subscribing.UpdatesFirst choices buffer number told Does) old answer new
+      (λ one service after is did. same-subscriber-updates choices (Same service after) buffer number told Does one service answer after
       (λ then mid on done. same-both service mid after on (does then mid after done))
       (λ why mid on refused. same-refused why service mid answer after on refused) did) h
 
-  at-factory-goes : (types : MessageTypeDetails) (IsDefault : T → Type 0) (buffer number : ℕ)
+  at-factory-goes : (types : MessageTypeDetails) (choices : Choices T) (buffer number : ℕ)
       (Does : Service T → Reply T → Service T → Type 0) (old : State T) (answer : Reply T) (new : State T)
       → ((service after : Service T) → Does service answer after → Sent p n answer 0 service after)
-      → AtFactory types IsDefault buffer number Does old answer new → Goes old answer new 0
-  at-factory-goes types IsDefault buffer number Does old answer new does h =
+      → AtFactory types choices buffer number Does old answer new → Goes old answer new 0
+  at-factory-goes types choices buffer number Does old answer new does h =
       elim (by-option (at number old.factories) (IsSkipped old answer new)
       (λ factory. AtOne (λ (service : Service T). cond (is_service_of factory service) (Some service) None)
       (λ (service : Service T). Does) old answer new) h) [
@@ -209,9 +210,9 @@ module _ {T : Type 0} (p n : ℕ) where
       within : (x y z : ℕ) → x ≤ z → y ≡ z → y ≤ 1 → x ≤ 1
       within x y z h is k = omega (arith, h, is, k)
 
-  module _ (types : MessageTypeDetails) (IsDefault : T → Type 0) (buffer : ℕ) where
+  module _ (types : MessageTypeDetails) (choices : Choices T) (buffer : ℕ) where
     step-goes : (asked : Command T) (old : State T) (answer : Reply T) (new : State T)
-        → ((number : ℕ) → times number (lent old) ≤ 1) → Step types IsDefault buffer asked old answer new
+        → ((number : ℕ) → times number (lent old) ≤ 1) → Step types choices buffer asked old answer new
         → Goes old answer new (if_sent p n (begun_by p asked old answer))
     step-goes command.Node old answer new once (inl (told, came)) =
         stays-at old (record old { made = counted answer old.made }) answer new 0 (omega arith) came (itself old)
@@ -233,14 +234,14 @@ module _ {T : Type 0} (p n : ℕ) where
         (omega arith) refused.1 (itself old)
     step-goes (command.Close factory) old answer new once h = closed-goes factory old answer new (closed factory old answer new h)
     step-goes (command.Publisher factory options) old answer new once h =
-        at-factory-goes types IsDefault buffer factory
+        at-factory-goes types choices buffer factory
         (λ (service : Service T). PublisherArrives (old.made.publishers + 1)
         (new_publisher factory options service.settings) service) old answer new
         (λ service after did. arrives-sent p n (old.made.publishers + 1) (new_publisher factory options service.settings) service after
         answer
         did) h
     step-goes (command.Subscriber factory options) old answer new once h =
-        at-factory-goes types IsDefault buffer factory
+        at-factory-goes types choices buffer factory
         (λ (service : Service T). SubscriberArrives buffer (old.made.subscribers + 1)
         (new_subscriber factory options service.settings) service) old answer new
         (λ service after did. quiet p n answer 0 service after (omega arith) (subscriber-arrives-same buffer (old.made.subscribers + 1)
@@ -287,32 +288,33 @@ module _ {T : Type 0} (p n : ℕ) where
         less : (x l m e : ℕ) → l ≤ m → (x + l) + 0 ≤ (x + m) + e
         less x l m e h = omega (arith, h)
     step-goes (command.Send loan) old answer new once h =
-        at-one-goes (λ (service : Service T). at loan service.loans) (SendsLoan loan) old answer new
+        at-one-goes (λ (service : Service T). at loan service.loans) (SendsLoan choices loan) old answer new
         (if_sent p n (begun_by p (command.Send loan) old answer))
         (λ told. silent (first_in (λ (service : Service T). at loan service.loans) old) (ap has_begun told))
         (λ one service after first found did. subst
         (λ (o : Option (Loan T)). Sent p n answer (if_sent p n (option_and_then
         (λ (it : Loan T). cond ((it.publisher == p) && has_begun answer) (Some (sent_as it)) None) o)) service after)
         (sym (first-is (λ (it : Service T). at loan it.loans) old service one first found))
-        (sends-sent p n loan one service after answer found did)) h
+        (sends-sent p n choices loan one service after answer found did)) h
       where
         silent : (o : Option (Loan T)) → has_begun answer ≡ false → if_sent p n (option_and_then
             (λ (it : Loan T). cond ((it.publisher == p) && has_begun answer) (Some (sent_as it)) None) o) ≤ 0
         silent None is = omega arith
         silent (Some it) is = begun-silent p n (it.publisher == p) (has_begun answer) (Some (sent_as it)) is
     step-goes (command.Put publisher values) old answer new once h =
-        at-free-goes publisher (Puts publisher values) old answer new (if_sent p n (begun_by p (command.Put publisher values) old answer))
+        at-free-goes publisher (Puts choices publisher values) old answer new
+        (if_sent p n (begun_by p (command.Put publisher values) old answer))
         (λ told. begun-silent p n (publisher == p) (has_begun answer)
         (option_map (next_message values) (first_in (publisher_in publisher) old)) (ap has_begun told))
         (λ one service after first is did. subst
         (λ (o : Option (Publisher T)). Sent p n answer (if_sent p n (cond ((publisher == p) && has_begun answer)
         (option_map (next_message values) o) None)) service after)
         (sym (first-is (publisher_in publisher) old service one first is))
-        (puts-sent p n publisher values one service after answer (publisher-stands publisher service one is) did)) h
+        (puts-sent p n choices publisher values one service after answer (publisher-stands publisher service one is) did)) h
     step-goes (command.Retry publisher nanoseconds) old answer new once h =
-        quiet-blocked publisher (λ (one : Publisher T) (send : Send T). GoesOn publisher one
+        quiet-blocked publisher (λ (one : Publisher T) (send : Send T). GoesOn choices publisher one
         (record send { retries = send.retries + 1; elapsed = nanoseconds })) old answer new
-        (λ one send service after is did. same-goes-on publisher one
+        (λ one send service after is did. same-goes-on choices publisher one
         (record send { retries = send.retries + 1; elapsed = nanoseconds }) service answer after is did) h
     step-goes (command.GiveUp publisher) old answer new once h =
         quiet-blocked publisher
@@ -322,7 +324,7 @@ module _ {T : Type 0} (p n : ℕ) where
         (λ one send service after is did. subst (λ (s : Service T). Same service s) (sym did.1)
         (same-set publisher (record one { blocked = None }) service is)) h
     step-goes (command.Receive subscriber) old answer new once h =
-        quiet-subscriber buffer subscriber (λ failure. refusal.Receive (receive_error.ConnectionFailure failure))
+        quiet-subscriber choices buffer subscriber (λ failure. refusal.Receive (receive_error.ConnectionFailure failure))
         (Receives subscriber (old.made.samples + 1)) old answer new
         (λ one service after did. same-receives subscriber (old.made.samples + 1) one service answer after did) h
     step-goes (command.Read sample) old answer new once h =
@@ -335,15 +337,15 @@ module _ {T : Type 0} (p n : ℕ) where
         (λ one service after found did. subst (λ (s : Service T). Same service s) (sym did.1) (refl, λ other. refl)) h
     step-goes (command.Update (port.Publisher number)) old answer new once h =
         quiet-free number
-        (publishing.UpdatesFirst number refusal.Connection
+        (publishing.UpdatesFirst choices number refusal.Connection
         (λ (one : Publisher T) (service : Service T) (answered : Reply T) (after : Service T). (answered ≡ reply.Done) × (after ≡ service)))
         old answer new
-        (λ one service after is did. same-updates (Same service after) number refusal.Connection
+        (λ one service after is did. same-updates choices (Same service after) number refusal.Connection
         (λ (it : Publisher T) (mid : Service T) (answered : Reply T) (end : Service T). (answered ≡ reply.Done) × (end ≡ mid)) one service
         answer after is (λ it mid on known done. subst (λ (s : Service T). Same service s) (sym done.1) on)
         (λ why mid on refused. same-refused why service mid answer after on refused) did) h
     step-goes (command.Update (port.Subscriber number)) old answer new once h =
-        quiet-subscriber buffer number refusal.Connection
+        quiet-subscriber choices buffer number refusal.Connection
         (λ (one : Subscriber) (service : Service T) (answered : Reply T) (after : Service T). (answered ≡ reply.Done) × (after ≡ service))
         old answer new
         (λ one service after did. subst (λ (s : Service T). Same service s) (sym did.1) (same-itself service)) h
@@ -362,7 +364,7 @@ module _ {T : Type 0} (p n : ℕ) where
         (record service { subscriber_list = left number service.subscriber_list }))) old answer new
         (λ one service after found did. subst (λ (s : Service T). Same service s) (sym did.1) (refl, λ other. refl)) h
     step-goes (command.Has subscriber) old answer new once h =
-        quiet-subscriber buffer subscriber refusal.Connection
+        quiet-subscriber choices buffer subscriber refusal.Connection
         (λ (one : Subscriber) (service : Service T) (answered : Reply T) (after : Service T).
         (answered ≡ reply.Has (has_samples subscriber one service)) × (after ≡ service)) old answer new
         (λ one service after did. subst (λ (s : Service T). Same service s) (sym did.1) (same-itself service)) h
@@ -374,9 +376,9 @@ module _ {T : Type 0} (p n : ℕ) where
     numbers_of messages = map (λ (message : Message T). message.number) messages
 
     run-goes : (asked : List (Command T)) (old : State T) (answers : List (Reply T)) (new : State T)
-        (run : Runs types IsDefault buffer asked old answers new)
+        (run : Runs types choices buffer asked old answers new)
         → ((number : ℕ) → times number (lent old) + times number (filter_map loan_told answers) ≤ 1)
-        → total (left_in p n) new.services + times n (numbers_of (sent_by types IsDefault buffer p asked old answers new run))
+        → total (left_in p n) new.services + times n (numbers_of (sent_by types choices buffer p asked old answers new run))
         ≤ total (left_in p n) old.services + times p (filter_map publisher_told answers)
     run-goes [] old answers new run once =
         subst (λ (it : State T). total (left_in p n) it.services + 0
@@ -387,15 +389,15 @@ module _ {T : Type 0} (p n : ℕ) where
         plain x e = omega arith
     run-goes (one ∷ more) old answers new run once =
         subst (λ (it : List (Reply T)). total (left_in p n) new.services
-        + times n (numbers_of (with_one (begun_by p one old run.0) (sent_by types IsDefault buffer p more run.1 run.2 new run.4)))
+        + times n (numbers_of (with_one (begun_by p one old run.0) (sent_by types choices buffer p more run.1 run.2 new run.4)))
         ≤ total (left_in p n) old.services + times p (filter_map publisher_told it)) (sym run.5)
         (both (total (left_in p n) old.services) (total (left_in p n) run.1.services) (total (left_in p n) new.services)
-        (if_sent p n (begun_by p one old run.0)) (times n (numbers_of (sent_by types IsDefault buffer p more run.1 run.2 new run.4)))
-        (times n (numbers_of (with_one (begun_by p one old run.0) (sent_by types IsDefault buffer p more run.1 run.2 new run.4))))
+        (if_sent p n (begun_by p one old run.0)) (times n (numbers_of (sent_by types choices buffer p more run.1 run.2 new run.4)))
+        (times n (numbers_of (with_one (begun_by p one old run.0) (sent_by types choices buffer p more run.1 run.2 new run.4))))
         (of_told (publisher_told run.0) p) (times p (filter_map publisher_told run.2))
         (times p (cons_option (publisher_told run.0) (filter_map publisher_told run.2)))
         (step-goes one old run.0 run.1 (λ number. now number) run.3) (run-goes more run.1 run.2 new run.4 (λ number. later number))
-        (with-first (begun_by p one old run.0) (sent_by types IsDefault buffer p more run.1 run.2 new run.4))
+        (with-first (begun_by p one old run.0) (sent_by types choices buffer p more run.1 run.2 new run.4))
         (told-first p (publisher_told run.0) (filter_map publisher_told run.2)))
       where
         both : (x y z c d cd e f ef : ℕ) → y + c ≤ x + e → z + d ≤ y + f → cd ≡ c + d → ef ≡ e + f → z + cd ≤ x + ef
@@ -426,7 +428,7 @@ module _ {T : Type 0} (p n : ℕ) where
         later number =
             next (times number (lent old)) (times number (lent run.1)) (of_told (loan_told run.0) number)
             (times number (filter_map loan_told run.2)) (all number)
-            ((step-passes types IsDefault buffer one old run.0 run.1 run.3).loans number)
+            ((step-passes types choices buffer one old run.0 run.1 run.3).loans number)
           where
             next : (x y e f : ℕ) → x + (e + f) ≤ 1 → y ≤ x + e → y + f ≤ 1
             next x y e f h k = omega (arith, h, k)
@@ -446,19 +448,19 @@ part-fewer n part (message ∷ whole) (inr (rest, e, h)) =
     (longer (one_if (message.number == n)) (times n (map (λ (it : Message _). it.number) rest))
     (times n (map (λ (it : Message _). it.number) whole)) (part-fewer n rest whole h))
 
-pub messages-go-once : {T : Type 0} (IsDefault : T → Type 0) → MessagesGoOnce IsDefault
-messages-go-once {T} IsDefault types buffer asked answers new run publisher subscriber = (
+pub messages-go-once : {T : Type 0} (choices : Choices T) → MessagesGoOnce choices
+messages-go-once {T} choices types buffer asked answers new run publisher subscriber = (
   distinct (map (λ (message : Message T). message.number) sent) (λ n. sent-once n),
   distinct (map (λ (message : Message T). message.number) received) (λ n. within
       (times n (map (λ (message : Message T). message.number) received)) (times n (map (λ (message : Message T). message.number) sent))
-      (part-fewer n received sent (received-in-order IsDefault types buffer asked answers new run publisher subscriber)) (sent-once n)),
+      (part-fewer n received sent (received-in-order choices types buffer asked answers new run publisher subscriber)) (sent-once n)),
 )
   where
     sent : List (Message T)
-    sent = sent_by types IsDefault buffer publisher asked new_state answers new run
+    sent = sent_by types choices buffer publisher asked new_state answers new run
 
     received : List (Message T)
-    received = received_from types IsDefault buffer publisher subscriber asked new_state answers new run
+    received = received_from types choices buffer publisher subscriber asked new_state answers new run
 
     within : (x y : ℕ) → x ≤ y → y ≤ 1 → x ≤ 1
     within x y h k = omega (arith, h, k)
@@ -468,7 +470,7 @@ messages-go-once {T} IsDefault types buffer asked answers new run publisher subs
 
     told : (number : ℕ) → 0 + times number (filter_map loan_told answers) ≤ 1
     told number = plain (times number (filter_map loan_told answers))
-        (told-once 0 (filter_map loan_told answers) (numbers-go-up IsDefault types buffer asked answers new run).4 number)
+        (told-once 0 (filter_map loan_told answers) (numbers-go-up choices types buffer asked answers new run).4 number)
       where
         plain : (x : ℕ) → x ≤ 1 → 0 + x ≤ 1
         plain x h = omega (arith, h)
@@ -477,5 +479,5 @@ messages-go-once {T} IsDefault types buffer asked answers new run publisher subs
     sent-once n =
         few (total (left_in publisher n) new.services) (times n (map (λ (message : Message T). message.number) sent))
         (times publisher (filter_map publisher_told answers))
-        (run-goes publisher n types IsDefault buffer asked new_state answers new run told)
-        (told-once 0 (filter_map publisher_told answers) (numbers-go-up IsDefault types buffer asked answers new run).2 publisher)
+        (run-goes publisher n types choices buffer asked new_state answers new run told)
+        (told-once 0 (filter_map publisher_told answers) (numbers-go-up choices types buffer asked answers new run).2 publisher)

@@ -3,6 +3,7 @@ use Rattle.std.proofs.Common.{◌≡◌, ◌≤◌, ◌⊎◌, ◌+◌, ℕ, zer
 use Rattle.std.proofs.Common.{None, Some, Result, Ok, Err, arith, refl, sym, ap, subst, inl, inr, ◌∙◌, true≢false}
 use Rattle.std.proofs.lemmas.Bool.{eqb-true}
 use Rattle.std.specs.Prelude.{◌==◌, filter, fold, nat_le, nat_lt, unwrap_or, MatchResult}
+use Rattle.iox_machine.specs.Choices.{Choices}
 use Rattle.iox_machine.specs.Agreement.{Agreement, event_verdict, publish_subscribe_verdict, request_response_verdict, unfit}
 use Rattle.iox_machine.specs.AgreementLaws.{agreed_in, life_of}
 use Rattle.iox_machine.specs.Asked.{settings_of}
@@ -369,27 +370,27 @@ module _ {T : Type 0} where
         (life_of (old.phases factory.pattern factory.name)) asked
         (record { phase = old.phases factory.pattern factory.name; accesses = 0 }) (Some (Err failure)) after (omega arith) went) h
 
-pub opened-meets-asked : {T : Type 0} (IsDefault : T → Type 0) → OpenedMeetsAsked IsDefault
-opened-meets-asked IsDefault types buffer node name (options.PublishSubscribe named) required steps old answer new h =
+pub opened-meets-asked : {T : Type 0} (choices : Choices T) → OpenedMeetsAsked choices
+opened-meets-asked choices types buffer node name (options.PublishSubscribe named) required steps old answer new h =
     opening-so types steps (factory_of node name (options.PublishSubscribe named)) (publish_subscribe_verdict types required named) old
     answer new (λ failure. refusal.PublishSubscribeOpen (publish_subscribe.open_error failure)) h
-opened-meets-asked IsDefault types buffer node name (options.Event named) required steps old answer new h =
+opened-meets-asked choices types buffer node name (options.Event named) required steps old answer new h =
     opening-so types steps (factory_of node name (options.Event named)) (event_verdict required named) old answer new
     (λ failure. refusal.EventOpen (event.open_error failure)) h
-opened-meets-asked IsDefault types buffer node name (options.RequestResponse named) required steps old answer new h =
+opened-meets-asked choices types buffer node name (options.RequestResponse named) required steps old answer new h =
     opening-so types steps (factory_of node name (options.RequestResponse named)) (request_response_verdict types required named) old
     answer new (λ failure. refusal.RequestResponseOpen (request_response.open_error failure)) h
 
-pub either-meets-asked : {T : Type 0} (IsDefault : T → Type 0) → EitherMeetsAsked IsDefault
-either-meets-asked IsDefault types buffer node name (options.PublishSubscribe named) required steps old answer new h =
+pub either-meets-asked : {T : Type 0} (choices : Choices T) → EitherMeetsAsked choices
+either-meets-asked choices types buffer node name (options.PublishSubscribe named) required steps old answer new h =
     either-opening-so types steps (factory_of node name (options.PublishSubscribe named)) (publish_subscribe_verdict types required named)
     old answer new (record { settings = settings_of types (options.PublishSubscribe named); attributes = required.pairs })
     (λ failure. refusal.PublishSubscribeOpenOrCreate (publish_subscribe.open_or_create_error failure)) h
-either-meets-asked IsDefault types buffer node name (options.Event named) required steps old answer new h =
+either-meets-asked choices types buffer node name (options.Event named) required steps old answer new h =
     either-opening-so types steps (factory_of node name (options.Event named)) (event_verdict required named) old answer new
     (record { settings = settings_of types (options.Event named); attributes = required.pairs })
     (λ failure. refusal.EventOpenOrCreate (event.open_or_create_error failure)) h
-either-meets-asked IsDefault types buffer node name (options.RequestResponse named) required steps old answer new h =
+either-meets-asked choices types buffer node name (options.RequestResponse named) required steps old answer new h =
     either-opening-so types steps (factory_of node name (options.RequestResponse named)) (request_response_verdict types required named)
     old answer new (record { settings = settings_of types (options.RequestResponse named); attributes = required.pairs })
     (λ failure. refusal.RequestResponseOpenOrCreate (request_response.open_or_create_error failure)) h

@@ -6,7 +6,9 @@ use Rattle.std.proofs.lemmas.Bool.{eqb-true, eqb-false, and_from, and_right, or_
 use Rattle.std.proofs.lemmas.Bool.{true≢false}
 use Rattle.std.specs.Option.{option_map_or}
 use Rattle.std.specs.Prelude.{⊤, ◌==◌, nat_le, nat_lt, is_some, option_map, filter, fold, length, slice_get, MatchBool, MatchOption}
-use Rattle.std.specs.Prelude.{MatchResult}
+use Rattle.std.specs.Prelude.{drop, zip}
+use Rattle.iox_machine.specs.Choices.{Choices}
+use Rattle.iox_machine.proofs.Delivering.{Outcomes, by-outcome, first_of, offered, deliver, goes-on-so}
 use Rattle.iox_machine.specs.Lending.{Lends, LendsLonger, loan_refusal}
 use Rattle.iox_machine.specs.Mailbox.{Mailbox, newest, put}
 use Rattle.iox_machine.specs.Message.{Message}
@@ -14,13 +16,12 @@ use Rattle.iox_machine.specs.MessageLaws.{IsPartOf}
 use Rattle.iox_machine.specs.PortList.{those, unless}
 use Rattle.iox_machine.specs.Ports.{LendsLoan, Puts}
 use Rattle.iox_machine.specs.PublisherUpdate as publishing
-use Rattle.iox_machine.specs.PublisherUpdate.{update_answer}
 use Rattle.iox_machine.specs.Replies.{IsRefused}
 use Rattle.iox_machine.specs.RunLaws.{has_begun}
-use Rattle.iox_machine.specs.Sending.{offered, deliver, decision_at, GoesOn, Begins, Sends}
+use Rattle.iox_machine.specs.Sending.{GoesOn, Begins, Sends}
 use Rattle.iox_machine.specs.Service.{Service, Publisher, Subscriber, Send, with_publisher, mailbox, with_mailbox, connect}
 use Rattle.iox_machine.specs.Table.{at, contains}
-use Rattle.iox_machine.proofs.Cases.{by-bool, by-option, by-result, same-some, never-some, chosen, both-true}
+use Rattle.iox_machine.proofs.Cases.{by-bool, by-option, same-some, never-some, chosen, both-true}
 use Rattle.iox_machine.proofs.Frames.{waiting_in, Softer, box-same, box-aside, soft-connect, by-follows, by-deliver}
 use Rattle.iox_machine.proofs.Parts.{part-more, part-last, part-newest, part-front, Once, once-tail, once-past, once-unless}
 use Rattle.iox_machine.proofs.Parts.{contains-filter, contains-unless, all-contained}
@@ -466,16 +467,17 @@ module _ {T : Type 0} (p s : ℕ) where
     offered-under t more service None DiscardDataAndFail goes_on send puts on same u =
         on (record send { retries = 0; elapsed = 0; fails = true }) service same (under-past t more (service.mailboxes p s) u)
 
-    deliver-under : (one : Publisher T) (remaining : List ℕ) (send : Send T) (service : Service T) → send.message ≡ message
-        → IsUnderWith remaining (service.mailboxes p s) → Went service (deliver p one remaining send service)
-    deliver-under one [] send service same u = (u, same, refl)
-    deliver-under one (t ∷ more) send service same u =
+    deliver-under : (decisions : List BackpressureDecision) (remaining : List ℕ) (send : Send T) (service : Service T) → send.message
+        ≡ message
+        → IsUnderWith remaining (service.mailboxes p s) → Went service (deliver p decisions remaining send service)
+    deliver-under decisions [] send service same u = (u, same, refl)
+    deliver-under decisions (t ∷ more) send service same u =
         offered-under t more service (put service.settings.enable_safe_overflow send.message (mailbox p t service))
-        (decision_at p one service t) (deliver p one more) send
+        (first_of decisions) (deliver p (drop 1 decisions) more) send
         (λ box e. subst (λ (m : Message T). (limit : ℕ)
         × (box.waiting ≡ newest limit ((mailbox p t service).waiting ++ m ∷ []))) same
         (put-waits service.settings.enable_safe_overflow send.message (mailbox p t service) box e))
-        (λ next mid its under. deliver-under one more next mid its under) same u
+        (λ next mid its under. deliver-under (drop 1 decisions) more next mid its under) same u
 
   -- ---- what a publisher's commands do
 
@@ -484,19 +486,21 @@ module _ {T : Type 0} (p s : ℕ) where
   Stands sent received born service =
       (one : Publisher T) × (at p service.publishers ≡ Some one) × BetweenOf sent received born one service
 
-  goes-between : (sent received before : List (Message T)) (born : ℕ) (one was : Publisher T) (send : Send T) (old : Service T)
+  goes-between : (choices : Choices T) (sent received before : List (Message T)) (born : ℕ) (one was : Publisher T) (send : Send T)
+      (old : Service T)
       (answer : Reply T) (new : Service T) → sent ≡ before ++ send.message ∷ [] → at p old.publishers ≡ Some was
       → IsPartOf one.history sent → Once s (those old.subscriber_list.places) → Once s (those one.connected)
       → (born < s → (contains (those old.subscriber_list.places) s ≡ false) × (contains (those one.connected) s ≡ false))
       → Under T s (MayCome s born old.subscriber_list.places) received before send.message one.connected send.left
       (old.mailboxes p s)
-      → GoesOn p one send old answer new → Stands sent received born new
-  goes-between sent received before born one was send old answer new is found kept listed connected unlisted u (told, came) =
+      → GoesOn choices p one send old answer new → Stands sent received born new
+  goes-between choices sent received before born one was send old answer new is found kept listed connected unlisted u h =
       let places : List (Option ℕ) = old.subscriber_list.places in
-      let after : Send T × Service T = deliver p one send.left send old in
+      let (decisions, (told, came)) = goes-on-so choices p one send old answer new h in
+      let after : Send T × Service T = deliver p decisions send.left send old in
       let went : Under T s (MayCome s born places) received before send.message one.connected after.0.left
       (after.1.mailboxes p s) × (after.0.message ≡ send.message) × (after.1.publishers ≡ old.publishers) =
-      deliver-under (MayCome s born places) received before send.message one.connected one send.left send old refl
+      deliver-under (MayCome s born places) received before send.message one.connected decisions send.left send old refl
       u in
       let now : Publisher T = record one { blocked = cond (is_some (slice_get after.0.left 0)) (Some after.0) None } in (
         now,
@@ -504,7 +508,7 @@ module _ {T : Type 0} (p s : ℕ) where
             ∙ at-changed p now was after.1.publishers (ap (at p) went.2 ∙ found),
         subst (λ (service : Service T). BetweenOf sent received born now service) (sym came)
             (subst (λ (l : List (Option ℕ)). Between T s sent received born one.history one.connected now.blocked (after.1.mailboxes p s) l)
-            (sym (ap (λ l. l.places) (by-deliver p one send.left send old).2))
+            (sym (ap (λ l. l.places) (by-deliver p decisions send.left send old).2))
             (record {
               kept = kept;
               waits = subst (λ (l : List (Message T)). IsPartOf (received ++ waiting_in (after.1.mailboxes p s)) l) (sym is) went.0.waits;
@@ -531,11 +535,12 @@ module _ {T : Type 0} (p s : ℕ) where
             (after.1.mailboxes p s)) (sym same) u,
       )
 
-  begins-between : (sent received : List (Message T)) (born : ℕ) (message : Message T) (one : Publisher T) (old : Service T)
+  begins-between : (choices : Choices T) (sent received : List (Message T)) (born : ℕ) (message : Message T) (one : Publisher T)
+      (old : Service T)
       (answer : Reply T) (new : Service T) → at p old.publishers ≡ Some one → BetweenOf sent received born one old
-      → Begins p message one old answer new → Stands (sent ++ message ∷ []) received born new
-  begins-between sent received born message one old answer new found b h =
-      goes-between (sent ++ message ∷ []) received sent born
+      → Begins choices p message one old answer new → Stands (sent ++ message ∷ []) received born new
+  begins-between choices sent received born message one old answer new found b h =
+      goes-between choices (sent ++ message ∷ []) received sent born
       (record one { history = newest old.settings.history_size (one.history ++ message ∷ []) }) one
       (record {
         message = message;
@@ -558,16 +563,18 @@ module _ {T : Type 0} (p s : ℕ) where
       }) h
 
   -- a send that goes on after it was blocked
-  pub retries-between : (sent received : List (Message T)) (born : ℕ) (one : Publisher T) (send : Send T) (retries elapsed : ℕ)
+  pub retries-between : (choices : Choices T) (sent received : List (Message T)) (born : ℕ) (one : Publisher T) (send : Send T)
+      (retries elapsed : ℕ)
       (old : Service T) (answer : Reply T) (new : Service T) → at p old.publishers ≡ Some one → one.blocked ≡ Some send
       → BetweenOf sent received born one old
-      → GoesOn p one (record send { retries = retries; elapsed = elapsed }) old answer new → Stands sent received born new
-  retries-between sent received born one send retries elapsed old answer new found waits b h =
+      → GoesOn choices p one (record send { retries = retries; elapsed = elapsed }) old answer new → Stands sent received born new
+  retries-between choices sent received born one send retries elapsed old answer new found waits b h =
       let u : IsUnder T s (MayCome s born old.subscriber_list.places) sent received one.connected
       (old.mailboxes p s) send =
       subst (λ (o : Option (Send T)). MatchOption o ⊤ (IsUnder T s
       (MayCome s born old.subscriber_list.places) sent received one.connected (old.mailboxes p s))) waits b.under in
-      goes-between sent received u.0 born one one (record send { retries = retries; elapsed = elapsed }) old answer new u.1 found b.kept
+      goes-between choices sent received u.0 born one one (record send { retries = retries; elapsed = elapsed }) old answer new u.1 found
+      b.kept
       b.listed_once b.connected_once b.unlisted u.2 h
 
   pub free-between : (sent received : List (Message T)) (born : ℕ) (one : Publisher T) (service : Service T)
@@ -584,29 +591,30 @@ module _ {T : Type 0} (p s : ℕ) where
   }
 
   -- a publisher of which no send is blocked does something after it brought its connections up to date
-  pub updates-between : (R : Type 0) (sent received : List (Message T)) (born : ℕ) (told : ConnectionFailure → Refusal)
+  pub updates-between : (choices : Choices T) (R : Type 0) (sent received : List (Message T)) (born : ℕ)
+      (told : ConnectionFailure → Refusal)
       (Does : Publisher T → Service T → Reply T → Service T → Type 0) (one : Publisher T) (old : Service T) (answer : Reply T)
       (new : Service T) → at p old.publishers ≡ Some one → one.blocked ≡ None → BetweenOf sent received born one old
       → ((after : Publisher T) (mid : Service T) → at p mid.publishers ≡ Some after → BetweenOf sent received born after mid
       → Does after mid answer new → R)
       → ((failure : ConnectionFailure) (mid : Service T) → Stands sent received born mid → IsRefused (told failure) mid answer new → R)
-      → publishing.UpdatesFirst p told Does one old answer new → R
-  updates-between R sent received born told Does one old answer new found free b does refused h =
+      → publishing.UpdatesFirst choices p told Does one old answer new → R
+  updates-between choices R sent received born told Does one old answer new found free b does refused h =
       elim (by-bool (one.seen == old.subscriber_list.changes) (Does one old answer new)
       ((after : Publisher T) × (mid : Service T) × publishing.Follows p one old after mid
-      × MatchResult (update_answer one.degradation old.subscriber_list.places after.connected)
+      × Outcomes (choices.publisher_acts p one.degradation) (zip old.subscriber_list.places after.connected)
       (λ done. Does after mid answer new) (λ failure. IsRefused (told failure) mid answer new)) h) [
         | inl w ↦ does one old found b w.1
         | inr w ↦ next w.1.0 w.1.1 w.1.2 w.1.3
       ]
     where
       next : (after : Publisher T) (mid : Service T) → publishing.Follows p one old after mid
-          → MatchResult (update_answer one.degradation old.subscriber_list.places after.connected)
+          → Outcomes (choices.publisher_acts p one.degradation) (zip old.subscriber_list.places after.connected)
           (λ done. Does after mid answer new) (λ failure. IsRefused (told failure) mid answer new) → R
       next after mid came told_so =
           let there : at p mid.publishers ≡ Some after = follows-publishers one old after mid found came in
           let now : BetweenOf sent received born after mid = (follows-between sent received born one old after mid free came b).0 in
-          elim (by-result (update_answer one.degradation old.subscriber_list.places after.connected)
+          elim (by-outcome (choices.publisher_acts p one.degradation) (zip old.subscriber_list.places after.connected)
           (λ done. Does after mid answer new) (λ failure. IsRefused (told failure) mid answer new) told_so) [
             | inl r ↦ does after mid there now r.2
             | inr r ↦ refused r.0 mid (after, there, now) r.2
@@ -626,18 +634,20 @@ module _ {T : Type 0} (p s : ℕ) where
     subst (λ (service : Service T). Stands sent received born service) (sym refused.1) stands,
   )
 
-  pub sends-between : (sent received : List (Message T)) (born : ℕ) (message : Message T) (one : Publisher T) (old : Service T)
+  pub sends-between : (choices : Choices T) (sent received : List (Message T)) (born : ℕ) (message : Message T) (one : Publisher T)
+      (old : Service T)
       (answer : Reply T) (new : Service T) → at p old.publishers ≡ Some one → one.blocked ≡ None → BetweenOf sent received born one old
-      → Sends p message one old answer new → CameTo sent received born message answer new
-  sends-between sent received born message one old answer new found free b h =
+      → Sends choices p message one old answer new → CameTo sent received born message answer new
+  sends-between choices sent received born message one old answer new found free b h =
       elim (by-bool one.stands
-      (publishing.UpdatesFirst p (λ failure. refusal.Send (error.ConnectionError failure)) (Begins p message) one old answer new)
+      (publishing.UpdatesFirst choices p (λ failure. refusal.Send (error.ConnectionError failure)) (Begins choices p message) one old
+      answer new)
       (IsRefused (refusal.Send error.ConnectionBrokenSinceSenderNoLongerExists) old answer new) h) [
-        | inl w ↦ updates-between (CameTo sent received born message answer new) sent received born
-            (λ failure. refusal.Send (error.ConnectionError failure)) (Begins p message) one old answer new found free b
+        | inl w ↦ updates-between choices (CameTo sent received born message answer new) sent received born
+            (λ failure. refusal.Send (error.ConnectionError failure)) (Begins choices p message) one old answer new found free b
             (λ after mid there now begun. inl (
-              beginning-told p message after mid answer new begun,
-              begins-between sent received born message after mid answer new there now begun,
+              beginning-told choices p message after mid answer new begun,
+              begins-between choices sent received born message after mid answer new there now begun,
             ))
             (λ failure mid stands refused. unsent sent received born message (refusal.Send (error.ConnectionError failure)) mid answer new
             refl stands refused) w.1
@@ -661,16 +671,18 @@ module _ {T : Type 0} (p s : ℕ) where
   lends-free values one old refused after free lent =
       lends-between p values one old refused after (λ history connected blocked. blocked ≡ None) lent free
 
-  pub puts-between : (sent received : List (Message T)) (born : ℕ) (values : List T) (one : Publisher T) (old : Service T)
+  pub puts-between : (choices : Choices T) (sent received : List (Message T)) (born : ℕ) (values : List T) (one : Publisher T)
+      (old : Service T)
       (answer : Reply T) (new : Service T) → at p old.publishers ≡ Some one → one.blocked ≡ None → BetweenOf sent received born one old
-      → Puts p values one old answer new → CameTo sent received born (record { number = one.next; values = values }) answer new
-  puts-between sent received born values one old answer new found free b (None, after, lent, sent_so) =
+      → Puts choices p values one old answer new → CameTo sent received born (record { number = one.next; values = values }) answer new
+  puts-between choices sent received born values one old answer new found free b (None, after, lent, sent_so) =
       let next : (at p (with_publisher p after old).publishers ≡ Some after)
       × BetweenOf sent received born after (with_publisher p after old) =
       lends-stands sent received born (length values) one old None after found b lent in
-      sends-between sent received born (record { number = one.next; values = values }) after (with_publisher p after old) answer new next.0
+      sends-between choices sent received born (record { number = one.next; values = values }) after (with_publisher p after old) answer
+      new next.0
       (lends-free (length values) one old None after free lent) next.1 sent_so
-  puts-between sent received born values one old answer new found free b (Some why, after, lent, refused) =
+  puts-between choices sent received born values one old answer new found free b (Some why, after, lent, refused) =
       unsent sent received born (record { number = one.next; values = values }) (refusal.Send (error.LoanError why)) old answer new refl
       (one, found, b) refused
 

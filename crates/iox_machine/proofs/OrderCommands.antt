@@ -6,6 +6,7 @@ use Rattle.std.specs.Global.{Vec}
 use Rattle.std.specs.List.{AllByRecursion}
 use Rattle.std.specs.Prelude.{◌==◌, nat_lt, find, fold, option_map, option_and_then, MatchOption}
 use Rattle.std.specs.Vec.{vec_items}
+use Rattle.iox_machine.specs.Choices.{Choices}
 use Rattle.iox_machine.specs.Arriving.{PublisherArrives, SubscriberArrives, new_publisher, new_subscriber}
 use Rattle.iox_machine.specs.Message.{Message, Loan, Sample, is_written, sent_as}
 use Rattle.iox_machine.specs.MessageLaws.{first_in, next_message, begun_by, received_by}
@@ -54,13 +55,13 @@ module _ {T : Type 0} (p s : ℕ) (G : List ℕ → StaticConfig → Message T �
       alike-goes p s G sent received old answer service after
       (subst (λ (it : Service T). Alike p s service it) (sym h.1) (alike-none p s service))
 
-  module _ (types : MessageTypeDetails) (IsDefault : T → Type 0) (buffer : ℕ) where
+  module _ (types : MessageTypeDetails) (choices : Choices T) (buffer : ℕ) where
     -- Each step keeps the order, if the message of which it begins the send is good in its service.
     pub step-ordered : (asked : Command T) (old : State T) (answer : Reply T) (new : State T)
         → ((message : Message T) (it : Service T) → BeginsToSend p message.values asked old answer
         → find (has_it p s G) old.services ≡ Some it → G it.name it.settings message)
         → AllByRecursion (λ (other : Service T). at (old.made.samples + 1) other.samples ≡ None) old.services
-        → Step types IsDefault buffer asked old answer new → IsOrdered p s G sent received old
+        → Step types choices buffer asked old answer new → IsOrdered p s G sent received old
         → IsOrdered p s G (noted sent (begun_by p asked old answer)) (noted received (received_by p s asked answer new)) new
     step-ordered command.Node old answer new good fresh (inl (told, came)) ordered =
         ordered-later p s G sent received old new
@@ -139,9 +140,10 @@ module _ {T : Type 0} (p s : ℕ) (G : List ℕ → StaticConfig → Message T �
         (subst (λ (it : Service T). Alike p s service it) (sym did.1) (alike-none p s service))) h ordered
     step-ordered (command.Send loan) old answer new good fresh h ordered =
         ordered-at-one p s G sent received (begun_by p (command.Send loan) old answer) None (λ (service : Service T). at loan service.loans)
-        (SendsLoan loan) old answer new
+        (SendsLoan choices loan) old answer new
         (λ skipped. (unbegun skipped.0, refl))
-        (λ service one after first is did came. send-goes p s G sent received loan old answer service one after first is good did) h ordered
+        (λ service one after first is did came. send-goes p s G sent received choices loan old answer service one after first is good did)
+        h ordered
       where
         unbegun : answer ≡ reply.Skipped → begun_by p (command.Send loan) old answer ≡ None
         unbegun told =
@@ -155,24 +157,26 @@ module _ {T : Type 0} (p s : ℕ) (G : List ℕ → StaticConfig → Message T �
     step-ordered (command.Put publisher values) old answer new good fresh h ordered =
         ordered-at-one p s G sent received (begun_by p (command.Put publisher values) old answer) None (publisher_in publisher)
         (λ (one : Publisher T) (service : Service T) (told : Reply T) (after : Service T). MatchOption one.blocked
-        (Puts publisher values one service told after) (λ send. IsSkipped service told after)) old answer new
+        (Puts choices publisher values one service told after) (λ send. IsSkipped service told after)) old answer new
         (λ skipped. (
           ap (λ (b : Bool). cond b (option_map (next_message values) (first_in (publisher_in publisher) old)) None)
               (and_right (publisher == p) (has_begun answer) (ap has_begun skipped.0)),
           refl,
         ))
-        (λ service one after first is did came. put-goes p s G sent received publisher values old answer service one after first is good
+        (λ service one after first is did came. put-goes p s G sent received choices publisher values old answer service one after first
+        is good
         did)
         h ordered
     step-ordered (command.Retry publisher nanoseconds) old answer new good fresh h ordered =
         quiet-blocked p s G sent received publisher
-        (λ (one : Publisher T) (send : Send T). GoesOn publisher one
+        (λ (one : Publisher T) (send : Send T). GoesOn choices publisher one
         (record send { retries = send.retries + 1; elapsed = nanoseconds })) old answer new
-        (λ one send service after did. by-goes-on publisher one (record send { retries = send.retries + 1; elapsed = nanoseconds })
+        (λ one send service after did. by-goes-on choices publisher one (record send { retries = send.retries + 1; elapsed = nanoseconds })
         service answer after did)
-        (λ one send service after same found waits did b. retries-between p s sent received old.made.subscribers one send
+        (λ one send service after same found waits did b. retries-between p s choices sent received old.made.subscribers one send
         (send.retries + 1) nanoseconds service answer after found waits b
-        (subst (λ (k : ℕ). GoesOn k one (record send { retries = send.retries + 1; elapsed = nanoseconds }) service answer after) same did))
+        (subst (λ (k : ℕ). GoesOn choices k one (record send { retries = send.retries + 1; elapsed = nanoseconds }) service answer after)
+        same did))
         h ordered
     step-ordered (command.GiveUp publisher) old answer new good fresh h ordered =
         quiet-blocked p s G sent received publisher
@@ -191,10 +195,11 @@ module _ {T : Type 0} (p s : ℕ) (G : List ℕ → StaticConfig → Message T �
         ))) h ordered
     step-ordered (command.Receive subscriber) old answer new good fresh h ordered =
         ordered-at-one p s G sent received None (received_by p s (command.Receive subscriber) answer new) (subscriber_in subscriber)
-        (subscribing.UpdatesFirst buffer subscriber (λ failure. refusal.Receive (receive_error.ConnectionFailure failure))
+        (subscribing.UpdatesFirst choices buffer subscriber (λ failure. refusal.Receive (receive_error.ConnectionFailure failure))
         (Receives subscriber (old.made.samples + 1))) old answer new
         (λ skipped. (refl, ap (λ (told : Reply T). received_by p s (command.Receive subscriber) told new) skipped.0))
-        (λ service one after first is did came. receive-goes p s G sent received buffer subscriber old answer new service one after fresh
+        (λ service one after first is did came. receive-goes p s G sent received choices buffer subscriber old answer new service one
+        after fresh
         first is came did) h ordered
     step-ordered (command.Read sample) old answer new good fresh h ordered =
         quiet-at-one p s G sent received (λ (service : Service T). at sample service.samples)
@@ -209,15 +214,16 @@ module _ {T : Type 0} (p s : ℕ) (G : List ℕ → StaticConfig → Message T �
         (refl, refl, refl, refl, soft-given one.message.number one.publisher one.subscriber service p s))) h ordered
     step-ordered (command.Update (port.Publisher number)) old answer new good fresh h ordered =
         quiet-free p s G sent received number
-        (publishing.UpdatesFirst number refusal.Connection
+        (publishing.UpdatesFirst choices number refusal.Connection
         (λ (one : Publisher T) (service : Service T) (answered : Reply T) (after : Service T). (answered ≡ reply.Done) × (after ≡ service)))
         old answer new
-        (λ one service after did. by-updates (ByPublisher number service after) number refusal.Connection
+        (λ one service after did. by-updates choices (ByPublisher number service after) number refusal.Connection
         (λ (it : Publisher T) (mid : Service T) (answered : Reply T) (end : Service T). (answered ≡ reply.Done) × (end ≡ mid)) one service
         answer after
         (λ it mid by done. subst (λ (end : Service T). ByPublisher number service end) (sym done.1) by)
         (λ why mid by refused. subst (λ (end : Service T). ByPublisher number service end) (sym refused.1) by) did)
-        (λ one service after same found free did b. updates-between p s (Stands p s sent received old.made.subscribers after) sent received
+        (λ one service after same found free did b. updates-between p s choices (Stands p s sent received old.made.subscribers after) sent
+        received
         old.made.subscribers refusal.Connection
         (λ (it : Publisher T) (mid : Service T) (answered : Reply T) (end : Service T). (answered ≡ reply.Done) × (end ≡ mid)) one service
         answer after found free b
@@ -225,11 +231,11 @@ module _ {T : Type 0} (p s : ℕ) (G : List ℕ → StaticConfig → Message T �
         (it, there, now))
         (λ failure mid stands refused. subst (λ (end : Service T). Stands p s sent received old.made.subscribers end) (sym refused.1)
         stands)
-        (subst (λ (k : ℕ). publishing.UpdatesFirst k refusal.Connection
+        (subst (λ (k : ℕ). publishing.UpdatesFirst choices k refusal.Connection
         (λ (it : Publisher T) (mid : Service T) (answered : Reply T) (end : Service T). (answered ≡ reply.Done) × (end ≡ mid)) one service
         answer after) same did)) h ordered
     step-ordered (command.Update (port.Subscriber number)) old answer new good fresh h ordered =
-        quiet-subscriber p s G sent received buffer number refusal.Connection
+        quiet-subscriber p s G sent received choices buffer number refusal.Connection
         (λ (one : Subscriber) (service : Service T) (answered : Reply T) (after : Service T). (answered ≡ reply.Done) × (after ≡ service))
         old answer new (λ one service after did. did.1) h ordered
     step-ordered (command.Leave (port.Publisher number)) old answer new good fresh h ordered =
@@ -255,7 +261,7 @@ module _ {T : Type 0} (p s : ℕ) (G : List ℕ → StaticConfig → Message T �
         (record one { stands = false }) service
         (ap (λ (told : Reply T). (counted told old.made).subscribers) did.0))) h ordered
     step-ordered (command.Has subscriber) old answer new good fresh h ordered =
-        quiet-subscriber p s G sent received buffer subscriber refusal.Connection
+        quiet-subscriber p s G sent received choices buffer subscriber refusal.Connection
         (λ (one : Subscriber) (service : Service T) (answered : Reply T) (after : Service T).
         (answered ≡ reply.Has (has_samples subscriber one service)) × (after ≡ service)) old answer new
         (λ one service after did. did.1) h ordered

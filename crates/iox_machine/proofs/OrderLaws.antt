@@ -4,6 +4,7 @@ use Rattle.std.proofs.Common.{subst, inl, inr, arith, ◌∙◌, append_assoc, a
 use Rattle.std.proofs.lemmas.Bool.{ne_eqb}
 use Rattle.std.specs.List.{AllByRecursion}
 use Rattle.std.specs.Prelude.{⊤, ◌==◌, is_some, find, slice_get, option_map, MatchOption}
+use Rattle.iox_machine.specs.Choices.{Choices}
 use Rattle.iox_machine.specs.Message.{Message, Sample}
 use Rattle.iox_machine.specs.MessageLaws.{IsPartOf, with_one, begun_by, received_by, sent_by, received_from, IsOfService, StaysOfService}
 use Rattle.iox_machine.specs.MessageLaws.{BeganIn, ReceivedInOrder}
@@ -123,30 +124,30 @@ module _ {T : Type 0} (p s : ℕ) where
       step true same = inr (subst (Fits p s G state.made sent received) (same-some it service same) fits, here ∙ same)
       step false same = inl (all-found (Lacks p s state.made.subscribers) has more service same all)
 
-  module _ (types : MessageTypeDetails) (IsDefault : T → Type 0) (buffer : ℕ) where
-    pub fresh-numbers : (state : State T) → AreSound AnyMessage (Numbered types IsDefault buffer state) state
+  module _ (types : MessageTypeDetails) (choices : Choices T) (buffer : ℕ) where
+    pub fresh-numbers : (state : State T) → AreSound AnyMessage (Numbered types choices buffer state) state
         → AllByRecursion (λ (other : Service T). at (state.made.samples + 1) other.samples ≡ None) state.services
     fresh-numbers state sound =
-        all-weaker (Sound AnyMessage (Numbered types IsDefault buffer state))
+        all-weaker (Sound AnyMessage (Numbered types choices buffer state))
         (λ (other : Service T). at (state.made.samples + 1) other.samples ≡ None)
         (λ service fits. none-above service.samples state.made.samples (state.made.samples + 1) refl
-        (all-weaker (λ (entry : ℕ × Sample T). SampleFits AnyMessage (Numbered types IsDefault buffer state) entry.0 entry.1)
+        (all-weaker (λ (entry : ℕ × Sample T). SampleFits AnyMessage (Numbered types choices buffer state) entry.0 entry.1)
         (λ (entry : ℕ × Sample T). entry.0 ≤ state.made.samples) (λ entry it. it.0) service.samples fits.3))
         state.services sound
 
     -- what is good after a run: what was good before it, of a publisher that stays of its service, or a message of which the send began
     abbrev After : (List ℕ → StaticConfig → Message T → Type 0) → (asked : List (Command T)) (old : State T) (answers : List (Reply T))
-        (new : State T) → Runs types IsDefault buffer asked old answers new → List ℕ → StaticConfig → Message T → Type 0
+        (new : State T) → Runs types choices buffer asked old answers new → List ℕ → StaticConfig → Message T → Type 0
     After G asked old answers new run name c message =
-        (G name c message × StaysOfService types IsDefault buffer p name c asked old answers new run)
-        ⊎ BeganIn types IsDefault buffer p name c message.values asked old answers new run
+        (G name c message × StaysOfService types choices buffer p name c asked old answers new run)
+        ⊎ BeganIn types choices buffer p name c message.values asked old answers new run
 
     run-ordered : (G : List ℕ → StaticConfig → Message T → Type 0) (sent received : List (Message T)) (asked : List (Command T))
-        (old : State T) (answers : List (Reply T)) (new : State T) (run : Runs types IsDefault buffer asked old answers new)
-        → AreSound AnyMessage (Numbered types IsDefault buffer old) old → IsOrdered p s G sent received old
+        (old : State T) (answers : List (Reply T)) (new : State T) (run : Runs types choices buffer asked old answers new)
+        → AreSound AnyMessage (Numbered types choices buffer old) old → IsOrdered p s G sent received old
         → IsOrdered p s (After G asked old answers new run)
-        (sent ++ sent_by types IsDefault buffer p asked old answers new run)
-        (received ++ received_from types IsDefault buffer p s asked old answers new run) new
+        (sent ++ sent_by types choices buffer p asked old answers new run)
+        (received ++ received_from types choices buffer p s asked old answers new run) new
     run-ordered G sent received [] old answers new run sound ordered =
         subst (λ (l : List (Message T)). IsOrdered p s (After G [] old answers new run) l (received ++ []) new) (sym (append-nil sent))
         (subst (λ (l : List (Message T)). IsOrdered p s (After G [] old answers new run) sent l new) (sym (append-nil received))
@@ -161,17 +162,17 @@ module _ {T : Type 0} (p s : ℕ) where
         let sending : Option (Message T) = begun_by p one old run.0 in
         let receiving : Option (Message T) = received_by p s one run.0 run.1 in
         let mid : IsOrdered p s Next (noted sent sending) (noted received receiving) run.1 =
-        step-ordered p s Next sent received types IsDefault buffer one old run.0 run.1
+        step-ordered p s Next sent received types choices buffer one old run.0 run.1
         (λ message it begins first. (inr begins, (it, first, refl, refl))) (fresh-numbers old sound) run.3 before in
-        let numbered : AreSound AnyMessage (Numbered types IsDefault buffer run.1) run.1 =
-        runs-numbered types IsDefault buffer (one ∷ []) old (run.0 ∷ []) run.1 (run.0, run.1, [], run.3, (refl, refl), refl) sound in
+        let numbered : AreSound AnyMessage (Numbered types choices buffer run.1) run.1 =
+        runs-numbered types choices buffer (one ∷ []) old (run.0 ∷ []) run.1 (run.0, run.1, [], run.3, (refl, refl), refl) sound in
         let end : IsOrdered p s (After Next more run.1 run.2 new run.4)
-        (noted sent sending ++ sent_by types IsDefault buffer p more run.1 run.2 new run.4)
-        (noted received receiving ++ received_from types IsDefault buffer p s more run.1 run.2 new run.4) new =
+        (noted sent sending ++ sent_by types choices buffer p more run.1 run.2 new run.4)
+        (noted received receiving ++ received_from types choices buffer p s more run.1 run.2 new run.4) new =
         run-ordered Next (noted sent sending) (noted received receiving) more run.1 run.2 new run.4 numbered mid in
         ordered-better (After Next more run.1 run.2 new run.4) (After G (one ∷ more) old answers new run) new
-        (sent ++ sent_by types IsDefault buffer p (one ∷ more) old answers new run)
-        (received ++ received_from types IsDefault buffer p s (one ∷ more) old answers new run)
+        (sent ++ sent_by types choices buffer p (one ∷ more) old answers new run)
+        (received ++ received_from types choices buffer p s (one ∷ more) old answers new run)
         (λ it first message good. elim good [
           | inl was ↦ elim was.0.0 [
             | inl good_so ↦ inl (good_so, (was.0.1, was.1))
@@ -180,25 +181,25 @@ module _ {T : Type 0} (p s : ℕ) where
           | inr began ↦ inr (inr began)
         ])
         (subst (λ (l : List (Message T)). IsOrdered p s (After Next more run.1 run.2 new run.4) l
-        (received ++ received_from types IsDefault buffer p s (one ∷ more) old answers new run) new)
-        (noted-more sent sending (sent_by types IsDefault buffer p more run.1 run.2 new run.4))
+        (received ++ received_from types choices buffer p s (one ∷ more) old answers new run) new)
+        (noted-more sent sending (sent_by types choices buffer p more run.1 run.2 new run.4))
         (subst (λ (l : List (Message T)). IsOrdered p s (After Next more run.1 run.2 new run.4)
-        (noted sent sending ++ sent_by types IsDefault buffer p more run.1 run.2 new run.4) l new)
-        (noted-more received receiving (received_from types IsDefault buffer p s more run.1 run.2 new run.4)) end))
+        (noted sent sending ++ sent_by types choices buffer p more run.1 run.2 new run.4) l new)
+        (noted-more received receiving (received_from types choices buffer p s more run.1 run.2 new run.4)) end))
 
     new-ordered : (G : List ℕ → StaticConfig → Message T → Type 0) (asked : List (Command T)) (answers : List (Reply T)) (new : State T)
-        (run : Runs types IsDefault buffer asked new_state answers new)
-        → IsOrdered p s (After G asked new_state answers new run) (sent_by types IsDefault buffer p asked new_state answers new run)
-        (received_from types IsDefault buffer p s asked new_state answers new run) new
+        (run : Runs types choices buffer asked new_state answers new)
+        → IsOrdered p s (After G asked new_state answers new run) (sent_by types choices buffer p asked new_state answers new run)
+        (received_from types choices buffer p s asked new_state answers new run) new
     new-ordered G asked answers new run =
         run-ordered G [] [] asked new_state answers new run tt (tt, (λ early. (refl, refl)), refl)
 
-pub received-in-order : {T : Type 0} (IsDefault : T → Type 0) → ReceivedInOrder IsDefault
-received-in-order {T} IsDefault types buffer asked answers new run publisher subscriber =
-    (new-ordered publisher subscriber types IsDefault buffer (λ name c message. ⊤) asked answers new run).2
+pub received-in-order : {T : Type 0} (choices : Choices T) → ReceivedInOrder choices
+received-in-order {T} choices types buffer asked answers new run publisher subscriber =
+    (new-ordered publisher subscriber types choices buffer (λ name c message. ⊤) asked answers new run).2
 
-module _ {T : Type 0} (IsDefault : T → Type 0) (types : MessageTypeDetails) (buffer : ℕ) (asked : List (Command T))
-    (answers : List (Reply T)) (old : State T) (run : Runs types IsDefault buffer asked new_state answers old) where
+module _ {T : Type 0} (choices : Choices T) (types : MessageTypeDetails) (buffer : ℕ) (asked : List (Command T))
+    (answers : List (Reply T)) (old : State T) (run : Runs types choices buffer asked new_state answers old) where
   abbrev pub Never : List ℕ → StaticConfig → Message T → Type 0
   Never name c message = ⊥
 
@@ -207,14 +208,14 @@ module _ {T : Type 0} (IsDefault : T → Type 0) (types : MessageTypeDetails) (b
       → find (λ (other : Service T). is_some (subscriber_in subscriber other)) old.services ≡ Some service
       → slice_get (waiting_in (service.mailboxes publisher subscriber)) 0 ≡ Some message
       → (find (λ (other : Service T). is_some (at publisher other.publishers)) old.services ≡ Some service)
-      × BeganIn types IsDefault buffer publisher service.name service.settings message.values asked new_state answers old run
+      × BeganIn types choices buffer publisher service.name service.settings message.values asked new_state answers old run
   first-sent subscriber publisher service message first waits =
       let Good : List ℕ → StaticConfig → Message T → Type 0 =
-      After publisher subscriber types IsDefault buffer Never asked new_state answers old run in
-      let sent : List (Message T) = sent_by types IsDefault buffer publisher asked new_state answers old run in
-      let received : List (Message T) = received_from types IsDefault buffer publisher subscriber asked new_state answers old run in
+      After publisher subscriber types choices buffer Never asked new_state answers old run in
+      let sent : List (Message T) = sent_by types choices buffer publisher asked new_state answers old run in
+      let received : List (Message T) = received_from types choices buffer publisher subscriber asked new_state answers old run in
       elim (one-found publisher subscriber Good old sent received (λ (other : Service T). is_some (subscriber_in subscriber other)) service
-      old.services first (new-ordered publisher subscriber types IsDefault buffer Never asked answers old run).0) [
+      old.services first (new-ordered publisher subscriber types choices buffer Never asked answers old run).0) [
         | inl lacks ↦ never-some message (sym (ap (λ (l : List (Message T)). slice_get l 0) lacks.1) ∙ waits)
         | inr fits ↦ (
           fits.1,
@@ -227,9 +228,9 @@ module _ {T : Type 0} (IsDefault : T → Type 0) (types : MessageTypeDetails) (b
       ]
     where
       began : (service : Service T) (message : Message T)
-          → (⊥ × StaysOfService types IsDefault buffer publisher service.name service.settings asked new_state answers old run)
-          ⊎ BeganIn types IsDefault buffer publisher service.name service.settings message.values asked new_state answers old run
-          → BeganIn types IsDefault buffer publisher service.name service.settings message.values asked new_state answers old run
+          → (⊥ × StaysOfService types choices buffer publisher service.name service.settings asked new_state answers old run)
+          ⊎ BeganIn types choices buffer publisher service.name service.settings message.values asked new_state answers old run
+          → BeganIn types choices buffer publisher service.name service.settings message.values asked new_state answers old run
       began service message (inl w) = absurd w.0
       began service message (inr it) = it
 
@@ -239,11 +240,11 @@ module _ {T : Type 0} (IsDefault : T → Type 0) (types : MessageTypeDetails) (b
       → Once subscriber (those service.subscriber_list.places) × Once subscriber (those one.connected)
   connects-once subscriber publisher has service one first found =
       let Good : List ℕ → StaticConfig → Message T → Type 0 =
-      After publisher subscriber types IsDefault buffer Never asked new_state answers old run in
-      let sent : List (Message T) = sent_by types IsDefault buffer publisher asked new_state answers old run in
-      let received : List (Message T) = received_from types IsDefault buffer publisher subscriber asked new_state answers old run in
+      After publisher subscriber types choices buffer Never asked new_state answers old run in
+      let sent : List (Message T) = sent_by types choices buffer publisher asked new_state answers old run in
+      let received : List (Message T) = received_from types choices buffer publisher subscriber asked new_state answers old run in
       elim (one-found publisher subscriber Good old sent received has service old.services first
-      (new-ordered publisher subscriber types IsDefault buffer Never asked answers old run).0) [
+      (new-ordered publisher subscriber types choices buffer Never asked answers old run).0) [
         | inl lacks ↦ never-some one (sym lacks.0 ∙ found)
         | inr fits ↦ (
           fits.0.0.2.listed_once,
@@ -258,11 +259,11 @@ module _ {T : Type 0} (IsDefault : T → Type 0) (types : MessageTypeDetails) (b
       → Once subscriber send.left
   waits-once subscriber publisher has service one send first found waits =
       let Good : List ℕ → StaticConfig → Message T → Type 0 =
-      After publisher subscriber types IsDefault buffer Never asked new_state answers old run in
-      let sent : List (Message T) = sent_by types IsDefault buffer publisher asked new_state answers old run in
-      let received : List (Message T) = received_from types IsDefault buffer publisher subscriber asked new_state answers old run in
+      After publisher subscriber types choices buffer Never asked new_state answers old run in
+      let sent : List (Message T) = sent_by types choices buffer publisher asked new_state answers old run in
+      let received : List (Message T) = received_from types choices buffer publisher subscriber asked new_state answers old run in
       elim (one-found publisher subscriber Good old sent received has service old.services first
-      (new-ordered publisher subscriber types IsDefault buffer Never asked answers old run).0) [
+      (new-ordered publisher subscriber types choices buffer Never asked answers old run).0) [
         | inl lacks ↦ never-some one (sym lacks.0 ∙ found)
         | inr fits ↦ (subst (λ (o : Option (Send T)). MatchOption o ⊤ (IsUnder T subscriber
             (MayCome subscriber old.made.subscribers service.subscriber_list.places) sent received fits.0.0.0.connected

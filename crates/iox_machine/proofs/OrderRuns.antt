@@ -4,6 +4,7 @@ use Rattle.std.proofs.Common.{ap, subst, inl, inr, arith, ◌∙◌}
 use Rattle.std.proofs.lemmas.Bool.{eqb-true, eqb-false, cases_Bool}
 use Rattle.std.specs.List.{AllByRecursion, list_any}
 use Rattle.std.specs.Prelude.{◌==◌, is_some, find, filter, option_and_then, MatchOption}
+use Rattle.iox_machine.specs.Choices.{Choices}
 use Rattle.iox_machine.specs.Arriving.{PublisherArrives, new_publisher}
 use Rattle.iox_machine.specs.Factories.{with_open}
 use Rattle.iox_machine.specs.Message.{Message}
@@ -141,14 +142,14 @@ module _ {T : Type 0} where
               (alike-by p s number service after (λ e. eqb-false number p other (sym e)) (by one send service after did))
         ]
 
-    pub quiet-subscriber : (buffer number : ℕ) (told : ConnectionFailure → Refusal)
+    pub quiet-subscriber : (choices : Choices T) (buffer number : ℕ) (told : ConnectionFailure → Refusal)
         (Does : Subscriber → Service T → Reply T → Service T → Type 0) (old : State T) (answer : Reply T) (new : State T)
         → ((one : Subscriber) (service after : Service T) → Does one service answer after → after ≡ service)
-        → AtOne (subscriber_in number) (subscribing.UpdatesFirst buffer number told Does) old answer new
+        → AtOne (subscriber_in number) (subscribing.UpdatesFirst choices buffer number told Does) old answer new
         → IsOrdered p s G sent received old → IsOrdered p s G sent received new
-    quiet-subscriber buffer number told Does old answer new does h ordered =
-        quiet-at-one (subscriber_in number) (subscribing.UpdatesFirst buffer number told Does) old answer new
-        (λ service one after is did. soft-updates (Quiet old answer service after) buffer number told Does one service answer after
+    quiet-subscriber choices buffer number told Does old answer new does h ordered =
+        quiet-at-one (subscriber_in number) (subscribing.UpdatesFirst choices buffer number told Does) old answer new
+        (λ service one after is did. soft-updates choices (Quiet old answer service after) buffer number told Does one service answer after
         (subscriber-stands number service one is).0
         (λ now mid soft found same done. alike-goes old answer service after
         (subst (λ (it : Service T). Alike p s service it) (sym (does now mid after done)) (alike-soft p s service mid soft)))

@@ -4,6 +4,7 @@ use Rattle.std.proofs.Common.{subst, inl, inr, ◌∙◌}
 use Rattle.std.proofs.lemmas.Bool.{eqb-true, eqb-false, and_from, and_right, cases_Bool, true≢false}
 use Rattle.std.specs.List.{AllByRecursion}
 use Rattle.std.specs.Prelude.{⊤, ◌==◌, is_some, find, option_map, option_and_then, MatchBool, MatchOption}
+use Rattle.iox_machine.specs.Choices.{Choices}
 use Rattle.iox_machine.specs.Message.{Message, Loan, Sample, is_written, sent_as}
 use Rattle.iox_machine.specs.MessageLaws.{first_in, next_message, begun_by, received_by}
 use Rattle.iox_machine.specs.Ports.{publisher_in, subscriber_in, Puts, SendsLoan}
@@ -117,38 +118,40 @@ module _ {T : Type 0} (p s : ℕ) (G : List ℕ → StaticConfig → Message T �
   quiet-goes old answer sending service after none goes =
       subst (λ (o : Option (Message T)). Goes p s G sent received old answer o None service after) (sym none) goes
 
-  pub put-goes : (number : ℕ) (values : List T) (old : State T) (answer : Reply T) (service : Service T) (one : Publisher T)
+  pub put-goes : (choices : Choices T) (number : ℕ) (values : List T) (old : State T) (answer : Reply T) (service : Service T)
+      (one : Publisher T)
       (after : Service T)
       → find (λ (other : Service T). is_some (publisher_in number other)) old.services ≡ Some service
       → publisher_in number service ≡ Some one
       → ((message : Message T) (it : Service T) → BeginsToSend p message.values (command.Put number values) old answer → IsFirst old it
       → G it.name it.settings message)
-      → MatchOption one.blocked (Puts number values one service answer after) (λ send. IsSkipped service answer after)
+      → MatchOption one.blocked (Puts choices number values one service answer after) (λ send. IsSkipped service answer after)
       → Goes p s G sent received old answer (begun_by p (command.Put number values) old answer) None service after
-  put-goes number values old answer service one after first is good did = elim (cases_Bool (number == p)) [
+  put-goes choices number values old answer service one after first is good did = elim (cases_Bool (number == p)) [
     | inr other ↦ quiet-goes old answer (begun_by p (command.Put number values) old answer) service after
         (chosen-other (number == p) (has_begun answer) (option_map (next_message values) (first_in (publisher_in number) old)) other)
-        (elim (by-option one.blocked (Puts number values one service answer after) (λ send. IsSkipped service answer after) did) [
+        (elim (by-option one.blocked (Puts choices number values one service answer after) (λ send. IsSkipped service answer after) did) [
           | inl w ↦ alike-goes p s G sent received old answer service after
               (alike-by p s number service after (λ e. eqb-false number p other (sym e))
-              (by-puts number values one service answer after w.1))
+              (by-puts choices number values one service answer after w.1))
           | inr w ↦ skip-goes p s G sent received old answer service after w.2
         ])
-    | inl same ↦ elim (by-option one.blocked (Puts number values one service answer after) (λ send. IsSkipped service answer after) did) [
-      | inl w ↦ puts (eqb-true number p same) same w.0 w.1
-      | inr w ↦ quiet-goes old answer (begun_by p (command.Put number values) old answer) service after
-          (chosen-silent (number == p) (has_begun answer) (option_map (next_message values) (first_in (publisher_in number) old))
-          (ap has_begun w.2.0))
-          (skip-goes p s G sent received old answer service after w.2)
-    ]
+    | inl same ↦ elim (by-option one.blocked (Puts choices number values one service answer after)
+        (λ send. IsSkipped service answer after) did) [
+          | inl w ↦ puts (eqb-true number p same) same w.0 w.1
+          | inr w ↦ quiet-goes old answer (begun_by p (command.Put number values) old answer) service after
+              (chosen-silent (number == p) (has_begun answer) (option_map (next_message values) (first_in (publisher_in number) old))
+              (ap has_begun w.2.0))
+              (skip-goes p s G sent received old answer service after w.2)
+        ]
   ]
     where
-      puts : number ≡ p → (number == p) ≡ true → one.blocked ≡ None → Puts number values one service answer after
+      puts : number ≡ p → (number == p) ≡ true → one.blocked ≡ None → Puts choices number values one service answer after
           → Goes p s G sent received old answer (begun_by p (command.Put number values) old answer) None service after
       puts e same free h =
           let there : at p service.publishers ≡ Some one =
           subst (λ (k : ℕ). at k service.publishers ≡ Some one) e (publisher-stands number service one is) in
-          let by : ByPublisher number service after = by-puts number values one service answer after h in
+          let by : ByPublisher number service after = by-puts choices number values one service answer after h in
           let message : Message T = next_message values one in
           sends-goes old answer (begun_by p (command.Put number values) old answer) message service after one by.0 by.1 there
           (λ begun. ap (λ (o : Option (Publisher T)). cond ((number == p) && has_begun answer) (option_map (next_message values) o) None)
@@ -157,30 +160,31 @@ module _ {T : Type 0} (p s : ℕ) (G : List ℕ → StaticConfig → Message T �
           (λ silent. chosen-silent (number == p) (has_begun answer)
           (option_map (next_message values) (first_in (publisher_in number) old)) silent)
           (λ begun is_first. good message service (e, refl, begun) is_first)
-          (λ b. puts-between p s sent received old.made.subscribers values one service answer after there free b
-          (subst (λ (k : ℕ). Puts k values one service answer after) e h))
+          (λ b. puts-between p s choices sent received old.made.subscribers values one service answer after there free b
+          (subst (λ (k : ℕ). Puts choices k values one service answer after) e h))
 
-  pub send-goes : (loan : ℕ) (old : State T) (answer : Reply T) (service : Service T) (one : Loan T) (after : Service T)
+  pub send-goes : (choices : Choices T) (loan : ℕ) (old : State T) (answer : Reply T) (service : Service T) (one : Loan T)
+      (after : Service T)
       → find (λ (other : Service T). is_some (at loan other.loans)) old.services ≡ Some service → at loan service.loans ≡ Some one
       → ((message : Message T) (it : Service T) → BeginsToSend p message.values (command.Send loan) old answer → IsFirst old it
       → G it.name it.settings message)
-      → SendsLoan loan one service answer after
+      → SendsLoan choices loan one service answer after
       → Goes p s G sent received old answer (begun_by p (command.Send loan) old answer) None service after
-  send-goes loan old answer service one after first is good did = elim (cases_Bool (one.publisher == p)) [
+  send-goes choices loan old answer service one after first is good did = elim (cases_Bool (one.publisher == p)) [
     | inr other ↦ quiet-goes old answer (begun_by p (command.Send loan) old answer) service after
         (found ∙ chosen-other (one.publisher == p) (has_begun answer) (Some (sent_as one)) other)
         (alike-goes p s G sent received old answer service after
         (alike-by p s one.publisher service after (λ e. eqb-false one.publisher p other (sym e))
-        (by-sends-loan loan one service answer after did)))
+        (by-sends-loan choices loan one service answer after did)))
     | inl same ↦ elim (by-option (at one.publisher service.publishers) (IsSkipped service answer after)
         (λ publisher. MatchBool (is_written one && not (is_some publisher.blocked))
-        (Sends one.publisher (sent_as one) publisher (record service { loans = removed loan service.loans }) answer after)
+        (Sends choices one.publisher (sent_as one) publisher (record service { loans = removed loan service.loans }) answer after)
         (IsSkipped service answer after)) did) [
           | inl w ↦ quiet-goes old answer (begun_by p (command.Send loan) old answer) service after
               (found ∙ chosen-silent (one.publisher == p) (has_begun answer) (Some (sent_as one)) (ap has_begun w.1.0))
               (skip-goes p s G sent received old answer service after w.1)
           | inr w ↦ elim (by-bool (is_written one && not (is_some w.0.blocked))
-              (Sends one.publisher (sent_as one) w.0 (record service { loans = removed loan service.loans }) answer after)
+              (Sends choices one.publisher (sent_as one) w.0 (record service { loans = removed loan service.loans }) answer after)
               (IsSkipped service answer after) w.2) [
                 | inl k ↦ sends (eqb-true one.publisher p same) same w.0 w.1
                     (both-true (is_written one) (not (is_some w.0.blocked)) k.0) k.1
@@ -205,24 +209,25 @@ module _ {T : Type 0} (p s : ℕ) (G : List ℕ → StaticConfig → Message T �
       sends : one.publisher ≡ p → (one.publisher == p) ≡ true → (publisher : Publisher T)
           → at one.publisher service.publishers ≡ Some publisher
           → (is_written one ≡ true) × (not (is_some publisher.blocked) ≡ true)
-          → Sends one.publisher (sent_as one) publisher (record service { loans = removed loan service.loans }) answer after
+          → Sends choices one.publisher (sent_as one) publisher (record service { loans = removed loan service.loans }) answer after
           → Goes p s G sent received old answer (begun_by p (command.Send loan) old answer) None service after
       sends e same publisher stands tests h =
           let there : at p service.publishers ≡ Some publisher =
           subst (λ (k : ℕ). at k service.publishers ≡ Some publisher) e stands in
           let fewer : Service T = record service { loans = removed loan service.loans } in
-          let by : ByPublisher one.publisher fewer after = by-sends one.publisher (sent_as one) publisher fewer answer after h in
+          let by : ByPublisher one.publisher fewer after = by-sends choices one.publisher (sent_as one) publisher fewer answer after h in
           sends-goes old answer (begun_by p (command.Send loan) old answer) (sent_as one) service after publisher by.0 by.1 there
           (λ begun. found ∙ chosen-begun (one.publisher == p) (has_begun answer) (sent_as one) same begun)
           (λ silent. found ∙ chosen-silent (one.publisher == p) (has_begun answer) (Some (sent_as one)) silent)
           (λ begun is_first. good (sent_as one) service (service, one, first, is, e, tests.0, refl, begun) is_first)
-          (λ b. sends-between p s sent received old.made.subscribers (sent_as one) publisher fewer answer after there
+          (λ b. sends-between p s choices sent received old.made.subscribers (sent_as one) publisher fewer answer after there
           (none-blocked publisher.blocked tests.1) b
-          (subst (λ (k : ℕ). Sends k (sent_as one) publisher fewer answer after) e h))
+          (subst (λ (k : ℕ). Sends choices k (sent_as one) publisher fewer answer after) e h))
 
   -- ---- a receive
 
-  pub receive-goes : (buffer number : ℕ) (old : State T) (answer : Reply T) (new : State T) (service : Service T) (one : Subscriber)
+  pub receive-goes : (choices : Choices T) (buffer number : ℕ) (old : State T) (answer : Reply T) (new : State T) (service : Service T)
+      (one : Subscriber)
       (after : Service T)
       → AllByRecursion (λ (other : Service T). at (old.made.samples + 1) other.samples ≡ None) old.services
       → find (λ (other : Service T). is_some (subscriber_in number other)) old.services ≡ Some service
@@ -231,11 +236,12 @@ module _ {T : Type 0} (p s : ℕ) (G : List ℕ → StaticConfig → Message T �
         made = counted answer old.made;
         services = replaced (λ (other : Service T). is_some (subscriber_in number other)) after old.services;
       }
-      → subscribing.UpdatesFirst buffer number (λ failure. refusal.Receive (receive_error.ConnectionFailure failure))
+      → subscribing.UpdatesFirst choices buffer number (λ failure. refusal.Receive (receive_error.ConnectionFailure failure))
       (Receives number (old.made.samples + 1)) one service answer after
       → Goes p s G sent received old answer None (received_by p s (command.Receive number) answer new) service after
-  receive-goes buffer number old answer new service one after fresh first is came did =
-      soft-updates (Goes p s G sent received old answer None (received_by p s (command.Receive number) answer new) service after) buffer
+  receive-goes choices buffer number old answer new service one after fresh first is came did =
+      soft-updates choices (Goes p s G sent received old answer None (received_by p s (command.Receive number) answer new) service after)
+      buffer
       number
       (λ failure. refusal.Receive (receive_error.ConnectionFailure failure)) (Receives number (old.made.samples + 1)) one service answer
       after

@@ -3,6 +3,7 @@ use Rattle.std.proofs.Common.{◌≡◌, ◌⊎◌, ◌≤◌, ◌<◌, ◌+◌,
 use Rattle.std.proofs.Common.{Some, refl, sym, ap, subst, inl, inr, arith, ◌∙◌, true≢false}
 use Rattle.std.specs.List.{AllByRecursion}
 use Rattle.std.specs.Prelude.{⊤, nat_lt, fold}
+use Rattle.iox_machine.specs.Choices.{Choices}
 use Rattle.iox_machine.specs.Agreement.{Agreement, are_within_limits}
 use Rattle.iox_machine.specs.AgreementLaws.{life_of, agreed_in, HasOne, IsPublishedBy, Describes, AgreementStays, AgreementIsDescribed}
 use Rattle.iox_machine.specs.AgreementLaws.{CreatesAsDescribed}
@@ -66,7 +67,7 @@ module _ (types : MessageTypeDetails) (R : MessagingPattern → List ℕ → Pha
     abbrev AllPhases : {T : Type 0} → State T → Type 0
     AllPhases state = (pattern : MessagingPattern) (name : List ℕ) → R pattern name (state.phases pattern name)
 
-    module _ {T : Type 0} (IsDefault : T → Type 0) (buffer : ℕ) where
+    module _ {T : Type 0} (choices : Choices T) (buffer : ℕ) where
       settled : (steps : List StepBefore) (factory : Factory)
           (acts : ActsBefore factory.pattern factory.name steps) (old : State T) (answer : Reply T) (new : State T) (all : AllPhases old)
           → IsSettled types steps factory (R factory.pattern factory.name) (R factory.pattern factory.name) acts old answer new
@@ -101,7 +102,7 @@ module _ (types : MessageTypeDetails) (R : MessagingPattern → List ℕ → Pha
           (all factory.pattern factory.name)))
 
       pub phases-move : (asked : Command T) (old : State T) (answer : Reply T) (new : State T) → Begins asked
-          → Step types IsDefault buffer asked old answer new → AllPhases old → AllPhases new
+          → Step types choices buffer asked old answer new → AllPhases old → AllPhases new
       phases-move command.Node old answer new begins (inl (told, came)) all = subst (λ (it : State T). AllPhases it) (sym came) all
       phases-move command.Node old answer new begins (inr refused) all = subst (λ (it : State T). AllPhases it) (sym refused.1) all
       phases-move (command.Create node name options attributes steps) old answer new begins h all =
@@ -130,7 +131,7 @@ module _ (types : MessageTypeDetails) (R : MessagingPattern → List ℕ → Pha
       phases-move (command.Close factory) old answer new begins h all =
           closing factory old answer new all (closed factory old answer new h)
       phases-move asked old answer new begins h all =
-          beside asked old answer new all (ports-move types IsDefault buffer asked old answer new refl h)
+          beside asked old answer new all (ports-move types choices buffer asked old answer new refl h)
 
 pub each-all : {X : Type 0} (P : X → Type 0) → ((x : X) → P x) → (xs : List X) → AllByRecursion P xs
 each-all P on [] = tt
@@ -291,7 +292,7 @@ since-come from node life agreed nodes since =
     turned from (Published life agreed nodes) (Published life agreed (entered node nodes)) refl
     (published-stays life agreed nodes (entered node nodes)).1 since
 
-module _ {T : Type 0} (types : MessageTypeDetails) (IsDefault : T → Type 0) (buffer : ℕ) (start : State T) where
+module _ {T : Type 0} (types : MessageTypeDetails) (choices : Choices T) (buffer : ℕ) (start : State T) where
   -- what a phase is since a moment of the run
   abbrev SinceStart : MessagingPattern → List ℕ → Phase → Type 0
   SinceStart pattern name phase = Since (start.phases pattern name) phase
@@ -326,7 +327,7 @@ module _ {T : Type 0} (types : MessageTypeDetails) (IsDefault : T → Type 0) (b
   begins-since other = tt
 
   runs-since : (asked : List (Command T)) (old : State T) (answers : List (Reply T)) (new : State T)
-      → Runs types IsDefault buffer asked old answers new
+      → Runs types choices buffer asked old answers new
       → ((pattern : MessagingPattern) (name : List ℕ) → SinceStart pattern name (old.phases pattern name))
       → (pattern : MessagingPattern) (name : List ℕ) → SinceStart pattern name (new.phases pattern name)
   runs-since [] old answers new run all =
@@ -338,7 +339,7 @@ module _ {T : Type 0} (types : MessageTypeDetails) (IsDefault : T → Type 0) (b
       (λ pattern name lives since. since-lost (start.phases pattern name) lives since)
       (λ pattern name node life agreed nodes room since. since-come (start.phases pattern name) node life agreed nodes since)
       (λ pattern name node phase since. since-closed (start.phases pattern name) node phase since)
-      IsDefault buffer one old run.0 run.1 (begins-since one) run.3 all)
+      choices buffer one old run.0 run.1 (begins-since one) run.3 all)
 
 pub stays-told : (from phase : Phase) → Since from phase → (life_of from ≤ life_of phase)
     × ((one other : Agreement) → life_of phase ≡ life_of from → agreed_in from ≡ Some one → agreed_in phase ≡ Some other → other ≡ one)
@@ -355,10 +356,10 @@ stays-told from phase (inr (life, so)) =
     agree (Published now agreed nodes) one other same was = sym (same-some agreed other was) ∙ same
     agree (Emptied now agreed by) one other same was = sym (same-some agreed other was) ∙ same
 
-pub agreement-stays : {T : Type 0} (IsDefault : T → Type 0) → AgreementStays IsDefault
-agreement-stays IsDefault types buffer asked old answers new run pattern name =
+pub agreement-stays : {T : Type 0} (choices : Choices T) → AgreementStays choices
+agreement-stays choices types buffer asked old answers new run pattern name =
     stays-told (old.phases pattern name) (new.phases pattern name)
-    (runs-since types IsDefault buffer old asked old answers new run (λ one other. since-itself (old.phases one other)) pattern name)
+    (runs-since types choices buffer old asked old answers new run (λ one other. since-itself (old.phases one other)) pattern name)
 
 -- ---- descriptions
 
@@ -467,12 +468,12 @@ begins-told types (command.Foreign pattern name steps) old =
     (λ agreed has. (refl, refl, has))
 begins-told types other old = tt
 
-pub agreement-described : {T : Type 0} (IsDefault : T → Type 0) → AgreementIsDescribed IsDefault
-agreement-described IsDefault types buffer asked old answer new h =
+pub agreement-described : {T : Type 0} (choices : Choices T) → AgreementIsDescribed choices
+agreement-described choices types buffer asked old answer new h =
     phases-move types (IsTold types asked old) (λ pattern name lives told agreed is. never-some agreed is)
     (λ pattern name node life agreed nodes room told. told)
     (λ pattern name node phase told agreed is. told agreed (agreed-closed node phase agreed is))
-    IsDefault buffer asked old answer new (begins-told types asked old) h (λ pattern name agreed is. inl is)
+    choices buffer asked old answer new (begins-told types asked old) h (λ pattern name agreed is. inl is)
 
 -- ---- a service that is created
 
@@ -516,8 +517,8 @@ module _ {T : Type 0} (types : MessageTypeDetails) (node : ℕ) (name : List ℕ
       subst Fresh
       (sym (ap (λ (state : State T). state.phases (pattern_of options) name) came ∙ phase-there (pattern_of options) name phase old)) so
 
-pub creates-as-described : {T : Type 0} (IsDefault : T → Type 0) → CreatesAsDescribed IsDefault
-creates-as-described {T} IsDefault types buffer node name options attributes steps old number new h =
+pub creates-as-described : {T : Type 0} (choices : Choices T) → CreatesAsDescribed choices
+creates-as-described {T} choices types buffer node name options attributes steps old number new h =
     created-so types node name options attributes old steps number new (omega arith)
     (create-settles types steps (factory_of node name options) (Low types node name options attributes old)
     (Fresh types node name options attributes old) (low-acts types node name options attributes old steps) old

@@ -2,6 +2,7 @@
 use Rattle.std.proofs.Common.{◌≡◌, ◌≤◌, ℕ, List, [], ◌∷◌, length, None, Some, Option, refl, sym, ap, subst, inl, inr, arith, ◌∙◌}
 use Rattle.std.proofs.lemmas.List.{length-replicate}
 use Rattle.std.specs.List.{AllByRecursion}
+use Rattle.iox_machine.specs.Choices.{Choices}
 use Rattle.iox_machine.specs.PortList.{those}
 use Rattle.iox_machine.specs.Run.{Runs, Step, factory_of}
 use Rattle.iox_machine.specs.Service.{Service, new_service}
@@ -48,8 +49,8 @@ module _ {T : Type 0} where
       (replaced-keeps Placed Placed has service after old.services (λ it placed. placed)
       (λ placed. kept-placed old.made service after answer kept placed) first all)
 
-  module _ (types : MessageTypeDetails) (IsDefault : T → Type 0) (buffer : ℕ) where
-    step-placed : (asked : Command T) (old : State T) (answer : Reply T) (new : State T) → Step types IsDefault buffer asked old answer new
+  module _ (types : MessageTypeDetails) (choices : Choices T) (buffer : ℕ) where
+    step-placed : (asked : Command T) (old : State T) (answer : Reply T) (new : State T) → Step types choices buffer asked old answer new
         → AllByRecursion Placed old.services → AllByRecursion Placed new.services
     step-placed command.Node old answer new (inl (told, came)) all =
         subst (λ (it : State T). AllByRecursion Placed it.services) (sym came) all
@@ -71,10 +72,10 @@ module _ {T : Type 0} where
     step-placed (command.Close factory) old answer new h all =
         (closed-keeps Placed factory old answer new (closed factory old answer new h) all).0
     step-placed asked old answer new h all =
-        ports-placed asked old answer new (ports-move types IsDefault buffer asked old answer new refl h) all
+        ports-placed asked old answer new (ports-move types choices buffer asked old answer new refl h) all
 
     pub runs-placed : (asked : List (Command T)) (old : State T) (answers : List (Reply T)) (new : State T)
-        → Runs types IsDefault buffer asked old answers new → AllByRecursion Placed old.services → AllByRecursion Placed new.services
+        → Runs types choices buffer asked old answers new → AllByRecursion Placed old.services → AllByRecursion Placed new.services
     runs-placed [] old answers new run all = subst (λ (it : State T). AllByRecursion Placed it.services) (sym run.1) all
     runs-placed (one ∷ more) old answers new run all =
         runs-placed more run.1 run.2 new run.4 (step-placed one old run.0 run.1 run.3 all)

@@ -6,6 +6,7 @@ use Rattle.std.specs.Global.{Vec}
 use Rattle.std.specs.Option.{option_map_or}
 use Rattle.std.specs.Prelude.{◌==◌, nat_lt, is_some, find, MatchOption}
 use Rattle.std.specs.Vec.{vec_items}
+use Rattle.iox_machine.specs.Choices.{Choices}
 use Rattle.iox_machine.specs.Arriving.{PublisherArrives, SubscriberArrives, new_publisher, new_subscriber}
 use Rattle.iox_machine.specs.IndependenceLaws.{is_factory_of, is_of, is_first, asks}
 use Rattle.iox_machine.specs.Message.{Loan, Sample, is_written}
@@ -129,14 +130,14 @@ module _ {T : Type 0} where
     | inr w ↦ never-some one w.1
   ]
 
-  at-factory : (asked : Command T) (types : MessageTypeDetails) (IsDefault : T → Type 0) (buffer number : ℕ)
+  at-factory : (asked : Command T) (types : MessageTypeDetails) (choices : Choices T) (buffer number : ℕ)
       (Does : Service T → Reply T → Service T → Type 0)
       (old : State T) (answer : Reply T) (new : State T)
       → ((pattern : MessagingPattern) (name : List ℕ)
       → asks pattern name asked old ≡ option_map_or (is_factory_of pattern name) (at number old.factories) false)
       → ((service after : Service T) → Does service answer after → Kept old.made service answer after)
-      → AtFactory types IsDefault buffer number Does old answer new → IsBeside asked old answer new
-  at-factory asked types IsDefault buffer number Does old answer new so does h =
+      → AtFactory types choices buffer number Does old answer new → IsBeside asked old answer new
+  at-factory asked types choices buffer number Does old answer new so does h =
       elim (by-option (at number old.factories) (IsSkipped old answer new)
       (λ factory. AtOne (λ (service : Service T). cond (is_service_of factory service) (Some service) None)
       (λ (service : Service T). Does) old answer new) h) [
@@ -150,9 +151,9 @@ module _ {T : Type 0} where
             (λ one service after did. does service after did) w.2
       ]
 
-  module _ (types : MessageTypeDetails) (IsDefault : T → Type 0) (buffer : ℕ) where
+  module _ (types : MessageTypeDetails) (choices : Choices T) (buffer : ℕ) where
     pub ports-move : (asked : Command T) (old : State T) (answer : Reply T) (new : State T) → is_of_ports asked ≡ true
-        → Step types IsDefault buffer asked old answer new → IsBeside asked old answer new
+        → Step types choices buffer asked old answer new → IsBeside asked old answer new
     ports-move command.Node old answer new is h = absurd (differ is)
       where
         differ : false ≡ true → ⊥
@@ -178,14 +179,14 @@ module _ {T : Type 0} where
         differ : false ≡ true → ⊥
         differ e = cc
     ports-move (command.Publisher factory options) old answer new is h =
-        at-factory (command.Publisher factory options) types IsDefault buffer factory
+        at-factory (command.Publisher factory options) types choices buffer factory
         (λ (service : Service T). PublisherArrives (old.made.publishers + 1)
         (new_publisher factory options service.settings) service) old answer new (λ pattern name. refl)
         (λ service after did. publisher-arrives old.made service answer (old.made.publishers + 1)
         (new_publisher factory options service.settings)
         service after (itself old.made service) refl did) h
     ports-move (command.Subscriber factory options) old answer new is h =
-        at-factory (command.Subscriber factory options) types IsDefault buffer factory
+        at-factory (command.Subscriber factory options) types choices buffer factory
         (λ (service : Service T). SubscriberArrives buffer (old.made.subscribers + 1)
         (new_subscriber factory options service.settings) service) old answer new (λ pattern name. refl)
         (λ service after did. subscriber-arrives old.made service answer buffer (old.made.subscribers + 1)
@@ -221,17 +222,17 @@ module _ {T : Type 0} where
         (by-first (command.Drop loan) (λ (service : Service T). at loan service.loans) old (λ pattern name. refl))
         (λ one service after did. drops old.made service answer loan service after (itself old.made service) did) h
     ports-move (command.Send loan) old answer new is h =
-        moves (command.Send loan) (λ (service : Service T). at loan service.loans) (SendsLoan loan) old answer new
+        moves (command.Send loan) (λ (service : Service T). at loan service.loans) (SendsLoan choices loan) old answer new
         (by-first (command.Send loan) (λ (service : Service T). at loan service.loans) old (λ pattern name. refl))
-        (λ one service after did. sends-loan old.made service answer loan one service after (itself old.made service) did) h
+        (λ one service after did. sends-loan old.made service answer choices loan one service after (itself old.made service) did) h
     ports-move (command.Put publisher values) old answer new is h =
-        at-free (command.Put publisher values) publisher (Puts publisher values) old answer new (λ pattern name. refl)
-        (λ one service after did. puts old.made service answer publisher values one service after (itself old.made service) did) h
+        at-free (command.Put publisher values) publisher (Puts choices publisher values) old answer new (λ pattern name. refl)
+        (λ one service after did. puts old.made service answer choices publisher values one service after (itself old.made service) did) h
     ports-move (command.Retry publisher nanoseconds) old answer new is h =
         at-blocked (command.Retry publisher nanoseconds) publisher
-        (λ (one : Publisher T) (send : Send T). GoesOn publisher one
+        (λ (one : Publisher T) (send : Send T). GoesOn choices publisher one
         (record send { retries = send.retries + 1; elapsed = nanoseconds })) old answer new (λ pattern name. refl)
-        (λ one send service after did. goes-on old.made service answer publisher one
+        (λ one send service after did. goes-on old.made service answer choices publisher one
         (record send { retries = send.retries + 1; elapsed = nanoseconds }) service after (itself old.made service) did) h
     ports-move (command.GiveUp publisher) old answer new is h =
         at-blocked (command.GiveUp publisher) publisher
@@ -243,10 +244,10 @@ module _ {T : Type 0} where
         (publisher-turned old.made service answer publisher (record one { blocked = None }) service (itself old.made service)) did tt) h
     ports-move (command.Receive subscriber) old answer new is h =
         moves (command.Receive subscriber) (subscriber_in subscriber)
-        (subscribing.UpdatesFirst buffer subscriber (λ failure. refusal.Receive (receive_error.ConnectionFailure failure))
+        (subscribing.UpdatesFirst choices buffer subscriber (λ failure. refusal.Receive (receive_error.ConnectionFailure failure))
         (Receives subscriber (old.made.samples + 1))) old answer new
         (by-first (command.Receive subscriber) (subscriber_in subscriber) old (λ pattern name. refl))
-        (λ one service after did. subscriber-updates old.made service answer buffer subscriber
+        (λ one service after did. subscriber-updates old.made service answer choices buffer subscriber
         (λ failure. refusal.Receive (receive_error.ConnectionFailure failure)) (Receives subscriber (old.made.samples + 1)) one service
         after (itself old.made service)
         (λ next mid k took. receives old.made service answer subscriber (old.made.samples + 1) next mid after k refl took) did) h
@@ -263,19 +264,19 @@ module _ {T : Type 0} where
         (λ one service after did. releases old.made service answer sample one service after (itself old.made service) did) h
     ports-move (command.Update (port.Publisher number)) old answer new is h =
         at-free (command.Update (port.Publisher number)) number
-        (publishing.UpdatesFirst number refusal.Connection
+        (publishing.UpdatesFirst choices number refusal.Connection
         (λ (one : Publisher T) (service : Service T) (answered : Reply T) (after : Service T). (answered ≡ reply.Done) × (after ≡ service)))
         old answer new (λ pattern name. refl)
-        (λ one service after did. updates-first old.made service answer number refusal.Connection
+        (λ one service after did. updates-first old.made service answer choices number refusal.Connection
         (λ (it : Publisher T) (mid : Service T) (answered : Reply T) (end : Service T). (answered ≡ reply.Done) × (end ≡ mid)) one service
         after (itself old.made service)
         (λ it mid k done. ends old.made service answer reply.Done mid after k done tt) did) h
     ports-move (command.Update (port.Subscriber number)) old answer new is h =
         moves (command.Update (port.Subscriber number)) (subscriber_in number)
-        (subscribing.UpdatesFirst buffer number refusal.Connection
+        (subscribing.UpdatesFirst choices buffer number refusal.Connection
         (λ (one : Subscriber) (service : Service T) (answered : Reply T) (after : Service T). (answered ≡ reply.Done) × (after ≡ service)))
         old answer new (by-first (command.Update (port.Subscriber number)) (subscriber_in number) old (λ pattern name. refl))
-        (λ one service after did. subscriber-updates old.made service answer buffer number refusal.Connection
+        (λ one service after did. subscriber-updates old.made service answer choices buffer number refusal.Connection
         (λ (it : Subscriber) (mid : Service T) (answered : Reply T) (end : Service T). (answered ≡ reply.Done) × (end ≡ mid)) one service
         after (itself old.made service)
         (λ it mid k done. ends old.made service answer reply.Done mid after k done tt) did) h
@@ -296,11 +297,11 @@ module _ {T : Type 0} where
         (itself old.made service) did) h
     ports-move (command.Has subscriber) old answer new is h =
         moves (command.Has subscriber) (subscriber_in subscriber)
-        (subscribing.UpdatesFirst buffer subscriber refusal.Connection
+        (subscribing.UpdatesFirst choices buffer subscriber refusal.Connection
         (λ (one : Subscriber) (service : Service T) (answered : Reply T) (after : Service T).
         (answered ≡ reply.Has (has_samples subscriber one service))
         × (after ≡ service))) old answer new (by-first (command.Has subscriber) (subscriber_in subscriber) old (λ pattern name. refl))
-        (λ one service after did. subscriber-updates old.made service answer buffer subscriber refusal.Connection
+        (λ one service after did. subscriber-updates old.made service answer choices buffer subscriber refusal.Connection
         (λ (it : Subscriber) (mid : Service T) (answered : Reply T) (end : Service T).
         (answered ≡ reply.Has (has_samples subscriber it mid)) × (end ≡ mid)) one service after (itself old.made service)
         (λ it mid k done. ends old.made service answer (reply.Has (has_samples subscriber it mid)) mid after k done tt) did) h

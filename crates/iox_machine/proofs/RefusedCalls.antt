@@ -1,6 +1,7 @@
 -- A call that is refused changes nothing but the phase of its pattern and name.
 use Rattle.std.proofs.Common.{◌≡◌, ◌⊎◌, ◌+◌, ℕ, Bool, true, false, List, refl, ap, subst, inl, inr, ◌∙◌, true≢false}
 use Rattle.std.specs.Prelude.{fold, take}
+use Rattle.iox_machine.specs.Choices.{Choices}
 use Rattle.iox_machine.specs.Phase.{Phase, acted}
 use Rattle.iox_machine.specs.Run.{factory_of}
 use Rattle.iox_machine.specs.RunLaws.{RefusedCallsLeaveServices}
@@ -38,26 +39,26 @@ module _ {T : Type 0} where
   leaves-at one pattern other name old new patterns names h =
       subst (λ (it : MessagingPattern). Leaves it name old new) patterns (subst (λ (it : List ℕ). Leaves one it old new) names h)
 
-pub refused-calls-leave-services : {T : Type 0} (IsDefault : T → Type 0) → RefusedCallsLeaveServices IsDefault
-refused-calls-leave-services IsDefault types buffer pattern name (command.Create node other options attributes steps) old new why
+pub refused-calls-leave-services : {T : Type 0} (choices : Choices T) → RefusedCallsLeaveServices choices
+refused-calls-leave-services choices types buffer pattern name (command.Create node other options attributes steps) old new why
     (is, same) h =
     leaves-at (pattern_of options) pattern other name old new is same
     (negotiated-leaves (factory_of node other options) why old new
     (creates types steps (factory_of node other options) old (reply.Refused why) new options attributes h))
-refused-calls-leave-services IsDefault types buffer pattern name (command.Open node other options required steps) old new why (is, same) h =
+refused-calls-leave-services choices types buffer pattern name (command.Open node other options required steps) old new why (is, same) h =
     leaves-at (pattern_of options) pattern other name old new is same
     (negotiated-leaves (factory_of node other options) why old new
     (opens types steps (factory_of node other options) old (reply.Refused why) new options required h))
-refused-calls-leave-services IsDefault types buffer pattern name (command.OpenOrCreate node other options required steps) old new why
+refused-calls-leave-services choices types buffer pattern name (command.OpenOrCreate node other options required steps) old new why
     (is, same) h =
     leaves-at (pattern_of options) pattern other name old new is same
     (negotiated-leaves (factory_of node other options) why old new
     (opens-or-creates types steps (factory_of node other options) old (reply.Refused why) new options required h))
-refused-calls-leave-services IsDefault types buffer pattern name (command.Foreign one other steps) old new why
+refused-calls-leave-services choices types buffer pattern name (command.Foreign one other steps) old new why
     (is, same) (inl (told, came)) =
     never-refused why reply.Done refl told
-refused-calls-leave-services IsDefault types buffer pattern name (command.Foreign one other steps) old new why (is, same)
+refused-calls-leave-services choices types buffer pattern name (command.Foreign one other steps) old new why (is, same)
     (inr (done, few, (told, came))) =
     leaves-at one pattern other name old new is same
     (inr (fold (acted types one) (old.phases one other) (take done steps), came))
-refused-calls-leave-services IsDefault types buffer pattern name asked old new why never h = absurd never
+refused-calls-leave-services choices types buffer pattern name asked old new why never h = absurd never

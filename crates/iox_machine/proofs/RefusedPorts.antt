@@ -1,24 +1,24 @@
 -- What a refused call of a port leaves of a service.
-use Rattle.std.proofs.Common.{◌≡◌, ◌+◌, ℕ, Bool, true, false, cond, not, ◌&&◌, List, [], ◌∷◌, ◌++◌, length, Option, None, Some, refl, sym}
+use Rattle.std.proofs.Common.{◌≡◌, ◌+◌, ℕ, Bool, true, false, cond, not, ◌&&◌, List, length, Option, None, Some, refl, sym}
 use Rattle.std.proofs.Common.{ap, subst, inl, inr, ◌∙◌, true≢false}
 use Rattle.std.specs.Option.{option_map_or}
-use Rattle.std.specs.Prelude.{◌==◌, find, is_some, nat_lt, option_map, slice_get, MatchBool, MatchOption, MatchResult}
+use Rattle.std.specs.Prelude.{◌==◌, find, is_some, nat_lt, option_map, slice_get, MatchBool, MatchOption, zip}
+use Rattle.iox_machine.specs.Choices.{Choices}
+use Rattle.iox_machine.proofs.Delivering.{Outcomes, by-outcome}
 use Rattle.iox_machine.specs.Lending.{Lends, LendsLonger, loan_refusal}
-use Rattle.iox_machine.specs.Mailbox.{newest}
 use Rattle.iox_machine.specs.Message.{Loan, Message, is_written, sent_as}
 use Rattle.iox_machine.specs.PortList.{those}
 use Rattle.iox_machine.specs.Ports.{AtFree, Puts, SendsLoan, publisher_in, subscriber_in}
 use Rattle.iox_machine.specs.PublisherUpdate as publishing
-use Rattle.iox_machine.specs.PublisherUpdate.{update_answer}
 use Rattle.iox_machine.specs.Receiving.{Receives, has_samples, lasting}
 use Rattle.iox_machine.specs.RefusalLaws.{KeepsMessages, KeepsPorts, RefusedPortsLeave, loans_left, publisher_staying, subscriber_staying}
 use Rattle.iox_machine.specs.Replies.{IsRefused, IsSkipped}
-use Rattle.iox_machine.specs.Sending.{Begins, Sends, deliver}
-use Rattle.iox_machine.specs.Service.{Publisher, Send, Service, Subscriber, with_publisher, with_subscriber}
+use Rattle.iox_machine.specs.Sending.{Begins, Sends}
+use Rattle.iox_machine.specs.Service.{Publisher, Service, Subscriber, with_publisher, with_subscriber}
 use Rattle.iox_machine.specs.State.{AtOne, State, replaced}
 use Rattle.iox_machine.specs.SubscriberUpdate as subscribing
 use Rattle.iox_machine.specs.Table.{at, changed, contains, removed}
-use Rattle.iox_machine.proofs.Cases.{by-bool, by-option, by-result, same-some}
+use Rattle.iox_machine.proofs.Cases.{by-bool, by-option, same-some}
 use Rattle.iox_machine.proofs.Frames.{publisher-stands, soft-follows, subscriber-stands}
 use Rattle.iox_machine.proofs.Linking.{changed-view, reach, reach_of, subscriber_listed}
 use Rattle.iox_machine.proofs.Moving.{at-one}
@@ -64,17 +64,18 @@ module _ {T : Type 0} where
   left-refused why old mid answer new on refused = subst (Left old) (sym refused.1) on
 
   -- A publisher that was found does something after it brought its connections up to date, or is refused.
-  left-updates : (number : ℕ) (told : ConnectionFailure → Refusal) (Does : Publisher T → Service T → Reply T → Service T → Type 0)
+  left-updates : (choices : Choices T) (number : ℕ) (told : ConnectionFailure → Refusal)
+      (Does : Publisher T → Service T → Reply T → Service T → Type 0)
       (publisher : Publisher T) (old : Service T) (why : Refusal) (new : Service T) → at number old.publishers ≡ Some publisher
       → ((after : Publisher T) (mid : Service T) → Does after mid (reply.Refused why) new → ⊥)
-      → publishing.UpdatesFirst number told Does publisher old (reply.Refused why) new → Left old new
-  left-updates number told Does publisher old why new found never h =
+      → publishing.UpdatesFirst choices number told Does publisher old (reply.Refused why) new → Left old new
+  left-updates choices number told Does publisher old why new found never h =
       elim (by-bool (publisher.seen == old.subscriber_list.changes) (Does publisher old (reply.Refused why) new)
       ((after : Publisher T) × (mid : Service T) × publishing.Follows number publisher old after mid
-      × MatchResult (update_answer publisher.degradation old.subscriber_list.places after.connected)
+      × Outcomes (choices.publisher_acts number publisher.degradation) (zip old.subscriber_list.places after.connected)
       (λ done. Does after mid (reply.Refused why) new) (λ failure. IsRefused (told failure) mid (reply.Refused why) new)) h) [
         | inl w ↦ absurd (never publisher old w.1)
-        | inr w ↦ elim (by-result (update_answer publisher.degradation old.subscriber_list.places w.1.0.connected)
+        | inr w ↦ elim (by-outcome (choices.publisher_acts number publisher.degradation) (zip old.subscriber_list.places w.1.0.connected)
             (λ done. Does w.1.0 w.1.1 (reply.Refused why) new) (λ failure. IsRefused (told failure) w.1.1 (reply.Refused why) new) w.1.3) [
               | inl r ↦ absurd (never w.1.0 w.1.1 r.2)
               | inr r ↦ left-refused (told r.0) old w.1.1 (reply.Refused why) new (
@@ -85,22 +86,23 @@ module _ {T : Type 0} where
             ]
       ]
 
-  left-attends : (buffer number : ℕ) (told : ConnectionFailure → Refusal) (Does : Subscriber → Service T → Reply T → Service T → Type 0)
+  left-attends : (choices : Choices T) (buffer number : ℕ) (told : ConnectionFailure → Refusal)
+      (Does : Subscriber → Service T → Reply T → Service T → Type 0)
       (subscriber : Subscriber) (old : Service T) (answer : Reply T) (new : Service T) → at number old.subscribers ≡ Some subscriber
       → ((after : Subscriber) (mid : Service T) → Left old mid → at number mid.subscribers ≡ Some after → Does after mid answer new
       → Left old new)
-      → subscribing.UpdatesFirst buffer number told Does subscriber old answer new → Left old new
-  left-attends buffer number told Does subscriber old answer new found does h =
+      → subscribing.UpdatesFirst choices buffer number told Does subscriber old answer new → Left old new
+  left-attends choices buffer number told Does subscriber old answer new found does h =
       elim (by-bool ((subscriber.seen == old.publisher_list.changes) && not subscriber.again) (Does subscriber old answer new)
       ((after : Subscriber) × (mid : Service T) × subscribing.Follows buffer number subscriber old after mid
-      × MatchResult (update_answer subscriber.degradation old.publisher_list.places after.connected)
+      × Outcomes (choices.subscriber_acts number subscriber.degradation) (zip old.publisher_list.places after.connected)
       (λ done. Does after mid answer new) (λ failure. IsRefused (told failure) mid answer new)) h) [
         | inl w ↦ does subscriber old (left-same old) found w.1
         | inr w ↦ followed w.1.0 w.1.1 w.1.2 w.1.3
       ]
     where
       followed : (after : Subscriber) (mid : Service T) → subscribing.Follows buffer number subscriber old after mid
-          → MatchResult (update_answer subscriber.degradation old.publisher_list.places after.connected)
+          → Outcomes (choices.subscriber_acts number subscriber.degradation) (zip old.publisher_list.places after.connected)
           (λ done. Does after mid answer new) (λ failure. IsRefused (told failure) mid answer new) → Left old new
       followed after mid came told_so =
           let on : Left old mid = (
@@ -108,7 +110,7 @@ module _ {T : Type 0} where
             attended-ports buffer number subscriber old after mid found came,
             attended-messages buffer number subscriber old after mid found came,
           ) in
-          elim (by-result (update_answer subscriber.degradation old.publisher_list.places after.connected)
+          elim (by-outcome (choices.subscriber_acts number subscriber.degradation) (zip old.publisher_list.places after.connected)
           (λ done. Does after mid answer new) (λ failure. IsRefused (told failure) mid answer new) told_so) [
             | inl r ↦ does after mid on (soft-follows buffer number subscriber old after mid found came).1 r.2
             | inr r ↦ left-refused (told r.0) old mid answer new on r.2
@@ -127,14 +129,10 @@ module _ {T : Type 0} where
       differ e = cc
 
   -- a send that begins is refused since it couldn't deliver
-  never-begins : (why : Refusal) → (why ≡ refusal.Send error.UnableToDeliver → ⊥) → (number : ℕ) (message : Message T)
-      (publisher : Publisher T) (old new : Service T) → Begins number message publisher old (reply.Refused why) new → ⊥
-  never-begins why off number message publisher old new h =
-      let after : Send T × Service T =
-      deliver number (record publisher { history = newest old.settings.history_size (publisher.history ++ message ∷ []) })
-      (those publisher.connected)
-      (record { message = message; left = those publisher.connected; retries = 0; elapsed = 0; delivered = 0; fails = false }) old in
-      told (is_some (slice_get after.0.left 0)) after.0.fails after.0.delivered h.0
+  never-begins : (choices : Choices T) (why : Refusal) → (why ≡ refusal.Send error.UnableToDeliver → ⊥) → (number : ℕ) (message : Message T)
+      (publisher : Publisher T) (old new : Service T) → Begins choices number message publisher old (reply.Refused why) new → ⊥
+  never-begins choices why off number message publisher old new h =
+      told (is_some (slice_get h.0.left 0)) h.0.fails h.0.delivered h.3
     where
       told : (waits fails : Bool) (count : ℕ)
           → ◌≡◌ {A = Reply T} (reply.Refused why)
@@ -144,16 +142,18 @@ module _ {T : Type 0} where
           off (same-some why (refusal.Send error.UnableToDeliver) (ap tells_why same))
       told false false count same = never-told why (reply.Delivered count) same refl
 
-  left-sends : (why : Refusal) → (why ≡ refusal.Send error.UnableToDeliver → ⊥) → (number : ℕ) (message : Message T)
+  left-sends : (choices : Choices T) (why : Refusal) → (why ≡ refusal.Send error.UnableToDeliver → ⊥) → (number : ℕ) (message : Message T)
       (publisher : Publisher T) (old new : Service T) → at number old.publishers ≡ Some publisher
-      → Sends number message publisher old (reply.Refused why) new → Left old new
-  left-sends why off number message publisher old new found h =
+      → Sends choices number message publisher old (reply.Refused why) new → Left old new
+  left-sends choices why off number message publisher old new found h =
       elim (by-bool publisher.stands
-      (publishing.UpdatesFirst number (λ failure. refusal.Send (error.ConnectionError failure)) (Begins number message) publisher old
+      (publishing.UpdatesFirst choices number (λ failure. refusal.Send (error.ConnectionError failure)) (Begins choices number message)
+      publisher old
       (reply.Refused why) new)
       (IsRefused (refusal.Send error.ConnectionBrokenSinceSenderNoLongerExists) old (reply.Refused why) new) h) [
-        | inl w ↦ left-updates number (λ failure. refusal.Send (error.ConnectionError failure)) (Begins number message) publisher old why
-            new found (λ after mid begun. never-begins why off number message after mid new begun) w.1
+        | inl w ↦ left-updates choices number (λ failure. refusal.Send (error.ConnectionError failure)) (Begins choices number message)
+            publisher old why
+            new found (λ after mid begun. never-begins choices why off number message after mid new begun) w.1
         | inr w ↦ left-refused (refusal.Send error.ConnectionBrokenSinceSenderNoLongerExists) old old (reply.Refused why) new
             (left-same old) w.1
       ]
@@ -217,14 +217,14 @@ module _ {T : Type 0} where
           (changed-view (λ (one : Publisher T). one.connected) number p publisher after old.publishers found same)
           ∙ sym (reach-connected s (at p old.publishers)))
 
-  left-puts : (why : Refusal) → (why ≡ refusal.Send error.UnableToDeliver → ⊥) → (number : ℕ) (values : List T)
+  left-puts : (choices : Choices T) (why : Refusal) → (why ≡ refusal.Send error.UnableToDeliver → ⊥) → (number : ℕ) (values : List T)
       (publisher : Publisher T) (old new : Service T) → at number old.publishers ≡ Some publisher
-      → Puts number values publisher old (reply.Refused why) new → Left old new
-  left-puts why off number values publisher old new found (Some reason, after, lent, refused) =
+      → Puts choices number values publisher old (reply.Refused why) new → Left old new
+  left-puts choices why off number values publisher old new found (Some reason, after, lent, refused) =
       left-refused (refusal.Send (error.LoanError reason)) old old (reply.Refused why) new (left-same old) refused
-  left-puts why off number values publisher old new found (None, after, lent, sent) =
+  left-puts choices why off number values publisher old new found (None, after, lent, sent) =
       left-lent number publisher after old new found (lends-alike number (length values) publisher old None after lent)
-      (left-sends why off number (record { number = publisher.next; values = values }) after (with_publisher number after old) new
+      (left-sends choices why off number (record { number = publisher.next; values = values }) after (with_publisher number after old) new
       (at-changed number after publisher old.publishers found) sent)
 
   -- ---- the commands
@@ -263,18 +263,18 @@ module _ {T : Type 0} where
         | inr w ↦ never-told why reply.Skipped w.2.0 refl
       ]) h
 
-  leaves-subscriber : (asked : Command T) (buffer number : ℕ) (told : ConnectionFailure → Refusal)
+  leaves-subscriber : (choices : Choices T) (asked : Command T) (buffer number : ℕ) (told : ConnectionFailure → Refusal)
       (Does : Subscriber → Service T → Reply T → Service T → Type 0) (old : State T) (why : Refusal) (new : State T)
       → ((service : Service T) → loans_left asked service.loans ≡ service.loans)
       → ((one : Subscriber) (service mid after : Service T) → Left service mid → at number mid.subscribers ≡ Some one
       → Does one mid (reply.Refused why) after → Left service after)
-      → AtOne (subscriber_in number) (subscribing.UpdatesFirst buffer number told Does) old (reply.Refused why) new
+      → AtOne (subscriber_in number) (subscribing.UpdatesFirst choices buffer number told Does) old (reply.Refused why) new
       → Leaves (λ (other : Service T). is_some (subscriber_in number other)) asked old new
-  leaves-subscriber asked buffer number told Does old why new same does h =
-      leaves-at asked (subscriber_in number) (subscribing.UpdatesFirst buffer number told Does) old why new
+  leaves-subscriber choices asked buffer number told Does old why new same does h =
+      leaves-at asked (subscriber_in number) (subscribing.UpdatesFirst choices buffer number told Does) old why new
       (λ one service after is did.
       let left : Left service after =
-      left-attends buffer number told Does one service (reply.Refused why) after (subscriber-stands number service one is).0
+      left-attends choices buffer number told Does one service (reply.Refused why) after (subscriber-stands number service one is).0
       (λ then mid on found done. does then service mid after on found done) did in
       (left.0 ∙ sym (same service), left.1, left.2)) h
 
@@ -302,51 +302,54 @@ module _ {T : Type 0} where
   never-done : (why : Refusal) (after mid : Service T) → ◌≡◌ {A = Reply T} (reply.Refused why) reply.Done × (after ≡ mid) → ⊥
   never-done why after mid h = never-told why reply.Done h.0 refl
 
-pub refused-ports-leave : {T : Type 0} (IsDefault : T → Type 0) → RefusedPortsLeave IsDefault
-refused-ports-leave {T} IsDefault types buffer (command.Send loan) old new why is off h =
-    leaves-at (command.Send loan) (λ (service : Service T). at loan service.loans) (SendsLoan loan) old why new
+pub refused-ports-leave : {T : Type 0} (choices : Choices T) → RefusedPortsLeave choices
+refused-ports-leave {T} choices types buffer (command.Send loan) old new why is off h =
+    leaves-at (command.Send loan) (λ (service : Service T). at loan service.loans) (SendsLoan choices loan) old why new
     (λ one service after found did. sent one service after did) h
   where
-    sent : (one : Loan T) (service after : Service T) → SendsLoan loan one service (reply.Refused why) after
+    sent : (one : Loan T) (service after : Service T) → SendsLoan choices loan one service (reply.Refused why) after
         → (after.loans ≡ removed loan service.loans) × KeepsPorts service after × KeepsMessages service after
     sent one service after did =
         elim (by-option (at one.publisher service.publishers) (IsSkipped service (reply.Refused why) after)
         (λ publisher. MatchBool (is_written one && not (is_some publisher.blocked))
-        (Sends one.publisher (sent_as one) publisher (record service { loans = removed loan service.loans }) (reply.Refused why) after)
+        (Sends choices one.publisher (sent_as one) publisher (record service { loans = removed loan service.loans }) (reply.Refused why)
+        after)
         (IsSkipped service (reply.Refused why) after)) did) [
           | inl w ↦ never-told why reply.Skipped w.1.0 refl
           | inr w ↦ elim (by-bool (is_written one && not (is_some w.0.blocked))
-              (Sends one.publisher (sent_as one) w.0 (record service { loans = removed loan service.loans }) (reply.Refused why) after)
+              (Sends choices one.publisher (sent_as one) w.0 (record service { loans = removed loan service.loans }) (reply.Refused why)
+              after)
               (IsSkipped service (reply.Refused why) after) w.2) [
-                | inl k ↦ left-sends why off one.publisher (sent_as one) w.0 (record service { loans = removed loan service.loans }) after
+                | inl k ↦ left-sends choices why off one.publisher (sent_as one) w.0
+                    (record service { loans = removed loan service.loans }) after
                     w.1 k.1
                 | inr k ↦ never-told why reply.Skipped k.1.0 refl
               ]
         ]
-refused-ports-leave IsDefault types buffer (command.Put publisher values) old new why is off h =
-    leaves-free (command.Put publisher values) publisher (Puts publisher values) old why new
-    (λ one service after found did. left-puts why off publisher values one service after found did) h
-refused-ports-leave IsDefault types buffer (command.Receive subscriber) old new why is off h =
-    leaves-subscriber (command.Receive subscriber) buffer subscriber
+refused-ports-leave choices types buffer (command.Put publisher values) old new why is off h =
+    leaves-free (command.Put publisher values) publisher (Puts choices publisher values) old why new
+    (λ one service after found did. left-puts choices why off publisher values one service after found did) h
+refused-ports-leave choices types buffer (command.Receive subscriber) old new why is off h =
+    leaves-subscriber choices (command.Receive subscriber) buffer subscriber
     (λ failure. refusal.Receive (receive_error.ConnectionFailure failure)) (Receives subscriber (old.made.samples + 1)) old why new
     (λ service. refl)
     (λ one service mid after on found did. left-receives subscriber (old.made.samples + 1) one service mid why after on found did) h
-refused-ports-leave {T} IsDefault types buffer (command.Update (port.Publisher number)) old new why is off h =
+refused-ports-leave {T} choices types buffer (command.Update (port.Publisher number)) old new why is off h =
     leaves-free (command.Update (port.Publisher number)) number
-    (publishing.UpdatesFirst number refusal.Connection
+    (publishing.UpdatesFirst choices number refusal.Connection
     (λ (one : Publisher T) (service : Service T) (answered : Reply T) (after : Service T). (answered ≡ reply.Done) × (after ≡ service)))
     old why new
-    (λ one service after found did. left-updates number refusal.Connection
+    (λ one service after found did. left-updates choices number refusal.Connection
     (λ (it : Publisher T) (mid : Service T) (answered : Reply T) (end : Service T). (answered ≡ reply.Done) × (end ≡ mid)) one service why
     after found (λ then mid done. never-done why after mid done) did) h
-refused-ports-leave {T} IsDefault types buffer (command.Update (port.Subscriber number)) old new why is off h =
-    leaves-subscriber (command.Update (port.Subscriber number)) buffer number refusal.Connection
+refused-ports-leave {T} choices types buffer (command.Update (port.Subscriber number)) old new why is off h =
+    leaves-subscriber choices (command.Update (port.Subscriber number)) buffer number refusal.Connection
     (λ (one : Subscriber) (service : Service T) (answered : Reply T) (after : Service T). (answered ≡ reply.Done) × (after ≡ service))
     old why new (λ service. refl) (λ one service mid after on found done. absurd (never-done why after mid done)) h
-refused-ports-leave {T} IsDefault types buffer (command.Has subscriber) old new why is off h =
-    leaves-subscriber (command.Has subscriber) buffer subscriber refusal.Connection
+refused-ports-leave {T} choices types buffer (command.Has subscriber) old new why is off h =
+    leaves-subscriber choices (command.Has subscriber) buffer subscriber refusal.Connection
     (λ (one : Subscriber) (service : Service T) (answered : Reply T) (after : Service T).
     (answered ≡ reply.Has (has_samples subscriber one service)) × (after ≡ service))
     old why new (λ service. refl)
     (λ one service mid after on found done. never-told why (reply.Has (has_samples subscriber one mid)) done.0 refl) h
-refused-ports-leave IsDefault types buffer asked old new why is off h = absurd (true≢false (sym is))
+refused-ports-leave choices types buffer asked old new why is off h = absurd (true≢false (sym is))

@@ -2,6 +2,7 @@
 use Rattle.std.proofs.Common.{◌≡◌, ◌⊎◌, ◌+◌, ℕ, Bool, true, false, cond, List, [], ◌∷◌, ◌++◌, Option, None, Some, refl, ap, inl, inr, ◌∙◌}
 use Rattle.std.specs.Prelude.{nat_lt, nat_le, is_some, slice_get, MatchBool, MatchOption, ◌||◌, ◌^◌}
 use Rattle.std.specs.List.{list_all}
+use Rattle.iox_machine.specs.Choices.{Choices}
 use Rattle.iox_machine.specs.Arriving.{PublisherArrives, SubscriberArrives, new_publisher, new_subscriber, worst_case}
 use Rattle.iox_machine.specs.PortList.{registered}
 use Rattle.iox_machine.specs.Ports.{AtFree, publisher_in, LendsLoan}
@@ -171,10 +172,10 @@ module _ {T : Type 0} (reason : Refusal) where
   closed-refused number old new (inr (inl refused)) = refused.1
   closed-refused number old new (inr (inr (factory, found, unused, told, came))) = never reply.Done told refl
 
-  module _ (types : MessageTypeDetails) (IsDefault : T → Type 0) (buffer : ℕ) where
+  module _ (types : MessageTypeDetails) (choices : Choices T) (buffer : ℕ) where
     at-factory-refused : (number : ℕ) (Does : Service T → Reply T → Service T → Type 0) (old new : State T)
         → ((service after : Service T) → Does service refused_so after → after ≡ service)
-        → AtFactory types IsDefault buffer number Does old refused_so new → new ≡ old
+        → AtFactory types choices buffer number Does old refused_so new → new ≡ old
     at-factory-refused number Does old new does h =
         elim (by-option (at number old.factories) (IsSkipped old refused_so new)
         (λ factory. AtOne (λ (service : Service T). cond (is_service_of factory service) (Some service) None)
@@ -190,7 +191,7 @@ module _ {T : Type 0} (reason : Refusal) where
     differ e = cc
 
     step-refused : (asked : Command T) (old new : State T) → is_refused_whole asked ≡ true
-        → Step types IsDefault buffer asked old refused_so new → new ≡ old
+        → Step types choices buffer asked old refused_so new → new ≡ old
     step-refused command.Node old new whole (inl (told, came)) = never (reply.NodeMade (old.made.nodes + 1)) told refl
     step-refused command.Node old new whole (inr refused) = refused.1
     step-refused (command.Close factory) old new whole h = closed-refused factory old new (closed factory old refused_so new h)
@@ -231,6 +232,6 @@ module _ {T : Type 0} (reason : Refusal) where
     step-refused (command.Leave which) old new whole h = absurd (differ whole)
     step-refused (command.Has subscriber) old new whole h = absurd (differ whole)
 
-pub refused-changes-nothing : {T : Type 0} (IsDefault : T → Type 0) → RefusedChangesNothing IsDefault
-refused-changes-nothing IsDefault types buffer asked old new reason whole h =
-    step-refused reason types IsDefault buffer asked old new whole h
+pub refused-changes-nothing : {T : Type 0} (choices : Choices T) → RefusedChangesNothing choices
+refused-changes-nothing choices types buffer asked old new reason whole h =
+    step-refused reason types choices buffer asked old new whole h

@@ -3,10 +3,12 @@ use Rattle.std.proofs.Common.{◌≡◌, ℕ, Bool, true, false, cond, not, ◌&
 use Rattle.std.proofs.Common.{true≢false}
 use Rattle.std.proofs.lemmas.Bool.{eqb-true, eq-eqb, ne_eqb}
 use Rattle.std.specs.Prelude.{◌==◌, find, option_map, is_some, unwrap_or}
+use Rattle.iox_machine.specs.Choices.{Choices}
 use Rattle.iox_machine.specs.Mailbox.{Mailbox}
 use Rattle.iox_machine.specs.Message.{Loan, Sample}
 use Rattle.iox_machine.specs.Renaming.{Renaming, renamed_reply}
-use Rattle.iox_machine.specs.Renumbering.{AreRenumbered, renumbered_list, renumbered_loan, renumbered_publisher, renumbered_sample}
+use Rattle.iox_machine.specs.Renumbering.{renumbered_choices, AreRenumbered, renumbered_list, renumbered_loan, renumbered_publisher}
+use Rattle.iox_machine.specs.Renumbering.{renumbered_sample}
 use Rattle.iox_machine.specs.Renumbering.{renumbered_send, renumbered_subscriber}
 use Rattle.iox_machine.specs.Replies.{IsSkipped, IsRefused}
 use Rattle.iox_machine.specs.PortList.{PortList, those, unless, left}
@@ -133,6 +135,10 @@ module _ {T : Type 0} (by : Numberings) where
   -- the reply that tells the other number
   abbrev pub other_reply : Reply T → Reply T
   other_reply answer = renamed_reply (renaming_of by) answer
+
+  -- what may be chosen for ports by their other numbers
+  abbrev pub other_choices : Choices T → Choices T
+  other_choices choices = renumbered_choices (renaming_of by) choices
 
   pub refused-by : {S : Type 0} (f : S → S) (why : Refusal) (old : S) (answer : Reply T) (new : S) → IsRefused why old answer new
       → IsRefused why (f old) (other_reply answer) (f new)

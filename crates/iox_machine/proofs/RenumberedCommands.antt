@@ -3,6 +3,7 @@ use Rattle.std.proofs.Common.{◌≡◌, ◌+◌, ℕ, ◌&&◌, length, map, se
 use Rattle.std.specs.Global.{Vec}
 use Rattle.std.specs.Prelude.{◌==◌, nat_le, nat_lt}
 use Rattle.std.specs.Vec.{vec_items}
+use Rattle.iox_machine.specs.Choices.{Choices}
 use Rattle.iox_machine.specs.Arriving.{PublisherArrives, SubscriberArrives, new_publisher, new_subscriber}
 use Rattle.iox_machine.specs.Asked.{settings_of}
 use Rattle.iox_machine.specs.Agreement.{unfit}
@@ -24,7 +25,7 @@ use Rattle.iox_machine.specs.Table.{removed}
 use Rattle.iox_machine.proofs.Kept.{IsNext}
 use Rattle.iox_machine.proofs.Mapped.{over-bool}
 use Rattle.iox_machine.proofs.Unfit.{over-fitness}
-use Rattle.iox_machine.proofs.Renumbered.{Numberings, renaming_of, other_reply, other_service}
+use Rattle.iox_machine.proofs.Renumbered.{other_choices, Numberings, renaming_of, other_reply, other_service}
 use Rattle.iox_machine.proofs.RenumberedPorts.{lends-loan-by, puts-by, drops-by, sends-loan-by, writes-by, releases-by, turns-by}
 use Rattle.iox_machine.proofs.RenumberedPorts.{publisher-leaves-by, subscriber-leaves-by, publisher-arrives-by, subscriber-arrives-by}
 use Rattle.iox_machine.proofs.RenumberedPublishers.{updates-by, goes-on-by}
@@ -44,7 +45,7 @@ use Rattle.iox_command.specs.declared.refusal.Refusal.TheVariants as refusal
 use Rattle.iox_command.specs.declared.reply.Reply.{Reply}
 use Rattle.iox_command.specs.declared.reply.Reply.TheVariants as reply
 
-module _ {T : Type 0} (by : Numberings) (types : MessageTypeDetails) (IsDefault : T → Type 0) (buffer : ℕ) (made : Made) where
+module _ {T : Type 0} (by : Numberings) (types : MessageTypeDetails) (choices : Choices T) (buffer : ℕ) (made : Made) where
   -- What is told is the next number, by its other number.
   told-next : (answer told : Reply T) → IsNext made (other_reply by answer) → answer ≡ told → IsNext made (other_reply by told)
   told-next answer told next same = subst (λ (it : Reply T). IsNext made (other_reply by it)) same next
@@ -55,8 +56,8 @@ module _ {T : Type 0} (by : Numberings) (types : MessageTypeDetails) (IsDefault 
   done-by answer service after (told, same) = (ap (other_reply by) told, ap (other_service by) same)
 
   pub step-by : (asked : Command T) (old : State T) (answer : Reply T) (new : State T)
-      → made.nodes ≡ old.made.nodes → IsNext made (other_reply by answer) → Step types IsDefault buffer asked old answer new
-      → Step types IsDefault buffer (renamed (renaming_of by) asked) (other_state by made old) (other_reply by answer)
+      → made.nodes ≡ old.made.nodes → IsNext made (other_reply by answer) → Step types choices buffer asked old answer new
+      → Step types (other_choices by choices) buffer (renamed (renaming_of by) asked) (other_state by made old) (other_reply by answer)
       (other_end by made answer new)
   step-by command.Node old answer new nodes next (inl (told, came)) =
       inl (
@@ -80,14 +81,14 @@ module _ {T : Type 0} (by : Numberings) (types : MessageTypeDetails) (IsDefault 
   step-by (command.Foreign pattern name steps) old answer new nodes next h = acts-by by made types pattern name steps old answer new h
   step-by (command.Close factory) old answer new nodes next h = closes-by by made factory old answer new h
   step-by (command.Publisher factory options) old answer new nodes next h =
-      at-factory-by by made types IsDefault buffer factory
+      at-factory-by by made types choices buffer factory
       (λ (service : Service T). PublisherArrives (old.made.publishers + 1) (new_publisher factory options service.settings) service)
       (λ (service : Service T). PublisherArrives (made.publishers + 1)
       (new_publisher (by.factories.to factory) options service.settings) service) old answer new
       (λ service after did. publisher-arrives-by by (old.made.publishers + 1) (made.publishers + 1) factory options service answer after
       (told-next answer (reply.PublisherMade (old.made.publishers + 1)) next) did) h
   step-by (command.Subscriber factory options) old answer new nodes next h =
-      at-factory-by by made types IsDefault buffer factory
+      at-factory-by by made types choices buffer factory
       (λ (service : Service T). SubscriberArrives buffer (old.made.subscribers + 1)
       (new_subscriber factory options service.settings) service)
       (λ (service : Service T). SubscriberArrives buffer (made.subscribers + 1)
@@ -126,17 +127,20 @@ module _ {T : Type 0} (by : Numberings) (types : MessageTypeDetails) (IsDefault 
       × (after ≡ record service { loans = removed (by.loans.to loan) service.loans })) old answer new
       (λ one service after did. drops-by by loan service answer after did) h
   step-by (command.Send loan) old answer new nodes next h =
-      at-loan-by by made loan (SendsLoan loan) (SendsLoan (by.loans.to loan)) old answer new
-      (λ one service after did. sends-loan-by by loan one service answer after did) h
+      at-loan-by by made loan (SendsLoan choices loan) (SendsLoan (other_choices by choices) (by.loans.to loan)) old answer new
+      (λ one service after did. sends-loan-by by choices loan one service answer after did) h
   step-by (command.Put publisher values) old answer new nodes next h =
-      at-free-by by made publisher (Puts publisher values) (Puts (by.publishers.to publisher) values) old answer new
-      (λ one service after did. puts-by by publisher values one service answer after did) h
+      at-free-by by made publisher (Puts choices publisher values) (Puts (other_choices by choices) (by.publishers.to publisher) values)
+      old answer new
+      (λ one service after did. puts-by by choices publisher values one service answer after did) h
   step-by (command.Retry publisher nanoseconds) old answer new nodes next h =
       at-blocked-by by made publisher
-      (λ (one : Publisher T) (send : Send T). GoesOn publisher one (record send { retries = send.retries + 1; elapsed = nanoseconds }))
-      (λ (one : Publisher T) (send : Send T). GoesOn (by.publishers.to publisher) one
+      (λ (one : Publisher T) (send : Send T). GoesOn choices publisher one
+      (record send { retries = send.retries + 1; elapsed = nanoseconds }))
+      (λ (one : Publisher T) (send : Send T). GoesOn (other_choices by choices) (by.publishers.to publisher) one
       (record send { retries = send.retries + 1; elapsed = nanoseconds })) old answer new
-      (λ one send service after did. goes-on-by by publisher one (record send { retries = send.retries + 1; elapsed = nanoseconds }) service
+      (λ one send service after did. goes-on-by by choices publisher one
+      (record send { retries = send.retries + 1; elapsed = nanoseconds }) service
       answer after did) h
   step-by (command.GiveUp publisher) old answer new nodes next h =
       at-blocked-by by made publisher
@@ -149,12 +153,12 @@ module _ {T : Type 0} (by : Numberings) (types : MessageTypeDetails) (IsDefault 
       after did) h
   step-by (command.Receive subscriber) old answer new nodes next h =
       at-subscriber-by by made subscriber
-      (subscribing.UpdatesFirst buffer subscriber (λ failure. refusal.Receive (receive_error.ConnectionFailure failure))
+      (subscribing.UpdatesFirst choices buffer subscriber (λ failure. refusal.Receive (receive_error.ConnectionFailure failure))
       (Receives subscriber (old.made.samples + 1)))
-      (subscribing.UpdatesFirst buffer (by.subscribers.to subscriber)
+      (subscribing.UpdatesFirst (other_choices by choices) buffer (by.subscribers.to subscriber)
       (λ failure. refusal.Receive (receive_error.ConnectionFailure failure))
       (Receives (by.subscribers.to subscriber) (made.samples + 1))) old answer new
-      (λ one service after did. subscriber-updates-by by buffer subscriber
+      (λ one service after did. subscriber-updates-by by choices buffer subscriber
       (λ failure. refusal.Receive (receive_error.ConnectionFailure failure)) (Receives subscriber (old.made.samples + 1))
       (Receives (by.subscribers.to subscriber) (made.samples + 1)) one service answer after
       (λ it mid took. receives-by by subscriber (old.made.samples + 1) (made.samples + 1) it mid answer after
@@ -171,23 +175,23 @@ module _ {T : Type 0} (by : Numberings) (types : MessageTypeDetails) (IsDefault 
       (λ one service after did. releases-by by sample one service answer after did) h
   step-by (command.Update (port.Publisher number)) old answer new nodes next h =
       at-free-by by made number
-      (publishing.UpdatesFirst number refusal.Connection
+      (publishing.UpdatesFirst choices number refusal.Connection
       (λ (one : Publisher T) (service : Service T) (answered : Reply T) (after : Service T). (answered ≡ reply.Done) × (after ≡ service)))
-      (publishing.UpdatesFirst (by.publishers.to number) refusal.Connection
+      (publishing.UpdatesFirst (other_choices by choices) (by.publishers.to number) refusal.Connection
       (λ (one : Publisher T) (service : Service T) (answered : Reply T) (after : Service T). (answered ≡ reply.Done) × (after ≡ service)))
       old answer new
-      (λ one service after did. updates-by by number refusal.Connection
+      (λ one service after did. updates-by by choices number refusal.Connection
       (λ (it : Publisher T) (mid : Service T) (answered : Reply T) (end : Service T). (answered ≡ reply.Done) × (end ≡ mid))
       (λ (it : Publisher T) (mid : Service T) (answered : Reply T) (end : Service T). (answered ≡ reply.Done) × (end ≡ mid)) one service
       answer after (λ it mid done. done-by answer mid after done) did) h
   step-by (command.Update (port.Subscriber number)) old answer new nodes next h =
       at-subscriber-by by made number
-      (subscribing.UpdatesFirst buffer number refusal.Connection
+      (subscribing.UpdatesFirst choices buffer number refusal.Connection
       (λ (one : Subscriber) (service : Service T) (answered : Reply T) (after : Service T). (answered ≡ reply.Done) × (after ≡ service)))
-      (subscribing.UpdatesFirst buffer (by.subscribers.to number) refusal.Connection
+      (subscribing.UpdatesFirst (other_choices by choices) buffer (by.subscribers.to number) refusal.Connection
       (λ (one : Subscriber) (service : Service T) (answered : Reply T) (after : Service T). (answered ≡ reply.Done) × (after ≡ service)))
       old answer new
-      (λ one service after did. subscriber-updates-by by buffer number refusal.Connection
+      (λ one service after did. subscriber-updates-by by choices buffer number refusal.Connection
       (λ (it : Subscriber) (mid : Service T) (answered : Reply T) (end : Service T). (answered ≡ reply.Done) × (end ≡ mid))
       (λ (it : Subscriber) (mid : Service T) (answered : Reply T) (end : Service T). (answered ≡ reply.Done) × (end ≡ mid)) one service
       answer after (λ it mid done. done-by answer mid after done) did) h
@@ -211,13 +215,13 @@ module _ {T : Type 0} (by : Numberings) (types : MessageTypeDetails) (IsDefault 
       (λ one service after did. subscriber-leaves-by by number one service answer after did) h
   step-by (command.Has subscriber) old answer new nodes next h =
       at-subscriber-by by made subscriber
-      (subscribing.UpdatesFirst buffer subscriber refusal.Connection
+      (subscribing.UpdatesFirst choices buffer subscriber refusal.Connection
       (λ (one : Subscriber) (service : Service T) (answered : Reply T) (after : Service T).
       (answered ≡ reply.Has (has_samples subscriber one service)) × (after ≡ service)))
-      (subscribing.UpdatesFirst buffer (by.subscribers.to subscriber) refusal.Connection
+      (subscribing.UpdatesFirst (other_choices by choices) buffer (by.subscribers.to subscriber) refusal.Connection
       (λ (one : Subscriber) (service : Service T) (answered : Reply T) (after : Service T).
       (answered ≡ reply.Has (has_samples (by.subscribers.to subscriber) one service)) × (after ≡ service))) old answer new
-      (λ one service after did. subscriber-updates-by by buffer subscriber refusal.Connection
+      (λ one service after did. subscriber-updates-by by choices buffer subscriber refusal.Connection
       (λ (it : Subscriber) (mid : Service T) (answered : Reply T) (end : Service T).
       (answered ≡ reply.Has (has_samples subscriber it mid)) × (end ≡ mid))
       (λ (it : Subscriber) (mid : Service T) (answered : Reply T) (end : Service T).

@@ -4,6 +4,7 @@ use Rattle.std.proofs.Common.{refl, sym, ap, ap₂, subst, inl, inr, ◌∙◌}
 use Rattle.std.proofs.lemmas.List.{map-append, map-set}
 use Rattle.std.specs.List.{list_all}
 use Rattle.std.specs.Prelude.{nat_lt, nat_le, option_map, is_some, slice_get, replicate, MatchBool}
+use Rattle.iox_machine.specs.Choices.{Choices}
 use Rattle.iox_machine.specs.Arriving.{worst_case, new_publisher, new_subscriber, PublisherArrives, SubscriberArrives}
 use Rattle.iox_machine.specs.Mailbox.{Mailbox, given_back}
 use Rattle.iox_machine.specs.Message.{Loan, Sample, is_written, sent_as}
@@ -17,7 +18,8 @@ use Rattle.iox_machine.specs.SubscriberUpdate as subscribing
 use Rattle.iox_machine.specs.Table.{at, removed}
 use Rattle.iox_machine.proofs.Mapped.{all-by, get-by, replicate-by, some-by, over-bool, over-option}
 use Rattle.iox_machine.proofs.Renumbered.{Numbering, Numberings, placed, listed, left-by, at-by, changed-by, removed-by, other_subscriber}
-use Rattle.iox_machine.proofs.Renumbered.{subscriber_entry, other_reply, refused-by, skipped-by, other_send, other_publisher, other_loan}
+use Rattle.iox_machine.proofs.Renumbered.{other_choices, subscriber_entry, other_reply, refused-by, skipped-by, other_send}
+use Rattle.iox_machine.proofs.Renumbered.{other_publisher, other_loan}
 use Rattle.iox_machine.proofs.Renumbered.{other_sample, publisher_entry, loan_entry, other_service, publisher-by, subscriber-by}
 use Rattle.iox_machine.proofs.Renumbered.{mailbox-by, boxed-by}
 use Rattle.iox_machine.proofs.RenumberedPublishers.{follows-by, sends-by, lends-by}
@@ -92,19 +94,23 @@ module _ {T : Type 0} (by : Numberings) where
     refused-by by (other_service by) (refusal.Loan why) old answer new refused,
   )
 
-  pub puts-by : (number : ℕ) (values : List T) (publisher : Publisher T) (old : Service T) (answer : Reply T) (new : Service T)
-      → Puts number values publisher old answer new
-      → Puts (by.publishers.to number) values (other_publisher by publisher) (other_service by old) (other_reply by answer)
+  pub puts-by : (choices : Choices T) (number : ℕ) (values : List T) (publisher : Publisher T) (old : Service T) (answer : Reply T)
+      (new : Service T)
+      → Puts choices number values publisher old answer new
+      → Puts (other_choices by choices) (by.publishers.to number) values (other_publisher by publisher) (other_service by old)
+      (other_reply by answer)
       (other_service by new)
-  puts-by number values publisher old answer new (None, after, lent, sent) = (
+  puts-by choices number values publisher old answer new (None, after, lent, sent) = (
     None,
     other_publisher by after,
     lends-by by number (length values) publisher old None after lent,
-    subst (λ (service : Service T). Sends (by.publishers.to number) (record { number = publisher.next; values = values })
+    subst (λ (service : Service T). Sends (other_choices by choices) (by.publishers.to number)
+        (record { number = publisher.next; values = values })
         (other_publisher by after) service (other_reply by answer) (other_service by new)) (sym (publisher-by by number after old))
-        (sends-by by number (record { number = publisher.next; values = values }) after (with_publisher number after old) answer new sent),
+        (sends-by by choices number (record { number = publisher.next; values = values }) after (with_publisher number after old) answer
+        new sent),
   )
-  puts-by number values publisher old answer new (Some why, after, lent, refused) = (
+  puts-by choices number values publisher old answer new (Some why, after, lent, refused) = (
     Some why,
     other_publisher by after,
     lends-by by number (length values) publisher old (Some why) after lent,
@@ -126,13 +132,14 @@ module _ {T : Type 0} (by : Numberings) where
   drops-by number old answer new (told, came) =
       (ap (other_reply by) told, ap (other_service by) came ∙ sym (without-loan number old))
 
-  pub sends-loan-by : (number : ℕ) (loan : Loan T) (old : Service T) (answer : Reply T) (new : Service T)
-      → SendsLoan number loan old answer new
-      → SendsLoan (by.loans.to number) (other_loan by loan) (other_service by old) (other_reply by answer) (other_service by new)
-  sends-loan-by number loan old answer new h =
+  pub sends-loan-by : (choices : Choices T) (number : ℕ) (loan : Loan T) (old : Service T) (answer : Reply T) (new : Service T)
+      → SendsLoan choices number loan old answer new
+      → SendsLoan (other_choices by choices) (by.loans.to number) (other_loan by loan) (other_service by old) (other_reply by answer)
+      (other_service by new)
+  sends-loan-by choices number loan old answer new h =
       over-option
       (λ (publisher : Publisher T). MatchBool (is_written loan && not (is_some publisher.blocked))
-      (Sends (by.publishers.to loan.publisher) (sent_as loan) publisher
+      (Sends (other_choices by choices) (by.publishers.to loan.publisher) (sent_as loan) publisher
       (record (other_service by old) { loans = removed (by.loans.to number) (map (loan_entry by) old.loans) }) (other_reply by answer)
       (other_service by new))
       (IsSkipped (other_service by old) (other_reply by answer) (other_service by new)))
@@ -146,14 +153,15 @@ module _ {T : Type 0} (by : Numberings) where
       (skipped-by by (other_service by) old answer new)) h
     where
       sends : (publisher : Publisher T)
-          → Sends loan.publisher (sent_as loan) publisher (record old { loans = removed number old.loans }) answer new
-          → Sends (by.publishers.to loan.publisher) (sent_as loan) (other_publisher by publisher)
+          → Sends choices loan.publisher (sent_as loan) publisher (record old { loans = removed number old.loans }) answer new
+          → Sends (other_choices by choices) (by.publishers.to loan.publisher) (sent_as loan) (other_publisher by publisher)
           (record (other_service by old) { loans = removed (by.loans.to number) (map (loan_entry by) old.loans) }) (other_reply by answer)
           (other_service by new)
       sends publisher sent =
-          subst (λ (service : Service T). Sends (by.publishers.to loan.publisher) (sent_as loan) (other_publisher by publisher) service
+          subst (λ (service : Service T). Sends (other_choices by choices) (by.publishers.to loan.publisher) (sent_as loan)
+          (other_publisher by publisher) service
           (other_reply by answer) (other_service by new)) (sym (without-loan number old))
-          (sends-by by loan.publisher (sent_as loan) publisher (record old { loans = removed number old.loans }) answer new sent)
+          (sends-by by choices loan.publisher (sent_as loan) publisher (record old { loans = removed number old.loans }) answer new sent)
 
   pub writes-by : (number : ℕ) (loan : Loan T) (fit : Bool) (values : List (Option T)) (old : Service T) (answer : Reply T)
       (new : Service T)

@@ -1,23 +1,26 @@
 -- A publisher does the same where all goes by other numbers.
-use Rattle.std.proofs.Common.{◌≡◌, ◌+◌, ℕ, Bool, true, false, cond, not, ◌&&◌, List, [], ◌∷◌, ◌++◌, map, length, Option, None, Some, Ok}
-use Rattle.std.proofs.Common.{Err, refl, sym, ap, ap₂, subst, inl, inr, ◌∙◌}
+use Rattle.std.proofs.Common.{◌≡◌, ◌⊎◌, ◌+◌, ℕ, Bool, true, false, cond, not, ◌&&◌, List, [], ◌∷◌, ◌++◌, map, length, Option, None, Some}
+use Rattle.std.proofs.Common.{Err, refl, sym, ap, ap₂, subst, inl, inr, ◌∙◌, Result}
 use Rattle.std.proofs.lemmas.List.{length-map}
 use Rattle.std.specs.Option.{option_map_or}
-use Rattle.std.specs.Prelude.{◌==◌, nat_lt, nat_le, option_map, is_some, filter, fold, zip, filter_map, slice_get, MatchResult}
+use Rattle.std.specs.Prelude.{◌==◌, nat_lt, nat_le, option_map, is_some, filter, fold, zip, slice_get}
+use Rattle.iox_machine.specs.Choices.{Choices}
+use Rattle.iox_machine.proofs.Delivering.{Outcomes}
 use Rattle.iox_machine.specs.Lending.{loans_of, in_use, how_many, is_static, LendsLonger, loan_refusal, Lends}
 use Rattle.iox_machine.specs.Mailbox.{Mailbox, newest, put}
 use Rattle.iox_machine.specs.Message.{Message, Loan}
 use Rattle.iox_machine.specs.PortList.{those, unless}
 use Rattle.iox_machine.specs.PublisherUpdate as publishing
-use Rattle.iox_machine.specs.PublisherUpdate.{failure_at, update_answer, ended, welcome}
+use Rattle.iox_machine.specs.PublisherUpdate.{failure_at, ended, welcome, UpdateAnswers}
 use Rattle.iox_machine.specs.Replies.{IsRefused}
-use Rattle.iox_machine.specs.Sending.{offered, deliver, decision_at, GoesOn, Begins, Sends}
+use Rattle.iox_machine.specs.Sending.{GoesOn, Begins, Sends, Delivers, MayDecide}
 use Rattle.iox_machine.specs.Service.{Service, Publisher, Subscriber, Send, with_publisher, mailbox, with_mailbox, connect}
 use Rattle.iox_machine.specs.Table.{at, contains}
-use Rattle.iox_machine.proofs.Mapped.{cond-of, filter-by, all-by, get-by, filter_map-same, flat_map-same, map-same, some-by, or-by}
+use Rattle.iox_machine.proofs.Mapped.{cond-of, filter-by, all-by, get-by, flat_map-same, map-same, some-by, or-by}
 use Rattle.iox_machine.proofs.Mapped.{map-swap, zip-by, fold-by, over-bool, over-same, over-result}
 use Rattle.iox_machine.proofs.Renumbered.{Numbering, Numberings, same-to, same-from, placed, those-by, contained-to, contained-from}
-use Rattle.iox_machine.proofs.Renumbered.{unless-by, at-by, other_subscriber, subscriber_entry, other_reply, refused-by, other_send}
+use Rattle.iox_machine.proofs.Renumbered.{other_choices, unless-by, at-by, other_subscriber, subscriber_entry, other_reply, refused-by}
+use Rattle.iox_machine.proofs.Renumbered.{other_send}
 use Rattle.iox_machine.proofs.Renumbered.{other_publisher, other_loan, loan_entry, other_service, publisher-by, box-by, mailbox-by}
 use Rattle.iox_machine.proofs.Renumbered.{boxed-by, connect-by}
 use Rattle.iox_command.specs.DomainValues.Actions.{decision_of}
@@ -28,7 +31,7 @@ use Rattle.iox_command.specs.DomainValues.declared.connection_failure.Connection
 use Rattle.iox_command.specs.DomainValues.declared.connection_failure.ZeroCopyCreationError.{ZeroCopyCreationError}
 use Rattle.iox_command.specs.DomainValues.declared.connection_failure.ZeroCopyCreationError.TheVariants.{ExpiredConnectionBufferFull}
 use Rattle.iox_command.specs.DomainValues.declared.degradation.DegradationAction.{DegradationAction}
-use Rattle.iox_command.specs.DomainValues.declared.degradation.DegradationAction.TheVariants.{DegradeAndFail}
+use Rattle.iox_command.specs.DomainValues.declared.degradation.DegradationAction.TheVariants.{DegradeAndFail, Warn, Ignore}
 use Rattle.iox_command.specs.DomainValues.declared.port_error.LoanError.{LoanError}
 use Rattle.iox_command.specs.DomainValues.declared.port_error.LoanError.TheVariants.{OutOfMemory, ExceedsMaxLoans, ExceedsMaxLoanSize}
 use Rattle.iox_command.specs.DomainValues.declared.port_error.SendError.TheVariants as error
@@ -46,17 +49,37 @@ failure-by one (Some listed) None = refl
 failure-by one (Some listed) (Some other) =
     ap (λ (b : Bool). cond b None (Some ExpiredConnectionBufferFull)) (same-to one other listed)
 
-pub answer-by : (one : Numbering) (action : DegradationAction) (listed connected : List (Option ℕ))
-    → update_answer action (map (placed one) listed) (map (placed one) connected) ≡ update_answer action listed connected
-answer-by one DegradeAndFail listed connected =
-    ap (λ (failures : List ZeroCopyCreationError). option_map_or (λ failure. Err (FailedToEstablishConnection failure))
-    (slice_get failures 0) (Ok tt))
-    (ap (filter_map (λ (place : Option ℕ × Option ℕ). failure_at place.0 place.1))
-    (zip-by (placed one) (placed one) listed connected)
-    ∙ filter_map-same (λ (pair : Option ℕ × Option ℕ). (placed one pair.0, placed one pair.1))
-    (λ (place : Option ℕ × Option ℕ). failure_at place.0 place.1) (λ (place : Option ℕ × Option ℕ). failure_at place.0 place.1)
-    (λ place. failure-by one place.0 place.1) (zip listed connected))
-answer-by one action listed connected = refl
+answers-placed : (one : Numbering) (May Other : DegradationAction → Type 0) → ((action : DegradationAction) → May action → Other action)
+    → (places : List (Option ℕ × Option ℕ)) (outcome : Result (Unit {0}) ConnectionFailure) → UpdateAnswers May places outcome
+    → UpdateAnswers Other (map (λ (pair : Option ℕ × Option ℕ). (placed one pair.0, placed one pair.1)) places) outcome
+answers-placed one May Other over [] outcome h = h
+answers-placed one May Other over (place ∷ more) outcome h =
+    over-same (failure_at place.0 place.1) (failure_at (placed one place.0) (placed one place.1)) (failure-by one place.0 place.1)
+    (answers-placed one May Other over more outcome) (asked (answers-placed one May Other over more outcome)) h
+  where
+    asked : (UpdateAnswers May more outcome
+        → UpdateAnswers Other (map (λ (pair : Option ℕ × Option ℕ). (placed one pair.0, placed one pair.1)) more) outcome)
+        → (failure : ZeroCopyCreationError)
+        → (May DegradeAndFail × (outcome ≡ Err (FailedToEstablishConnection failure)))
+        ⊎ ((May Warn ⊎ May Ignore) × UpdateAnswers May more outcome)
+        → (Other DegradeAndFail × (outcome ≡ Err (FailedToEstablishConnection failure)))
+        ⊎ ((Other Warn ⊎ Other Ignore)
+        × UpdateAnswers Other (map (λ (pair : Option ℕ × Option ℕ). (placed one pair.0, placed one pair.1)) more) outcome)
+    asked rest failure (inl (fails, is)) = inl (over DegradeAndFail fails, is)
+    asked rest failure (inr (inl warns, on)) = inr (inl (over Warn warns), rest on)
+    asked rest failure (inr (inr ignores, on)) = inr (inr (over Ignore ignores), rest on)
+
+pub over-outcomes : {A C : Unit {0} → Type 0} {B D : ConnectionFailure → Type 0} (one : Numbering) (May Other : DegradationAction → Type 0)
+    → ((action : DegradationAction) → May action → Other action) → (listed connected : List (Option ℕ))
+    → ((v : Unit {0}) → A v → C v) → ((e : ConnectionFailure) → B e → D e) → Outcomes May (zip listed connected) A B
+    → Outcomes Other (zip (map (placed one) listed) (map (placed one) connected)) C D
+over-outcomes one May Other over listed connected on_ok on_err (outcome, answers, m) = (
+  outcome,
+  subst (λ (places : List (Option ℕ × Option ℕ)). UpdateAnswers Other places outcome)
+      (sym (zip-by (placed one) (placed one) listed connected))
+      (answers-placed one May Other over (zip listed connected) outcome answers),
+  over-result outcome outcome refl on_ok on_err m,
+)
 
 is-left : (one : Numbering) (left : List ℕ) → is_some (slice_get (map one.to left) 0) ≡ is_some (slice_get left 0)
 is-left one left = ap is_some (get-by one.to left 0) ∙ some-by one.to (slice_get left 0)
@@ -152,97 +175,134 @@ module _ {T : Type 0} (by : Numberings) where
           (λ subscriber. not (contains (those publisher.connected) subscriber))
           (λ subscriber. ap not (contained-to by.subscribers publisher.connected subscriber)) (those after.connected)
 
-  pub updates-by : (number : ℕ) (told : ConnectionFailure → Refusal)
+  pub updates-by : (choices : Choices T) (number : ℕ) (told : ConnectionFailure → Refusal)
       (Does Other : Publisher T → Service T → Reply T → Service T → Type 0)
       (publisher : Publisher T) (old : Service T) (answer : Reply T) (new : Service T)
       → ((one : Publisher T) (mid : Service T) → Does one mid answer new
       → Other (other_publisher by one) (other_service by mid) (other_reply by answer) (other_service by new))
-      → publishing.UpdatesFirst number told Does publisher old answer new
-      → publishing.UpdatesFirst (by.publishers.to number) told Other (other_publisher by publisher) (other_service by old)
+      → publishing.UpdatesFirst choices number told Does publisher old answer new
+      → publishing.UpdatesFirst (other_choices by choices) (by.publishers.to number) told Other (other_publisher by publisher)
+      (other_service by old)
       (other_reply by answer) (other_service by new)
-  updates-by number told Does Other publisher old answer new does h =
+  updates-by choices number told Does Other publisher old answer new does h =
       over-bool (publisher.seen == old.subscriber_list.changes) (publisher.seen == old.subscriber_list.changes) refl
       (does publisher old) followed h
     where
       followed : (after : Publisher T) × (mid : Service T) × publishing.Follows number publisher old after mid
-          × MatchResult (update_answer publisher.degradation old.subscriber_list.places after.connected)
+          × Outcomes (choices.publisher_acts number publisher.degradation) (zip old.subscriber_list.places after.connected)
           (λ done. Does after mid answer new) (λ failure. IsRefused (told failure) mid answer new)
           → (after : Publisher T) × (mid : Service T)
           × publishing.Follows (by.publishers.to number) (other_publisher by publisher) (other_service by old) after mid
-          × MatchResult
-          (update_answer publisher.degradation (map (placed by.subscribers) old.subscriber_list.places) after.connected)
+          × Outcomes ((other_choices by choices).publisher_acts (by.publishers.to number) publisher.degradation)
+          (zip (map (placed by.subscribers) old.subscriber_list.places) after.connected)
           (λ done. Other after mid (other_reply by answer) (other_service by new))
           (λ failure. IsRefused (told failure) mid (other_reply by answer) (other_service by new))
       followed (after, mid, follows, end) = (
         other_publisher by after,
         other_service by mid,
         follows-by number publisher old after mid follows,
-        over-result (update_answer publisher.degradation old.subscriber_list.places after.connected)
-            (update_answer publisher.degradation (map (placed by.subscribers) old.subscriber_list.places)
-            (map (placed by.subscribers) after.connected))
-            (answer-by by.subscribers publisher.degradation old.subscriber_list.places after.connected)
+        over-outcomes by.subscribers (choices.publisher_acts number publisher.degradation)
+            ((other_choices by choices).publisher_acts (by.publishers.to number) publisher.degradation)
+            (λ action may. (number, refl, may)) old.subscriber_list.places after.connected
             (λ (done : Unit {0}). does after mid)
             (λ (failure : ConnectionFailure). refused-by by (other_service by) (told failure) mid answer new) end,
       )
 
   -- ---- a send
 
-  decision-by : (number : ℕ) (publisher : Publisher T) (service : Service T) (subscriber : ℕ)
-      → decision_at (by.publishers.to number) (other_publisher by publisher) (other_service by service) (by.subscribers.to subscriber)
-      ≡ decision_at number publisher service subscriber
-  decision-by number publisher service subscriber =
-      ap (λ (b : Bool). cond b (decision_of publisher.strategy publisher.handler) DiscardData)
-      (ap (λ (found : Option Subscriber). option_map_or
+  counted-by : (number : ℕ) (service : Service T) (subscriber : ℕ)
+      → option_map_or (λ (one : Subscriber). one.stands && contains (those one.connected) (by.publishers.to number))
+      (at (by.subscribers.to subscriber) (map (subscriber_entry by) service.subscribers)) false
+      ≡ option_map_or (λ (one : Subscriber). one.stands && contains (those one.connected) number) (at subscriber service.subscribers) false
+  counted-by number service subscriber =
+      ap (λ (found : Option Subscriber). option_map_or
       (λ (one : Subscriber). one.stands && contains (those one.connected) (by.publishers.to number)) found false)
       (at-by by.subscribers (other_subscriber by) subscriber service.subscribers)
       ∙ or-by (other_subscriber by) (λ (one : Subscriber). one.stands && contains (those one.connected) (by.publishers.to number))
       (λ (one : Subscriber). one.stands && contains (those one.connected) number) false
       (λ one. ap (λ (b : Bool). one.stands && b) (contained-to by.publishers one.connected number))
-      (at subscriber service.subscribers))
+      (at subscriber service.subscribers)
 
-  -- how far a send came, by other numbers
-  abbrev come_by : Send T × Service T → Send T × Service T
-  come_by pair = (other_send by pair.0, other_service by pair.1)
+  module _ (choices : Choices T) (number : ℕ) (publisher : Publisher T) where
+    may-by : (subscriber : ℕ) (send : Send T) (service : Service T) (decision : BackpressureDecision)
+        → MayDecide choices number publisher subscriber send service decision
+        → MayDecide (other_choices by choices) (by.publishers.to number) (other_publisher by publisher) (by.subscribers.to subscriber)
+        (other_send by send) (other_service by service) decision
+    may-by subscriber send service decision may =
+        over-bool (option_map_or (λ (one : Subscriber). one.stands && contains (those one.connected) number)
+        (at subscriber service.subscribers) false)
+        (option_map_or (λ (one : Subscriber). one.stands && contains (those one.connected) (by.publishers.to number))
+        (at (by.subscribers.to subscriber) (map (subscriber_entry by) service.subscribers)) false)
+        (counted-by number service subscriber)
+        (λ (chosen : choices.publisher_decides number send.retries send.elapsed (decision_of publisher.strategy publisher.handler)
+        decision).
+        (number, refl, chosen)) (λ (is : decision ≡ DiscardData). is) may
 
-  offered-by : (number : ℕ) (met : Option (Mailbox T)) (decision : BackpressureDecision) (subscriber : ℕ) (more : List ℕ)
-      (goes_on other_goes_on : Send T → Service T → Send T × Service T)
-      → ((send : Send T) (service : Service T)
-      → other_goes_on (other_send by send) (other_service by service) ≡ come_by (goes_on send service))
-      → (send : Send T) (service : Service T)
-      → offered (by.publishers.to number) met decision (by.subscribers.to subscriber) (map by.subscribers.to more) other_goes_on
-      (other_send by send) (other_service by service)
-      ≡ come_by (offered number met decision subscriber more goes_on send service)
-  offered-by number (Some box) decision subscriber more goes_on other_goes_on on send service =
-      ap (λ (mid : Service T). other_goes_on
-      (record (other_send by send) { retries = 0; elapsed = 0; delivered = send.delivered + 1 }) mid)
-      (boxed-by by number subscriber box service)
-      ∙ on (record send { retries = 0; elapsed = 0; delivered = send.delivered + 1 }) (with_mailbox number subscriber box service)
-  offered-by number None Retry subscriber more goes_on other_goes_on on send service = refl
-  offered-by number None DiscardData subscriber more goes_on other_goes_on on send service =
-      on (record send { retries = 0; elapsed = 0 }) service
-  offered-by number None DiscardDataAndFail subscriber more goes_on other_goes_on on send service =
-      on (record send { retries = 0; elapsed = 0; fails = true }) service
+    delivers-by : (left : List ℕ) (send : Send T) (old : Service T) (after : Send T) (new : Service T)
+        → Delivers choices number publisher left send old after new
+        → Delivers (other_choices by choices) (by.publishers.to number) (other_publisher by publisher) (map by.subscribers.to left)
+        (other_send by send) (other_service by old) (other_send by after) (other_service by new)
+    delivers-by [] send old after new (is, same) = (ap (other_send by) is, ap (other_service by) same)
+    delivers-by (subscriber ∷ more) send old after new h =
+        over-same (put old.settings.enable_safe_overflow send.message (mailbox number subscriber old))
+        (put old.settings.enable_safe_overflow send.message
+        (mailbox (by.publishers.to number) (by.subscribers.to subscriber) (other_service by old)))
+        (ap (put old.settings.enable_safe_overflow send.message) (mailbox-by by number subscriber old))
+        (full (λ next. delivers-by more next old after new))
+        (λ box. taken box (delivers-by more (record send { retries = 0; elapsed = 0; delivered = send.delivered + 1 })
+        (with_mailbox number subscriber box old) after new)) h
+      where
+        Goes : Send T → Type 0
+        Goes next =
+            Delivers (other_choices by choices) (by.publishers.to number) (other_publisher by publisher) (map by.subscribers.to more)
+            (other_send by next) (other_service by old) (other_send by after) (other_service by new)
 
-  deliver-by : (number : ℕ) (publisher : Publisher T) (left : List ℕ) (send : Send T) (service : Service T)
-      → deliver (by.publishers.to number) (other_publisher by publisher) (map by.subscribers.to left) (other_send by send)
-      (other_service by service)
-      ≡ come_by (deliver number publisher left send service)
-  deliver-by number publisher [] send service = refl
-  deliver-by number publisher (subscriber ∷ more) send service =
-      ap₂ (λ (box : Mailbox T) (decision : BackpressureDecision). offered (by.publishers.to number)
-      (put service.settings.enable_safe_overflow send.message box) decision (by.subscribers.to subscriber) (map by.subscribers.to more)
-      (deliver (by.publishers.to number) (other_publisher by publisher) (map by.subscribers.to more)) (other_send by send)
-      (other_service by service)) (mailbox-by by number subscriber service) (decision-by number publisher service subscriber)
-      ∙ offered-by number (put service.settings.enable_safe_overflow send.message (mailbox number subscriber service))
-      (decision_at number publisher service subscriber) subscriber more (deliver number publisher more)
-      (deliver (by.publishers.to number) (other_publisher by publisher) (map by.subscribers.to more))
-      (λ next mid. deliver-by number publisher more next mid) send service
+        full : ((next : Send T) → Delivers choices number publisher more next old after new → Goes next)
+            → (MayDecide choices number publisher subscriber send old Retry × (after ≡ record send { left = subscriber ∷ more })
+            × (new ≡ old))
+            ⊎ (MayDecide choices number publisher subscriber send old DiscardData
+            × Delivers choices number publisher more (record send { retries = 0; elapsed = 0 }) old after new)
+            ⊎ (MayDecide choices number publisher subscriber send old DiscardDataAndFail
+            × Delivers choices number publisher more (record send { retries = 0; elapsed = 0; fails = true }) old after new)
+            → (MayDecide (other_choices by choices) (by.publishers.to number) (other_publisher by publisher) (by.subscribers.to subscriber)
+            (other_send by send) (other_service by old) Retry
+            × (other_send by after ≡ other_send by (record send { left = subscriber ∷ more }))
+            × (other_service by new ≡ other_service by old))
+            ⊎ (MayDecide (other_choices by choices) (by.publishers.to number) (other_publisher by publisher) (by.subscribers.to subscriber)
+            (other_send by send) (other_service by old) DiscardData
+            × Goes (record send { retries = 0; elapsed = 0 }))
+            ⊎ (MayDecide (other_choices by choices) (by.publishers.to number) (other_publisher by publisher) (by.subscribers.to subscriber)
+            (other_send by send) (other_service by old) DiscardDataAndFail
+            × Goes (record send { retries = 0; elapsed = 0; fails = true }))
+        full goes (inl (may, is, same)) = inl (may-by subscriber send old Retry may, ap (other_send by) is, ap (other_service by) same)
+        full goes (inr (inl (may, on))) =
+            inr (inl (
+              may-by subscriber send old DiscardData may,
+              goes (record send { retries = 0; elapsed = 0 }) on,
+            ))
+        full goes (inr (inr (may, on))) =
+            inr (inr (
+              may-by subscriber send old DiscardDataAndFail may,
+              goes (record send { retries = 0; elapsed = 0; fails = true }) on,
+            ))
 
-  -- what a send answers that came so far
-  abbrev answer_of : Send T × Service T → Reply T
-  answer_of pair =
-      cond (is_some (slice_get pair.0.left 0)) reply.Blocked
-      (cond pair.0.fails (reply.Refused (refusal.Send error.UnableToDeliver)) (reply.Delivered pair.0.delivered))
+        taken : (box : Mailbox T)
+            → (Delivers choices number publisher more (record send { retries = 0; elapsed = 0; delivered = send.delivered + 1 })
+            (with_mailbox number subscriber box old) after new
+            → Delivers (other_choices by choices) (by.publishers.to number) (other_publisher by publisher) (map by.subscribers.to more)
+            (other_send by (record send { retries = 0; elapsed = 0; delivered = send.delivered + 1 }))
+            (other_service by (with_mailbox number subscriber box old)) (other_send by after) (other_service by new))
+            → Delivers choices number publisher more (record send { retries = 0; elapsed = 0; delivered = send.delivered + 1 })
+            (with_mailbox number subscriber box old) after new
+            → Delivers (other_choices by choices) (by.publishers.to number) (other_publisher by publisher) (map by.subscribers.to more)
+            (record (other_send by send) { retries = 0; elapsed = 0; delivered = send.delivered + 1 })
+            (with_mailbox (by.publishers.to number) (by.subscribers.to subscriber) box (other_service by old)) (other_send by after)
+            (other_service by new)
+        taken box goes on =
+            subst (λ (mid : Service T). Delivers (other_choices by choices) (by.publishers.to number) (other_publisher by publisher)
+            (map by.subscribers.to more) (record (other_send by send) { retries = 0; elapsed = 0; delivered = send.delivered + 1 }) mid
+            (other_send by after) (other_service by new)) (sym (boxed-by by number subscriber box old))
+            (goes on)
 
   same-answer : (b c : Bool) (count : ℕ) → other_reply {T = T} by (cond b reply.Blocked
       (cond c (reply.Refused (refusal.Send error.UnableToDeliver)) (reply.Delivered count)))
@@ -251,57 +311,57 @@ module _ {T : Type 0} (by : Numberings) where
   same-answer false true count = refl
   same-answer false false count = refl
 
-  pub goes-on-by : (number : ℕ) (publisher : Publisher T) (send : Send T) (old : Service T) (answer : Reply T) (new : Service T)
-      → GoesOn number publisher send old answer new
-      → GoesOn (by.publishers.to number) (other_publisher by publisher) (other_send by send) (other_service by old) (other_reply by answer)
+  pub goes-on-by : (choices : Choices T) (number : ℕ) (publisher : Publisher T) (send : Send T) (old : Service T) (answer : Reply T)
+      (new : Service T)
+      → GoesOn choices number publisher send old answer new
+      → GoesOn (other_choices by choices) (by.publishers.to number) (other_publisher by publisher) (other_send by send)
+      (other_service by old) (other_reply by answer)
       (other_service by new)
-  goes-on-by number publisher send old answer new (told, came) = (
+  goes-on-by choices number publisher send old answer new (after, mid, went, told, came) = (
+    other_send by after,
+    other_service by mid,
+    delivers-by choices number publisher send.left send old after mid went,
     ap (other_reply by) told
-        ∙ same-answer (is_some (slice_get after.0.left 0)) after.0.fails after.0.delivered
+        ∙ same-answer (is_some (slice_get after.left 0)) after.fails after.delivered
         ∙ ap (λ (b : Bool). cond b reply.Blocked
-        (cond after.0.fails (reply.Refused (refusal.Send error.UnableToDeliver)) (reply.Delivered after.0.delivered)))
-        (sym (is-left by.subscribers after.0.left))
-        ∙ ap answer_of (sym (deliver-by number publisher send.left send old)),
+        (cond after.fails (reply.Refused (refusal.Send error.UnableToDeliver)) (reply.Delivered after.delivered)))
+        (sym (is-left by.subscribers after.left)),
     ap (other_service by) came
-        ∙ sym (publisher-by by number
-        (record publisher { blocked = cond (is_some (slice_get after.0.left 0)) (Some after.0) None }) after.1)
+        ∙ sym (publisher-by by number (record publisher { blocked = cond (is_some (slice_get after.left 0)) (Some after) None }) mid)
         ∙ ap (λ (blocked : Option (Send T)). with_publisher (by.publishers.to number)
-        (record (other_publisher by publisher) { blocked = blocked }) (other_service by after.1))
-        (sym (cond-of (option_map (other_send by)) (is_some (slice_get after.0.left 0)) (Some after.0) None))
-        ∙ ap (λ (b : Bool). turned b (come_by after)) (sym (is-left by.subscribers after.0.left))
-        ∙ ap (λ (pair : Send T × Service T). turned (is_some (slice_get pair.0.left 0)) pair)
-        (sym (deliver-by number publisher send.left send old)),
+        (record (other_publisher by publisher) { blocked = blocked }) (other_service by mid))
+        (sym (cond-of (option_map (other_send by)) (is_some (slice_get after.left 0)) (Some after) None))
+        ∙ ap (λ (b : Bool). with_publisher (by.publishers.to number)
+        (record (other_publisher by publisher) { blocked = cond b (Some (other_send by after)) None }) (other_service by mid))
+        (sym (is-left by.subscribers after.left)),
   )
-    where
-      after : Send T × Service T
-      after = deliver number publisher send.left send old
 
-      turned : Bool → Send T × Service T → Service T
-      turned b pair =
-          with_publisher (by.publishers.to number) (record (other_publisher by publisher) { blocked = cond b (Some pair.0) None }) pair.1
-
-  begins-by : (number : ℕ) (message : Message T) (publisher : Publisher T) (old : Service T) (answer : Reply T) (new : Service T)
-      → Begins number message publisher old answer new
-      → Begins (by.publishers.to number) message (other_publisher by publisher) (other_service by old) (other_reply by answer)
+  begins-by : (choices : Choices T) (number : ℕ) (message : Message T) (publisher : Publisher T) (old : Service T) (answer : Reply T)
+      (new : Service T)
+      → Begins choices number message publisher old answer new
+      → Begins (other_choices by choices) (by.publishers.to number) message (other_publisher by publisher) (other_service by old)
+      (other_reply by answer)
       (other_service by new)
-  begins-by number message publisher old answer new h =
-      subst (λ (left : List ℕ). GoesOn (by.publishers.to number)
+  begins-by choices number message publisher old answer new h =
+      subst (λ (left : List ℕ). GoesOn (other_choices by choices) (by.publishers.to number)
       (record (other_publisher by publisher) { history = newest old.settings.history_size (publisher.history ++ message ∷ []) })
       (record { message = message; left = left; retries = 0; elapsed = 0; delivered = 0; fails = false }) (other_service by old)
       (other_reply by answer) (other_service by new)) (sym (those-by by.subscribers publisher.connected))
-      (goes-on-by number (record publisher { history = newest old.settings.history_size (publisher.history ++ message ∷ []) })
+      (goes-on-by choices number (record publisher { history = newest old.settings.history_size (publisher.history ++ message ∷ []) })
       (record { message = message; left = those publisher.connected; retries = 0; elapsed = 0; delivered = 0; fails = false })
       old answer new h)
 
-  pub sends-by : (number : ℕ) (message : Message T) (publisher : Publisher T) (old : Service T) (answer : Reply T) (new : Service T)
-      → Sends number message publisher old answer new
-      → Sends (by.publishers.to number) message (other_publisher by publisher) (other_service by old) (other_reply by answer)
+  pub sends-by : (choices : Choices T) (number : ℕ) (message : Message T) (publisher : Publisher T) (old : Service T) (answer : Reply T)
+      (new : Service T)
+      → Sends choices number message publisher old answer new
+      → Sends (other_choices by choices) (by.publishers.to number) message (other_publisher by publisher) (other_service by old)
+      (other_reply by answer)
       (other_service by new)
-  sends-by number message publisher old answer new h =
+  sends-by choices number message publisher old answer new h =
       over-bool publisher.stands publisher.stands refl
-      (updates-by number (λ failure. refusal.Send (error.ConnectionError failure)) (Begins number message)
-      (Begins (by.publishers.to number) message) publisher old answer new
-      (λ one mid. begins-by number message one mid answer new))
+      (updates-by choices number (λ failure. refusal.Send (error.ConnectionError failure)) (Begins choices number message)
+      (Begins (other_choices by choices) (by.publishers.to number) message) publisher old answer new
+      (λ one mid. begins-by choices number message one mid answer new))
       (refused-by by (other_service by) (refusal.Send error.ConnectionBrokenSinceSenderNoLongerExists) old answer new) h
 
   -- ---- a loan

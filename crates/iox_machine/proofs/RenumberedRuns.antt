@@ -3,6 +3,7 @@ use Rattle.std.proofs.Common.{◌≡◌, ◌≤◌, ◌<◌, ◌+◌, ℕ, Bool,
 use Rattle.std.proofs.Common.{arith, ◌∙◌, true≢false, eq-or-lt_of_le}
 use Rattle.std.proofs.lemmas.Bool.{eqb-true, eq-eqb, ne_eqb}
 use Rattle.std.specs.Prelude.{◌==◌, filter}
+use Rattle.iox_machine.specs.Choices.{Choices}
 use Rattle.iox_machine.specs.IndependenceLaws.{is_of, concerns, commands_concerning, answers_concerning, NumbersAreCountedAnew}
 use Rattle.iox_machine.specs.NumberLaws.{node_told}
 use Rattle.iox_machine.specs.Renaming.{IsOneToOne, renamed}
@@ -16,7 +17,7 @@ use Rattle.iox_machine.proofs.Kept.{IsNext, IsPortNext}
 use Rattle.iox_machine.proofs.Left.{step-left}
 use Rattle.iox_machine.proofs.Moving.{IsNegotiated, IsClosed, creates, opens, opens-or-creates, closed}
 use Rattle.iox_machine.proofs.Ported.{IsBeside, ports-move}
-use Rattle.iox_machine.proofs.Renumbered.{Numbering, Numberings, renaming_of, other_reply, renumbered}
+use Rattle.iox_machine.proofs.Renumbered.{other_choices, Numbering, Numberings, renaming_of, other_reply, renumbered}
 use Rattle.iox_machine.proofs.RenumberedCommands.{step-by}
 use Rattle.iox_machine.proofs.RenumberedSteps.{other_state, other_end}
 use Rattle.iox_machine.proofs.Stands.{Stands}
@@ -296,9 +297,9 @@ module _ {T : Type 0} where
   closed-no-node number old answer new (inr (inl (told, same))) = ap node_told told
   closed-no-node number old answer new (inr (inr (factory, found, unused, told, came))) = ap node_told told
 
-  module _ (types : MessageTypeDetails) (IsDefault : T → Type 0) (buffer : ℕ) (pattern : MessagingPattern) (name : List ℕ) where
+  module _ (types : MessageTypeDetails) (choices : Choices T) (buffer : ℕ) (pattern : MessagingPattern) (name : List ℕ) where
     no-node : (asked : Command T) (old : State T) (answer : Reply T) (new : State T) → concerns pattern name asked old ≡ false
-        → Step types IsDefault buffer asked old answer new → node_told answer ≡ None
+        → Step types choices buffer asked old answer new → node_told answer ≡ None
     no-node command.Node old answer new off h = absurd (true≢false off)
     no-node (command.Create node other options attributes steps) old answer new off h =
         negotiated-no-node (factory_of node other options) old answer new
@@ -312,23 +313,23 @@ module _ {T : Type 0} where
     no-node (command.Foreign one other steps) old answer new off (inl (told, came)) = ap node_told told
     no-node (command.Foreign one other steps) old answer new off (inr (done, few, (told, came))) = ap node_told told
     no-node (command.Close factory) old answer new off h = closed-no-node factory old answer new (closed factory old answer new h)
-    no-node asked old answer new off h = beside-no-node asked old answer new (ports-move types IsDefault buffer asked old answer new refl h)
+    no-node asked old answer new off h = beside-no-node asked old answer new (ports-move types choices buffer asked old answer new refl h)
 
     -- ---- a run
 
     -- What concerns the service in a run is a run of who knows it alone and counted so many, by numberings that go on from these.
     abbrev IsAnew : (asked : List (Command T)) (old : State T) (answers : List (Reply T)) (new : State T)
-        → Runs types IsDefault buffer asked old answers new → Made → Numberings → State T → Type 0
+        → Runs types choices buffer asked old answers new → Made → Numberings → State T → Type 0
     IsAnew asked old answers new run counts given own =
         (by : Numberings) × AllAgree given by counts × (last : Made)
-        × Runs types IsDefault buffer
-        (map (renamed (renaming_of by)) (commands_concerning types IsDefault buffer pattern name asked old answers new run))
+        × Runs types (other_choices by choices) buffer
+        (map (renamed (renaming_of by)) (commands_concerning types choices buffer pattern name asked old answers new run))
         (other_state by counts own)
-        (map (other_reply by) (answers_concerning types IsDefault buffer pattern name asked old answers new run))
+        (map (other_reply by) (answers_concerning types choices buffer pattern name asked old answers new run))
         (other_state by last (own_of pattern name new))
 
     anew : (asked : List (Command T)) (old : State T) (answers : List (Reply T)) (new : State T)
-        (run : Runs types IsDefault buffer asked old answers new) (counts : Made) (given : Numberings)
+        (run : Runs types choices buffer asked old answers new) (counts : Made) (given : Numberings)
         → Stands old → counts.nodes ≡ old.made.nodes → AllWithin given counts old.made
         → IsAnew asked old answers new run counts given (own_of pattern name old)
     anew [] old answers new run counts given stands nodes within =
@@ -336,7 +337,7 @@ module _ {T : Type 0} where
     anew (one ∷ more) old answers new run counts given stands nodes within =
         here (concerns pattern name one old) refl
         (λ later numbered same inside. anew more run.1 run.2 new run.4 later numbered
-        (step-stands types IsDefault buffer one old run.0 run.1 run.3 stands) same inside)
+        (step-stands types choices buffer one old run.0 run.1 run.3 stands) same inside)
       where
         answer : Reply T
         answer = run.0
@@ -345,22 +346,22 @@ module _ {T : Type 0} where
         mid = run.1
 
         stood : Stands mid
-        stood = step-stands types IsDefault buffer one old answer mid run.3 stands
+        stood = step-stands types choices buffer one old answer mid run.3 stands
 
         passed : Passes old answer mid
-        passed = step-passes types IsDefault buffer one old answer mid run.3
+        passed = step-passes types choices buffer one old answer mid run.3
 
         rest_commands : List (Command T)
-        rest_commands = commands_concerning types IsDefault buffer pattern name more mid run.2 new run.4
+        rest_commands = commands_concerning types choices buffer pattern name more mid run.2 new run.4
 
         rest_answers : List (Reply T)
-        rest_answers = answers_concerning types IsDefault buffer pattern name more mid run.2 new run.4
+        rest_answers = answers_concerning types choices buffer pattern name more mid run.2 new run.4
 
         here : (b : Bool) → concerns pattern name one old ≡ b
             → ((later : Made) (numbered : Numberings) → later.nodes ≡ mid.made.nodes → AllWithin numbered later mid.made
             → IsAnew more mid run.2 new run.4 later numbered (own_of pattern name mid))
             → (by : Numberings) × AllAgree given by counts × (last : Made)
-            × Runs types IsDefault buffer (map (renamed (renaming_of by)) (cond b (one ∷ rest_commands) rest_commands))
+            × Runs types (other_choices by choices) buffer (map (renamed (renaming_of by)) (cond b (one ∷ rest_commands) rest_commands))
             (other_state by counts (own_of pattern name old)) (map (other_reply by) (cond b (answer ∷ rest_answers) rest_answers))
             (other_state by last (own_of pattern name new))
         here true on rest =
@@ -377,10 +378,10 @@ module _ {T : Type 0} where
                 other_reply it.0 answer,
                 other_end it.0 counts answer (own_of pattern name mid),
                 map (other_reply it.0) rest_answers,
-                step-by it.0 types IsDefault buffer counts one (own_of pattern name old) answer (own_of pattern name mid) nodes
+                step-by it.0 types choices buffer counts one (own_of pattern name old) answer (own_of pattern name mid) nodes
                     (next-anew answer counts old.made given it.0 nodes passed.next it.1)
-                    (own-step pattern name types IsDefault buffer one old answer mid stood run.3 on),
-                subst (λ (made : Made). Runs types IsDefault buffer (map (renamed (renaming_of it.0)) rest_commands)
+                    (own-step pattern name types choices buffer one old answer mid stood run.3 on),
+                subst (λ (made : Made). Runs types (other_choices it.0 choices) buffer (map (renamed (renaming_of it.0)) rest_commands)
                     (other_state it.0 made (own_of pattern name mid)) (map (other_reply it.0) rest_answers)
                     (other_state it.0 it.2 (own_of pattern name new)))
                     (sym (counted-same answer counts it.0)) it.3,
@@ -398,12 +399,12 @@ module _ {T : Type 0} where
               it.0,
               it.1,
               it.2,
-              subst (λ (own : State T). Runs types IsDefault buffer (map (renamed (renaming_of it.0)) rest_commands)
+              subst (λ (own : State T). Runs types (other_choices it.0 choices) buffer (map (renamed (renaming_of it.0)) rest_commands)
                   (other_state it.0 counts own) (map (other_reply it.0) rest_answers)
                   (other_state it.0 it.2 (own_of pattern name new)))
                   (own-left pattern name old mid
-                  (step-left pattern name types IsDefault buffer one old answer mid stands run.3
-                  (left-asks pattern name types IsDefault buffer one old off))) it.3,
+                  (step-left pattern name types choices buffer one old answer mid stands run.3
+                  (left-asks pattern name types choices buffer one old off))) it.3,
             )
 
 -- each number goes by itself
@@ -419,19 +420,19 @@ none-made made k few = below k made few
     below : (k made : ℕ) → k ≤ 0 → k ≤ made
     below k made few = omega (arith, few)
 
-pub counted-anew : {T : Type 0} (IsDefault : T → Type 0) → NumbersAreCountedAnew IsDefault
-counted-anew {T} IsDefault types buffer asked answers new run pattern name =
-    let it : IsAnew types IsDefault buffer pattern name asked new_state answers new run none given (own_of pattern name new_state) =
-    anew types IsDefault buffer pattern name asked new_state answers new run none given new-stands refl
+pub counted-anew : {T : Type 0} (choices : Choices T) → NumbersAreCountedAnew choices
+counted-anew {T} choices types buffer asked answers new run pattern name =
+    let it : IsAnew types choices buffer pattern name asked new_state answers new run none given (own_of pattern name new_state) =
+    anew types choices buffer pattern name asked new_state answers new run none given new-stands refl
     (none-made 0, none-made 0, none-made 0, none-made 0, none-made 0) in (
       renaming_of it.0,
       other_state it.0 it.2 (own_of pattern name new),
       (apart it.0.factories, apart it.0.publishers, apart it.0.subscribers, apart it.0.loans, apart it.0.samples),
-      subst (λ (own : State T). Runs types IsDefault buffer
+      subst (λ (own : State T). Runs types (other_choices it.0 choices) buffer
           (map (renamed (renaming_of it.0))
-          (commands_concerning types IsDefault buffer pattern name asked new_state answers new run))
+          (commands_concerning types choices buffer pattern name asked new_state answers new run))
           (other_state it.0 none own)
-          (map (other_reply it.0) (answers_concerning types IsDefault buffer pattern name asked new_state answers new run))
+          (map (other_reply it.0) (answers_concerning types choices buffer pattern name asked new_state answers new run))
           (other_state it.0 it.2 (own_of pattern name new)))
           (own-new pattern name) it.3,
       (own-phase pattern name new, refl, renumbered it.0 (filter (is_of pattern name) new.services)),

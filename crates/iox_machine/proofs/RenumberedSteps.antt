@@ -5,6 +5,7 @@ use Rattle.std.proofs.lemmas.List.{map-append}
 use Rattle.std.specs.List.{list_any}
 use Rattle.std.specs.Option.{option_map_or}
 use Rattle.std.specs.Prelude.{◌==◌, nat_le, option_map, option_and_then, is_some, find, filter, MatchBool, MatchOption, MatchResult}
+use Rattle.iox_machine.specs.Choices.{Choices}
 use Rattle.iox_machine.specs.Agreement.{event_verdict, publish_subscribe_verdict, request_response_verdict}
 use Rattle.iox_machine.specs.Asked.{settings_of}
 use Rattle.iox_machine.specs.Closing.{Closes, is_used_by}
@@ -232,14 +233,14 @@ module _ {T : Type 0} (by : Numberings) where
         (at number old.factories)
     found-factory number old = at-by by.factories (λ (factory : Factory). factory) number old.factories
 
-    pub at-factory-by : (types : MessageTypeDetails) (IsDefault : T → Type 0) (buffer number : ℕ)
+    pub at-factory-by : (types : MessageTypeDetails) (choices : Choices T) (buffer number : ℕ)
         (Does Other : Service T → Reply T → Service T → Type 0) (old : State T) (answer : Reply T) (new : State T)
         → ((service after : Service T) → Does service answer after
         → Other (other_service by service) (other_reply by answer) (other_service by after))
-        → AtFactory types IsDefault buffer number Does old answer new
-        → AtFactory types IsDefault buffer (by.factories.to number) Other (other_state made old) (other_reply by answer)
+        → AtFactory types choices buffer number Does old answer new
+        → AtFactory types choices buffer (by.factories.to number) Other (other_state made old) (other_reply by answer)
         (other_end made answer new)
-    at-factory-by types IsDefault buffer number Does Other old answer new does h =
+    at-factory-by types choices buffer number Does Other old answer new does h =
         over-option
         (λ (factory : Factory). AtOne (λ (service : Service T). cond (is_service_of factory service) (Some service) None)
         (λ (service : Service T). Other) (other_state made old) (other_reply by answer) (other_end made answer new))

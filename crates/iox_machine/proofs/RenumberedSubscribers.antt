@@ -5,11 +5,12 @@ use Rattle.std.proofs.lemmas.List.{length-map, map-append}
 use Rattle.std.specs.Global.{Vec}
 use Rattle.std.specs.List.{list_any}
 use Rattle.std.specs.Option.{option_map_or}
-use Rattle.std.specs.Prelude.{◌==◌, nat_lt, is_some, find, filter, fold, zip, filter_map, slice_get, MatchResult}
+use Rattle.std.specs.Prelude.{◌==◌, nat_lt, is_some, find, filter, fold, zip, filter_map, slice_get}
+use Rattle.iox_machine.specs.Choices.{Choices}
+use Rattle.iox_machine.proofs.Delivering.{Outcomes}
 use Rattle.iox_machine.specs.Mailbox.{Mailbox, has_data, is_idle, taken}
 use Rattle.iox_machine.specs.Message.{Sample}
 use Rattle.iox_machine.specs.PortList.{those, unless}
-use Rattle.iox_machine.specs.PublisherUpdate.{update_answer}
 use Rattle.iox_machine.specs.Receiving.{has_samples, gives, lasting, IsGiver, Takes, Receives}
 use Rattle.iox_machine.specs.Replies.{IsRefused}
 use Rattle.iox_machine.specs.Service.{Service, Subscriber, with_subscriber, mailbox, with_mailbox, connect}
@@ -17,11 +18,12 @@ use Rattle.iox_machine.specs.SubscriberUpdate as subscribing
 use Rattle.iox_machine.specs.SubscriberUpdate.{gone_from, parting, now_at, Parted, is_unborrowed, room_for, part}
 use Rattle.iox_machine.specs.Table.{contains}
 use Rattle.iox_machine.proofs.Mapped.{cond-of, find-by, filter-by, any-by, all-by, get-by, filter_map-by, some-by, or-by, map-swap}
-use Rattle.iox_machine.proofs.Mapped.{zip-by, fold-by, over-bool, over-option, over-result}
+use Rattle.iox_machine.proofs.Mapped.{zip-by, fold-by, over-bool, over-option}
 use Rattle.iox_machine.proofs.Renumbered.{Numbering, Numberings, same-to, placed, those-by, contains-to, contained-to, unless-by}
-use Rattle.iox_machine.proofs.Renumbered.{other_subscriber, other_reply, refused-by, sample_entry, other_service, subscriber-by, box-by}
+use Rattle.iox_machine.proofs.Renumbered.{other_choices, other_subscriber, other_reply, refused-by, sample_entry, other_service}
+use Rattle.iox_machine.proofs.Renumbered.{subscriber-by, box-by}
 use Rattle.iox_machine.proofs.Renumbered.{mailbox-by, boxed-by, connect-by}
-use Rattle.iox_machine.proofs.RenumberedPublishers.{answer-by}
+use Rattle.iox_machine.proofs.RenumberedPublishers.{over-outcomes}
 use Rattle.iox_command.specs.DomainValues.declared.connection_failure.ConnectionFailure.{ConnectionFailure}
 use Rattle.iox_command.specs.DomainValues.declared.port_error.ReceiveError.TheVariants.{ExceedsMaxBorrows}
 use Rattle.iox_command.specs.declared.refusal.Refusal.{Refusal}
@@ -215,35 +217,35 @@ module _ {T : Type 0} (by : Numberings) where
           (part buffer number old) (λ it publisher. part-by buffer number old it publisher)
           (record { expired = subscriber.expired; staying = [] }) (parting places)
 
-  pub subscriber-updates-by : (buffer number : ℕ) (told : ConnectionFailure → Refusal)
+  pub subscriber-updates-by : (choices : Choices T) (buffer number : ℕ) (told : ConnectionFailure → Refusal)
       (Does Other : Subscriber → Service T → Reply T → Service T → Type 0)
       (subscriber : Subscriber) (old : Service T) (answer : Reply T) (new : Service T)
       → ((one : Subscriber) (mid : Service T) → Does one mid answer new
       → Other (other_subscriber by one) (other_service by mid) (other_reply by answer) (other_service by new))
-      → subscribing.UpdatesFirst buffer number told Does subscriber old answer new
-      → subscribing.UpdatesFirst buffer (by.subscribers.to number) told Other (other_subscriber by subscriber) (other_service by old)
+      → subscribing.UpdatesFirst choices buffer number told Does subscriber old answer new
+      → subscribing.UpdatesFirst (other_choices by choices) buffer (by.subscribers.to number) told Other (other_subscriber by subscriber)
+      (other_service by old)
       (other_reply by answer) (other_service by new)
-  subscriber-updates-by buffer number told Does Other subscriber old answer new does h =
+  subscriber-updates-by choices buffer number told Does Other subscriber old answer new does h =
       over-bool ((subscriber.seen == old.publisher_list.changes) && not subscriber.again)
       ((subscriber.seen == old.publisher_list.changes) && not subscriber.again) refl (does subscriber old) followed h
     where
       followed : (after : Subscriber) × (mid : Service T) × subscribing.Follows buffer number subscriber old after mid
-          × MatchResult (update_answer subscriber.degradation old.publisher_list.places after.connected)
+          × Outcomes (choices.subscriber_acts number subscriber.degradation) (zip old.publisher_list.places after.connected)
           (λ done. Does after mid answer new) (λ failure. IsRefused (told failure) mid answer new)
           → (after : Subscriber) × (mid : Service T)
           × subscribing.Follows buffer (by.subscribers.to number) (other_subscriber by subscriber) (other_service by old) after mid
-          × MatchResult
-          (update_answer subscriber.degradation (map (placed by.publishers) old.publisher_list.places) after.connected)
+          × Outcomes ((other_choices by choices).subscriber_acts (by.subscribers.to number) subscriber.degradation)
+          (zip (map (placed by.publishers) old.publisher_list.places) after.connected)
           (λ done. Other after mid (other_reply by answer) (other_service by new))
           (λ failure. IsRefused (told failure) mid (other_reply by answer) (other_service by new))
       followed (after, mid, follows, end) = (
         other_subscriber by after,
         other_service by mid,
         subscriber-follows-by buffer number subscriber old after mid follows,
-        over-result (update_answer subscriber.degradation old.publisher_list.places after.connected)
-            (update_answer subscriber.degradation (map (placed by.publishers) old.publisher_list.places)
-            (map (placed by.publishers) after.connected))
-            (answer-by by.publishers subscriber.degradation old.publisher_list.places after.connected)
+        over-outcomes by.publishers (choices.subscriber_acts number subscriber.degradation)
+            ((other_choices by choices).subscriber_acts (by.subscribers.to number) subscriber.degradation)
+            (λ action may. (number, refl, may)) old.publisher_list.places after.connected
             (λ (done : Unit {0}). does after mid)
             (λ (failure : ConnectionFailure). refused-by by (other_service by) (told failure) mid answer new) end,
       )

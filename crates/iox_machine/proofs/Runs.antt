@@ -5,6 +5,7 @@ use Rattle.std.specs.Global.{Vec}
 use Rattle.std.specs.List.{AllByRecursion}
 use Rattle.std.specs.Prelude.{⊤, is_some, find, MatchOption}
 use Rattle.std.specs.Vec.{vec_items}
+use Rattle.iox_machine.specs.Choices.{Choices}
 use Rattle.iox_machine.specs.Message.{Message, Sample}
 use Rattle.iox_machine.specs.Ports.{subscriber_in}
 use Rattle.iox_machine.specs.Receiving.{Receives, has_samples}
@@ -131,12 +132,12 @@ module _ {T : Type 0} where
   abbrev AnySample : ℕ → Sample T → Type 0
   AnySample number sample = ⊤
 
-  module _ (types : MessageTypeDetails) (IsDefault : T → Type 0) (buffer : ℕ) where
+  module _ (types : MessageTypeDetails) (choices : Choices T) (buffer : ℕ) where
     abbrev Steps : Command T → State T → Reply T → State T → Type 0
-    Steps asked old answer new = Step types IsDefault buffer asked old answer new
+    Steps asked old answer new = Step types choices buffer asked old answer new
 
     abbrev Ran : List (Command T) → State T → List (Reply T) → State T → Type 0
-    Ran asked old answers new = Runs types IsDefault buffer asked old answers new
+    Ran asked old answers new = Runs types choices buffer asked old answers new
 
     -- ---- sizes
 
@@ -145,7 +146,7 @@ module _ {T : Type 0} where
     runs-sized [] old answers new run all = subst (AreSound AnyMessage AnySample) (sym run.1) all
     runs-sized (one ∷ more) old answers new run all =
         runs-sized more run.1 run.2 new run.4
-        (step-sound AnyMessage AnySample types IsDefault buffer one old run.0 run.1 (λ publisher message b. tt)
+        (step-sound AnyMessage AnySample types choices buffer one old run.0 run.1 (λ publisher message b. tt)
         (λ sample values told same. tt) run.3 all).0
 
     -- ---- what was sent
@@ -153,7 +154,7 @@ module _ {T : Type 0} where
     runs-sent : (Good : ℕ → Message T → Type 0) (asked : List (Command T)) (old : State T) (answers : List (Reply T)) (new : State T)
         (run : Ran asked old answers new) → AreSound Good AnySample old
         → AreSound (λ publisher message. Good publisher message
-        ⊎ Began types IsDefault buffer publisher message.values asked old answers new run)
+        ⊎ Began types choices buffer publisher message.values asked old answers new run)
         AnySample new
     runs-sent Good [] old answers new run all =
         subst (AreSound (λ publisher message. Good publisher message ⊎ ⊥) AnySample) (sym run.1)
@@ -165,12 +166,12 @@ module _ {T : Type 0} where
         let before : AreSound Next AnySample old =
         all-weaker-sound Good Next AnySample AnySample (λ publisher message good. inl good) (λ number sample fine. fine) old all in
         let mid : AreSound Next AnySample run.1 =
-        (step-sound Next AnySample types IsDefault buffer one old run.0 run.1 (λ publisher message begins. inr begins)
+        (step-sound Next AnySample types choices buffer one old run.0 run.1 (λ publisher message begins. inr begins)
         (λ sample values told same. tt)
         run.3 before).0 in
         all-weaker-sound
-        (λ publisher message. Next publisher message ⊎ Began types IsDefault buffer publisher message.values more run.1 run.2 new run.4)
-        (λ publisher message. Good publisher message ⊎ Began types IsDefault buffer publisher message.values
+        (λ publisher message. Next publisher message ⊎ Began types choices buffer publisher message.values more run.1 run.2 new run.4)
+        (λ publisher message. Good publisher message ⊎ Began types choices buffer publisher message.values
         (one ∷ more) old answers new run)
         AnySample AnySample
         (λ publisher message it. elim it [
@@ -181,7 +182,7 @@ module _ {T : Type 0} where
 
     abbrev Sent : (asked : List (Command T)) (answers : List (Reply T)) (new : State T) → Ran asked new_state answers new → ℕ → Message T
         → Type 0
-    Sent asked answers new run publisher message = Began types IsDefault buffer publisher message.values asked new_state answers new run
+    Sent asked answers new run publisher message = Began types choices buffer publisher message.values asked new_state answers new run
 
     sent-sound : (asked : List (Command T)) (answers : List (Reply T)) (new : State T) (run : Ran asked new_state answers new)
         → AreSound (Sent asked answers new run) AnySample new
@@ -219,7 +220,7 @@ module _ {T : Type 0} where
         → IsTaken Good (old.made.samples + 1) sample values
     received-good Good Fine subscriber old sample values new all h =
         elim (at-one (subscriber_in subscriber)
-        (subscribing.UpdatesFirst buffer subscriber (λ failure. refusal.Receive (receive_error.ConnectionFailure failure))
+        (subscribing.UpdatesFirst choices buffer subscriber (λ failure. refusal.Receive (receive_error.ConnectionFailure failure))
         (Receives subscriber (old.made.samples + 1))) old (reply.Received sample values) new h) [
           | inl w ↦ never-told (reply.Received sample values) reply.Skipped w.0 refl refl
           | inr w ↦ taken w.0 w.1 w.2 (all-found (Sound Good Fine)
@@ -229,11 +230,11 @@ module _ {T : Type 0} where
       where
         taken : (service : Service T) (one : Subscriber) (after : Service T) → Sound Good Fine service
             → subscriber_in subscriber service ≡ Some one
-            → subscribing.UpdatesFirst buffer subscriber (λ failure. refusal.Receive (receive_error.ConnectionFailure failure))
+            → subscribing.UpdatesFirst choices buffer subscriber (λ failure. refusal.Receive (receive_error.ConnectionFailure failure))
             (Receives subscriber (old.made.samples + 1)) one service (reply.Received sample values) after
             → IsTaken Good (old.made.samples + 1) sample values
         taken service one after sound found did =
-            subscriber-updates Good Fine (IsTaken Good (old.made.samples + 1) sample values) buffer subscriber
+            subscriber-updates Good Fine choices (IsTaken Good (old.made.samples + 1) sample values) buffer subscriber
             (λ failure. refusal.Receive (receive_error.ConnectionFailure failure)) (Receives subscriber (old.made.samples + 1)) one service
             (reply.Received sample values) after (sound, subscriber-fits Good Fine subscriber one service sound found)
             (λ next mid well took. receives-good Good Fine subscriber (old.made.samples + 1) next mid sample values after well.0 took)
@@ -245,7 +246,7 @@ module _ {T : Type 0} where
         → AreSound AnyMessage AnySample old
         → new.made ≡ counted answer old.made
     made-so asked old answer new h all =
-        (step-sound AnyMessage AnySample types IsDefault buffer asked old answer new (λ publisher message b. tt)
+        (step-sound AnyMessage AnySample types choices buffer asked old answer new (λ publisher message b. tt)
         (λ sample values told same. tt) h all).1
 
     forgotten : (Fine : ℕ → Sample T → Type 0) (state : State T) → AreSound AnyMessage Fine state → AreSound AnyMessage AnySample state
@@ -273,7 +274,7 @@ module _ {T : Type 0} where
         all-weaker-sound AnyMessage AnyMessage (Numbered old) (Numbered run.1) (λ publisher message good. tt)
         (λ number sample fine. below number old.made.samples run.1.made.samples fine up) old all in
         runs-numbered more run.1 run.2 new run.4
-        (step-sound AnyMessage (Numbered run.1) types IsDefault buffer one old run.0 run.1 (λ publisher message b. tt)
+        (step-sound AnyMessage (Numbered run.1) types choices buffer one old run.0 run.1 (λ publisher message b. tt)
         (λ sample values told same. next run.0 run.1 values told made) run.3 before).0
       where
         below : (number low high : ℕ) → number ≤ low → low ≤ high → number ≤ high
@@ -297,7 +298,7 @@ module _ {T : Type 0} where
     runs-read sample values (one ∷ more) old answers new run made all =
         runs-read sample values more run.1 run.2 new run.4
         (under (rises one old run.0 run.1 run.3 (forgotten (Reads sample values) old all)))
-        (step-sound AnyMessage (Reads sample values) types IsDefault buffer one old run.0 run.1 (λ publisher message b. tt)
+        (step-sound AnyMessage (Reads sample values) types choices buffer one old run.0 run.1 (λ publisher message b. tt)
         (λ other found told same is. absurd (past is)) run.3 all).0
       where
         under : old.made.samples ≤ run.1.made.samples → sample ≤ run.1.made.samples
@@ -307,16 +308,16 @@ module _ {T : Type 0} where
         past is = omega (arith, made, is)
 
 -- what is received is numbered next
-pub received-number : {T : Type 0} (types : MessageTypeDetails) (IsDefault : T → Type 0) (buffer : ℕ) (asked : List (Command T))
-    (answers : List (Reply T)) (old : State T) → Runs types IsDefault buffer asked new_state answers old
+pub received-number : {T : Type 0} (types : MessageTypeDetails) (choices : Choices T) (buffer : ℕ) (asked : List (Command T))
+    (answers : List (Reply T)) (old : State T) → Runs types choices buffer asked new_state answers old
     → (subscriber sample : ℕ) (values : Vec T) (new : State T)
-    → Step types IsDefault buffer (command.Receive subscriber) old (reply.Received sample values) new → sample ≡ old.made.samples + 1
-received-number types IsDefault buffer asked answers old run subscriber sample values new h =
-    (received-good types IsDefault buffer AnyMessage AnySample subscriber old sample values new
-    (runs-sized types IsDefault buffer asked new_state answers old run tt) h).4
+    → Step types choices buffer (command.Receive subscriber) old (reply.Received sample values) new → sample ≡ old.made.samples + 1
+received-number types choices buffer asked answers old run subscriber sample values new h =
+    (received-good types choices buffer AnyMessage AnySample subscriber old sample values new
+    (runs-sized types choices buffer asked new_state answers old run tt) h).4
 
-pub sizes-agreed : {T : Type 0} (IsDefault : T → Type 0) → SizesAreAgreed IsDefault
-sizes-agreed {T} IsDefault types buffer asked answers new run =
+pub sizes-agreed : {T : Type 0} (choices : Choices T) → SizesAreAgreed choices
+sizes-agreed {T} choices types buffer asked answers new run =
     all-both (Sound AnyMessage AnySample) Placed IsWithinSizes
     (λ (service : Service T) (sound : Sound AnyMessage AnySample service) (placed : Placed service). (
       (λ publisher subscriber box e.
@@ -329,12 +330,12 @@ sizes-agreed {T} IsDefault types buffer asked answers new run =
       listed-few service.publisher_list.places service.settings.max_publishers placed.0,
       listed-few service.subscriber_list.places service.settings.max_subscribers placed.1,
     ))
-    new.services (runs-sized types IsDefault buffer asked new_state answers new run tt)
-    (runs-placed types IsDefault buffer asked new_state answers new run tt)
+    new.services (runs-sized types choices buffer asked new_state answers new run tt)
+    (runs-placed types choices buffer asked new_state answers new run tt)
 
-pub messages-sent : {T : Type 0} (IsDefault : T → Type 0) → MessagesWereSent IsDefault
-messages-sent {T} IsDefault types buffer asked answers new run =
-    let Good : ℕ → Message T → Type 0 = Sent types IsDefault buffer asked answers new run in
+pub messages-sent : {T : Type 0} (choices : Choices T) → MessagesWereSent choices
+messages-sent {T} choices types buffer asked answers new run =
+    let Good : ℕ → Message T → Type 0 = Sent types choices buffer asked answers new run in
     all-weaker (Sound Good AnySample) (AllMessages Good)
     (λ (service : Service T) (sound : Sound Good AnySample service). (
       (λ publisher subscriber box e.
@@ -344,35 +345,35 @@ messages-sent {T} IsDefault types buffer asked answers new run =
       all-weaker (λ (entry : ℕ × Sample T). SampleFits Good AnySample entry.0 entry.1)
           (λ (entry : ℕ × Sample T). Good entry.1.publisher entry.1.message) (λ entry fits. fits.1) service.samples sound.3,
     ))
-    new.services (sent-sound types IsDefault buffer asked answers new run)
+    new.services (sent-sound types choices buffer asked answers new run)
 
-pub samples-read : {T : Type 0} (IsDefault : T → Type 0) → SamplesReadTheSame IsDefault
-samples-read {T} IsDefault types buffer asked answers old run subscriber sample values mid received meanwhile told later ran read new h =
-    let numbered : AreSound AnyMessage (Numbered types IsDefault buffer old) old =
-    runs-numbered types IsDefault buffer asked new_state answers old run tt in
-    let plain : AreSound AnyMessage AnySample old = forgotten types IsDefault buffer (Numbered types IsDefault buffer old) old numbered in
-    let taken : IsTaken types IsDefault buffer AnyMessage (old.made.samples + 1) sample values =
-    received-good types IsDefault buffer AnyMessage AnySample subscriber old sample values mid plain received in
-    let before : AreSound AnyMessage (Reads types IsDefault buffer sample values) old =
-    all-weaker-sound AnyMessage AnyMessage (Numbered types IsDefault buffer old) (Reads types IsDefault buffer sample values)
+pub samples-read : {T : Type 0} (choices : Choices T) → SamplesReadTheSame choices
+samples-read {T} choices types buffer asked answers old run subscriber sample values mid received meanwhile told later ran read new h =
+    let numbered : AreSound AnyMessage (Numbered types choices buffer old) old =
+    runs-numbered types choices buffer asked new_state answers old run tt in
+    let plain : AreSound AnyMessage AnySample old = forgotten types choices buffer (Numbered types choices buffer old) old numbered in
+    let taken : IsTaken types choices buffer AnyMessage (old.made.samples + 1) sample values =
+    received-good types choices buffer AnyMessage AnySample subscriber old sample values mid plain received in
+    let before : AreSound AnyMessage (Reads types choices buffer sample values) old =
+    all-weaker-sound AnyMessage AnyMessage (Numbered types choices buffer old) (Reads types choices buffer sample values)
     (λ publisher message good. tt) (λ number one fine is. absurd (above number fine is taken.4)) old numbered in
-    let after : AreSound AnyMessage (Reads types IsDefault buffer sample values) mid =
-    (step-sound AnyMessage (Reads types IsDefault buffer sample values) types IsDefault buffer (command.Receive subscriber) old
+    let after : AreSound AnyMessage (Reads types choices buffer sample values) mid =
+    (step-sound AnyMessage (Reads types choices buffer sample values) types choices buffer (command.Receive subscriber) old
     (reply.Received sample values) mid (λ publisher message b. tt)
     (λ one found said same is. ap (λ (answer : Reply T). vec_items (values_in answer values)) said ∙ same) received before).0 in
     let made : mid.made.samples ≡ old.made.samples + 1 =
     ap (λ (it : Made). it.samples)
-    (made-so types IsDefault buffer (command.Receive subscriber) old (reply.Received sample values) mid received plain) in
-    let end : AreSound AnyMessage (Reads types IsDefault buffer sample values) later =
-    runs-read types IsDefault buffer sample values meanwhile mid told later ran (within mid.made.samples made taken.4) after in
+    (made-so types choices buffer (command.Receive subscriber) old (reply.Received sample values) mid received plain) in
+    let end : AreSound AnyMessage (Reads types choices buffer sample values) later =
+    runs-read types choices buffer sample values meanwhile mid told later ran (within mid.made.samples made taken.4) after in
     elim (at-one (λ (service : Service T). at sample service.samples)
     (λ (one : Sample T) (service : Service T) (answered : Reply T) (then_so : Service T). (found : Vec T) ×
     (vec_items found ≡ one.message.values)
     × (answered ≡ reply.Values found) × (then_so ≡ service)) later (reply.Values read) new h) [
       | inl w ↦ never-told (reply.Values read) reply.Skipped w.0 refl refl
       | inr w ↦ ap (λ (answer : Reply T). vec_items (values_in answer read)) w.5.2 ∙ (w.5.1
-          ∙ sym ((all-at (SampleFits AnyMessage (Reads types IsDefault buffer sample values)) sample w.1 w.0.samples w.4
-          (all-found (Sound AnyMessage (Reads types IsDefault buffer sample values))
+          ∙ sym ((all-at (SampleFits AnyMessage (Reads types choices buffer sample values)) sample w.1 w.0.samples w.4
+          (all-found (Sound AnyMessage (Reads types choices buffer sample values))
           (λ (other : Service T). is_some (at sample other.samples))
           later.services w.0 w.3 end).3).0 refl))
     ]

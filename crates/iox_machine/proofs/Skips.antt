@@ -2,26 +2,27 @@
 use Rattle.std.proofs.Common.{◌≡◌, ◌⊎◌, ◌+◌, ℕ, Bool, true, false, cond, not, ◌&&◌, List, [], ◌∷◌, ◌++◌, length, map, set, Option, None}
 use Rattle.std.proofs.Common.{Some, refl, ap, inl, inr, ◌∙◌}
 use Rattle.std.specs.Global.{Vec}
-use Rattle.std.specs.Prelude.{◌==◌, nat_lt, nat_le, is_some, slice_get, MatchBool, MatchOption, MatchResult, ◌||◌, ◌^◌}
+use Rattle.std.specs.Prelude.{◌==◌, nat_lt, nat_le, is_some, slice_get, MatchBool, MatchOption, ◌||◌, ◌^◌, zip}
 use Rattle.std.specs.List.{list_all}
 use Rattle.std.specs.Vec.{vec_items}
+use Rattle.iox_machine.specs.Choices.{Choices}
+use Rattle.iox_machine.proofs.Delivering.{Outcomes, by-outcome}
 use Rattle.iox_machine.specs.Arriving.{PublisherArrives, SubscriberArrives, new_publisher, new_subscriber, worst_case}
 use Rattle.iox_machine.specs.Mailbox.{newest}
 use Rattle.iox_machine.specs.Message.{Message, Loan, Sample, is_written, sent_as}
 use Rattle.iox_machine.specs.PortList.{left, registered, those}
 use Rattle.iox_machine.specs.Ports.{AtFree, AtBlocked, publisher_in, subscriber_in, LendsLoan, Puts, SendsLoan, Writes, Releases}
 use Rattle.iox_machine.specs.PublisherUpdate as publishing
-use Rattle.iox_machine.specs.PublisherUpdate.{update_answer}
 use Rattle.iox_machine.specs.Receiving.{Receives, has_samples}
 use Rattle.iox_machine.specs.Replies.{IsSkipped, IsRefused}
 use Rattle.iox_machine.specs.Run.{Step, AtFactory, factory_of}
 use Rattle.iox_machine.specs.RunLaws.{SkippedChangesNothing}
-use Rattle.iox_machine.specs.Sending.{GoesOn, Begins, Sends, deliver}
+use Rattle.iox_machine.specs.Sending.{GoesOn, Begins, Sends}
 use Rattle.iox_machine.specs.Service.{Service, Publisher, Subscriber, Send, with_publisher, with_subscriber}
 use Rattle.iox_machine.specs.State.{State, Factory, AtOne, is_service_of, replaced}
 use Rattle.iox_machine.specs.SubscriberUpdate as subscribing
 use Rattle.iox_machine.specs.Table.{at, removed}
-use Rattle.iox_machine.proofs.Cases.{by-bool, by-option, by-result}
+use Rattle.iox_machine.proofs.Cases.{by-bool, by-option}
 use Rattle.iox_machine.proofs.Moving.{IsNegotiated, IsClosed, at-one, replaced-same, creates, opens, opens-or-creates, closed}
 use Rattle.iox_command.specs.DomainValues.declared.connection_failure.ConnectionFailure.{ConnectionFailure}
 use Rattle.iox_command.specs.DomainValues.declared.create_error.PublisherCreateError.TheVariants as publisher_error
@@ -61,73 +62,73 @@ module _ {T : Type 0} where
   never-sent false true count e = never (reply.Refused (refusal.Send error.UnableToDeliver)) e refl
   never-sent false false count e = never (reply.Delivered count) e refl
 
-  goes-on-tells : {A : Type 0} (number : ℕ) (publisher : Publisher T) (send : Send T) (old new : Service T)
-      → GoesOn number publisher send old skipped new → A
-  goes-on-tells number publisher send old new h =
-      let after : Send T × Service T = deliver number publisher send.left send old in
-      never-sent (is_some (slice_get after.0.left 0)) after.0.fails after.0.delivered h.0
+  goes-on-tells : {A : Type 0} (choices : Choices T) (number : ℕ) (publisher : Publisher T) (send : Send T) (old new : Service T)
+      → GoesOn choices number publisher send old skipped new → A
+  goes-on-tells choices number publisher send old new h =
+      never-sent (is_some (slice_get h.0.left 0)) h.0.fails h.0.delivered h.3
 
-  begins-tells : {A : Type 0} (number : ℕ) (message : Message T) (publisher : Publisher T) (old new : Service T)
-      → Begins number message publisher old skipped new → A
-  begins-tells number message publisher old new h =
-      goes-on-tells number (record publisher { history = newest old.settings.history_size (publisher.history ++ message ∷ []) })
+  begins-tells : {A : Type 0} (choices : Choices T) (number : ℕ) (message : Message T) (publisher : Publisher T) (old new : Service T)
+      → Begins choices number message publisher old skipped new → A
+  begins-tells choices number message publisher old new h =
+      goes-on-tells choices number (record publisher { history = newest old.settings.history_size (publisher.history ++ message ∷ []) })
       (record { message = message; left = those publisher.connected; retries = 0; elapsed = 0; delivered = 0; fails = false }) old new h
 
-  publisher-updates : (number : ℕ) (told : ConnectionFailure → Refusal) (Does : Publisher T → Service T → Reply T → Service T → Type 0)
+  publisher-updates : (choices : Choices T) (number : ℕ) (told : ConnectionFailure → Refusal)
+      (Does : Publisher T → Service T → Reply T → Service T → Type 0)
       (publisher : Publisher T) (old new : Service T) → ((one : Publisher T) (mid : Service T) → Does one mid skipped new → ⊥)
-      → publishing.UpdatesFirst number told Does publisher old skipped new → ⊥
-  publisher-updates number told Does publisher old new does h =
+      → publishing.UpdatesFirst choices number told Does publisher old skipped new → ⊥
+  publisher-updates choices number told Does publisher old new does h =
       elim (by-bool (publisher.seen == old.subscriber_list.changes) (Does publisher old skipped new)
       ((after : Publisher T) × (mid : Service T) × publishing.Follows number publisher old after mid
-      × MatchResult (update_answer publisher.degradation old.subscriber_list.places after.connected)
+      × Outcomes (choices.publisher_acts number publisher.degradation) (zip old.subscriber_list.places after.connected)
       (λ done. Does after mid skipped new) (λ failure. IsRefused (told failure) mid skipped new)) h) [
         | inl w ↦ does publisher old w.1
         | inr w ↦ followed w.1.0 w.1.1 w.1.3
       ]
     where
       followed : (after : Publisher T) (mid : Service T)
-          → MatchResult (update_answer publisher.degradation old.subscriber_list.places after.connected)
+          → Outcomes (choices.publisher_acts number publisher.degradation) (zip old.subscriber_list.places after.connected)
           (λ done. Does after mid skipped new) (λ failure. IsRefused (told failure) mid skipped new) → ⊥
       followed after mid said =
-          elim (by-result (update_answer publisher.degradation old.subscriber_list.places after.connected)
+          elim (by-outcome (choices.publisher_acts number publisher.degradation) (zip old.subscriber_list.places after.connected)
           (λ done. Does after mid skipped new) (λ failure. IsRefused (told failure) mid skipped new) said) [
             | inl r ↦ does after mid r.2
             | inr r ↦ never (reply.Refused (told r.0)) r.2.0 refl
           ]
 
-  subscriber-updates : (buffer number : ℕ) (told : ConnectionFailure → Refusal)
+  subscriber-updates : (choices : Choices T) (buffer number : ℕ) (told : ConnectionFailure → Refusal)
       (Does : Subscriber → Service T → Reply T → Service T → Type 0)
       (subscriber : Subscriber) (old new : Service T) → ((one : Subscriber) (mid : Service T) → Does one mid skipped new → ⊥)
-      → subscribing.UpdatesFirst buffer number told Does subscriber old skipped new → ⊥
-  subscriber-updates buffer number told Does subscriber old new does h =
+      → subscribing.UpdatesFirst choices buffer number told Does subscriber old skipped new → ⊥
+  subscriber-updates choices buffer number told Does subscriber old new does h =
       elim (by-bool ((subscriber.seen == old.publisher_list.changes) && not subscriber.again) (Does subscriber old skipped new)
       ((after : Subscriber) × (mid : Service T) × subscribing.Follows buffer number subscriber old after mid
-      × MatchResult (update_answer subscriber.degradation old.publisher_list.places after.connected)
+      × Outcomes (choices.subscriber_acts number subscriber.degradation) (zip old.publisher_list.places after.connected)
       (λ done. Does after mid skipped new) (λ failure. IsRefused (told failure) mid skipped new)) h) [
         | inl w ↦ does subscriber old w.1
         | inr w ↦ followed w.1.0 w.1.1 w.1.3
       ]
     where
       followed : (after : Subscriber) (mid : Service T)
-          → MatchResult (update_answer subscriber.degradation old.publisher_list.places after.connected)
+          → Outcomes (choices.subscriber_acts number subscriber.degradation) (zip old.publisher_list.places after.connected)
           (λ done. Does after mid skipped new) (λ failure. IsRefused (told failure) mid skipped new) → ⊥
       followed after mid said =
-          elim (by-result (update_answer subscriber.degradation old.publisher_list.places after.connected)
+          elim (by-outcome (choices.subscriber_acts number subscriber.degradation) (zip old.publisher_list.places after.connected)
           (λ done. Does after mid skipped new) (λ failure. IsRefused (told failure) mid skipped new) said) [
             | inl r ↦ does after mid r.2
             | inr r ↦ never (reply.Refused (told r.0)) r.2.0 refl
           ]
 
-  sends-tells : (number : ℕ) (message : Message T) (publisher : Publisher T) (old new : Service T)
-      → Sends number message publisher old skipped new → ⊥
-  sends-tells number message publisher old new h =
+  sends-tells : (choices : Choices T) (number : ℕ) (message : Message T) (publisher : Publisher T) (old new : Service T)
+      → Sends choices number message publisher old skipped new → ⊥
+  sends-tells choices number message publisher old new h =
       elim (by-bool publisher.stands
-      (publishing.UpdatesFirst number (λ failure. refusal.Send (error.ConnectionError failure))
-      (Begins number message) publisher old skipped new)
+      (publishing.UpdatesFirst choices number (λ failure. refusal.Send (error.ConnectionError failure))
+      (Begins choices number message) publisher old skipped new)
       (IsRefused (refusal.Send error.ConnectionBrokenSinceSenderNoLongerExists) old skipped new) h) [
-        | inl w ↦ publisher-updates number (λ failure. refusal.Send (error.ConnectionError failure))
-            (Begins number message) publisher old new
-            (λ one mid begun. begins-tells number message one mid new begun) w.1
+        | inl w ↦ publisher-updates choices number (λ failure. refusal.Send (error.ConnectionError failure))
+            (Begins choices number message) publisher old new
+            (λ one mid begun. begins-tells choices number message one mid new begun) w.1
         | inr w ↦ never (reply.Refused (refusal.Send error.ConnectionBrokenSinceSenderNoLongerExists)) w.1.0 refl
       ]
 
@@ -136,18 +137,20 @@ module _ {T : Type 0} where
   lends-skips loan number count value publisher old new (None, after, lent, (told, came)) = never (reply.LoanMade loan) told refl
   lends-skips loan number count value publisher old new (Some why, after, lent, (told, same)) = same
 
-  puts-skips : (number : ℕ) (values : List T) (publisher : Publisher T) (old new : Service T)
-      → Puts number values publisher old skipped new
+  puts-skips : (choices : Choices T) (number : ℕ) (values : List T) (publisher : Publisher T) (old new : Service T)
+      → Puts choices number values publisher old skipped new
       → new ≡ old
-  puts-skips number values publisher old new (None, after, lent, sent) =
-      absurd (sends-tells number (record { number = publisher.next; values = values }) after (with_publisher number after old) new sent)
-  puts-skips number values publisher old new (Some why, after, lent, (told, same)) = same
+  puts-skips choices number values publisher old new (None, after, lent, sent) =
+      absurd (sends-tells choices number (record { number = publisher.next; values = values }) after (with_publisher number after old) new
+      sent)
+  puts-skips choices number values publisher old new (Some why, after, lent, (told, same)) = same
 
-  sends-loan-skips : (number : ℕ) (loan : Loan T) (old new : Service T) → SendsLoan number loan old skipped new → new ≡ old
-  sends-loan-skips number loan old new h =
+  sends-loan-skips : (choices : Choices T) (number : ℕ) (loan : Loan T) (old new : Service T)
+      → SendsLoan choices number loan old skipped new → new ≡ old
+  sends-loan-skips choices number loan old new h =
       elim (by-option (at loan.publisher old.publishers) (IsSkipped old skipped new)
       (λ publisher. MatchBool (is_written loan && not (is_some publisher.blocked))
-      (Sends loan.publisher (sent_as loan) publisher (record old { loans = removed number old.loans }) skipped new)
+      (Sends choices loan.publisher (sent_as loan) publisher (record old { loans = removed number old.loans }) skipped new)
       (IsSkipped old skipped new)) h) [
         | inl w ↦ w.1.1
         | inr w ↦ sent w.0 w.2
@@ -155,13 +158,14 @@ module _ {T : Type 0} where
     where
       sent : (publisher : Publisher T)
           → MatchBool (is_written loan && not (is_some publisher.blocked))
-          (Sends loan.publisher (sent_as loan) publisher (record old { loans = removed number old.loans }) skipped new)
+          (Sends choices loan.publisher (sent_as loan) publisher (record old { loans = removed number old.loans }) skipped new)
           (IsSkipped old skipped new) → new ≡ old
       sent publisher h =
           elim (by-bool (is_written loan && not (is_some publisher.blocked))
-          (Sends loan.publisher (sent_as loan) publisher (record old { loans = removed number old.loans }) skipped new)
+          (Sends choices loan.publisher (sent_as loan) publisher (record old { loans = removed number old.loans }) skipped new)
           (IsSkipped old skipped new) h) [
-            | inl w ↦ absurd (sends-tells loan.publisher (sent_as loan) publisher (record old { loans = removed number old.loans }) new w.1)
+            | inl w ↦ absurd (sends-tells choices loan.publisher (sent_as loan) publisher
+                (record old { loans = removed number old.loans }) new w.1)
             | inr w ↦ w.1.1
           ]
 
@@ -328,10 +332,10 @@ module _ {T : Type 0} where
   closed-skips number old new (inr (inl refused)) = refused.1
   closed-skips number old new (inr (inr (factory, found, unused, told, came))) = never reply.Done told refl
 
-  module _ (types : MessageTypeDetails) (IsDefault : T → Type 0) (buffer : ℕ) where
+  module _ (types : MessageTypeDetails) (choices : Choices T) (buffer : ℕ) where
     at-factory-skips : (number : ℕ) (Does : Service T → Reply T → Service T → Type 0) (old new : State T)
         → ((service after : Service T) → Does service skipped after → after ≡ service)
-        → AtFactory types IsDefault buffer number Does old skipped new → new ≡ old
+        → AtFactory types choices buffer number Does old skipped new → new ≡ old
     at-factory-skips number Does old new does h =
         elim (by-option (at number old.factories) (IsSkipped old skipped new)
         (λ factory. AtOne (λ (service : Service T). cond (is_service_of factory service) (Some service) None)
@@ -343,7 +347,7 @@ module _ {T : Type 0} where
               old new (λ one service after did. does service after did) w.2
         ]
 
-    step-skips : (asked : Command T) (old new : State T) → Step types IsDefault buffer asked old skipped new → new ≡ old
+    step-skips : (asked : Command T) (old new : State T) → Step types choices buffer asked old skipped new → new ≡ old
     step-skips command.Node old new (inl (told, came)) = never (reply.NodeMade (old.made.nodes + 1)) told refl
     step-skips command.Node old new (inr refused) = refused.1
     step-skips (command.Create node name options attributes steps) old new h =
@@ -394,16 +398,16 @@ module _ {T : Type 0} where
         × (after ≡ record service { loans = removed loan service.loans }))
         old new (λ one service after did. never reply.Done did.0 refl) h
     step-skips (command.Send loan) old new h =
-        at-one-skips (λ (service : Service T). at loan service.loans) (SendsLoan loan) old new
-        (λ one service after did. sends-loan-skips loan one service after did) h
+        at-one-skips (λ (service : Service T). at loan service.loans) (SendsLoan choices loan) old new
+        (λ one service after did. sends-loan-skips choices loan one service after did) h
     step-skips (command.Put publisher values) old new h =
-        at-free-skips publisher (Puts publisher values) old new
-        (λ one service after did. puts-skips publisher values one service after did) h
+        at-free-skips publisher (Puts choices publisher values) old new
+        (λ one service after did. puts-skips choices publisher values one service after did) h
     step-skips (command.Retry publisher nanoseconds) old new h =
         at-blocked-skips publisher
-        (λ (one : Publisher T) (send : Send T). GoesOn publisher one
+        (λ (one : Publisher T) (send : Send T). GoesOn choices publisher one
         (record send { retries = send.retries + 1; elapsed = nanoseconds })) old new
-        (λ one send service after did. goes-on-tells publisher one
+        (λ one send service after did. goes-on-tells choices publisher one
         (record send { retries = send.retries + 1; elapsed = nanoseconds }) service after did) h
     step-skips (command.GiveUp publisher) old new h =
         at-blocked-skips publisher
@@ -413,9 +417,9 @@ module _ {T : Type 0} where
         old new (λ one send service after did. never (reply.Delivered send.delivered) did.0 refl) h
     step-skips (command.Receive subscriber) old new h =
         at-one-skips (subscriber_in subscriber)
-        (subscribing.UpdatesFirst buffer subscriber (λ failure. refusal.Receive (receive_error.ConnectionFailure failure))
+        (subscribing.UpdatesFirst choices buffer subscriber (λ failure. refusal.Receive (receive_error.ConnectionFailure failure))
         (Receives subscriber (old.made.samples + 1))) old new
-        (λ one service after did. absurd (subscriber-updates buffer subscriber
+        (λ one service after did. absurd (subscriber-updates choices buffer subscriber
         (λ failure. refusal.Receive (receive_error.ConnectionFailure failure))
         (Receives subscriber (old.made.samples + 1)) one service after
         (λ next mid took. receives-tells subscriber (old.made.samples + 1) next mid after took) did)) h
@@ -430,19 +434,19 @@ module _ {T : Type 0} where
         (λ one service after did. never reply.Done did.0 refl) h
     step-skips (command.Update (port.Publisher number)) old new h =
         at-free-skips number
-        (publishing.UpdatesFirst number refusal.Connection
+        (publishing.UpdatesFirst choices number refusal.Connection
         (λ (one : Publisher T) (service : Service T) (answered : Reply T) (after : Service T). (answered ≡ reply.Done) × (after ≡ service)))
         old new
-        (λ one service after did. absurd (publisher-updates number refusal.Connection
+        (λ one service after did. absurd (publisher-updates choices number refusal.Connection
         (λ (it : Publisher T) (mid : Service T) (answered : Reply T) (end : Service T). (answered ≡ reply.Done) ×
         (end ≡ mid)) one service after
         (λ it mid done. never reply.Done done.0 refl) did)) h
     step-skips (command.Update (port.Subscriber number)) old new h =
         at-one-skips (subscriber_in number)
-        (subscribing.UpdatesFirst buffer number refusal.Connection
+        (subscribing.UpdatesFirst choices buffer number refusal.Connection
         (λ (one : Subscriber) (service : Service T) (answered : Reply T) (after : Service T). (answered ≡ reply.Done) × (after ≡ service)))
         old new
-        (λ one service after did. absurd (subscriber-updates buffer number refusal.Connection
+        (λ one service after did. absurd (subscriber-updates choices buffer number refusal.Connection
         (λ (it : Subscriber) (mid : Service T) (answered : Reply T) (end : Service T). (answered ≡ reply.Done) ×
         (end ≡ mid)) one service after
         (λ it mid done. never reply.Done done.0 refl) did)) h
@@ -460,16 +464,16 @@ module _ {T : Type 0} where
         old new (λ one service after did. never reply.Done did.0 refl) h
     step-skips (command.Has subscriber) old new h =
         at-one-skips (subscriber_in subscriber)
-        (subscribing.UpdatesFirst buffer subscriber refusal.Connection
+        (subscribing.UpdatesFirst choices buffer subscriber refusal.Connection
         (λ (one : Subscriber) (service : Service T) (answered : Reply T) (after : Service T).
         (answered ≡ reply.Has (has_samples subscriber one service))
         × (after ≡ service)))
         old new
-        (λ one service after did. absurd (subscriber-updates buffer subscriber refusal.Connection
+        (λ one service after did. absurd (subscriber-updates choices buffer subscriber refusal.Connection
         (λ (it : Subscriber) (mid : Service T) (answered : Reply T) (end : Service T).
         (answered ≡ reply.Has (has_samples subscriber it mid))
         × (end ≡ mid)) one service after
         (λ it mid done. never (reply.Has (has_samples subscriber it mid)) done.0 refl) did)) h
 
-pub skipped-changes-nothing : {T : Type 0} (IsDefault : T → Type 0) → SkippedChangesNothing IsDefault
-skipped-changes-nothing IsDefault types buffer asked old new h = step-skips types IsDefault buffer asked old new h
+pub skipped-changes-nothing : {T : Type 0} (choices : Choices T) → SkippedChangesNothing choices
+skipped-changes-nothing choices types buffer asked old new h = step-skips types choices buffer asked old new h

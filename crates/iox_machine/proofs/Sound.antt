@@ -7,7 +7,9 @@ use Rattle.std.specs.Option.{option_map_or}
 use Rattle.std.specs.Global.{Vec}
 use Rattle.std.specs.Vec.{vec_items}
 use Rattle.std.specs.Prelude.{⊤, ◌==◌, nat_lt, nat_le, is_some, unwrap_or, option_map, option_and_then, filter, find, slice_get}
-use Rattle.std.specs.Prelude.{MatchBool, MatchOption, MatchResult}
+use Rattle.std.specs.Prelude.{MatchBool, MatchOption, drop, zip}
+use Rattle.iox_machine.specs.Choices.{Choices}
+use Rattle.iox_machine.proofs.Delivering.{Outcomes, by-outcome, first_of, offered, deliver, goes-on-so}
 use Rattle.iox_machine.specs.Arriving.{worst_case, PublisherArrives, SubscriberArrives}
 use Rattle.iox_machine.specs.Lending.{Lends, LendsLonger, loan_refusal}
 use Rattle.iox_machine.specs.Mailbox.{Mailbox, newest, put, taken, given_back, has_data}
@@ -15,15 +17,14 @@ use Rattle.iox_machine.specs.Message.{Message, Loan, Sample, sent_as, is_written
 use Rattle.iox_machine.specs.PortList.{those, registered}
 use Rattle.iox_machine.specs.Ports.{publisher_in, subscriber_in, LendsLoan, Puts, SendsLoan, Writes, Releases}
 use Rattle.iox_machine.specs.PublisherUpdate as publishing
-use Rattle.iox_machine.specs.PublisherUpdate.{update_answer}
 use Rattle.iox_machine.specs.Receiving.{Receives, Takes, IsGiver, gives, lasting}
 use Rattle.iox_machine.specs.Replies.{IsSkipped, IsRefused}
-use Rattle.iox_machine.specs.Sending.{offered, deliver, decision_at, GoesOn, Begins, Sends}
+use Rattle.iox_machine.specs.Sending.{GoesOn, Begins, Sends}
 use Rattle.iox_machine.specs.Service.{Service, Publisher, Subscriber, Send, with_publisher, with_subscriber, mailbox, with_mailbox}
 use Rattle.iox_machine.specs.Service.{connect, new_service}
 use Rattle.iox_machine.specs.SubscriberUpdate as subscribing
 use Rattle.iox_machine.specs.Table.{at, removed, contains}
-use Rattle.iox_machine.proofs.Cases.{by-bool, by-option, by-result, same-some, never-some, chosen, both-true}
+use Rattle.iox_machine.proofs.Cases.{by-bool, by-option, same-some, never-some, chosen, both-true}
 use Rattle.iox_machine.proofs.Lists.{all-joined, all-taken, all-dropped, all-newest, all-filtered, first-of, newest-fits, take-fits}
 use Rattle.iox_machine.proofs.Lists.{filter-fits, fold-keeps, all-at, all-changed}
 use Rattle.iox_command.specs.DomainValues.declared.backpressure.BackpressureDecision.{BackpressureDecision}
@@ -230,25 +231,26 @@ module _ {T : Type 0} (Good : ℕ → Message T → Type 0) (Fine : ℕ → Samp
       (fold-keeps (Both number after) (publishing.welcome number publisher.history) (welcomed number after publisher.history both.1.1)
       (filter (λ subscriber. not (contains (those publisher.connected) subscriber)) (those after.connected)) begun ready)
 
-  pub updates-first : (number : ℕ) (told : ConnectionFailure → Refusal) (Does : Publisher T → Service T → Reply T → Service T → Type 0)
+  pub updates-first : (choices : Choices T) (number : ℕ) (told : ConnectionFailure → Refusal)
+      (Does : Publisher T → Service T → Reply T → Service T → Type 0)
       (publisher : Publisher T) (old : Service T) (answer : Reply T) (new : Service T) → Both number publisher old
       → ((one : Publisher T) (service : Service T) → Both number one service → Does one service answer new → Sound new)
-      → publishing.UpdatesFirst number told Does publisher old answer new → Sound new
-  updates-first number told Does publisher old answer new both does h =
+      → publishing.UpdatesFirst choices number told Does publisher old answer new → Sound new
+  updates-first choices number told Does publisher old answer new both does h =
       elim (by-bool (publisher.seen == old.subscriber_list.changes) (Does publisher old answer new)
       ((after : Publisher T) × (mid : Service T) × publishing.Follows number publisher old after mid
-      × MatchResult (update_answer publisher.degradation old.subscriber_list.places after.connected)
+      × Outcomes (choices.publisher_acts number publisher.degradation) (zip old.subscriber_list.places after.connected)
       (λ done. Does after mid answer new) (λ failure. IsRefused (told failure) mid answer new)) h) [
         | inl w ↦ does publisher old both w.1
         | inr w ↦ followed w.1.0 w.1.1 w.1.2 w.1.3
       ]
     where
       followed : (after : Publisher T) (mid : Service T) → publishing.Follows number publisher old after mid
-          → MatchResult (update_answer publisher.degradation old.subscriber_list.places after.connected)
+          → Outcomes (choices.publisher_acts number publisher.degradation) (zip old.subscriber_list.places after.connected)
           (λ done. Does after mid answer new) (λ failure. IsRefused (told failure) mid answer new) → Sound new
       followed after mid came told_so =
           let on : Both number after mid = follows number publisher old after mid both came in
-          elim (by-result (update_answer publisher.degradation old.subscriber_list.places after.connected)
+          elim (by-outcome (choices.publisher_acts number publisher.degradation) (zip old.subscriber_list.places after.connected)
           (λ done. Does after mid answer new) (λ failure. IsRefused (told failure) mid answer new) told_so) [
             | inl r ↦ does after mid on r.2
             | inr r ↦ subst Sound (sym r.2.1) on.0
@@ -276,40 +278,44 @@ module _ {T : Type 0} (Good : ℕ → Message T → Type 0) (Fine : ℕ → Samp
   offered-sound number publisher None DiscardDataAndFail subscriber more goes_on send service fits on good both =
       on (record send { retries = 0; elapsed = 0; fails = true }) service good both
 
-  delivered : (number : ℕ) (publisher : Publisher T) (left : List ℕ) (send : Send T) (service : Service T) → Good number send.message
-      → Both number publisher service → Delivered number publisher (deliver number publisher left send service)
-  delivered number publisher [] send service good both = (both, good)
-  delivered number publisher (subscriber ∷ more) send service good both =
+  delivered : (number : ℕ) (publisher : Publisher T) (decisions : List BackpressureDecision) (left : List ℕ) (send : Send T)
+      (service : Service T) → Good number send.message
+      → Both number publisher service → Delivered number publisher (deliver number decisions left send service)
+  delivered number publisher decisions [] send service good both = (both, good)
+  delivered number publisher decisions (subscriber ∷ more) send service good both =
       offered-sound number publisher (put service.settings.enable_safe_overflow send.message (mailbox number subscriber service))
-      (decision_at number publisher service subscriber) subscriber more (deliver number publisher more) send service
+      (first_of decisions) subscriber more (deliver number (drop 1 decisions) more) send service
       (λ box e. put-fits number service.settings service.settings.enable_safe_overflow send.message
       (mailbox number subscriber service) box e
       (box-fits number subscriber service both.0) good)
-      (λ next mid. delivered number publisher more next mid) good both
+      (λ next mid. delivered number publisher (drop 1 decisions) more next mid) good both
 
   blocked-good : (number : ℕ) (b : Bool) (send : Send T) → Good number send.message → MatchOption (cond b (Some send) None) ⊤
       (λ it. Good number it.message)
   blocked-good number true send good = good
   blocked-good number false send good = tt
 
-  pub goes-on : (number : ℕ) (publisher : Publisher T) (send : Send T) (old : Service T) (answer : Reply T) (new : Service T)
+  pub goes-on : (choices : Choices T) (number : ℕ) (publisher : Publisher T) (send : Send T) (old : Service T) (answer : Reply T)
+      (new : Service T)
       → Both number publisher old
-      → Good number send.message → GoesOn number publisher send old answer new → Sound new
-  goes-on number publisher send old answer new both good h =
-      let after : Send T × Service T = deliver number publisher send.left send old in
-      let on : Delivered number publisher after = delivered number publisher send.left send old good both in
-      subst Sound (sym h.1)
+      → Good number send.message → GoesOn choices number publisher send old answer new → Sound new
+  goes-on choices number publisher send old answer new both good h =
+      let so = goes-on-so choices number publisher send old answer new h in
+      let after : Send T × Service T = deliver number so.0 send.left send old in
+      let on : Delivered number publisher after = delivered number publisher so.0 send.left send old good both in
+      subst Sound (sym so.1.1)
       (publisher-changed number (record publisher {
         blocked = cond (is_some (slice_get after.0.left 0))
             (Some after.0) None;
       }) after.1 on.0.0
       (on.0.1.0, on.0.1.1, blocked-good number (is_some (slice_get after.0.left 0)) after.0 on.1))
 
-  pub begins : (number : ℕ) (message : Message T) (publisher : Publisher T) (old : Service T) (answer : Reply T) (new : Service T)
-      → Both number publisher old → Good number message → Begins number message publisher old answer new → Sound new
-  begins number message publisher old answer new both good h =
+  pub begins : (choices : Choices T) (number : ℕ) (message : Message T) (publisher : Publisher T) (old : Service T) (answer : Reply T)
+      (new : Service T)
+      → Both number publisher old → Good number message → Begins choices number message publisher old answer new → Sound new
+  begins choices number message publisher old answer new both good h =
       let kept : List (Message T) = publisher.history ++ message ∷ [] in
-      goes-on number (record publisher { history = newest old.settings.history_size kept })
+      goes-on choices number (record publisher { history = newest old.settings.history_size kept })
       (record {
         message = message;
         left = those publisher.connected;
@@ -329,17 +335,19 @@ module _ {T : Type 0} (Good : ℕ → Message T → Type 0) (Fine : ℕ → Samp
       )
       good h
 
-  pub sends : (number : ℕ) (message : Message T) (publisher : Publisher T) (old : Service T) (answer : Reply T) (new : Service T)
-      → Both number publisher old → ((one : Publisher T) (mid : Service T) → Begins number message one mid answer new → Good number message)
-      → Sends number message publisher old answer new → Sound new
-  sends number message publisher old answer new both good h =
+  pub sends : (choices : Choices T) (number : ℕ) (message : Message T) (publisher : Publisher T) (old : Service T) (answer : Reply T)
+      (new : Service T)
+      → Both number publisher old
+      → ((one : Publisher T) (mid : Service T) → Begins choices number message one mid answer new → Good number message)
+      → Sends choices number message publisher old answer new → Sound new
+  sends choices number message publisher old answer new both good h =
       elim (by-bool publisher.stands
-      (publishing.UpdatesFirst number (λ failure. refusal.Send (error.ConnectionError failure))
-      (Begins number message) publisher old answer new)
+      (publishing.UpdatesFirst choices number (λ failure. refusal.Send (error.ConnectionError failure))
+      (Begins choices number message) publisher old answer new)
       (IsRefused (refusal.Send error.ConnectionBrokenSinceSenderNoLongerExists) old answer new) h) [
-        | inl w ↦ updates-first number (λ failure. refusal.Send (error.ConnectionError failure))
-            (Begins number message) publisher old answer new both
-            (λ one mid on begun. begins number message one mid answer new on (good one mid begun) begun) w.1
+        | inl w ↦ updates-first choices number (λ failure. refusal.Send (error.ConnectionError failure))
+            (Begins choices number message) publisher old answer new both
+            (λ one mid on begun. begins choices number message one mid answer new on (good one mid begun) begun) w.1
         | inr w ↦ subst Sound (sym w.1.1) both.0
       ]
 
@@ -381,25 +389,27 @@ module _ {T : Type 0} (Good : ℕ → Message T → Type 0) (Fine : ℕ → Samp
       subst Sound (sym came) (publisher-changed number after old both.0 (lends number count publisher old None after both.1 lent))
   lends-loan loan number count value publisher old answer new both (Some why, after, lent, (told, same)) = subst Sound (sym same) both.0
 
-  pub puts : (number : ℕ) (values : List T) (publisher : Publisher T) (old : Service T) (answer : Reply T) (new : Service T)
+  pub puts : (choices : Choices T) (number : ℕ) (values : List T) (publisher : Publisher T) (old : Service T) (answer : Reply T)
+      (new : Service T)
       → Both number publisher old
-      → ((one : Publisher T) (mid : Service T) → Begins number (record { number = publisher.next; values = values }) one mid answer new
+      → ((one : Publisher T) (mid : Service T)
+      → Begins choices number (record { number = publisher.next; values = values }) one mid answer new
       → Good number (record { number = publisher.next; values = values }))
-      → Puts number values publisher old answer new → Sound new
-  puts number values publisher old answer new both good (None, after, lent, sent) =
+      → Puts choices number values publisher old answer new → Sound new
+  puts choices number values publisher old answer new both good (None, after, lent, sent) =
       let fits : PublisherFits old.settings number after = lends number (length values) publisher old None after both.1 lent in
-      sends number (record { number = publisher.next; values = values }) after (with_publisher number after old) answer new
+      sends choices number (record { number = publisher.next; values = values }) after (with_publisher number after old) answer new
       (publisher-changed number after old both.0 fits, fits) good sent
-  puts number values publisher old answer new both good (Some why, after, lent, (told, same)) = subst Sound (sym same) both.0
+  puts choices number values publisher old answer new both good (Some why, after, lent, (told, same)) = subst Sound (sym same) both.0
 
-  pub sends-loan : (number : ℕ) (loan : Loan T) (old : Service T) (answer : Reply T) (new : Service T) → Sound old
-      → ((one : Publisher T) (mid : Service T) → is_written loan ≡ true → Begins loan.publisher (sent_as loan) one mid answer new
+  pub sends-loan : (choices : Choices T) (number : ℕ) (loan : Loan T) (old : Service T) (answer : Reply T) (new : Service T) → Sound old
+      → ((one : Publisher T) (mid : Service T) → is_written loan ≡ true → Begins choices loan.publisher (sent_as loan) one mid answer new
       → Good loan.publisher (sent_as loan))
-      → SendsLoan number loan old answer new → Sound new
-  sends-loan number loan old answer new sound good h =
+      → SendsLoan choices number loan old answer new → Sound new
+  sends-loan choices number loan old answer new sound good h =
       elim (by-option (at loan.publisher old.publishers) (IsSkipped old answer new)
       (λ publisher. MatchBool (is_written loan && not (is_some publisher.blocked))
-      (Sends loan.publisher (sent_as loan) publisher (record old { loans = removed number old.loans }) answer new)
+      (Sends choices loan.publisher (sent_as loan) publisher (record old { loans = removed number old.loans }) answer new)
       (IsSkipped old answer new)) h) [
         | inl w ↦ subst Sound (sym w.1.1) sound
         | inr w ↦ sent w.0 w.1 w.2
@@ -407,16 +417,16 @@ module _ {T : Type 0} (Good : ℕ → Message T → Type 0) (Fine : ℕ → Samp
     where
       sent : (publisher : Publisher T) → at loan.publisher old.publishers ≡ Some publisher
           → MatchBool (is_written loan && not (is_some publisher.blocked))
-          (Sends loan.publisher (sent_as loan) publisher (record old { loans = removed number old.loans }) answer new)
+          (Sends choices loan.publisher (sent_as loan) publisher (record old { loans = removed number old.loans }) answer new)
           (IsSkipped old answer new)
           → Sound new
       sent publisher found h =
           let fits : PublisherFits old.settings loan.publisher publisher =
           all-at (PublisherFits old.settings) loan.publisher publisher old.publishers found sound.1 in
           elim (by-bool (is_written loan && not (is_some publisher.blocked))
-          (Sends loan.publisher (sent_as loan) publisher (record old { loans = removed number old.loans }) answer new)
+          (Sends choices loan.publisher (sent_as loan) publisher (record old { loans = removed number old.loans }) answer new)
           (IsSkipped old answer new) h) [
-            | inl w ↦ sends loan.publisher (sent_as loan) publisher (record old { loans = removed number old.loans }) answer new
+            | inl w ↦ sends choices loan.publisher (sent_as loan) publisher (record old { loans = removed number old.loans }) answer new
                 (sound, fits)
                 (λ one mid begun. good one mid (both-true (is_written loan) (not (is_some publisher.blocked)) w.0).0 begun) w.1
             | inr w ↦ subst Sound (sym w.1.1) sound
@@ -461,27 +471,27 @@ module _ {T : Type 0} (Good : ℕ → Message T → Type 0) (Fine : ℕ → Samp
       (those listed) (with_subscriber number after old) (subscriber-changed number after old well.0 fits, well.1)) in
       (end.0, subst (λ (s : Subscriber). SubscriberFits new.settings number s) (sym turned) end.1)
 
-  pub subscriber-updates : (R : Type 0) (buffer number : ℕ) (told : ConnectionFailure → Refusal)
+  pub subscriber-updates : (choices : Choices T) (R : Type 0) (buffer number : ℕ) (told : ConnectionFailure → Refusal)
       (Does : Subscriber → Service T → Reply T → Service T → Type 0) (subscriber : Subscriber) (old : Service T) (answer : Reply T)
       (new : Service T)
       → Well number subscriber old → ((one : Subscriber) (service : Service T) → Well number one service → Does one service answer new → R)
       → ((why : Refusal) (mid : Service T) → Sound mid → IsRefused why mid answer new → R)
-      → subscribing.UpdatesFirst buffer number told Does subscriber old answer new → R
-  subscriber-updates R buffer number told Does subscriber old answer new well does refused h =
+      → subscribing.UpdatesFirst choices buffer number told Does subscriber old answer new → R
+  subscriber-updates choices R buffer number told Does subscriber old answer new well does refused h =
       elim (by-bool ((subscriber.seen == old.publisher_list.changes) && not subscriber.again) (Does subscriber old answer new)
       ((after : Subscriber) × (mid : Service T) × subscribing.Follows buffer number subscriber old after mid
-      × MatchResult (update_answer subscriber.degradation old.publisher_list.places after.connected)
+      × Outcomes (choices.subscriber_acts number subscriber.degradation) (zip old.publisher_list.places after.connected)
       (λ done. Does after mid answer new) (λ failure. IsRefused (told failure) mid answer new)) h) [
         | inl w ↦ does subscriber old well w.1
         | inr w ↦ followed w.1.0 w.1.1 w.1.2 w.1.3
       ]
     where
       followed : (after : Subscriber) (mid : Service T) → subscribing.Follows buffer number subscriber old after mid
-          → MatchResult (update_answer subscriber.degradation old.publisher_list.places after.connected)
+          → Outcomes (choices.subscriber_acts number subscriber.degradation) (zip old.publisher_list.places after.connected)
           (λ done. Does after mid answer new) (λ failure. IsRefused (told failure) mid answer new) → R
       followed after mid came told_so =
           let on : Well number after mid = subscriber-follows buffer number subscriber old after mid well came in
-          elim (by-result (update_answer subscriber.degradation old.publisher_list.places after.connected)
+          elim (by-outcome (choices.subscriber_acts number subscriber.degradation) (zip old.publisher_list.places after.connected)
           (λ done. Does after mid answer new) (λ failure. IsRefused (told failure) mid answer new) told_so) [
             | inl r ↦ does after mid on r.2
             | inr r ↦ refused (told r.0) mid on.0 r.2

@@ -4,6 +4,7 @@ use Rattle.std.proofs.Common.{subst, inl, inr, arith, ◌∙◌}
 use Rattle.std.proofs.lemmas.Bool.{eqb-true}
 use Rattle.std.specs.List.{cons_option}
 use Rattle.std.specs.Prelude.{◌==◌, find, is_some, filter_map, option_map, MatchBool}
+use Rattle.iox_machine.specs.Choices.{Choices}
 use Rattle.iox_machine.specs.Message.{Loan, sent_as, is_written}
 use Rattle.iox_machine.specs.NumberLaws.{loan_told, numbers_in}
 use Rattle.iox_machine.specs.OnceLaws.{LoansAreSpentOnce, is_skipped, spent_by, spent_in}
@@ -95,7 +96,7 @@ module _ {T : Type 0} where
   Spends asked old answer new = (number : ℕ)
       → times number (lent new) + of_told (spent_by asked answer) number ≤ times number (lent old) + of_told (loan_told answer) number
 
-  module _ (types : MessageTypeDetails) (IsDefault : T → Type 0) (buffer : ℕ) where
+  module _ (types : MessageTypeDetails) (choices : Choices T) (buffer : ℕ) where
     skipped-spends : (loan : ℕ) (old : State T) (answer : Reply T) (new : State T) → IsSkipped old answer new → (number : ℕ)
         → times number (lent new) + of_told (cond (is_skipped answer) None (Some loan)) number
         ≤ times number (lent old) + of_told (loan_told answer) number
@@ -142,17 +143,17 @@ module _ {T : Type 0} where
         (of_told (loan_told answer) number) has service after old.services first (less number))))
 
     loan-spends : (loan : ℕ) (one : Loan T) (made : Made) (service after : Service T) (answer : Reply T) (number : ℕ)
-        → at loan service.loans ≡ Some one → SendsLoan loan one service answer after
+        → at loan service.loans ≡ Some one → SendsLoan choices loan one service answer after
         → times number (numbers_in after.loans) + of_told (cond (is_skipped answer) None (Some loan)) number
         ≤ times number (numbers_in service.loans) + of_told (loan_told answer) number
     loan-spends loan one made service after answer number found did =
         elim (by-option (at one.publisher service.publishers) (IsSkipped service answer after)
         (λ publisher. MatchBool (is_written one && not (is_some publisher.blocked))
-        (Sends one.publisher (sent_as one) publisher (record service { loans = removed loan service.loans }) answer after)
+        (Sends choices one.publisher (sent_as one) publisher (record service { loans = removed loan service.loans }) answer after)
         (IsSkipped service answer after)) did) [
           | inl w ↦ skipped w.1
           | inr w ↦ elim (by-bool (is_written one && not (is_some w.0.blocked))
-              (Sends one.publisher (sent_as one) w.0 (record service { loans = removed loan service.loans }) answer after)
+              (Sends choices one.publisher (sent_as one) w.0 (record service { loans = removed loan service.loans }) answer after)
               (IsSkipped service answer after) w.2) [
                 | inl k ↦ spends-one loan one service after answer number found (sent w.0 k.1)
                 | inr k ↦ skipped k.1
@@ -169,18 +170,18 @@ module _ {T : Type 0} where
             (omega arith))
 
         sent : (publisher : Publisher T)
-            → Sends one.publisher (sent_as one) publisher (record service { loans = removed loan service.loans }) answer after
+            → Sends choices one.publisher (sent_as one) publisher (record service { loans = removed loan service.loans }) answer after
             → times number (numbers_in after.loans)
             ≤ times number (numbers_in (removed loan service.loans)) + of_told (loan_told answer) number
         sent publisher h =
-            (sends made (record service { loans = removed loan service.loans }) answer one.publisher (sent_as one) publisher
+            (sends made (record service { loans = removed loan service.loans }) answer choices one.publisher (sent_as one) publisher
             (record service { loans = removed loan service.loans }) after
             (itself made (record service { loans = removed loan service.loans })) h).loans number
 
-    step-spends : (asked : Command T) (old : State T) (answer : Reply T) (new : State T) → Step types IsDefault buffer asked old answer new
+    step-spends : (asked : Command T) (old : State T) (answer : Reply T) (new : State T) → Step types choices buffer asked old answer new
         → Spends asked old answer new
     step-spends (command.Send loan) old answer new h =
-        elim (at-one (λ (service : Service T). at loan service.loans) (SendsLoan loan) old answer new h) [
+        elim (at-one (λ (service : Service T). at loan service.loans) (SendsLoan choices loan) old answer new h) [
           | inl skipped ↦ skipped-spends loan old answer new skipped
           | inr (service, one, after, first, found, did, came) ↦
               spends-moved (command.Send loan) (λ (other : Service T). is_some (at loan other.loans)) service after old answer new first
@@ -203,13 +204,13 @@ module _ {T : Type 0} where
         over x e = omega arith
     step-spends asked old answer new h = λ number.
         plain (times number (lent new)) (times number (lent old) + of_told (loan_told answer) number)
-        ((step-passes types IsDefault buffer asked old answer new h).loans number)
+        ((step-passes types choices buffer asked old answer new h).loans number)
       where
         plain : (x y : ℕ) → x ≤ y → x + 0 ≤ y
         plain x y h = omega (arith, h)
 
     run-spends : (asked : List (Command T)) (old : State T) (answers : List (Reply T)) (new : State T)
-        → Runs types IsDefault buffer asked old answers new → (number : ℕ)
+        → Runs types choices buffer asked old answers new → (number : ℕ)
         → times number (lent new) + times number (spent_in asked answers)
         ≤ times number (lent old) + times number (filter_map loan_told answers)
     run-spends [] old answers new run number =
@@ -233,11 +234,11 @@ module _ {T : Type 0} where
         with-first None xs = omega arith
         with-first (Some n) xs = refl
 
-pub loans-are-spent-once : {T : Type 0} (IsDefault : T → Type 0) → LoansAreSpentOnce IsDefault
-loans-are-spent-once {T} IsDefault types buffer asked answers new run =
-    once-each (filter_map loan_told answers) (spent_in asked answers) (numbers-go-up IsDefault types buffer asked answers new run).4
+pub loans-are-spent-once : {T : Type 0} (choices : Choices T) → LoansAreSpentOnce choices
+loans-are-spent-once {T} choices types buffer asked answers new run =
+    once-each (filter_map loan_told answers) (spent_in asked answers) (numbers-go-up choices types buffer asked answers new run).4
     (λ number. rest (times number (lent new)) (times number (spent_in asked answers)) (times number (filter_map loan_told answers))
-    (run-spends types IsDefault buffer asked new_state answers new run number))
+    (run-spends types choices buffer asked new_state answers new run number))
   where
     rest : (x c e : ℕ) → x + c ≤ 0 + e → c ≤ 0 + e
     rest x c e h = omega (arith, h)

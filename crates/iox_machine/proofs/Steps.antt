@@ -5,6 +5,7 @@ use Rattle.std.specs.Global.{Vec}
 use Rattle.std.specs.List.{AllByRecursion}
 use Rattle.std.specs.Prelude.{⊤, ◌==◌, nat_lt, is_some, fold, take, slice_get, MatchOption}
 use Rattle.std.specs.Vec.{vec_items}
+use Rattle.iox_machine.specs.Choices.{Choices}
 use Rattle.iox_machine.specs.Arriving.{PublisherArrives, SubscriberArrives, new_publisher, new_subscriber}
 use Rattle.iox_machine.specs.Message.{Message, Loan, Sample, is_written, sent_as}
 use Rattle.iox_machine.specs.Mailbox.{newest}
@@ -16,7 +17,7 @@ use Rattle.iox_machine.specs.Receiving.{Receives, has_samples}
 use Rattle.iox_machine.specs.Replies.{IsSkipped}
 use Rattle.iox_machine.specs.Run.{Step, AtFactory, factory_of}
 use Rattle.iox_machine.specs.RunLaws.{BeginsToSend, has_begun}
-use Rattle.iox_machine.specs.Sending.{GoesOn, Begins, deliver}
+use Rattle.iox_machine.specs.Sending.{GoesOn, Begins}
 use Rattle.iox_machine.specs.Service.{Service, Publisher, Subscriber, Send, with_publisher, with_subscriber}
 use Rattle.iox_machine.specs.State.{State, AtOne, is_service_of, counted, with_phase}
 use Rattle.iox_machine.specs.SubscriberUpdate as subscribing
@@ -48,18 +49,18 @@ begun-told T false true count = refl
 begun-told T false false count = refl
 
 -- a send that goes on tells that it began
-pub going-told : {T : Type 0} (number : ℕ) (publisher : Publisher T) (send : Send T) (old : Service T) (answer : Reply T) (new : Service T)
-    → GoesOn number publisher send old answer new → has_begun answer ≡ true
-going-told {T} number publisher send old answer new h =
-    let after : Send T × Service T = deliver number publisher send.left send old in
-    subst (λ (told : Reply T). has_begun told ≡ true) (sym h.0)
-    (begun-told T (is_some (slice_get after.0.left 0)) after.0.fails after.0.delivered)
+pub going-told : {T : Type 0} (choices : Choices T) (number : ℕ) (publisher : Publisher T) (send : Send T) (old : Service T)
+    (answer : Reply T) (new : Service T)
+    → GoesOn choices number publisher send old answer new → has_begun answer ≡ true
+going-told {T} choices number publisher send old answer new h =
+    subst (λ (told : Reply T). has_begun told ≡ true) (sym h.3) (begun-told T (is_some (slice_get h.0.left 0)) h.0.fails h.0.delivered)
 
-pub beginning-told : {T : Type 0} (number : ℕ) (message : Message T) (publisher : Publisher T) (old : Service T) (answer : Reply T)
+pub beginning-told : {T : Type 0} (choices : Choices T) (number : ℕ) (message : Message T) (publisher : Publisher T) (old : Service T)
+    (answer : Reply T)
     (new : Service T)
-    → Begins number message publisher old answer new → has_begun answer ≡ true
-beginning-told number message publisher old answer new h =
-    going-told number (record publisher { history = newest old.settings.history_size (publisher.history ++ message ∷ []) })
+    → Begins choices number message publisher old answer new → has_begun answer ≡ true
+beginning-told choices number message publisher old answer new h =
+    going-told choices number (record publisher { history = newest old.settings.history_size (publisher.history ++ message ∷ []) })
     (record {
       message = message;
       left = those publisher.connected;
@@ -115,26 +116,27 @@ module _ {T : Type 0} (Good : ℕ → Message T → Type 0) (Fine : ℕ → Samp
       ])
       h all
 
-  at-subscriber : (buffer number : ℕ) (told : ConnectionFailure → Refusal) (Does : Subscriber → Service T → Reply T → Service T → Type 0)
+  at-subscriber : (choices : Choices T) (buffer number : ℕ) (told : ConnectionFailure → Refusal)
+      (Does : Subscriber → Service T → Reply T → Service T → Type 0)
       (old : State T)
       (answer : Reply T) (new : State T)
       → ((one : Subscriber) (service after : Service T) → Well Good Fine number one service → Does one service answer after → IsSound after)
-      → AtOne (subscriber_in number) (subscribing.UpdatesFirst buffer number told Does) old answer new → AreSound old
+      → AtOne (subscriber_in number) (subscribing.UpdatesFirst choices buffer number told Does) old answer new → AreSound old
       → Leaves old answer new
-  at-subscriber buffer number told Does old answer new does h all =
-      at-one-keeps IsSound IsSound (subscriber_in number) (subscribing.UpdatesFirst buffer number told Does) old answer new
+  at-subscriber choices buffer number told Does old answer new does h all =
+      at-one-keeps IsSound IsSound (subscriber_in number) (subscribing.UpdatesFirst choices buffer number told Does) old answer new
       (λ it sound. sound)
-      (λ one service after first found did sound. subscriber-updates Good Fine
+      (λ one service after first found did sound. subscriber-updates Good Fine choices
       (IsSound after) buffer number told Does one service answer after
       (sound, subscriber-fits Good Fine number one service sound found)
       (λ next mid well done. does next mid after well done) (λ why mid on refused. subst IsSound (sym refused.1) on) did)
       h all
 
-  at-factory : (types : MessageTypeDetails) (IsDefault : T → Type 0) (buffer number : ℕ) (Does : Service T → Reply T → Service T → Type 0)
+  at-factory : (types : MessageTypeDetails) (choices : Choices T) (buffer number : ℕ) (Does : Service T → Reply T → Service T → Type 0)
       (old : State T)
       (answer : Reply T) (new : State T) → ((service after : Service T) → IsSound service → Does service answer after → IsSound after)
-      → AtFactory types IsDefault buffer number Does old answer new → AreSound old → Leaves old answer new
-  at-factory types IsDefault buffer number Does old answer new does h all =
+      → AtFactory types choices buffer number Does old answer new → AreSound old → Leaves old answer new
+  at-factory types choices buffer number Does old answer new does h all =
       elim (by-option (at number old.factories) (IsSkipped old answer new)
       (λ factory. AtOne (λ (service : Service T). cond (is_service_of factory service) (Some service) None)
       (λ (service : Service T). Does) old answer new)
@@ -145,13 +147,13 @@ module _ {T : Type 0} (Good : ℕ → Message T → Type 0) (Fine : ℕ → Samp
             old answer new (λ it sound. sound) (λ one service after first found did sound. does service after sound did) w.2 all
       ]
 
-  module _ (types : MessageTypeDetails) (IsDefault : T → Type 0) (buffer : ℕ) where
+  module _ (types : MessageTypeDetails) (choices : Choices T) (buffer : ℕ) where
     -- Each step keeps that all services are sound, if the message whose send it begins is good, and the sample that it makes is fine.
     pub step-sound : (asked : Command T) (old : State T) (answer : Reply T) (new : State T)
         → ((publisher : ℕ) (message : Message T) → BeginsToSend publisher message.values asked old answer → Good publisher message)
         → ((one : Sample T) (values : Vec T) → answer ≡ reply.Received (old.made.samples + 1) values → vec_items values ≡ one.message.values
         → Fine (old.made.samples + 1) one)
-        → Step types IsDefault buffer asked old answer new → AreSound old → Leaves old answer new
+        → Step types choices buffer asked old answer new → AreSound old → Leaves old answer new
     step-sound command.Node old answer new good fine (inl (told, came)) all =
         (subst AreSound (sym came) all, ap (λ (state : State T). state.made) came)
     step-sound command.Node old answer new good fine (inr refused) all = refused-keeps IsSound
@@ -176,7 +178,7 @@ module _ {T : Type 0} (Good : ℕ → Message T → Type 0) (Fine : ℕ → Samp
     step-sound (command.Close factory) old answer new good fine h all = closed-keeps IsSound factory old answer new
         (closed factory old answer new h) all
     step-sound (command.Publisher factory options) old answer new good fine h all =
-        at-factory types IsDefault buffer factory
+        at-factory types choices buffer factory
         (λ (service : Service T). PublisherArrives (old.made.publishers + 1)
         (new_publisher factory options service.settings) service) old answer new
         (λ service after sound did. publisher-arrives Good Fine (old.made.publishers + 1)
@@ -184,7 +186,7 @@ module _ {T : Type 0} (Good : ℕ → Message T → Type 0) (Fine : ℕ → Samp
         (sound, (omega arith, tt, tt)) did)
         h all
     step-sound (command.Subscriber factory options) old answer new good fine h all =
-        at-factory types IsDefault buffer factory
+        at-factory types choices buffer factory
         (λ (service : Service T). SubscriberArrives buffer (old.made.subscribers + 1)
         (new_subscriber factory options service.settings) service)
         old answer new
@@ -221,8 +223,9 @@ module _ {T : Type 0} (Good : ℕ → Message T → Type 0) (Fine : ℕ → Samp
         × (after ≡ record service { loans = removed loan service.loans }))
         old answer new (λ it sound. sound) (λ one service after first found did sound. subst IsSound (sym did.1) sound) h all
     step-sound (command.Send loan) old answer new good fine h all =
-        at-one-keeps IsSound IsSound (λ (service : Service T). at loan service.loans) (SendsLoan loan) old answer new (λ it sound. sound)
-        (λ one service after first found did sound. sends-loan Good Fine loan one service answer after sound
+        at-one-keeps IsSound IsSound (λ (service : Service T). at loan service.loans) (SendsLoan choices loan) old answer new
+        (λ it sound. sound)
+        (λ one service after first found did sound. sends-loan Good Fine choices loan one service answer after sound
         (λ publisher mid written begun. good one.publisher (sent_as one) (
           service,
           one,
@@ -231,22 +234,22 @@ module _ {T : Type 0} (Good : ℕ → Message T → Type 0) (Fine : ℕ → Samp
           refl,
           written,
           refl,
-          beginning-told one.publisher (sent_as one) publisher mid answer after begun,
+          beginning-told choices one.publisher (sent_as one) publisher mid answer after begun,
         ))
         did)
         h all
     step-sound (command.Put publisher values) old answer new good fine h all =
-        at-free publisher (Puts publisher values) old answer new
-        (λ one service after both did. puts Good Fine publisher values one service answer after both
+        at-free publisher (Puts choices publisher values) old answer new
+        (λ one service after both did. puts Good Fine choices publisher values one service answer after both
         (λ next mid begun. good publisher (record { number = one.next; values = values })
-        (refl, refl, beginning-told publisher (record { number = one.next; values = values }) next mid answer after begun))
+        (refl, refl, beginning-told choices publisher (record { number = one.next; values = values }) next mid answer after begun))
         did)
         h all
     step-sound (command.Retry publisher nanoseconds) old answer new good fine h all =
         at-blocked publisher
-        (λ (one : Publisher T) (send : Send T). GoesOn publisher one
+        (λ (one : Publisher T) (send : Send T). GoesOn choices publisher one
         (record send { retries = send.retries + 1; elapsed = nanoseconds })) old answer new
-        (λ one send service after both sent did. goes-on Good Fine publisher one
+        (λ one send service after both sent did. goes-on Good Fine choices publisher one
         (record send { retries = send.retries + 1; elapsed = nanoseconds }) service
         answer after both sent did)
         h all
@@ -260,7 +263,7 @@ module _ {T : Type 0} (Good : ℕ → Message T → Type 0) (Fine : ℕ → Samp
         (publisher-changed Good Fine publisher (record one { blocked = None }) service both.0 (both.1.0, both.1.1, tt)))
         h all
     step-sound (command.Receive subscriber) old answer new good fine h all =
-        at-subscriber buffer subscriber (λ failure. refusal.Receive (receive_error.ConnectionFailure failure))
+        at-subscriber choices buffer subscriber (λ failure. refusal.Receive (receive_error.ConnectionFailure failure))
         (Receives subscriber (old.made.samples + 1)) old answer new
         (λ one service after well did. receives Good Fine subscriber (old.made.samples + 1) one service answer after well
         (λ sample values of told same. fine sample values told same) did)
@@ -277,16 +280,16 @@ module _ {T : Type 0} (Good : ℕ → Message T → Type 0) (Fine : ℕ → Samp
         (λ one service after first found did sound. releases Good Fine sample one service answer after sound did) h all
     step-sound (command.Update (port.Publisher number)) old answer new good fine h all =
         at-free number
-        (publishing.UpdatesFirst number refusal.Connection
+        (publishing.UpdatesFirst choices number refusal.Connection
         (λ (one : Publisher T) (service : Service T) (answered : Reply T) (after : Service T). (answered ≡ reply.Done) × (after ≡ service)))
         old answer new
-        (λ one service after both did. updates-first Good Fine number refusal.Connection
+        (λ one service after both did. updates-first Good Fine choices number refusal.Connection
         (λ (it : Publisher T) (mid : Service T) (answered : Reply T) (end : Service T). (answered ≡ reply.Done) ×
         (end ≡ mid)) one service answer after
         both (λ it mid on done. subst IsSound (sym done.1) on.0) did)
         h all
     step-sound (command.Update (port.Subscriber number)) old answer new good fine h all =
-        at-subscriber buffer number refusal.Connection
+        at-subscriber choices buffer number refusal.Connection
         (λ (one : Subscriber) (service : Service T) (answered : Reply T) (after : Service T). (answered ≡ reply.Done) ×
         (after ≡ service)) old answer new
         (λ one service after well did. subst IsSound (sym did.1) well.0) h all
@@ -312,7 +315,7 @@ module _ {T : Type 0} (Good : ℕ → Message T → Type 0) (Fine : ℕ → Samp
         (subscriber-fits Good Fine number one service sound found)))
         h all
     step-sound (command.Has subscriber) old answer new good fine h all =
-        at-subscriber buffer subscriber refusal.Connection
+        at-subscriber choices buffer subscriber refusal.Connection
         (λ (one : Subscriber) (service : Service T) (answered : Reply T) (after : Service T).
         (answered ≡ reply.Has (has_samples subscriber one service))
         × (after ≡ service))

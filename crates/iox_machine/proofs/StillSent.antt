@@ -3,6 +3,7 @@ use Rattle.std.proofs.Common.{◌≡◌, ◌≤◌, ◌<◌, ◌+◌, ℕ, Bool,
 use Rattle.std.proofs.Common.{refl, sym, ap, subst, inl, inr, arith, ◌∙◌}
 use Rattle.std.proofs.lemmas.Bool.{eqb-true, eqb-false, cases_Bool, leb-true, leb-false}
 use Rattle.std.specs.Prelude.{◌==◌, nat_le, nat_lt, find, is_some, option_map, replicate, MatchBool}
+use Rattle.iox_machine.specs.Choices.{Choices}
 use Rattle.iox_machine.specs.Arriving.{PublisherArrives}
 use Rattle.iox_machine.specs.Lending.{Lends, LendsLonger, loan_refusal}
 use Rattle.iox_machine.specs.Message.{Loan, Message, sent_as, is_written}
@@ -289,17 +290,17 @@ module _ {T : Type 0} (p n : ℕ) where
       less : (x y c l m e : ℕ) → x + c ≤ y → l ≡ m + c → (x + l) + 0 ≤ (y + m) + e
       less x y c l m e h is = omega (arith, h, is)
 
-  pub puts-sent : (number : ℕ) (values : List T) (one : Publisher T) (service after : Service T) (answer : Reply T)
-      → at number service.publishers ≡ Some one → Puts number values one service answer after
+  pub puts-sent : (choices : Choices T) (number : ℕ) (values : List T) (one : Publisher T) (service after : Service T) (answer : Reply T)
+      → at number service.publishers ≡ Some one → Puts choices number values one service answer after
       → Sent answer (if_sent (cond ((number == p) && has_begun answer) (Some (next_message values one)) None)) service after
-  puts-sent number values one service after answer found (Some why, then, lent, refused) =
+  puts-sent choices number values one service after answer found (Some why, then, lent, refused) =
       quiet answer (if_sent (cond ((number == p) && has_begun answer) (Some (next_message values one)) None)) service after
       (begun-silent (number == p) (has_begun answer) (Some (next_message values one)) (ap has_begun refused.0))
       (same-refused (refusal.Send (error.LoanError why)) service service answer after (same-itself service) refused)
-  puts-sent number values one service after answer found (None, then, lent, sent) =
+  puts-sent choices number values one service after answer found (None, then, lent, sent) =
       let mid : Service T = with_publisher number then service in
       let on : Same mid after =
-      same-sends number (record { number = one.next; values = values }) then mid answer after
+      same-sends choices number (record { number = one.next; values = values }) then mid answer after
       (ap next_of (at-changed number then one service.publishers found)) sent in
       less (left_in after) (to_come n (next_at p mid)) (to_come n (next_at p service)) (loaned service.loans)
       (if_sent (cond ((number == p) && has_begun answer) (Some (next_message values one)) None))
@@ -310,17 +311,17 @@ module _ {T : Type 0} (p n : ℕ) where
       less : (w x y l c d e : ℕ) → w ≡ x + l → x + d ≤ y → c ≤ d → w + c ≤ (y + l) + e
       less w x y l c d e is h k = omega (arith, is, h, k)
 
-  pub sends-sent : (loan : ℕ) (one : Loan T) (service after : Service T) (answer : Reply T)
-      → at loan service.loans ≡ Some one → SendsLoan loan one service answer after
+  pub sends-sent : (choices : Choices T) (loan : ℕ) (one : Loan T) (service after : Service T) (answer : Reply T)
+      → at loan service.loans ≡ Some one → SendsLoan choices loan one service answer after
       → Sent answer (if_sent (cond ((one.publisher == p) && has_begun answer) (Some (sent_as one)) None)) service after
-  sends-sent loan one service after answer found did =
+  sends-sent choices loan one service after answer found did =
       elim (by-option (at one.publisher service.publishers) (IsSkipped service answer after)
       (λ publisher. MatchBool (is_written one && not (is_some publisher.blocked))
-      (Sends one.publisher (sent_as one) publisher (record service { loans = removed loan service.loans }) answer after)
+      (Sends choices one.publisher (sent_as one) publisher (record service { loans = removed loan service.loans }) answer after)
       (IsSkipped service answer after)) did) [
         | inl w ↦ skipped w.1
         | inr w ↦ elim (by-bool (is_written one && not (is_some w.0.blocked))
-            (Sends one.publisher (sent_as one) w.0 (record service { loans = removed loan service.loans }) answer after)
+            (Sends choices one.publisher (sent_as one) w.0 (record service { loans = removed loan service.loans }) answer after)
             (IsSkipped service answer after) w.2) [
               | inl k ↦ sent w.0 w.1 k.1
               | inr k ↦ skipped k.1
@@ -338,11 +339,11 @@ module _ {T : Type 0} (p n : ℕ) where
       less w x l m c d e is h k = omega (arith, is, h, k)
 
       sent : (publisher : Publisher T) → at one.publisher service.publishers ≡ Some publisher
-          → Sends one.publisher (sent_as one) publisher (record service { loans = removed loan service.loans }) answer after
+          → Sends choices one.publisher (sent_as one) publisher (record service { loans = removed loan service.loans }) answer after
           → Sent answer (if_sent (cond ((one.publisher == p) && has_begun answer) (Some (sent_as one)) None)) service after
       sent publisher there h =
           let mid : Service T = record service { loans = removed loan service.loans } in
-          let on : Same mid after = same-sends one.publisher (sent_as one) publisher mid answer after (ap next_of there) h in
+          let on : Same mid after = same-sends choices one.publisher (sent_as one) publisher mid answer after (ap next_of there) h in
           less (left_in after) (to_come n (next_at p service)) (loaned (removed loan service.loans)) (loaned service.loans)
           (if_sent (cond ((one.publisher == p) && has_begun answer) (Some (sent_as one)) None)) (one_if (is_it one))
           (of_told (publisher_told answer) p) (same-left mid after on) (loaned-removed loan one service.loans found)

@@ -54,17 +54,21 @@ order-of-sends buffer first second one two = (
                     reply.Delivered 1,
                     _,
                     _,
-                    (_, (refl, refl), refl),
+                    (_, (_, _, (refl, refl), refl, refl), refl),
                     (
                       reply.Delivered 1,
                       _,
                       _,
-                      (_, (refl, refl), refl),
+                      (_, (_, _, (refl, refl), refl, refl), refl),
                       (
                         reply.Received 1 second,
                         _,
                         _,
-                        (_, (_, _, ([], refl, _, refl, refl, refl), (Some 1, refl, (_, second, refl, two, refl, refl))), refl),
+                        (
+                          _,
+                          (_, _, ([], refl, _, refl, refl, refl), (Ok tt, refl, (Some 1, refl, (_, second, refl, two, refl, refl)))),
+                          refl,
+                        ),
                         (
                           reply.Received 2 first,
                           _,

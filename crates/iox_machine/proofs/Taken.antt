@@ -6,6 +6,7 @@ use Rattle.std.specs.Global.{Vec}
 use Rattle.std.specs.List.{AllByRecursion}
 use Rattle.std.specs.Prelude.{◌==◌, is_some, find, option_and_then, slice_get}
 use Rattle.std.specs.Vec.{vec_items}
+use Rattle.iox_machine.specs.Choices.{Choices}
 use Rattle.iox_machine.specs.Mailbox.{is_idle}
 use Rattle.iox_machine.specs.Message.{Message, Sample}
 use Rattle.iox_machine.specs.MessageLaws.{BeganIn, IsTaken, ReceivedWasSent, first_in}
@@ -89,7 +90,7 @@ module _ {T : Type 0} where
 stands-still : (now one : Subscriber) → holder_of now ≡ holder_of one → one.stands ≡ true → now.stands ≡ true
 stands-still now one same stands = ap (λ (holder : ℕ × Bool). holder.1) same ∙ stands
 
-module _ {T : Type 0} (types : MessageTypeDetails) (IsDefault : T → Type 0) (buffer : ℕ) where
+module _ {T : Type 0} (types : MessageTypeDetails) (choices : Choices T) (buffer : ℕ) where
   abbrev Taken : ℕ → ℕ → Vec T → Service T → State T → Type 0
   Taken subscriber sample values service new =
       (publisher : ℕ) × (message : Message T) × IsTaken publisher subscriber sample message service new
@@ -97,12 +98,12 @@ module _ {T : Type 0} (types : MessageTypeDetails) (IsDefault : T → Type 0) (b
 
   received-taken : (subscriber : ℕ) (old : State T) (sample : ℕ) (values : Vec T) (new : State T)
       → AllByRecursion (λ (other : Service T). at (old.made.samples + 1) other.samples ≡ None) old.services
-      → Step types IsDefault buffer (command.Receive subscriber) old (reply.Received sample values) new
+      → Step types choices buffer (command.Receive subscriber) old (reply.Received sample values) new
       → (service : Service T) × (find (λ (other : Service T). is_some (subscriber_in subscriber other)) old.services ≡ Some service)
       × Taken subscriber sample values service new
   received-taken subscriber old sample values new fresh h =
       elim (at-one (subscriber_in subscriber)
-      (subscribing.UpdatesFirst buffer subscriber (λ failure. refusal.Receive (receive_error.ConnectionFailure failure))
+      (subscribing.UpdatesFirst choices buffer subscriber (λ failure. refusal.Receive (receive_error.ConnectionFailure failure))
       (Receives subscriber (old.made.samples + 1))) old (reply.Received sample values) new h) [
         | inl w ↦ never-told (reply.Received sample values) reply.Skipped w.0 refl refl
         | inr w ↦ (w.0, w.3, taken w.0 w.1 w.2 w.3 w.4 w.5 w.6)
@@ -163,7 +164,7 @@ module _ {T : Type 0} (types : MessageTypeDetails) (IsDefault : T → Type 0) (b
       taken : (service : Service T) (one : Subscriber) (after : Service T)
           → find (λ (other : Service T). is_some (subscriber_in subscriber other)) old.services ≡ Some service
           → subscriber_in subscriber service ≡ Some one
-          → subscribing.UpdatesFirst buffer subscriber (λ failure. refusal.Receive (receive_error.ConnectionFailure failure))
+          → subscribing.UpdatesFirst choices buffer subscriber (λ failure. refusal.Receive (receive_error.ConnectionFailure failure))
           (Receives subscriber (old.made.samples + 1)) one service (reply.Received sample values) after
           → new ≡ record old {
             made = counted (reply.Received sample values) old.made;
@@ -171,20 +172,20 @@ module _ {T : Type 0} (types : MessageTypeDetails) (IsDefault : T → Type 0) (b
           }
           → Taken subscriber sample values service new
       taken service one after first found did came =
-          soft-updates (Taken subscriber sample values service new) buffer subscriber
+          soft-updates choices (Taken subscriber sample values service new) buffer subscriber
           (λ failure. refusal.Receive (receive_error.ConnectionFailure failure)) (Receives subscriber (old.made.samples + 1)) one service
           (reply.Received sample values) after (subscriber-stands subscriber service one found).0
           (λ now mid soft there same took. receives service after mid one now first (subscriber-stands subscriber service one found).1 came
           soft there same took)
           (λ why mid soft refused. never-told (reply.Received sample values) (reply.Refused why) refused.0 refl refl) did
 
-pub received-was-sent : {T : Type 0} (IsDefault : T → Type 0) → ReceivedWasSent IsDefault
-received-was-sent {T} IsDefault types buffer asked answers old run subscriber sample values new h =
+pub received-was-sent : {T : Type 0} (choices : Choices T) → ReceivedWasSent choices
+received-was-sent {T} choices types buffer asked answers old run subscriber sample values new h =
     let it : (service : Service T) × (find (λ (other : Service T). is_some (subscriber_in subscriber other)) old.services ≡ Some service)
-    × Taken types IsDefault buffer subscriber sample values service new =
-    received-taken types IsDefault buffer subscriber old sample values new
-    (fresh-numbers 0 subscriber types IsDefault buffer old (runs-numbered types IsDefault buffer asked new_state answers old run tt)) h in
+    × Taken types choices buffer subscriber sample values service new =
+    received-taken types choices buffer subscriber old sample values new
+    (fresh-numbers 0 subscriber types choices buffer old (runs-numbered types choices buffer asked new_state answers old run tt)) h in
     let sent : (find (λ (other : Service T). is_some (at it.2.0 other.publishers)) old.services ≡ Some it.0)
-    × BeganIn types IsDefault buffer it.2.0 it.0.name it.0.settings it.2.1.values asked new_state answers old run =
-    first-sent IsDefault types buffer asked answers old run subscriber it.2.0 it.0 it.2.1 it.1 it.2.2.0 in
+    × BeganIn types choices buffer it.2.0 it.0.name it.0.settings it.2.1.values asked new_state answers old run =
+    first-sent choices types buffer asked answers old run subscriber it.2.0 it.0 it.2.1 it.1 it.2.2.0 in
     (it.2.0, it.0, it.2.1, it.1, sent.0, it.2.2, it.2.3, sent.1)

@@ -3,13 +3,14 @@ use Rattle.std.proofs.Common.{◌≡◌, ◌⊎◌, ℕ, Bool, true, false, cond
 use Rattle.std.proofs.Common.{subst, inl, inr, ◌∙◌, true≢false}
 use Rattle.std.proofs.lemmas.Bool.{and_from, and_right, cases_Bool, eq-eqb, eqb-false, eqb-true, false_from_ne_true}
 use Rattle.std.specs.Option.{option_map_or}
-use Rattle.std.specs.Prelude.{◌==◌, filter, find, fold, is_some, option_map, unwrap_or, MatchOption, MatchResult}
+use Rattle.std.specs.Prelude.{◌==◌, filter, find, fold, is_some, option_map, unwrap_or, MatchOption, zip}
+use Rattle.iox_machine.specs.Choices.{Choices}
+use Rattle.iox_machine.proofs.Delivering.{Outcomes, by-outcome}
 use Rattle.iox_machine.specs.Mailbox.{Mailbox, newest}
 use Rattle.iox_machine.specs.Message.{Message}
 use Rattle.iox_machine.specs.PortList.{those}
 use Rattle.iox_machine.specs.Ports.{publisher_in, subscriber_in}
 use Rattle.iox_machine.specs.PublisherUpdate as publishing
-use Rattle.iox_machine.specs.PublisherUpdate.{update_answer}
 use Rattle.iox_machine.specs.RefusalLaws.{KeepsMessages, KeepsPorts, publisher_staying, subscriber_staying}
 use Rattle.iox_machine.specs.Replies.{IsRefused, IsSkipped}
 use Rattle.iox_machine.specs.Service.{Publisher, Service, Subscriber, connect, mailbox, with_mailbox, with_publisher, with_subscriber}
@@ -17,7 +18,7 @@ use Rattle.iox_machine.specs.State.{State, replaced}
 use Rattle.iox_machine.specs.SubscriberUpdate as subscribing
 use Rattle.iox_machine.specs.Table.{at, contains}
 use Rattle.iox_machine.specs.UpdateLaws.{PublisherKeepsMailboxes, SubscriberKeepsMailboxes, UpdateLeaves, box_then, first_box, waits_then}
-use Rattle.iox_machine.proofs.Cases.{both-true, by-bool, by-option, by-result, never-some, same-some}
+use Rattle.iox_machine.proofs.Cases.{both-true, by-bool, by-option, never-some, same-some}
 use Rattle.iox_machine.proofs.Frames.{ByPublisher, BySubscriber, box-same, by-follows, publisher-stands, soft-followed, soft-follows}
 use Rattle.iox_machine.proofs.Frames.{subscriber-stands}
 use Rattle.iox_machine.proofs.Linking.{Turned, changed-view, reach, reach_of, subscriber_listed, turned-walks}
@@ -502,14 +503,14 @@ module _ {T : Type 0} where
   never-done-so : {A : Type 0} (other : Reply T) → reply.Done ≡ other → is_done other ≡ false → A
   never-done-so other same silent = absurd (true≢false (ap is_done same ∙ silent))
 
-pub publisher-keeps-mailboxes : {T : Type 0} (IsDefault : T → Type 0) → PublisherKeepsMailboxes IsDefault
-publisher-keeps-mailboxes {T} IsDefault types buffer number old new h =
+pub publisher-keeps-mailboxes : {T : Type 0} (choices : Choices T) → PublisherKeepsMailboxes choices
+publisher-keeps-mailboxes {T} choices types buffer number old new h =
     elim (at-one (publisher_in number)
     (λ (publisher : Publisher T) (service : Service T) (told : Reply T) (after : Service T). MatchOption publisher.blocked
-    (publishing.UpdatesFirst number refusal.Connection Ends publisher service told after) (λ send. IsSkipped service told after))
+    (publishing.UpdatesFirst choices number refusal.Connection Ends publisher service told after) (λ send. IsSkipped service told after))
     old reply.Done new h) [
       | inl w ↦ never-done-so reply.Skipped w.0 refl
-      | inr w ↦ elim (by-option w.1.blocked (publishing.UpdatesFirst number refusal.Connection Ends w.1 w.0 reply.Done w.2)
+      | inr w ↦ elim (by-option w.1.blocked (publishing.UpdatesFirst choices number refusal.Connection Ends w.1 w.0 reply.Done w.2)
           (λ send. IsSkipped w.0 reply.Done w.2) w.5) [
             | inl free ↦ updated w.0 w.1 w.2 w.3 w.4 free.1 w.6
             | inr skipped ↦ never-done-so reply.Skipped skipped.2.0 refl
@@ -534,17 +535,17 @@ publisher-keeps-mailboxes {T} IsDefault types buffer number old new h =
         × (box ≡ first_box was before subscriber))
 
     updated : (service : Service T) (one : Publisher T) (end : Service T) → find has_it old.services ≡ Some service
-        → publisher_in number service ≡ Some one → publishing.UpdatesFirst number refusal.Connection Ends one service reply.Done end
+        → publisher_in number service ≡ Some one → publishing.UpdatesFirst choices number refusal.Connection Ends one service reply.Done end
         → new ≡ record old { services = replaced has_it end old.services }
         → (new ≡ old)
         ⊎ Leaves
     updated service one end first found did came =
         elim (by-bool (one.seen == service.subscriber_list.changes) (Ends one service reply.Done end)
         ((after : Publisher T) × (mid : Service T) × publishing.Follows number one service after mid
-        × MatchResult (update_answer one.degradation service.subscriber_list.places after.connected)
+        × Outcomes (choices.publisher_acts number one.degradation) (zip service.subscriber_list.places after.connected)
         (λ done. Ends after mid reply.Done end) (λ failure. IsRefused (refusal.Connection failure) mid reply.Done end)) did) [
           | inl w ↦ inl (unmoved has_it service end old new first w.1.1 came)
-          | inr w ↦ elim (by-result (update_answer one.degradation service.subscriber_list.places w.1.0.connected)
+          | inr w ↦ elim (by-outcome (choices.publisher_acts number one.degradation) (zip service.subscriber_list.places w.1.0.connected)
               (λ done. Ends w.1.0 w.1.1 reply.Done end) (λ failure. IsRefused (refusal.Connection failure) w.1.1 reply.Done end) w.1.3) [
                 | inl r ↦ inr (followed w.1.0 w.1.1 w.1.2 (came ∙ ap (λ (it : Service T). record old {
                   services = replaced has_it it old.services;
@@ -578,9 +579,9 @@ publisher-keeps-mailboxes {T} IsDefault types buffer number old new h =
           first-boxes number one service after mid there follows,
         )
 
-pub subscriber-keeps-mailboxes : {T : Type 0} (IsDefault : T → Type 0) → SubscriberKeepsMailboxes IsDefault
-subscriber-keeps-mailboxes {T} IsDefault types buffer number old new h =
-    elim (at-one (subscriber_in number) (subscribing.UpdatesFirst buffer number refusal.Connection Ends) old reply.Done new h) [
+pub subscriber-keeps-mailboxes : {T : Type 0} (choices : Choices T) → SubscriberKeepsMailboxes choices
+subscriber-keeps-mailboxes {T} choices types buffer number old new h =
+    elim (at-one (subscriber_in number) (subscribing.UpdatesFirst choices buffer number refusal.Connection Ends) old reply.Done new h) [
       | inl w ↦ never-done-so reply.Skipped w.0 refl
       | inr w ↦ updated w.0 w.1 w.2 w.3 w.4 w.5 w.6
     ]
@@ -603,17 +604,17 @@ subscriber-keeps-mailboxes {T} IsDefault types buffer number old new h =
 
     updated : (service : Service T) (one : Subscriber) (end : Service T) → find has_it old.services ≡ Some service
         → subscriber_in number service ≡ Some one
-        → subscribing.UpdatesFirst buffer number refusal.Connection Ends one service reply.Done end
+        → subscribing.UpdatesFirst choices buffer number refusal.Connection Ends one service reply.Done end
         → new ≡ record old { services = replaced has_it end old.services }
         → (new ≡ old)
         ⊎ Leaves
     updated service one end first found did came =
         elim (by-bool ((one.seen == service.publisher_list.changes) && not one.again) (Ends one service reply.Done end)
         ((after : Subscriber) × (mid : Service T) × subscribing.Follows buffer number one service after mid
-        × MatchResult (update_answer one.degradation service.publisher_list.places after.connected)
+        × Outcomes (choices.subscriber_acts number one.degradation) (zip service.publisher_list.places after.connected)
         (λ done. Ends after mid reply.Done end) (λ failure. IsRefused (refusal.Connection failure) mid reply.Done end)) did) [
           | inl w ↦ inl (unmoved has_it service end old new first w.1.1 came)
-          | inr w ↦ elim (by-result (update_answer one.degradation service.publisher_list.places w.1.0.connected)
+          | inr w ↦ elim (by-outcome (choices.subscriber_acts number one.degradation) (zip service.publisher_list.places w.1.0.connected)
               (λ done. Ends w.1.0 w.1.1 reply.Done end) (λ failure. IsRefused (refusal.Connection failure) w.1.1 reply.Done end) w.1.3) [
                 | inl r ↦ inr (attended w.1.0 w.1.1 w.1.2 (came ∙ ap (λ (it : Service T). record old {
                   services = replaced has_it it old.services;

@@ -3,22 +3,24 @@ use Rattle.std.proofs.Common.{◌≡◌, ◌≤◌, ◌<◌, ◌⊎◌, ◌+◌,
 use Rattle.std.proofs.Common.{drop, Option, None, Some, refl, sym, ap, subst, inl, inr, arith, ◌∙◌, length-append, true≢false}
 use Rattle.std.proofs.lemmas.Bool.{eq-eqb, eqb-false, eqb-true, leb-false, or_right}
 use Rattle.std.specs.Option.{option_map_or}
-use Rattle.std.specs.Prelude.{◌==◌, find, is_some, nat_le, slice_get, unwrap_or, MatchBool, MatchOption, MatchResult}
+use Rattle.std.specs.Prelude.{◌==◌, find, is_some, nat_le, slice_get, unwrap_or, MatchBool, MatchOption, zip}
+use Rattle.iox_machine.specs.Choices.{Choices}
+use Rattle.iox_machine.proofs.Delivering.{Outcomes, by-outcome}
+use Rattle.iox_machine.specs.Sending.{Delivers, MayDecide}
 use Rattle.iox_machine.specs.Mailbox.{Mailbox, newest, put}
 use Rattle.iox_machine.specs.Message.{Loan, Message, is_written, sent_as}
 use Rattle.iox_machine.specs.PortList.{those}
 use Rattle.iox_machine.specs.Ports.{Puts, SendsLoan, publisher_in}
 use Rattle.iox_machine.specs.PublisherUpdate as publishing
-use Rattle.iox_machine.specs.PublisherUpdate.{update_answer}
 use Rattle.iox_machine.specs.RefusalLaws.{IsRetried, IsSentBy, IsUndelivered, KeepsMessages, KeepsPorts, LacksOne, RetriesLeave}
 use Rattle.iox_machine.specs.RefusalLaws.{UndeliveredLeaves, is_sending, loans_left, offered_to}
 use Rattle.iox_machine.specs.Replies.{IsRefused, IsSkipped}
 use Rattle.iox_machine.specs.Run.{Runs, Step}
-use Rattle.iox_machine.specs.Sending.{Begins, GoesOn, Sends, decision_at, deliver, offered}
+use Rattle.iox_machine.specs.Sending.{Begins, GoesOn, Sends}
 use Rattle.iox_machine.specs.Service.{Publisher, Send, Service, Subscriber, mailbox, with_mailbox, with_publisher}
 use Rattle.iox_machine.specs.State.{State, new_state, replaced}
 use Rattle.iox_machine.specs.Table.{at, contains, removed}
-use Rattle.iox_machine.proofs.Cases.{both-true, by-bool, by-option, by-result, chosen, never-some}
+use Rattle.iox_machine.proofs.Cases.{both-true, by-bool, by-option, chosen, never-some}
 use Rattle.iox_machine.proofs.Frames.{box-aside, box-same, publisher-stands}
 use Rattle.iox_machine.proofs.Moving.{at-one}
 use Rattle.iox_machine.proofs.Order.{absurd-both, follows-publishers}
@@ -28,7 +30,6 @@ use Rattle.iox_machine.proofs.RefusedPorts.{Alike, Left, left-lent, left-same, l
 use Rattle.iox_machine.proofs.Tables.{at-changed}
 use Rattle.iox_machine.proofs.Through.{keeps-loans, keeps-messages, keeps-ports}
 use Rattle.iox_command.specs.DomainValues.Actions.{decision_of}
-use Rattle.iox_command.specs.DomainValues.declared.backpressure.BackpressureDecision.{BackpressureDecision}
 use Rattle.iox_command.specs.DomainValues.declared.backpressure.BackpressureDecision.TheVariants.{Retry, DiscardData, DiscardDataAndFail}
 use Rattle.iox_command.specs.DomainValues.declared.connection_failure.ConnectionFailure.{ConnectionFailure}
 use Rattle.iox_command.specs.DomainValues.declared.port_error.LoanError.{LoanError}
@@ -92,8 +93,8 @@ module _ {T : Type 0} where
     counts s service =
         option_map_or (λ (it : Subscriber). it.stands && contains (those it.connected) number) (at s service.subscribers) false
 
-    abbrev Lacks : List ℕ → Service T → Type 0
-    Lacks left service = LacksOne number one left service
+    abbrev Lacks : (choices : Choices T) → List ℕ → Service T → Type 0
+    Lacks choices left service = LacksOne choices number one left service
 
     -- a mailbox once the message was put there, if that is possible
     abbrev put_so : Service T → Mailbox T → Mailbox T
@@ -107,10 +108,10 @@ module _ {T : Type 0} where
     ends after = is_some (slice_get after.0.left 0)
 
     -- what comes of a send that goes on to some subscribers
-    abbrev Came : List ℕ → Send T → Service T → Send T × Service T → Type 0
-    Came left send service after =
+    abbrev Came : (choices : Choices T) → List ℕ → Send T → Service T → Send T × Service T → Type 0
+    Came choices left send service after =
         (after.1 ≡ record service { mailboxes = after.1.mailboxes })
-        × (after.0.fails ≡ true → (send.fails ≡ true) ⊎ Lacks left service)
+        × (after.0.fails ≡ true → (send.fails ≡ true) ⊎ Lacks choices left service)
         × (ends after ≡ false → Goes left service after.1)
 
     differs : (t s : ℕ) (more : List ℕ) → contains more t ≡ false → contains more s ≡ true → s ≡ t → ⊥
@@ -142,20 +143,31 @@ module _ {T : Type 0} where
             ∙ (ap (λ (k : ℕ). put service.settings.enable_safe_overflow message (mailbox number k service)) (sym (eqb-true t s is))
             ∙ full))))
 
-    weaker : (t : ℕ) (more : List ℕ) (service : Service T) → Lacks more service → Lacks (t ∷ more) service
-    weaker t more service (overflow, decided, (lacking, is, full, counted)) =
+    weaker : (choices : Choices T) (t : ℕ) (more : List ℕ) (service : Service T) → Lacks choices more service
+        → Lacks choices (t ∷ more) service
+    weaker choices t more service (overflow, decided, (lacking, is, full, counted)) =
         (overflow, decided, (lacking, or_right (t == lacking) (contains more lacking) is, full, counted))
 
-    offered-came : (t : ℕ) (more : List ℕ) (service : Service T) (met : Option (Mailbox T)) (decision : BackpressureDecision)
-        (goes_on : Send T → Service T → Send T × Service T) (send : Send T)
+    offered-came : (choices : Choices T) (t : ℕ) (more : List ℕ) (service : Service T) (met : Option (Mailbox T)) (send after : Send T)
+        (new : Service T)
         → put service.settings.enable_safe_overflow message (mailbox number t service) ≡ met
-        → decision_at number one service t ≡ decision → contains more t ≡ false
-        → ((next : Send T) (mid : Service T) → next.message ≡ message → Came more next mid (goes_on next mid))
-        → send.message ≡ message → Came (t ∷ more) send service (offered number met decision t more goes_on send service)
-    offered-came t more service (Some box) decision goes_on send puts decided past on same =
+        → contains more t ≡ false
+        → ((next : Send T) (mid : Service T) → Delivers choices number one more next mid after new → next.message ≡ message
+        → Came choices more next mid (after, new))
+        → send.message ≡ message
+        → MatchOption met
+        ((MayDecide choices number one t send service Retry × (after ≡ record send { left = t ∷ more }) × (new ≡ service))
+        ⊎ (MayDecide choices number one t send service DiscardData
+        × Delivers choices number one more (record send { retries = 0; elapsed = 0 }) service after new)
+        ⊎ (MayDecide choices number one t send service DiscardDataAndFail
+        × Delivers choices number one more (record send { retries = 0; elapsed = 0; fails = true }) service after new))
+        (λ box. Delivers choices number one more (record send { retries = 0; elapsed = 0; delivered = send.delivered + 1 })
+        (with_mailbox number t box service) after new)
+        → Came choices (t ∷ more) send service (after, new)
+    offered-came choices t more service (Some box) send after new puts past on same went =
         let next : Send T = record send { retries = 0; elapsed = 0; delivered = send.delivered + 1 } in
         let mid : Service T = with_mailbox number t box service in
-        let rest : Came more next mid (goes_on next mid) = on next mid same in (
+        let rest : Came choices more next mid (after, new) = on next mid went same in (
           rest.0,
           (λ fails. elim (rest.1 fails) [
             | inl was ↦ inl was
@@ -170,7 +182,7 @@ module _ {T : Type 0} where
               ),
             )
           ]),
-          (λ over p s. here p s (mailbox p s (goes_on next mid).1) (p == number) refl (t == s) refl
+          (λ over p s. here p s (mailbox p s new) (p == number) refl (t == s) refl
               (rest.2 over p s)),
         )
       where
@@ -199,51 +211,63 @@ module _ {T : Type 0} where
             ∙ (sym (ap (λ (o : Option (Mailbox T)). unwrap_or o (mailbox number t service)) puts)
             ∙ (ap (λ (k : ℕ). put_so service (mailbox number k service)) (eqb-true t s is)
             ∙ ap (λ (k : ℕ). put_so service (mailbox k s service)) (sym (eqb-true p number found))))))))
-    offered-came t more service None Retry goes_on send puts decided past on same =
-        (refl, (λ fails. inl fails), (λ over. absurd (true≢false over)))
-    offered-came t more service None DiscardData goes_on send puts decided past on same =
+    offered-came choices t more service None send after new puts past on same (inl (may, is, stays)) = (
+      stays ∙ ap (λ (it : Service T). record service { mailboxes = it.mailboxes }) (sym stays),
+      (λ fails. inl (sym (ap (λ (it : Send T). it.fails) is) ∙ fails)),
+      (λ over. absurd (true≢false (sym (ap (λ (it : Send T). is_some (slice_get it.left 0)) is) ∙ over))),
+    )
+    offered-came choices t more service None send after new puts past on same (inr (inl (may, went))) =
         let next : Send T = record send { retries = 0; elapsed = 0 } in
-        let rest : Came more next service (goes_on next service) = on next service same in
+        let rest : Came choices more next service (after, new) = on next service went same in
         let full : (service.settings.enable_safe_overflow ≡ false) × (is_full (mailbox number t service) ≡ true) =
         put-none service.settings.enable_safe_overflow message (mailbox number t service) puts in (
           rest.0,
           (λ fails. elim (rest.1 fails) [
             | inl was ↦ inl was
-            | inr lacks ↦ inr (weaker t more service lacks)
+            | inr lacks ↦ inr (weaker choices t more service lacks)
           ]),
-          (λ over. passes t more service (goes_on next service).1 past puts (rest.2 over)),
+          (λ over. passes t more service new past puts (rest.2 over)),
         )
-    offered-came t more service None DiscardDataAndFail goes_on send puts decided past on same =
+    offered-came choices t more service None send after new puts past on same (inr (inr (may, went))) =
         let next : Send T = record send { retries = 0; elapsed = 0; fails = true } in
-        let rest : Came more next service (goes_on next service) = on next service same in
+        let rest : Came choices more next service (after, new) = on next service went same in
         let full : (service.settings.enable_safe_overflow ≡ false) × (is_full (mailbox number t service) ≡ true) =
         put-none service.settings.enable_safe_overflow message (mailbox number t service) puts in (
           rest.0,
-          (λ fails. inr (elim (chosen (counts t service) (decision_of one.strategy one.handler) DiscardData DiscardDataAndFail decided) [
-            | inl w ↦ (full.0, w.1, (t, ap (λ (b : Bool). b || contains more t) (eq-eqb t t refl), full.1, w.0))
-            | inr w ↦ absurd (differ w.1)
-          ])),
-          (λ over. passes t more service (goes_on next service).1 past puts (rest.2 over)),
+          (λ fails. inr (elim (by-bool (counts t service)
+              (choices.publisher_decides number send.retries send.elapsed (decision_of one.strategy one.handler) DiscardDataAndFail)
+              (DiscardDataAndFail ≡ DiscardData) may) [
+                | inl w ↦ (
+                  full.0,
+                  (send.retries, send.elapsed, w.1),
+                  (t, ap (λ (b : Bool). b || contains more t) (eq-eqb t t refl), full.1, w.0),
+                )
+                | inr w ↦ absurd (differ (sym w.1))
+              ])),
+          (λ over. passes t more service new past puts (rest.2 over)),
         )
       where
         differ : DiscardData ≡ DiscardDataAndFail → ⊥
         differ e = cc
 
-    deliver-came : (left : List ℕ) (send : Send T) (service : Service T) → ((s : ℕ) → Once s left) → send.message ≡ message
-        → Came left send service (deliver number one left send service)
-    deliver-came [] send service once same = (refl, (λ fails. inl fails), (λ over p s. none_of (p == number) (mailbox p s service)))
+    deliver-came : (choices : Choices T) (left : List ℕ) (send : Send T) (service : Service T) (after : Send T) (new : Service T)
+        → ((s : ℕ) → Once s left)
+        → send.message ≡ message → Delivers choices number one left send service after new → Came choices left send service (after, new)
+    deliver-came choices [] send service after new once same (is, stays) = (
+      stays ∙ ap (λ (it : Service T). record service { mailboxes = it.mailboxes }) (sym stays),
+      (λ fails. inl (sym (ap (λ (it : Send T). it.fails) is) ∙ fails)),
+      (λ over p s. ap (mailbox p s) stays ∙ none_of (p == number) (mailbox p s service)),
+    )
       where
         none_of : (b : Bool) (box : Mailbox T) → box ≡ cond (b && false) (put_so service box) box
         none_of true box = refl
         none_of false box = refl
-    deliver-came (t ∷ more) send service once same =
-        subst (λ (m : Message T). Came (t ∷ more) send service
-        (offered number (put service.settings.enable_safe_overflow m (mailbox number t service)) (decision_at number one service t) t more
-        (deliver number one more) send service)) (sym same)
-        (offered-came t more service (put service.settings.enable_safe_overflow message (mailbox number t service))
-        (decision_at number one service t) (deliver number one more) send refl refl
+    deliver-came choices (t ∷ more) send service after new once same went =
+        offered-came choices t more service (put service.settings.enable_safe_overflow send.message (mailbox number t service)) send after
+        new
+        (ap (λ (m : Message T). put service.settings.enable_safe_overflow m (mailbox number t service)) (sym same))
         (once-past t t more (eq-eqb t t refl) (once t))
-        (λ next mid is. deliver-came more next mid (λ s. once-tail s t more (once s)) is) same)
+        (λ next mid on is. deliver-came choices more next mid after new (λ s. once-tail s t more (once s)) is on) same went
 
   -- ---- a send
 
@@ -254,10 +278,10 @@ module _ {T : Type 0} where
   AreOnce one service = (s : ℕ) → Once s (those service.subscriber_list.places) × Once s (those one.connected)
 
   -- a publisher that is up to date sent to all
-  abbrev Undelivered : ℕ → Message T → Service T → Service T → Type 0
-  Undelivered number message old new =
+  abbrev Undelivered : (choices : Choices T) → ℕ → Message T → Service T → Service T → Type 0
+  Undelivered choices number message old new =
       (mid : Service T) × (one : Publisher T) × Left old mid × (at number mid.publishers ≡ Some one)
-      × (one.seen ≡ mid.subscriber_list.changes) × IsUndelivered number one message mid new
+      × (one.seen ≡ mid.subscriber_list.changes) × IsUndelivered choices number one message mid new
 
   is-unable : (waits fails : Bool) (count : ℕ)
       → ◌≡◌ {A = Reply T} unable (cond waits reply.Blocked (cond fails unable (reply.Delivered count)))
@@ -266,21 +290,22 @@ module _ {T : Type 0} where
   is-unable false true count same = (refl, refl)
   is-unable false false count same = never-told (refusal.Send error.UnableToDeliver) (reply.Delivered count) same refl
 
-  begun-undelivered : (number : ℕ) (message : Message T) (one : Publisher T) (old new : Service T)
-      → ((s : ℕ) → Once s (those one.connected)) → Begins number message one old unable new → IsUndelivered number one message old new
-  begun-undelivered number message one old new once h =
+  begun-undelivered : (choices : Choices T) (number : ℕ) (message : Message T) (one : Publisher T) (old new : Service T)
+      → ((s : ℕ) → Once s (those one.connected)) → Begins choices number message one old unable new
+      → IsUndelivered choices number one message old new
+  begun-undelivered choices number message one old new once h =
       let keeps : Publisher T = record one { history = newest old.settings.history_size (one.history ++ message ∷ []) } in
       let send : Send T =
       record { message = message; left = those one.connected; retries = 0; elapsed = 0; delivered = 0; fails = false } in
-      let after : Send T × Service T = deliver number keeps (those one.connected) send old in
+      let after : Send T × Service T = (h.0, h.1) in
       let told : (is_some (slice_get after.0.left 0) ≡ false) × (after.0.fails ≡ true) =
-      is-unable (is_some (slice_get after.0.left 0)) after.0.fails after.0.delivered h.0 in
-      let came : Came number keeps message (those one.connected) send old after =
-      deliver-came number keeps message (those one.connected) send old once refl in
-      let lacks : Lacks number keeps message (those one.connected) old =
+      is-unable (is_some (slice_get after.0.left 0)) after.0.fails after.0.delivered h.3 in
+      let came : Came number keeps message choices (those one.connected) send old after =
+      deliver-came number keeps message choices (those one.connected) send old h.0 h.1 once refl h.2 in
+      let lacks : Lacks number keeps message choices (those one.connected) old =
       elim (came.1 told.1) [ inl never ↦ absurd (true≢false (sym never)) | inr so ↦ so ] in
       let is : new ≡ with_publisher number (record keeps { blocked = None }) after.1 =
-      h.1
+      h.4
       ∙ ap (λ (b : Bool). with_publisher number (record keeps { blocked = cond b (Some after.0) None }) after.1) told.0 in
       let whole : new ≡ record (with_publisher number (record keeps { blocked = None }) old) { mailboxes = after.1.mailboxes } =
       is ∙ ap (with_publisher number (record keeps { blocked = None })) came.0 in (
@@ -302,18 +327,19 @@ module _ {T : Type 0} where
       differ : Some (refusal.Send error.UnableToDeliver) ≡ Some (refusal.Send (error.ConnectionError failure)) → ⊥
       differ e = cc
 
-  sends-undelivered : (number : ℕ) (message : Message T) (publisher : Publisher T) (old new : Service T)
-      → at number old.publishers ≡ Some publisher → AreOnce publisher old → Sends number message publisher old unable new
-      → Undelivered number message old new
-  sends-undelivered number message publisher old new found once h =
+  sends-undelivered : (choices : Choices T) (number : ℕ) (message : Message T) (publisher : Publisher T) (old new : Service T)
+      → at number old.publishers ≡ Some publisher → AreOnce publisher old → Sends choices number message publisher old unable new
+      → Undelivered choices number message old new
+  sends-undelivered choices number message publisher old new found once h =
       elim (by-bool publisher.stands
-      (publishing.UpdatesFirst number (λ failure. refusal.Send (error.ConnectionError failure)) (Begins number message) publisher old
+      (publishing.UpdatesFirst choices number (λ failure. refusal.Send (error.ConnectionError failure)) (Begins choices number message)
+      publisher old
       unable new)
       (IsRefused (refusal.Send error.ConnectionBrokenSinceSenderNoLongerExists) old unable new) h) [
-        | inl w ↦ elim (by-bool (publisher.seen == old.subscriber_list.changes) (Begins number message publisher old unable new)
+        | inl w ↦ elim (by-bool (publisher.seen == old.subscriber_list.changes) (Begins choices number message publisher old unable new)
             ((after : Publisher T) × (mid : Service T) × publishing.Follows number publisher old after mid
-            × MatchResult (update_answer publisher.degradation old.subscriber_list.places after.connected)
-            (λ done. Begins number message after mid unable new)
+            × Outcomes (choices.publisher_acts number publisher.degradation) (zip old.subscriber_list.places after.connected)
+            (λ done. Begins choices number message after mid unable new)
             (λ failure. IsRefused (refusal.Send (error.ConnectionError failure)) mid unable new)) w.1) [
               | inl k ↦ (
                 old,
@@ -321,7 +347,7 @@ module _ {T : Type 0} where
                 left-same old,
                 found,
                 eqb-true publisher.seen old.subscriber_list.changes k.0,
-                begun-undelivered number message publisher old new (λ s. (once s).1) k.1,
+                begun-undelivered choices number message publisher old new (λ s. (once s).1) k.1,
               )
               | inr k ↦ followed k.1.0 k.1.1 k.1.2 k.1.3
             ]
@@ -332,13 +358,13 @@ module _ {T : Type 0} where
       differ e = cc
 
       followed : (after : Publisher T) (mid : Service T) → publishing.Follows number publisher old after mid
-          → MatchResult (update_answer publisher.degradation old.subscriber_list.places after.connected)
-          (λ done. Begins number message after mid unable new)
-          (λ failure. IsRefused (refusal.Send (error.ConnectionError failure)) mid unable new) → Undelivered number message old new
+          → Outcomes (choices.publisher_acts number publisher.degradation) (zip old.subscriber_list.places after.connected)
+          (λ done. Begins choices number message after mid unable new)
+          (λ failure. IsRefused (refusal.Send (error.ConnectionError failure)) mid unable new) → Undelivered choices number message old new
       followed after mid came told =
           let ports : KeepsPorts old mid = keeps-ports number publisher old after mid found came in
-          elim (by-result (update_answer publisher.degradation old.subscriber_list.places after.connected)
-          (λ done. Begins number message after mid unable new)
+          elim (by-outcome (choices.publisher_acts number publisher.degradation) (zip old.subscriber_list.places after.connected)
+          (λ done. Begins choices number message after mid unable new)
           (λ failure. IsRefused (refusal.Send (error.ConnectionError failure)) mid unable new) told) [
             | inl r ↦ (
               mid,
@@ -350,7 +376,7 @@ module _ {T : Type 0} where
               ),
               follows-publishers number 0 publisher old after mid found came,
               ap (λ (it : Publisher T). it.seen) came.2 ∙ sym (ap (λ l. l.changes) ports.3),
-              begun-undelivered number message after mid new
+              begun-undelivered choices number message after mid new
                   (λ s. subst (λ (it : Publisher T). Once s (those it.connected)) (sym came.2)
                   (once-unless s came.0 old.subscriber_list.places (once s).0)) r.2,
             )
@@ -359,12 +385,12 @@ module _ {T : Type 0} where
 
   -- ---- the commands
 
-  module _ (IsDefault : T → Type 0) (types : MessageTypeDetails) (buffer : ℕ) (before : List (Command T)) (told : List (Reply T))
-      (old : State T) (run : Runs types IsDefault buffer before new_state told old) where
+  module _ (choices : Choices T) (types : MessageTypeDetails) (buffer : ℕ) (before : List (Command T)) (told : List (Reply T))
+      (old : State T) (run : Runs types choices buffer before new_state told old) where
     once-in : (number : ℕ) (has : Service T → Bool) (service : Service T) (one : Publisher T) → find has old.services ≡ Some service
         → at number service.publishers ≡ Some one → AreOnce one service
     once-in number has service one first found s =
-        connects-once IsDefault types buffer before told old run s number has service one first found
+        connects-once choices types buffer before told old run s number has service one first found
 
     abbrev Leaves : Command T → State T → Type 0
     Leaves asked new =
@@ -374,20 +400,20 @@ module _ {T : Type 0} where
         × IsSentBy asked service number message
         × (mid.loans ≡ loans_left asked service.loans) × KeepsPorts service mid × KeepsMessages service mid
         × (at number mid.publishers ≡ Some one) × (one.seen ≡ mid.subscriber_list.changes)
-        × IsUndelivered number one message mid after
+        × IsUndelivered choices number one message mid after
 
-    leaves : (asked : Command T) (new : State T) → is_sending asked ≡ true → Step types IsDefault buffer asked old unable new
+    leaves : (asked : Command T) (new : State T) → is_sending asked ≡ true → Step types choices buffer asked old unable new
         → Leaves asked new
     leaves (command.Send loan) new is h =
-        elim (at-one (λ (service : Service T). at loan service.loans) (SendsLoan loan) old unable new h) [
+        elim (at-one (λ (service : Service T). at loan service.loans) (SendsLoan choices loan) old unable new h) [
           | inl w ↦ never-told (refusal.Send error.UnableToDeliver) reply.Skipped w.0 refl
           | inr w ↦ elim (by-option (at w.1.publisher w.0.publishers) (IsSkipped w.0 unable w.2)
               (λ publisher. MatchBool (is_written w.1 && not (is_some publisher.blocked))
-              (Sends w.1.publisher (sent_as w.1) publisher (record w.0 { loans = removed loan w.0.loans }) unable w.2)
+              (Sends choices w.1.publisher (sent_as w.1) publisher (record w.0 { loans = removed loan w.0.loans }) unable w.2)
               (IsSkipped w.0 unable w.2)) w.5) [
                 | inl k ↦ never-told (refusal.Send error.UnableToDeliver) reply.Skipped k.1.0 refl
                 | inr k ↦ elim (by-bool (is_written w.1 && not (is_some k.0.blocked))
-                    (Sends w.1.publisher (sent_as w.1) k.0 (record w.0 { loans = removed loan w.0.loans }) unable w.2)
+                    (Sends choices w.1.publisher (sent_as w.1) k.0 (record w.0 { loans = removed loan w.0.loans }) unable w.2)
                     (IsSkipped w.0 unable w.2) k.2) [
                       | inl j ↦ sent w.0 w.1 w.2 w.3 w.4 w.6 k.0 k.1 j.1
                       | inr j ↦ never-told (refusal.Send error.UnableToDeliver) reply.Skipped j.1.0 refl
@@ -401,11 +427,12 @@ module _ {T : Type 0} where
         sent : (service : Service T) (lent : Loan T) (after : Service T) → find has old.services ≡ Some service
             → at loan service.loans ≡ Some lent → new ≡ record old { services = replaced has after old.services }
             → (publisher : Publisher T) → at lent.publisher service.publishers ≡ Some publisher
-            → Sends lent.publisher (sent_as lent) publisher (record service { loans = removed loan service.loans }) unable after
+            → Sends choices lent.publisher (sent_as lent) publisher (record service { loans = removed loan service.loans }) unable after
             → Leaves (command.Send loan) new
         sent service lent after first there came publisher found did =
-            let so : Undelivered lent.publisher (sent_as lent) (record service { loans = removed loan service.loans }) after =
-            sends-undelivered lent.publisher (sent_as lent) publisher (record service { loans = removed loan service.loans }) after found
+            let so : Undelivered choices lent.publisher (sent_as lent) (record service { loans = removed loan service.loans }) after =
+            sends-undelivered choices lent.publisher (sent_as lent) publisher (record service { loans = removed loan service.loans })
+            after found
             (once-in lent.publisher has service publisher first found) did in (
               has,
               service,
@@ -427,9 +454,9 @@ module _ {T : Type 0} where
     leaves (command.Put number values) new is h =
         elim (at-one (publisher_in number)
         (λ (publisher : Publisher T) (service : Service T) (answer : Reply T) (after : Service T). MatchOption publisher.blocked
-        (Puts number values publisher service answer after) (λ send. IsSkipped service answer after)) old unable new h) [
+        (Puts choices number values publisher service answer after) (λ send. IsSkipped service answer after)) old unable new h) [
           | inl w ↦ never-told (refusal.Send error.UnableToDeliver) reply.Skipped w.0 refl
-          | inr w ↦ elim (by-option w.1.blocked (Puts number values w.1 w.0 unable w.2) (λ send. IsSkipped w.0 unable w.2) w.5) [
+          | inr w ↦ elim (by-option w.1.blocked (Puts choices number values w.1 w.0 unable w.2) (λ send. IsSkipped w.0 unable w.2) w.5) [
             | inl k ↦ sent w.0 w.1 w.2 w.3 (publisher-stands number w.0 w.1 w.4) w.6 k.1
             | inr k ↦ never-told (refusal.Send error.UnableToDeliver) reply.Skipped k.2.0 refl
           ]
@@ -443,13 +470,13 @@ module _ {T : Type 0} where
 
         sent : (service : Service T) (one : Publisher T) (after : Service T) → find has old.services ≡ Some service
             → at number service.publishers ≡ Some one → new ≡ record old { services = replaced has after old.services }
-            → Puts number values one service unable after → Leaves (command.Put number values) new
+            → Puts choices number values one service unable after → Leaves (command.Put number values) new
         sent service one after first found came (Some why, lent, lends, refused) = absurd (differ why (ap tells_why refused.0))
         sent service one after first found came (None, lent, lends, did) =
             let message : Message T = record { number = one.next; values = values } in
             let alike : Alike one lent = lends-alike number (length values) one service None lent lends in
-            let so : Undelivered number message (with_publisher number lent service) after =
-            sends-undelivered number message lent (with_publisher number lent service) after
+            let so : Undelivered choices number message (with_publisher number lent service) after =
+            sends-undelivered choices number message lent (with_publisher number lent service) after
             (at-changed number lent one service.publishers found)
             (λ s. (
               (once-in number has service one first found s).0,
@@ -476,20 +503,20 @@ module _ {T : Type 0} where
             )
     leaves other new is h = absurd (true≢false (sym is))
 
-pub undelivered-leaves : {T : Type 0} (IsDefault : T → Type 0) → UndeliveredLeaves IsDefault
-undelivered-leaves IsDefault types buffer before told old run asked new is h =
-    leaves IsDefault types buffer before told old run asked new is h
+pub undelivered-leaves : {T : Type 0} (choices : Choices T) → UndeliveredLeaves choices
+undelivered-leaves choices types buffer before told old run asked new is h =
+    leaves choices types buffer before told old run asked new is h
 
-pub retries-leave : {T : Type 0} (IsDefault : T → Type 0) → RetriesLeave IsDefault
-retries-leave {T} IsDefault types buffer before told old run number nanoseconds new h =
+pub retries-leave : {T : Type 0} (choices : Choices T) → RetriesLeave choices
+retries-leave {T} choices types buffer before told old run number nanoseconds new h =
     elim (at-one (publisher_in number)
     (λ (publisher : Publisher T) (service : Service T) (answer : Reply T) (after : Service T). MatchOption publisher.blocked
     (IsSkipped service answer after)
-    (λ send. GoesOn number publisher (record send { retries = send.retries + 1; elapsed = nanoseconds }) service answer after)) old
+    (λ send. GoesOn choices number publisher (record send { retries = send.retries + 1; elapsed = nanoseconds }) service answer after)) old
     (reply.Refused (refusal.Send error.UnableToDeliver)) new h) [
       | inl w ↦ never-told (refusal.Send error.UnableToDeliver) reply.Skipped w.0 refl
       | inr w ↦ elim (by-option w.1.blocked (IsSkipped w.0 (reply.Refused (refusal.Send error.UnableToDeliver)) w.2)
-          (λ send. GoesOn number w.1 (record send { retries = send.retries + 1; elapsed = nanoseconds }) w.0
+          (λ send. GoesOn choices number w.1 (record send { retries = send.retries + 1; elapsed = nanoseconds }) w.0
           (reply.Refused (refusal.Send error.UnableToDeliver)) w.2) w.5) [
             | inl k ↦ never-told (refusal.Send error.UnableToDeliver) reply.Skipped k.1.0 refl
             | inr k ↦ (
@@ -503,7 +530,7 @@ retries-leave {T} IsDefault types buffer before told old run number nanoseconds 
               publisher-stands number w.0 w.1 w.4,
               k.1,
               retried w.0 w.1 k.0 w.2
-                  (λ s. waits-once IsDefault types buffer before told old run s number has w.0 w.1 k.0 w.3
+                  (λ s. waits-once choices types buffer before told old run s number has w.0 w.1 k.0 w.3
                   (publisher-stands number w.0 w.1 w.4) k.1) k.2,
             )
           ]
@@ -513,18 +540,18 @@ retries-leave {T} IsDefault types buffer before told old run number nanoseconds 
     has other = is_some (publisher_in number other)
 
     retried : (service : Service T) (one : Publisher T) (send : Send T) (after : Service T) → ((s : ℕ) → Once s send.left)
-        → GoesOn number one (record send { retries = send.retries + 1; elapsed = nanoseconds }) service
+        → GoesOn choices number one (record send { retries = send.retries + 1; elapsed = nanoseconds }) service
         (reply.Refused (refusal.Send error.UnableToDeliver)) after
-        → IsRetried number one send service after
+        → IsRetried choices number one send service after
     retried service one send after once h =
         let again : Send T = record send { retries = send.retries + 1; elapsed = nanoseconds } in
-        let end : Send T × Service T = deliver number one send.left again service in
+        let end : Send T × Service T = (h.0, h.1) in
         let told : (is_some (slice_get end.0.left 0) ≡ false) × (end.0.fails ≡ true) =
-        is-unable (is_some (slice_get end.0.left 0)) end.0.fails end.0.delivered h.0 in
-        let came : Came number one send.message send.left again service end =
-        deliver-came number one send.message send.left again service once refl in
+        is-unable (is_some (slice_get end.0.left 0)) end.0.fails end.0.delivered h.3 in
+        let came : Came number one send.message choices send.left again service end =
+        deliver-came number one send.message choices send.left again service h.0 h.1 once refl h.2 in
         let whole : after ≡ record (with_publisher number (record one { blocked = None }) service) { mailboxes = end.1.mailboxes } =
-        h.1
+        h.4
         ∙ (ap (λ (b : Bool). with_publisher number (record one { blocked = cond b (Some end.0) None }) end.1) told.0
         ∙ ap (with_publisher number (record one { blocked = None })) came.0) in (
           came.1 told.1,

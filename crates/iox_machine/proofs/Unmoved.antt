@@ -4,6 +4,7 @@ use Rattle.std.proofs.Common.{subst, inl, inr, arith, ◌∙◌, true≢false}
 use Rattle.std.proofs.lemmas.Bool.{leb-true}
 use Rattle.std.specs.List.{AllByRecursion}
 use Rattle.std.specs.Prelude.{⊤, nat_le, nat_lt}
+use Rattle.iox_machine.specs.Choices.{Choices}
 use Rattle.iox_machine.specs.Agreement.{Agreement, are_within_limits}
 use Rattle.iox_machine.specs.Asked.{settings_of}
 use Rattle.iox_machine.specs.Phase.{Absent, BeingMade, Emptied, Foreign, Node, Own, Phase, Published, acted, closed_by, entered, is_in}
@@ -173,18 +174,18 @@ begins-whole types (command.Foreign pattern name steps) =
     (λ one phase whole. acted-whole types pattern phase one whole) steps
 begins-whole types other = tt
 
-pub runs-whole : {T : Type 0} (types : MessageTypeDetails) (IsDefault : T → Type 0) (buffer : ℕ) (asked : List (Command T)) (old : State T)
-    (answers : List (Reply T)) (new : State T) → Runs types IsDefault buffer asked old answers new
+pub runs-whole : {T : Type 0} (types : MessageTypeDetails) (choices : Choices T) (buffer : ℕ) (asked : List (Command T)) (old : State T)
+    (answers : List (Reply T)) (new : State T) → Runs types choices buffer asked old answers new
     → ((pattern : MessagingPattern) (name : List ℕ) → Whole (old.phases pattern name))
     → (pattern : MessagingPattern) (name : List ℕ) → Whole (new.phases pattern name)
-runs-whole types IsDefault buffer [] old answers new run all =
+runs-whole types choices buffer [] old answers new run all =
     subst (λ (state : State _). (pattern : MessagingPattern) (name : List ℕ) → Whole (state.phases pattern name)) (sym run.1) all
-runs-whole types IsDefault buffer (one ∷ more) old answers new run all =
-    runs-whole types IsDefault buffer more run.1 run.2 new run.4
+runs-whole types choices buffer (one ∷ more) old answers new run all =
+    runs-whole types choices buffer more run.1 run.2 new run.4
     (phases-move types WholeOf (λ pattern name lives whole. tt)
     (λ pattern name node life agreed nodes room whole. (full-entered node nodes whole.0, entered-some node nodes))
     (λ pattern name node phase whole. closed-whole node phase whole)
-    IsDefault buffer one old run.0 run.1 (begins-whole types one) run.3 all)
+    choices buffer one old run.0 run.1 (begins-whole types one) run.3 all)
 
 -- ---- a call
 
@@ -252,8 +253,8 @@ module _ {T : Type 0} where
       subst (λ (p : MessagingPattern). IsAsBefore (old.phases p name) (new.phases p name)) same
       (subst (λ (n : List ℕ). IsAsBefore (old.phases one n) (new.phases one n)) is so)
 
-pub refused-calls-leave-nodes : {T : Type 0} (IsDefault : T → Type 0) → RefusedCallsLeaveNodes IsDefault
-refused-calls-leave-nodes {T} IsDefault types buffer before told old run pattern name
+pub refused-calls-leave-nodes : {T : Type 0} (choices : Choices T) → RefusedCallsLeaveNodes choices
+refused-calls-leave-nodes {T} choices types buffer before told old run pattern name
     (command.Create node other options attributes steps) new why (same, is, none) h =
     at-same old new (pattern_of options) pattern other name same is
     (settled-so types steps (factory_of node other options) old why new
@@ -264,7 +265,7 @@ refused-calls-leave-nodes {T} IsDefault types buffer before told old run pattern
     options attributes (λ lives so. none-made (old.phases (pattern_of options) other) lives so)
     (λ lives so. made-ends node (old.phases (pattern_of options) other)
     (record { settings = settings_of types options; attributes = attributes }) lives so) h))
-refused-calls-leave-nodes {T} IsDefault types buffer before told old run pattern name
+refused-calls-leave-nodes {T} choices types buffer before told old run pattern name
     (command.Open node other options required steps) new why (same, is, none) h =
     at-same old new (pattern_of options) pattern other name same is
     (settled-so types steps (factory_of node other options) old why new
@@ -274,8 +275,8 @@ refused-calls-leave-nodes {T} IsDefault types buffer before told old run pattern
     (none-acts types (pattern_of options) (old.phases (pattern_of options) other) steps none) old (reply.Refused why) new (inl refl)
     options required
     (entered-ends node (old.phases (pattern_of options) other)
-    (runs-whole types IsDefault buffer before new_state told old run (λ one another. tt) (pattern_of options) other)) h))
-refused-calls-leave-nodes {T} IsDefault types buffer before told old run pattern name
+    (runs-whole types choices buffer before new_state told old run (λ one another. tt) (pattern_of options) other)) h))
+refused-calls-leave-nodes {T} choices types buffer before told old run pattern name
     (command.OpenOrCreate node other options required steps) new why (same, is, none) h =
     at-same old new (pattern_of options) pattern other name same is
     (settled-so types steps (factory_of node other options) old why new
@@ -285,8 +286,8 @@ refused-calls-leave-nodes {T} IsDefault types buffer before told old run pattern
     (none-acts types (pattern_of options) (old.phases (pattern_of options) other) steps none) old (reply.Refused why) new (inl refl)
     options required
     (entered-ends node (old.phases (pattern_of options) other)
-    (runs-whole types IsDefault buffer before new_state told old run (λ one another. tt) (pattern_of options) other))
+    (runs-whole types choices buffer before new_state told old run (λ one another. tt) (pattern_of options) other))
     (λ lives so. none-made (old.phases (pattern_of options) other) lives so)
     (λ lives so. made-ends node (old.phases (pattern_of options) other)
     (record { settings = settings_of types options; attributes = required.pairs }) lives so) h))
-refused-calls-leave-nodes {T} IsDefault types buffer before told old run pattern name asked new why never h = absurd never
+refused-calls-leave-nodes {T} choices types buffer before told old run pattern name asked new why never h = absurd never

@@ -6,13 +6,14 @@ use Rattle.std.proofs.lemmas.List.{length-map}
 use Rattle.std.specs.List.{AllByRecursion, cons_option, list_all}
 use Rattle.std.specs.Option.{option_map_or}
 use Rattle.std.specs.Prelude.{◌==◌, nat_lt, max, is_some, option_map, option_and_then, filter, find, fold, zip, unwrap_or, MatchOption}
-use Rattle.std.specs.Prelude.{MatchResult}
+use Rattle.iox_machine.specs.Choices.{Choices}
+use Rattle.iox_machine.proofs.Delivering.{Outcomes, by-outcome}
+use Rattle.iox_machine.specs.PublisherUpdate.{UpdateAnswers}
 use Rattle.iox_machine.specs.Mailbox.{Mailbox, newest, is_idle}
 use Rattle.iox_machine.specs.Message.{Message}
 use Rattle.iox_machine.specs.PortList.{PortList, those, unless}
 use Rattle.iox_machine.specs.Ports.{AtFree, publisher_in, subscriber_in}
 use Rattle.iox_machine.specs.PublisherUpdate as publishing
-use Rattle.iox_machine.specs.PublisherUpdate.{update_answer}
 use Rattle.iox_machine.specs.Replies.{IsSkipped, IsRefused}
 use Rattle.iox_machine.specs.Service.{Service, Publisher, Subscriber, with_publisher, with_subscriber, mailbox, with_mailbox, connect}
 use Rattle.iox_machine.specs.State.{State, AtOne, replaced}
@@ -20,12 +21,13 @@ use Rattle.iox_machine.specs.SubscriberUpdate as subscribing
 use Rattle.iox_machine.specs.SubscriberUpdate.{Parted, is_unborrowed, now_at, part, parting, room_for}
 use Rattle.iox_machine.specs.Table.{at, changed, contains}
 use Rattle.iox_machine.specs.UpdateLaws.{IsFollowed, IsFollowedOrStays, PublisherIsUpdated, SubscriberIsUpdated}
-use Rattle.iox_machine.proofs.Cases.{by-bool, by-option, by-result, same-some, never-some, chosen, both-true}
+use Rattle.iox_machine.proofs.Cases.{by-bool, by-option, same-some, never-some, chosen, both-true}
 use Rattle.iox_machine.proofs.Lists.{all-joined, fold-keeps}
 use Rattle.iox_machine.proofs.Moving.{at-one, replaced-same}
 use Rattle.iox_command.specs.declared.refusal.Refusal.TheVariants as refusal
 use Rattle.iox_command.specs.declared.reply.Reply.{Reply}
 use Rattle.iox_command.specs.declared.reply.Reply.TheVariants as reply
+use Rattle.iox_command.specs.DomainValues.declared.degradation.DegradationAction.{DegradationAction}
 
 -- ---- lists
 
@@ -306,8 +308,8 @@ module _ {T : Type 0} where
       each (place ∷ more) =
           (unless-followed (λ subscriber. is_some (new.mailboxes number subscriber)) refused none place, each more)
 
-  abbrev PublisherEnd : ℕ → State T → State T → Type 0
-  PublisherEnd number old new =
+  abbrev PublisherEnd : (choices : Choices T) → ℕ → State T → State T → Type 0
+  PublisherEnd choices number old new =
       (service : Service T) × (one : Publisher T)
       × (find (λ (other : Service T). is_some (publisher_in number other)) new.services ≡ Some service)
       × (publisher_in number service ≡ Some one)
@@ -316,15 +318,16 @@ module _ {T : Type 0} where
       ⊎ ((length one.connected ≡ length service.subscriber_list.places)
       × AllByRecursion (IsFollowed (λ subscriber. is_some (service.mailboxes number subscriber)))
       (zip service.subscriber_list.places one.connected)
-      × (update_answer one.degradation service.subscriber_list.places one.connected ≡ Ok tt)))
+      × UpdateAnswers (choices.publisher_acts number one.degradation) (zip service.subscriber_list.places one.connected) (Ok tt)))
 
-  publisher-end : (number : ℕ) (old new : State T) (service : Service T) (one : Publisher T) (mid : Service T) (after : Publisher T)
+  publisher-end : (choices : Choices T) (number : ℕ) (old new : State T) (service : Service T) (one : Publisher T) (mid : Service T)
+      (after : Publisher T)
       → find (λ (other : Service T). is_some (publisher_in number other)) old.services ≡ Some service
       → publisher_in number service ≡ Some one → publishing.Follows number one service after mid
-      → update_answer one.degradation service.subscriber_list.places after.connected ≡ Ok tt
+      → UpdateAnswers (choices.publisher_acts number one.degradation) (zip service.subscriber_list.places after.connected) (Ok tt)
       → new ≡ record old { services = replaced (λ (other : Service T). is_some (publisher_in number other)) mid old.services }
-      → PublisherEnd number old new
-  publisher-end number old new service one mid after first found (refused, allowed, is, folded) well came =
+      → PublisherEnd choices number old new
+  publisher-end choices number old new service one mid after first found (refused, allowed, is, folded) well came =
       let did : Same (with_publisher number after service) mid × (after.stands ≡ one.stands)
       × (after.seen ≡ service.subscriber_list.changes)
       × (length after.connected ≡ length service.subscriber_list.places)
@@ -346,23 +349,25 @@ module _ {T : Type 0} where
           did.3 ∙ ap (λ (list : PortList). length list.places) (sym did.0.3),
           subst (λ (list : PortList). AllByRecursion (IsFollowed (λ subscriber. is_some (mid.mailboxes number subscriber)))
               (zip list.places after.connected)) (sym did.0.3) did.4,
-          ap (λ (list : PortList). update_answer after.degradation list.places after.connected) did.0.3
-              ∙ (ap (λ (it : Publisher T). update_answer it.degradation service.subscriber_list.places after.connected) is ∙ well),
+          subst (λ (list : PortList). UpdateAnswers (choices.publisher_acts number after.degradation) (zip list.places after.connected)
+              (Ok tt)) (sym did.0.3)
+              (subst (λ (it : DegradationAction). UpdateAnswers (choices.publisher_acts number it)
+              (zip service.subscriber_list.places after.connected) (Ok tt)) (sym (ap (λ (it : Publisher T). it.degradation) is)) well),
         ),
       )
 
-  publisher-updated : (number : ℕ) (old new : State T)
-      → AtFree number (publishing.UpdatesFirst number refusal.Connection
+  publisher-updated : (choices : Choices T) (number : ℕ) (old new : State T)
+      → AtFree number (publishing.UpdatesFirst choices number refusal.Connection
       (λ (it : Publisher T) (mid : Service T) (answered : Reply T) (end : Service T). (answered ≡ reply.Done) × (end ≡ mid))) old done new
-      → PublisherEnd number old new
-  publisher-updated number old new h = elim (at-one (publisher_in number)
+      → PublisherEnd choices number old new
+  publisher-updated choices number old new h = elim (at-one (publisher_in number)
       (λ (publisher : Publisher T) (service : Service T) (told : Reply T) (after : Service T). MatchOption publisher.blocked
-      (publishing.UpdatesFirst number refusal.Connection
+      (publishing.UpdatesFirst choices number refusal.Connection
       (λ (it : Publisher T) (mid : Service T) (answered : Reply T) (end : Service T). (answered ≡ reply.Done) × (end ≡ mid)) publisher
       service told after) (λ send. IsSkipped service told after)) old done new h) [
         | inl skipped ↦ never reply.Skipped skipped.0 refl
         | inr w ↦ elim (by-option w.1.blocked
-            (publishing.UpdatesFirst number refusal.Connection
+            (publishing.UpdatesFirst choices number refusal.Connection
             (λ (it : Publisher T) (mid : Service T) (answered : Reply T) (end : Service T). (answered ≡ reply.Done) × (end ≡ mid)) w.1 w.0
             done w.2) (λ send. IsSkipped w.0 done w.2) w.5) [
               | inl v ↦ updated w.0 w.1 w.2 w.3 w.4 v.1 w.6
@@ -373,15 +378,15 @@ module _ {T : Type 0} where
       updated : (service : Service T) (one : Publisher T) (end : Service T)
           → find (λ (other : Service T). is_some (publisher_in number other)) old.services ≡ Some service
           → publisher_in number service ≡ Some one
-          → publishing.UpdatesFirst number refusal.Connection
+          → publishing.UpdatesFirst choices number refusal.Connection
           (λ (it : Publisher T) (mid : Service T) (answered : Reply T) (end : Service T). (answered ≡ reply.Done) × (end ≡ mid)) one service
           done end
           → new ≡ record old { services = replaced (λ (other : Service T). is_some (publisher_in number other)) end old.services }
-          → PublisherEnd number old new
+          → PublisherEnd choices number old new
       updated service one end first found did came =
           elim (by-bool (one.seen == service.subscriber_list.changes) ((done ≡ reply.Done) × (end ≡ service))
           ((after : Publisher T) × (mid : Service T) × publishing.Follows number one service after mid
-          × MatchResult (update_answer one.degradation service.subscriber_list.places after.connected)
+          × Outcomes (choices.publisher_acts number one.degradation) (zip service.subscriber_list.places after.connected)
           (λ well. (done ≡ reply.Done) × (end ≡ mid)) (λ failure. IsRefused (refusal.Connection failure) mid done end)) did) [
             | inl w ↦
                 let same : new ≡ old =
@@ -393,9 +398,9 @@ module _ {T : Type 0} where
                   eqb-true one.seen service.subscriber_list.changes w.0,
                   inl same,
                 )
-            | inr w ↦ elim (by-result (update_answer one.degradation service.subscriber_list.places w.1.0.connected)
+            | inr w ↦ elim (by-outcome (choices.publisher_acts number one.degradation) (zip service.subscriber_list.places w.1.0.connected)
                 (λ well. (done ≡ reply.Done) × (end ≡ w.1.1)) (λ failure. IsRefused (refusal.Connection failure) w.1.1 done end) w.1.3) [
-                  | inl r ↦ publisher-end number old new service one w.1.1 w.1.0 first found w.1.2 r.1
+                  | inl r ↦ publisher-end choices number old new service one w.1.1 w.1.0 first found w.1.2 r.1
                       (came ∙ ap (λ (it : Service T). record old {
                         services = replaced (λ (other : Service T). is_some (publisher_in number other)) it old.services;
                       }) r.2.1)
@@ -589,8 +594,8 @@ module _ {T : Type 0} where
           (zip subscriber.connected old.publisher_list.places)))
           ∙ unmade other refuses)
 
-  abbrev SubscriberEnd : ℕ → ℕ → State T → State T → Type 0
-  SubscriberEnd buffer number old new =
+  abbrev SubscriberEnd : (choices : Choices T) → ℕ → ℕ → State T → State T → Type 0
+  SubscriberEnd choices buffer number old new =
       (service : Service T) × (one : Subscriber)
       × (find (λ (other : Service T). is_some (subscriber_in number other)) new.services ≡ Some service)
       × (subscriber_in number service ≡ Some one)
@@ -599,15 +604,16 @@ module _ {T : Type 0} where
       ⊎ (AllByRecursion
       (IsFollowedOrStays (λ publisher. is_some (service.mailboxes publisher number)) (is_unborrowed buffer number service))
       (zip service.publisher_list.places one.connected)
-      × (update_answer one.degradation service.publisher_list.places one.connected ≡ Ok tt)))
+      × UpdateAnswers (choices.subscriber_acts number one.degradation) (zip service.publisher_list.places one.connected) (Ok tt)))
 
-  subscriber-end : (buffer number : ℕ) (old new : State T) (service : Service T) (one : Subscriber) (mid : Service T) (after : Subscriber)
+  subscriber-end : (choices : Choices T) (buffer number : ℕ) (old new : State T) (service : Service T) (one : Subscriber)
+      (mid : Service T) (after : Subscriber)
       → find (λ (other : Service T). is_some (subscriber_in number other)) old.services ≡ Some service
       → subscriber_in number service ≡ Some one → subscribing.Follows buffer number one service after mid
-      → update_answer one.degradation service.publisher_list.places after.connected ≡ Ok tt
+      → UpdateAnswers (choices.subscriber_acts number one.degradation) (zip service.publisher_list.places after.connected) (Ok tt)
       → new ≡ record old { services = replaced (λ (other : Service T). is_some (subscriber_in number other)) mid old.services }
-      → SubscriberEnd buffer number old new
-  subscriber-end buffer number old new service one mid after first found followed well came =
+      → SubscriberEnd choices buffer number old new
+  subscriber-end choices buffer number old new service one mid after first found followed well came =
       let did : Same (with_subscriber number after service) mid × (after.stands ≡ one.stands)
       × (after.seen ≡ service.publisher_list.changes) × (after.degradation ≡ one.degradation)
       × AllByRecursion (IsFollowedOrStays (λ publisher. is_some (mid.mailboxes publisher number)) (is_unborrowed buffer number mid))
@@ -629,16 +635,19 @@ module _ {T : Type 0} where
           subst (λ (list : PortList). AllByRecursion
               (IsFollowedOrStays (λ publisher. is_some (mid.mailboxes publisher number)) (is_unborrowed buffer number mid))
               (zip list.places after.connected)) (sym did.0.2) did.4,
-          (λ i. update_answer (did.3 i) (did.0.2 i).places after.connected) ∙ well,
+          subst (λ (list : PortList). UpdateAnswers (choices.subscriber_acts number after.degradation) (zip list.places after.connected)
+              (Ok tt)) (sym did.0.2)
+              (subst (λ (it : DegradationAction). UpdateAnswers (choices.subscriber_acts number it)
+              (zip service.publisher_list.places after.connected) (Ok tt)) (sym did.3) well),
         ),
       )
 
-  subscriber-updated : (buffer number : ℕ) (old new : State T)
-      → AtOne (subscriber_in number) (subscribing.UpdatesFirst buffer number refusal.Connection
+  subscriber-updated : (choices : Choices T) (buffer number : ℕ) (old new : State T)
+      → AtOne (subscriber_in number) (subscribing.UpdatesFirst choices buffer number refusal.Connection
       (λ (it : Subscriber) (mid : Service T) (answered : Reply T) (end : Service T). (answered ≡ reply.Done) × (end ≡ mid))) old done new
-      → SubscriberEnd buffer number old new
-  subscriber-updated buffer number old new h = elim (at-one (subscriber_in number)
-      (subscribing.UpdatesFirst buffer number refusal.Connection
+      → SubscriberEnd choices buffer number old new
+  subscriber-updated choices buffer number old new h = elim (at-one (subscriber_in number)
+      (subscribing.UpdatesFirst choices buffer number refusal.Connection
       (λ (it : Subscriber) (mid : Service T) (answered : Reply T) (end : Service T). (answered ≡ reply.Done) × (end ≡ mid)))
       old done new h) [
         | inl skipped ↦ never reply.Skipped skipped.0 refl
@@ -648,15 +657,15 @@ module _ {T : Type 0} where
       updated : (service : Service T) (one : Subscriber) (end : Service T)
           → find (λ (other : Service T). is_some (subscriber_in number other)) old.services ≡ Some service
           → subscriber_in number service ≡ Some one
-          → subscribing.UpdatesFirst buffer number refusal.Connection
+          → subscribing.UpdatesFirst choices buffer number refusal.Connection
           (λ (it : Subscriber) (mid : Service T) (answered : Reply T) (end : Service T). (answered ≡ reply.Done) × (end ≡ mid)) one service
           done end
           → new ≡ record old { services = replaced (λ (other : Service T). is_some (subscriber_in number other)) end old.services }
-          → SubscriberEnd buffer number old new
+          → SubscriberEnd choices buffer number old new
       updated service one end first found did came =
           elim (by-bool ((one.seen == service.publisher_list.changes) && not one.again) ((done ≡ reply.Done) × (end ≡ service))
           ((after : Subscriber) × (mid : Service T) × subscribing.Follows buffer number one service after mid
-          × MatchResult (update_answer one.degradation service.publisher_list.places after.connected)
+          × Outcomes (choices.subscriber_acts number one.degradation) (zip service.publisher_list.places after.connected)
           (λ well. (done ≡ reply.Done) × (end ≡ mid)) (λ failure. IsRefused (refusal.Connection failure) mid done end)) did) [
             | inl w ↦
                 let same : new ≡ old =
@@ -669,9 +678,9 @@ module _ {T : Type 0} where
                       (both-true (one.seen == service.publisher_list.changes) (not one.again) w.0).0,
                   inl same,
                 )
-            | inr w ↦ elim (by-result (update_answer one.degradation service.publisher_list.places w.1.0.connected)
+            | inr w ↦ elim (by-outcome (choices.subscriber_acts number one.degradation) (zip service.publisher_list.places w.1.0.connected)
                 (λ well. (done ≡ reply.Done) × (end ≡ w.1.1)) (λ failure. IsRefused (refusal.Connection failure) w.1.1 done end) w.1.3) [
-                  | inl r ↦ subscriber-end buffer number old new service one w.1.1 w.1.0 first found w.1.2 r.1
+                  | inl r ↦ subscriber-end choices buffer number old new service one w.1.1 w.1.0 first found w.1.2 r.1
                       (came ∙ ap (λ (it : Service T). record old {
                         services = replaced (λ (other : Service T). is_some (subscriber_in number other)) it old.services;
                       }) r.2.1)
@@ -679,8 +688,8 @@ module _ {T : Type 0} where
                 ]
           ]
 
-pub publisher-is-updated : {T : Type 0} (IsDefault : T → Type 0) → PublisherIsUpdated IsDefault
-publisher-is-updated IsDefault types buffer number old new h = publisher-updated number old new h
+pub publisher-is-updated : {T : Type 0} (choices : Choices T) → PublisherIsUpdated choices
+publisher-is-updated choices types buffer number old new h = publisher-updated choices number old new h
 
-pub subscriber-is-updated : {T : Type 0} (IsDefault : T → Type 0) → SubscriberIsUpdated IsDefault
-subscriber-is-updated IsDefault types buffer number old new h = subscriber-updated buffer number old new h
+pub subscriber-is-updated : {T : Type 0} (choices : Choices T) → SubscriberIsUpdated choices
+subscriber-is-updated choices types buffer number old new h = subscriber-updated choices buffer number old new h

@@ -5,6 +5,7 @@ use Rattle.std.specs.Global.{Vec}
 use Rattle.std.specs.List.{list_all, list_any}
 use Rattle.std.specs.Prelude.{◌^◌, ◌==◌, nat_le, nat_lt, is_some, filter, find, fold, slice_get, take, MatchBool, MatchOption}
 use Rattle.std.specs.Vec.{vec_items}
+use Rattle.iox_machine.specs.Choices.{Choices}
 use Rattle.iox_machine.specs.Arriving.{PublisherArrives, SubscriberArrives, new_publisher, new_subscriber, worst_case}
 use Rattle.iox_machine.specs.Factories.{with_open}
 use Rattle.iox_machine.specs.Message.{Loan, Sample, is_written}
@@ -153,23 +154,23 @@ module _ {T : Type 0} where
           | inr w ↦ does one w.0 service after (publisher-stands number service one is) w.2
         ]) h
 
-    at-subscriber-walks : (buffer number : ℕ) (told : ConnectionFailure → Refusal)
+    at-subscriber-walks : (choices : Choices T) (buffer number : ℕ) (told : ConnectionFailure → Refusal)
         (Does : Subscriber → Service T → Reply T → Service T → Type 0) (old : State T) (answer : Reply T) (new : State T)
         → ((one : Subscriber) (service after : Service T) → at number service.subscribers ≡ Some one → Does one service answer after
         → R service after)
-        → AtOne (subscriber_in number) (subscribing.UpdatesFirst buffer number told Does) old answer new → Ports old answer new
-    at-subscriber-walks buffer number told Does old answer new does h =
-        at-one-walks (subscriber_in number) (subscribing.UpdatesFirst buffer number told Does) old answer new
-        (λ one service after is did. walks-attends R walks (R service after) buffer number told Does one service answer after
+        → AtOne (subscriber_in number) (subscribing.UpdatesFirst choices buffer number told Does) old answer new → Ports old answer new
+    at-subscriber-walks choices buffer number told Does old answer new does h =
+        at-one-walks (subscriber_in number) (subscribing.UpdatesFirst choices buffer number told Does) old answer new
+        (λ one service after is did. walks-attends R walks choices (R service after) buffer number told Does one service answer after
         (subscriber-stands number service one is).0
         (λ then mid on found done. walks.both service mid after on (does then mid after found done))
         (λ why mid on refused. walks-refused R walks why service mid answer after on refused) did) h
 
-    at-factory-moves : (types : MessageTypeDetails) (IsDefault : T → Type 0) (buffer number : ℕ)
+    at-factory-moves : (types : MessageTypeDetails) (choices : Choices T) (buffer number : ℕ)
         (Does : Service T → Reply T → Service T → Type 0) (old : State T) (answer : Reply T) (new : State T)
         → ((service after : Service T) → Does service answer after → Moved old.made service answer after)
-        → AtFactory types IsDefault buffer number Does old answer new → Ports old answer new
-    at-factory-moves types IsDefault buffer number Does old answer new does h =
+        → AtFactory types choices buffer number Does old answer new → Ports old answer new
+    at-factory-moves types choices buffer number Does old answer new does h =
         elim (by-option (at number old.factories) (IsSkipped old answer new)
         (λ factory. AtOne (λ (service : Service T). cond (is_service_of factory service) (Some service) None)
         (λ (service : Service T). Does) old answer new) h) [
@@ -270,9 +271,9 @@ module _ {T : Type 0} where
         fewer true same = inl same
         fewer false same = inr (inr (inr ((λ (service : Service T). not (is_service_of factory service)), same)))
 
-    module _ (types : MessageTypeDetails) (IsDefault : T → Type 0) (buffer : ℕ) where
+    module _ (types : MessageTypeDetails) (choices : Choices T) (buffer : ℕ) where
       pub step-comes : (asked : Command T) (old : State T) (answer : Reply T) (new : State T)
-          → Step types IsDefault buffer asked old answer new → Comes old answer new
+          → Step types choices buffer asked old answer new → Comes old answer new
       step-comes command.Node old answer new (inl (told, came)) =
           (ap (λ (state : State T). state.made) came, inl (ap (λ (state : State T). state.services) came))
       step-comes command.Node old answer new (inr refused) = stays (reply.Refused (refusal.Hub _)) old old new answer refused refl refl
@@ -295,12 +296,12 @@ module _ {T : Type 0} where
       step-comes (command.Close factory) old answer new h = closed-comes factory old answer new (closed factory old answer new h)
       step-comes (command.Publisher factory options) old answer new h =
           ports-come old answer new
-          (at-factory-moves types IsDefault buffer factory
+          (at-factory-moves types choices buffer factory
           (λ (service : Service T). PublisherArrives (old.made.publishers + 1) (new_publisher factory options service.settings) service)
           old answer new (λ service after did. publisher-moves old.made factory options service answer after did) h)
       step-comes (command.Subscriber factory options) old answer new h =
           ports-come old answer new
-          (at-factory-moves types IsDefault buffer factory
+          (at-factory-moves types choices buffer factory
           (λ (service : Service T). SubscriberArrives buffer (old.made.subscribers + 1)
           (new_subscriber factory options service.settings) service) old answer new
           (λ service after did. subscriber-moves old.made buffer factory options service answer after did) h)
@@ -336,17 +337,17 @@ module _ {T : Type 0} where
           (walks.lent (removed loan service.loans) service)) h)
       step-comes (command.Send loan) old answer new h =
           ports-come old answer new
-          (at-one-walks (λ (service : Service T). at loan service.loans) (SendsLoan loan) old answer new
-          (λ one service after found did. walks-sends-loan R walks loan one service answer after did) h)
+          (at-one-walks (λ (service : Service T). at loan service.loans) (SendsLoan choices loan) old answer new
+          (λ one service after found did. walks-sends-loan R walks choices loan one service answer after did) h)
       step-comes (command.Put publisher values) old answer new h =
           ports-come old answer new
-          (at-free-walks publisher (Puts publisher values) old answer new
-          (λ one service after found did. walks-puts R walks publisher values one service answer after found did) h)
+          (at-free-walks publisher (Puts choices publisher values) old answer new
+          (λ one service after found did. walks-puts R walks choices publisher values one service answer after found did) h)
       step-comes (command.Retry publisher nanoseconds) old answer new h =
           ports-come old answer new
-          (at-blocked-walks publisher (λ (one : Publisher T) (send : Send T). GoesOn publisher one
+          (at-blocked-walks publisher (λ (one : Publisher T) (send : Send T). GoesOn choices publisher one
           (record send { retries = send.retries + 1; elapsed = nanoseconds })) old answer new
-          (λ one send service after found did. walks-goes-on R walks publisher one one
+          (λ one send service after found did. walks-goes-on R walks choices publisher one one
           (record send { retries = send.retries + 1; elapsed = nanoseconds }) service answer after found refl refl did) h)
       step-comes (command.GiveUp publisher) old answer new h =
           ports-come old answer new
@@ -358,7 +359,7 @@ module _ {T : Type 0} where
           (walks.turned publisher one (record one { blocked = None }) service found refl refl)) h)
       step-comes (command.Receive subscriber) old answer new h =
           ports-come old answer new
-          (at-subscriber-walks buffer subscriber (λ failure. refusal.Receive (receive_error.ConnectionFailure failure))
+          (at-subscriber-walks choices buffer subscriber (λ failure. refusal.Receive (receive_error.ConnectionFailure failure))
           (Receives subscriber (old.made.samples + 1)) old answer new
           (λ one service after found did. walks-receives R walks subscriber (old.made.samples + 1) one service answer after found did) h)
       step-comes (command.Read sample) old answer new h =
@@ -374,17 +375,17 @@ module _ {T : Type 0} where
       step-comes (command.Update (port.Publisher number)) old answer new h =
           ports-come old answer new
           (at-free-walks number
-          (publishing.UpdatesFirst number refusal.Connection
+          (publishing.UpdatesFirst choices number refusal.Connection
           (λ (one : Publisher T) (service : Service T) (answered : Reply T) (after : Service T). (answered ≡ reply.Done)
           × (after ≡ service)))
           old answer new
-          (λ one service after found did. walks-updates R walks (R service after) number refusal.Connection
+          (λ one service after found did. walks-updates R walks choices (R service after) number refusal.Connection
           (λ (it : Publisher T) (mid : Service T) (answered : Reply T) (end : Service T). (answered ≡ reply.Done) × (end ≡ mid)) one service
           answer after found (λ it mid on there done. subst (λ (s : Service T). R service s) (sym done.1) on)
           (λ why mid on refused. walks-refused R walks why service mid answer after on refused) did) h)
       step-comes (command.Update (port.Subscriber number)) old answer new h =
           ports-come old answer new
-          (at-subscriber-walks buffer number refusal.Connection
+          (at-subscriber-walks choices buffer number refusal.Connection
           (λ (one : Subscriber) (service : Service T) (answered : Reply T) (after : Service T). (answered ≡ reply.Done) × (after ≡ service))
           old answer new (λ one service after found did. walks-same R walks service after did.1) h)
       step-comes (command.Leave (port.Publisher number)) old answer new h =
@@ -403,7 +404,7 @@ module _ {T : Type 0} where
           (λ one service after found did. inr (inr (inr (inr (number, one, (subscriber-stands number service one found).0, did.1))))) h)
       step-comes (command.Has subscriber) old answer new h =
           ports-come old answer new
-          (at-subscriber-walks buffer subscriber refusal.Connection
+          (at-subscriber-walks choices buffer subscriber refusal.Connection
           (λ (one : Subscriber) (service : Service T) (answered : Reply T) (after : Service T).
           (answered ≡ reply.Has (has_samples subscriber one service)) × (after ≡ service)) old answer new
           (λ one service after found did. walks-same R walks service after did.1) h)

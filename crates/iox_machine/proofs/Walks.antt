@@ -1,21 +1,22 @@
 -- What holds of each thing that a port does holds of all that its commands do.
 use Rattle.std.proofs.Common.{◌≡◌, ◌+◌, ℕ, Bool, true, false, cond, not, ◌&&◌, List, [], ◌∷◌, ◌++◌, Option, None, Some, refl, sym, ap}
 use Rattle.std.proofs.Common.{subst, inl, inr, ◌∙◌}
-use Rattle.std.specs.Prelude.{◌==◌, nat_lt, length, is_some, replicate, slice_get, MatchBool, MatchResult}
+use Rattle.std.specs.Prelude.{◌==◌, nat_lt, length, is_some, replicate, slice_get, MatchBool, drop, zip}
+use Rattle.iox_machine.specs.Choices.{Choices}
+use Rattle.iox_machine.proofs.Delivering.{Outcomes, by-outcome, first_of, offered, deliver, goes-on-so}
 use Rattle.iox_machine.specs.Lending.{Lends, LendsLonger, loan_refusal}
 use Rattle.iox_machine.specs.Mailbox.{Mailbox, given_back, newest, put, taken}
 use Rattle.iox_machine.specs.Message.{Loan, Message, Sample, is_written, sent_as}
 use Rattle.iox_machine.specs.PortList.{those}
 use Rattle.iox_machine.specs.Ports.{LendsLoan, Puts, Releases, SendsLoan, Writes}
 use Rattle.iox_machine.specs.PublisherUpdate as publishing
-use Rattle.iox_machine.specs.PublisherUpdate.{update_answer}
 use Rattle.iox_machine.specs.Receiving.{Receives, lasting}
 use Rattle.iox_machine.specs.Replies.{IsRefused, IsSkipped}
-use Rattle.iox_machine.specs.Sending.{Begins, GoesOn, Sends, decision_at, deliver, offered}
+use Rattle.iox_machine.specs.Sending.{Begins, GoesOn, Sends}
 use Rattle.iox_machine.specs.Service.{Publisher, Send, Service, Subscriber, mailbox, with_mailbox, with_publisher, with_subscriber}
 use Rattle.iox_machine.specs.SubscriberUpdate as subscribing
 use Rattle.iox_machine.specs.Table.{at, changed, removed}
-use Rattle.iox_machine.proofs.Cases.{by-bool, by-option, by-result}
+use Rattle.iox_machine.proofs.Cases.{by-bool, by-option}
 use Rattle.iox_machine.proofs.Frames.{soft-follows}
 use Rattle.iox_machine.proofs.Order.{follows-publishers}
 use Rattle.iox_machine.proofs.Tables.{at-changed}
@@ -55,27 +56,27 @@ module _ {T : Type 0} (R : Service T → Service T → Type 0) (walks : Walks R)
 
   -- ---- a publisher
 
-  pub walks-updates : (Q : Type 0) (number : ℕ) (told : ConnectionFailure → Refusal)
+  pub walks-updates : (choices : Choices T) (Q : Type 0) (number : ℕ) (told : ConnectionFailure → Refusal)
       (Does : Publisher T → Service T → Reply T → Service T → Type 0) (publisher : Publisher T) (old : Service T) (answer : Reply T)
       (new : Service T) → at number old.publishers ≡ Some publisher
       → ((after : Publisher T) (mid : Service T) → R old mid → at number mid.publishers ≡ Some after → Does after mid answer new → Q)
       → ((why : Refusal) (mid : Service T) → R old mid → IsRefused why mid answer new → Q)
-      → publishing.UpdatesFirst number told Does publisher old answer new → Q
-  walks-updates Q number told Does publisher old answer new found does refused h =
+      → publishing.UpdatesFirst choices number told Does publisher old answer new → Q
+  walks-updates choices Q number told Does publisher old answer new found does refused h =
       elim (by-bool (publisher.seen == old.subscriber_list.changes) (Does publisher old answer new)
       ((after : Publisher T) × (mid : Service T) × publishing.Follows number publisher old after mid
-      × MatchResult (update_answer publisher.degradation old.subscriber_list.places after.connected)
+      × Outcomes (choices.publisher_acts number publisher.degradation) (zip old.subscriber_list.places after.connected)
       (λ done. Does after mid answer new) (λ failure. IsRefused (told failure) mid answer new)) h) [
         | inl w ↦ does publisher old (walks.none old) found w.1
         | inr w ↦ followed w.1.0 w.1.1 w.1.2 w.1.3
       ]
     where
       followed : (after : Publisher T) (mid : Service T) → publishing.Follows number publisher old after mid
-          → MatchResult (update_answer publisher.degradation old.subscriber_list.places after.connected)
+          → Outcomes (choices.publisher_acts number publisher.degradation) (zip old.subscriber_list.places after.connected)
           (λ done. Does after mid answer new) (λ failure. IsRefused (told failure) mid answer new) → Q
       followed after mid came told_so =
           let on : R old mid = walks.follows number publisher old after mid found came in
-          elim (by-result (update_answer publisher.degradation old.subscriber_list.places after.connected)
+          elim (by-outcome (choices.publisher_acts number publisher.degradation) (zip old.subscriber_list.places after.connected)
           (λ done. Does after mid answer new) (λ failure. IsRefused (told failure) mid answer new) told_so) [
             | inl r ↦ does after mid on (follows-publishers number 0 publisher old after mid found came) r.2
             | inr r ↦ refused (told r.0) mid on r.2
@@ -99,33 +100,38 @@ module _ {T : Type 0} (R : Service T → Service T → Type 0) (walks : Walks R)
   walks-offered number None DiscardDataAndFail subscriber more goes_on send service on =
       on (record send { retries = 0; elapsed = 0; fails = true }) service
 
-  walks-deliver : (number : ℕ) (publisher : Publisher T) (left : List ℕ) (send : Send T) (service : Service T)
-      → Delivered service (deliver number publisher left send service).1
-  walks-deliver number publisher [] send service = (walks.none service, refl)
-  walks-deliver number publisher (subscriber ∷ more) send service =
+  walks-deliver : (number : ℕ) (decisions : List BackpressureDecision) (left : List ℕ) (send : Send T) (service : Service T)
+      → Delivered service (deliver number decisions left send service).1
+  walks-deliver number decisions [] send service = (walks.none service, refl)
+  walks-deliver number decisions (subscriber ∷ more) send service =
       walks-offered number (put service.settings.enable_safe_overflow send.message (mailbox number subscriber service))
-      (decision_at number publisher service subscriber) subscriber more (deliver number publisher more) send service
-      (λ next mid. walks-deliver number publisher more next mid)
+      (first_of decisions) subscriber more (deliver number (drop 1 decisions) more) send service
+      (λ next mid. walks-deliver number (drop 1 decisions) more next mid)
 
-  pub walks-goes-on : (number : ℕ) (was publisher : Publisher T) (send : Send T) (old : Service T) (answer : Reply T) (new : Service T)
+  pub walks-goes-on : (choices : Choices T) (number : ℕ) (was publisher : Publisher T) (send : Send T) (old : Service T)
+      (answer : Reply T) (new : Service T)
       → at number old.publishers ≡ Some was → publisher.stands ≡ was.stands → publisher.connected ≡ was.connected
-      → GoesOn number publisher send old answer new → R old new
-  walks-goes-on number was publisher send old answer new found stands connected h =
-      let after : Send T × Service T = deliver number publisher send.left send old in
+      → GoesOn choices number publisher send old answer new → R old new
+  walks-goes-on choices number was publisher send old answer new found stands connected h =
+      let so = goes-on-so choices number publisher send old answer new h in
+      let after : Send T × Service T = deliver number so.0 send.left send old in
       let now : Publisher T = record publisher { blocked = cond (is_some (slice_get after.0.left 0)) (Some after.0) None } in
-      let on : Delivered old after.1 = walks-deliver number publisher send.left send old in
-      subst (λ (it : Service T). R old it) (sym h.1)
+      let on : Delivered old after.1 = walks-deliver number so.0 send.left send old in
+      subst (λ (it : Service T). R old it) (sym so.1.1)
       (walks.both old after.1 (with_publisher number now after.1) on.0
       (walks.turned number was now after.1 (ap (at number) on.1 ∙ found) stands connected))
 
-  pub walks-sends : (number : ℕ) (message : Message T) (publisher : Publisher T) (old : Service T) (answer : Reply T) (new : Service T)
-      → at number old.publishers ≡ Some publisher → Sends number message publisher old answer new → R old new
-  walks-sends number message publisher old answer new found h =
+  pub walks-sends : (choices : Choices T) (number : ℕ) (message : Message T) (publisher : Publisher T) (old : Service T)
+      (answer : Reply T) (new : Service T)
+      → at number old.publishers ≡ Some publisher → Sends choices number message publisher old answer new → R old new
+  walks-sends choices number message publisher old answer new found h =
       elim (by-bool publisher.stands
-      (publishing.UpdatesFirst number (λ failure. refusal.Send (error.ConnectionError failure)) (Begins number message) publisher old answer
+      (publishing.UpdatesFirst choices number (λ failure. refusal.Send (error.ConnectionError failure)) (Begins choices number message)
+      publisher old answer
       new)
       (IsRefused (refusal.Send error.ConnectionBrokenSinceSenderNoLongerExists) old answer new) h) [
-        | inl w ↦ walks-updates (R old new) number (λ failure. refusal.Send (error.ConnectionError failure)) (Begins number message)
+        | inl w ↦ walks-updates choices (R old new) number (λ failure. refusal.Send (error.ConnectionError failure))
+            (Begins choices number message)
             publisher old answer new found
             (λ after mid on there begun. walks.both old mid new on (begins after mid there begun))
             (λ why mid on refused. walks-refused why old mid answer new on refused) w.1
@@ -133,9 +139,9 @@ module _ {T : Type 0} (R : Service T → Service T → Type 0) (walks : Walks R)
       ]
     where
       begins : (after : Publisher T) (mid : Service T) → at number mid.publishers ≡ Some after
-          → Begins number message after mid answer new → R mid new
+          → Begins choices number message after mid answer new → R mid new
       begins after mid there begun =
-          walks-goes-on number after (record after { history = newest mid.settings.history_size (after.history ++ message ∷ []) })
+          walks-goes-on choices number after (record after { history = newest mid.settings.history_size (after.history ++ message ∷ []) })
           (record { message = message; left = those after.connected; retries = 0; elapsed = 0; delivered = 0; fails = false })
           mid answer new there refl refl begun
 
@@ -175,30 +181,32 @@ module _ {T : Type 0} (R : Service T → Service T → Type 0) (walks : Walks R)
       (walks.both old (with_publisher number after old) (record (with_publisher number after old) { loans = loans })
       (walks.turned number publisher after old found kept.0 kept.1) (walks.lent loans (with_publisher number after old)))
 
-  pub walks-puts : (number : ℕ) (values : List T) (publisher : Publisher T) (old : Service T) (answer : Reply T) (new : Service T)
-      → at number old.publishers ≡ Some publisher → Puts number values publisher old answer new → R old new
-  walks-puts number values publisher old answer new found (Some why, after, lent, refused) =
+  pub walks-puts : (choices : Choices T) (number : ℕ) (values : List T) (publisher : Publisher T) (old : Service T) (answer : Reply T)
+      (new : Service T)
+      → at number old.publishers ≡ Some publisher → Puts choices number values publisher old answer new → R old new
+  walks-puts choices number values publisher old answer new found (Some why, after, lent, refused) =
       walks-refused (refusal.Send (error.LoanError why)) old old answer new (walks.none old) refused
-  walks-puts number values publisher old answer new found (None, after, lent, sent) =
+  walks-puts choices number values publisher old answer new found (None, after, lent, sent) =
       let kept : Lent publisher after = lends-turned number (length values) publisher old None after lent in
       let mid : Service T = with_publisher number after old in
       walks.both old mid new (walks.turned number publisher after old found kept.0 kept.1)
-      (walks-sends number (record { number = publisher.next; values = values }) after mid answer new
+      (walks-sends choices number (record { number = publisher.next; values = values }) after mid answer new
       (at-changed number after publisher old.publishers found) sent)
 
-  pub walks-sends-loan : (number : ℕ) (loan : Loan T) (old : Service T) (answer : Reply T) (new : Service T)
-      → SendsLoan number loan old answer new → R old new
-  walks-sends-loan number loan old answer new h =
+  pub walks-sends-loan : (choices : Choices T) (number : ℕ) (loan : Loan T) (old : Service T) (answer : Reply T) (new : Service T)
+      → SendsLoan choices number loan old answer new → R old new
+  walks-sends-loan choices number loan old answer new h =
       elim (by-option (at loan.publisher old.publishers) (IsSkipped old answer new)
       (λ publisher. MatchBool (is_written loan && not (is_some publisher.blocked))
-      (Sends loan.publisher (sent_as loan) publisher (record old { loans = removed number old.loans }) answer new)
+      (Sends choices loan.publisher (sent_as loan) publisher (record old { loans = removed number old.loans }) answer new)
       (IsSkipped old answer new)) h) [
         | inl w ↦ walks-same old new w.1.1
         | inr w ↦ elim (by-bool (is_written loan && not (is_some w.0.blocked))
-            (Sends loan.publisher (sent_as loan) w.0 (record old { loans = removed number old.loans }) answer new)
+            (Sends choices loan.publisher (sent_as loan) w.0 (record old { loans = removed number old.loans }) answer new)
             (IsSkipped old answer new) w.2) [
               | inl k ↦ walks.both old (record old { loans = removed number old.loans }) new (walks.lent (removed number old.loans) old)
-                  (walks-sends loan.publisher (sent_as loan) w.0 (record old { loans = removed number old.loans }) answer new w.1 k.1)
+                  (walks-sends choices loan.publisher (sent_as loan) w.0 (record old { loans = removed number old.loans }) answer new w.1
+                  k.1)
               | inr k ↦ walks-same old new k.1.1
             ]
       ]
@@ -211,27 +219,27 @@ module _ {T : Type 0} (R : Service T → Service T → Type 0) (walks : Walks R)
 
   -- ---- a subscriber
 
-  pub walks-attends : (Q : Type 0) (buffer number : ℕ) (told : ConnectionFailure → Refusal)
+  pub walks-attends : (choices : Choices T) (Q : Type 0) (buffer number : ℕ) (told : ConnectionFailure → Refusal)
       (Does : Subscriber → Service T → Reply T → Service T → Type 0) (subscriber : Subscriber) (old : Service T) (answer : Reply T)
       (new : Service T) → at number old.subscribers ≡ Some subscriber
       → ((after : Subscriber) (mid : Service T) → R old mid → at number mid.subscribers ≡ Some after → Does after mid answer new → Q)
       → ((why : Refusal) (mid : Service T) → R old mid → IsRefused why mid answer new → Q)
-      → subscribing.UpdatesFirst buffer number told Does subscriber old answer new → Q
-  walks-attends Q buffer number told Does subscriber old answer new found does refused h =
+      → subscribing.UpdatesFirst choices buffer number told Does subscriber old answer new → Q
+  walks-attends choices Q buffer number told Does subscriber old answer new found does refused h =
       elim (by-bool ((subscriber.seen == old.publisher_list.changes) && not subscriber.again) (Does subscriber old answer new)
       ((after : Subscriber) × (mid : Service T) × subscribing.Follows buffer number subscriber old after mid
-      × MatchResult (update_answer subscriber.degradation old.publisher_list.places after.connected)
+      × Outcomes (choices.subscriber_acts number subscriber.degradation) (zip old.publisher_list.places after.connected)
       (λ done. Does after mid answer new) (λ failure. IsRefused (told failure) mid answer new)) h) [
         | inl w ↦ does subscriber old (walks.none old) found w.1
         | inr w ↦ followed w.1.0 w.1.1 w.1.2 w.1.3
       ]
     where
       followed : (after : Subscriber) (mid : Service T) → subscribing.Follows buffer number subscriber old after mid
-          → MatchResult (update_answer subscriber.degradation old.publisher_list.places after.connected)
+          → Outcomes (choices.subscriber_acts number subscriber.degradation) (zip old.publisher_list.places after.connected)
           (λ done. Does after mid answer new) (λ failure. IsRefused (told failure) mid answer new) → Q
       followed after mid came told_so =
           let on : R old mid = walks.attends buffer number subscriber old after mid found came in
-          elim (by-result (update_answer subscriber.degradation old.publisher_list.places after.connected)
+          elim (by-outcome (choices.subscriber_acts number subscriber.degradation) (zip old.publisher_list.places after.connected)
           (λ done. Does after mid answer new) (λ failure. IsRefused (told failure) mid answer new) told_so) [
             | inl r ↦ does after mid on (soft-follows buffer number subscriber old after mid found came).1 r.2
             | inr r ↦ refused (told r.0) mid on r.2

@@ -1,6 +1,7 @@
 -- Laws of agreements: what nodes agree on under a pattern and a name, and what a new life of it starts with.
 use Rattle.std.specs.Prelude.{ℕ, ◌≡◌, ◌⊎◌, ◌<◌, ◌≤◌, ◌&&◌, true, false, List, [], ◌∷◌, length, Option, None, Some}
 use Rattle.std.specs.List.{AllByRecursion, IsDistinct, list_any}
+use Rattle.iox_machine.specs.Choices.{Choices}
 use Rattle.iox_machine.specs.Agreement.{Agreement}
 use Rattle.iox_machine.specs.Asked.{settings_of}
 use Rattle.iox_machine.specs.Phase.{Node, Own, Phase, Absent, BeingMade, Published, Emptied, is_in, same_pattern}
@@ -96,18 +97,18 @@ module _ (types : MessageTypeDetails) (pattern : MessagingPattern) (agreed : Agr
   Describes name (command.Foreign one other steps) = (other ≡ name) × (one ≡ pattern) × HasOne IsPublishedBy steps
   Describes name other = ⊥
 
-module _ {T : Type 0} (IsDefault : T → Type 0) where
+module _ {T : Type 0} (choices : Choices T) where
   -- In every run of a new machine: no two services have one name; each has the settings that are published under its name; and each
   -- factory is of a published service, in which its node is.
   abbrev pub OneAgreement : Type 0
   OneAgreement = (types : MessageTypeDetails) (buffer : ℕ) (asked : List (Command T)) (answers : List (Reply T)) (new : State T)
-      → Runs types IsDefault buffer asked new_state answers new
+      → Runs types choices buffer asked new_state answers new
       → AreApart new.services × AllByRecursion (IsAgreed new) new.services × AllByRecursion (λ entry. IsIn new entry.1) new.factories
 
   -- In every run of a new machine no more nodes are in a service than its settings name, of the hub and outside it together.
   abbrev pub NodesAreAgreed : Type 0
   NodesAreAgreed = (types : MessageTypeDetails) (buffer : ℕ) (asked : List (Command T)) (answers : List (Reply T)) (new : State T)
-      → Runs types IsDefault buffer asked new_state answers new
+      → Runs types choices buffer asked new_state answers new
       → (pattern : MessagingPattern) (name : List ℕ) (life : ℕ) (agreed : Agreement) (nodes : List (Node × ℕ))
       → new.phases pattern name ≡ Published life agreed nodes → length nodes ≤ max_nodes_of agreed.settings
 
@@ -115,7 +116,7 @@ module _ {T : Type 0} (IsDefault : T → Type 0) where
   abbrev pub AgreementStays : Type 0
   AgreementStays = (types : MessageTypeDetails) (buffer : ℕ) (asked : List (Command T)) (old : State T) (answers : List (Reply T))
       (new : State T)
-      → Runs types IsDefault buffer asked old answers new
+      → Runs types choices buffer asked old answers new
       → (pattern : MessagingPattern) (name : List ℕ) → life_of (old.phases pattern name) ≤ life_of (new.phases pattern name)
       × ((one other : Agreement) → life_of (new.phases pattern name) ≡ life_of (old.phases pattern name)
       → agreed_in (old.phases pattern name) ≡ Some one → agreed_in (new.phases pattern name) ≡ Some other → other ≡ one)
@@ -123,7 +124,7 @@ module _ {T : Type 0} (IsDefault : T → Type 0) where
   -- What is agreed on under a pattern and a name after a command was so before, or is described by the command.
   abbrev pub AgreementIsDescribed : Type 0
   AgreementIsDescribed = (types : MessageTypeDetails) (buffer : ℕ) (asked : Command T) (old : State T) (answer : Reply T) (new : State T)
-      → Step types IsDefault buffer asked old answer new
+      → Step types choices buffer asked old answer new
       → (pattern : MessagingPattern) (name : List ℕ) (agreed : Agreement) → agreed_in (new.phases pattern name) ≡ Some agreed
       → (agreed_in (old.phases pattern name) ≡ Some agreed) ⊎ Describes types pattern agreed name asked
 
@@ -132,7 +133,7 @@ module _ {T : Type 0} (IsDefault : T → Type 0) where
   CreatesAsDescribed = (types : MessageTypeDetails) (buffer node : ℕ) (name : List ℕ) (options : ServiceOptions)
       (attributes : List Attribute)
       (steps : List StepBefore) (old : State T) (number : ℕ) (new : State T)
-      → Step types IsDefault buffer (command.Create node name options attributes steps) old (reply.FactoryMade number) new
+      → Step types choices buffer (command.Create node name options attributes steps) old (reply.FactoryMade number) new
       → (life : ℕ) × (life_of (old.phases (pattern_of options) name) < life)
       × (new.phases (pattern_of options) name
       ≡ Published life (record { settings = settings_of types options; attributes = attributes }) ((Own node, 1) ∷ []))
@@ -140,7 +141,7 @@ module _ {T : Type 0} (IsDefault : T → Type 0) where
   -- A service that stands after a command, and none of its name before, has nothing: no port, no mailbox, no history, no message.
   abbrev pub ServicesStartEmpty : Type 0
   ServicesStartEmpty = (types : MessageTypeDetails) (buffer : ℕ) (asked : Command T) (old : State T) (answer : Reply T) (new : State T)
-      → Step types IsDefault buffer asked old answer new
+      → Step types choices buffer asked old answer new
       → AllByRecursion (λ service. (list_any (λ other. same_name other.name service.name) old.services ≡ true)
       ⊎ (service ≡ new_service service.name service.settings)) new.services
 
@@ -148,9 +149,9 @@ module _ {T : Type 0} (IsDefault : T → Type 0) where
   -- yet: ports, loans and samples.
   abbrev pub LivesStartAnew : Type 0
   LivesStartAnew = (types : MessageTypeDetails) (buffer : ℕ) (before : List (Command T)) (told : List (Reply T)) (old : State T)
-      → Runs types IsDefault buffer before new_state told old
+      → Runs types choices buffer before new_state told old
       → (name : List ℕ)
       → list_any (λ entry. same_pattern entry.1.pattern pattern.PublishSubscribe && same_name name entry.1.name) old.factories ≡ false
       → (list_any (λ service. same_name service.name name) old.services ≡ false)
-      × ((asked : List (Command T)) (answers : List (Reply T)) (new : State T) → Runs types IsDefault buffer asked old answers new
+      × ((asked : List (Command T)) (answers : List (Reply T)) (new : State T) → Runs types choices buffer asked old answers new
       → AllByRecursion (λ service. same_name service.name name ≡ true → IsLaterThan old.made service) new.services)

@@ -1,6 +1,7 @@
 -- What a service does alone it does among others.
 use Rattle.std.specs.Prelude.{ℕ, ◌≡◌, true, false, List, [], ◌∷◌, ◌++◌}
 use Rattle.std.specs.List.{list_any}
+use Rattle.iox_machine.specs.Choices.{Choices}
 use Rattle.iox_machine.specs.Named.{is_on_ports, has_named}
 use Rattle.iox_machine.specs.Run.{Step}
 use Rattle.iox_machine.specs.Service.{Service}
@@ -14,7 +15,7 @@ use Rattle.iox_command.specs.declared.reply.Reply.TheVariants as reply
 abbrev pub with_services : {T : Type 0} → List (Service T) → State T → State T
 with_services services state = record state { services = services }
 
-module _ {T : Type 0} (IsDefault : T → Type 0) where
+module _ {T : Type 0} (choices : Choices T) where
   -- A command on ports, loans and samples does to a service among others what it does to the service alone, and is answered so, where none
   -- of the others has what it names. They stay as they were.
   abbrev pub StepsAmong : Type 0
@@ -22,14 +23,14 @@ module _ {T : Type 0} (IsDefault : T → Type 0) where
       (before behind : List (Service T)) (service after : Service T)
       → is_on_ports asked ≡ true
       → list_any (has_named state.factories asked) before ≡ false → list_any (has_named state.factories asked) behind ≡ false
-      → Step types IsDefault buffer asked (with_services (service ∷ []) state) answer
+      → Step types choices buffer asked (with_services (service ∷ []) state) answer
       (record (with_services (after ∷ []) state) { made = counted answer state.made })
-      → Step types IsDefault buffer asked (with_services (before ++ service ∷ behind) state) answer
+      → Step types choices buffer asked (with_services (before ++ service ∷ behind) state) answer
       (record (with_services (before ++ after ∷ behind) state) { made = counted answer state.made })
 
   -- A command on ports, loans and samples may be skipped, and changes nothing then, where no service has what it names,
   -- if there is a default value.
   abbrev pub UnknownIsSkipped : Type 0
   UnknownIsSkipped = (types : MessageTypeDetails) (buffer : ℕ) (asked : Command T) (state : State T) (value : T)
-      → IsDefault value → is_on_ports asked ≡ true → list_any (has_named state.factories asked) state.services ≡ false
-      → Step types IsDefault buffer asked state reply.Skipped state
+      → choices.is_default value → is_on_ports asked ≡ true → list_any (has_named state.factories asked) state.services ≡ false
+      → Step types choices buffer asked state reply.Skipped state

@@ -2,6 +2,7 @@
 use Rattle.std.specs.Prelude.{ℕ, ◌+◌, ◌≡◌, ◌≤◌, Bool, true, false, not, ◌&&◌, ◌==◌, List, [], ◌∷◌, is_some, if◌then◌else◌}
 use Rattle.std.specs.List.{AllByRecursion, IsDistinct, list_any}
 use Rattle.std.specs.Option.{option_map_or}
+use Rattle.iox_machine.specs.Choices.{Choices}
 use Rattle.iox_machine.specs.PortList.{those}
 use Rattle.iox_machine.specs.Ports.{publisher_in, subscriber_in}
 use Rattle.iox_machine.specs.Run.{Runs}
@@ -43,29 +44,29 @@ module _ {T : Type 0} where
       (λ service. option_map_or (λ one. contains (those one.connected) publisher) (at subscriber service.subscribers) false)
       state.services
 
-module _ {T : Type 0} (types : MessageTypeDetails) (IsDefault : T → Type 0) (buffer : ℕ) where
+module _ {T : Type 0} (types : MessageTypeDetails) (choices : Choices T) (buffer : ℕ) where
   -- how often something begins to be so in a run: it isn't so before a step, and is so after it
   abbrev pub begins_in : (State T → Bool) → (asked : List (Command T)) (old : State T) (answers : List (Reply T)) (new : State T)
-      → Runs types IsDefault buffer asked old answers new → ℕ
+      → Runs types choices buffer asked old answers new → ℕ
   begins_in is_so [] old answers new run = 0
   begins_in is_so (one ∷ more) old answers new run =
       (if not (is_so old) && is_so run.1 then 1 else 0) + begins_in is_so more run.1 run.2 new run.4
 
-module _ {T : Type 0} (IsDefault : T → Type 0) where
+module _ {T : Type 0} (choices : Choices T) where
   -- In every run of a new machine the lists of each service have just the ports that stand.
   abbrev pub StandingAreListed : Type 0
   StandingAreListed = (types : MessageTypeDetails) (buffer : ℕ) (asked : List (Command T)) (answers : List (Reply T)) (new : State T)
-      → Runs types IsDefault buffer asked new_state answers new → AllByRecursion ListsWhoStands new.services
+      → Runs types choices buffer asked new_state answers new → AllByRecursion ListsWhoStands new.services
 
   -- In every run of a new machine those that are connected are of one service, and have a mailbox.
   abbrev pub ConnectedAreJoined : Type 0
   ConnectedAreJoined = (types : MessageTypeDetails) (buffer : ℕ) (asked : List (Command T)) (answers : List (Reply T)) (new : State T)
-      → Runs types IsDefault buffer asked new_state answers new → AllByRecursion JoinsWhoIsConnected new.services
+      → Runs types choices buffer asked new_state answers new → AllByRecursion JoinsWhoIsConnected new.services
 
   -- In every run of a new machine a publisher comes to be connected to a subscriber once at most, and so does a subscriber to a publisher:
   -- once they aren't connected any longer, they never are again.
   abbrev pub PairsConnectOnce : Type 0
   PairsConnectOnce = (types : MessageTypeDetails) (buffer : ℕ) (asked : List (Command T)) (answers : List (Reply T)) (new : State T)
-      (run : Runs types IsDefault buffer asked new_state answers new) (publisher subscriber : ℕ)
-      → (begins_in types IsDefault buffer (reaches publisher subscriber) asked new_state answers new run ≤ 1)
-      × (begins_in types IsDefault buffer (hears publisher subscriber) asked new_state answers new run ≤ 1)
+      (run : Runs types choices buffer asked new_state answers new) (publisher subscriber : ℕ)
+      → (begins_in types choices buffer (reaches publisher subscriber) asked new_state answers new run ≤ 1)
+      × (begins_in types choices buffer (hears publisher subscriber) asked new_state answers new run ≤ 1)

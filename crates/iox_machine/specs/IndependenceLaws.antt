@@ -1,10 +1,11 @@
 -- Laws of services beside one another.
 use Rattle.std.specs.Prelude.{ℕ, ◌≡◌, ⊤, Bool, true, false, ◌&&◌, List, [], ◌∷◌, map, find, filter, MatchBool, if◌then◌else◌}
 use Rattle.std.specs.Option.{option_map_or}
+use Rattle.iox_machine.specs.Choices.{Choices}
 use Rattle.iox_machine.specs.Named.{has_named}
 use Rattle.iox_machine.specs.Phase.{same_pattern}
 use Rattle.iox_machine.specs.Renaming.{Renaming, KeepsApart, renamed, renamed_reply}
-use Rattle.iox_machine.specs.Renumbering.{AreRenumbered, renumbered_table}
+use Rattle.iox_machine.specs.Renumbering.{renumbered_choices, AreRenumbered, renumbered_table}
 use Rattle.iox_machine.specs.Run.{Step, Runs}
 use Rattle.iox_machine.specs.Service.{Service}
 use Rattle.iox_machine.specs.State.{State, Factory, new_state, same_name}
@@ -69,10 +70,10 @@ module _ {T : Type 0} where
   concerns pattern name command.Node state = true
   concerns pattern name asked state = asks pattern name asked state
 
-  module _ (types : MessageTypeDetails) (IsDefault : T → Type 0) (buffer : ℕ) (pattern : MessagingPattern) (name : List ℕ) where
+  module _ (types : MessageTypeDetails) (choices : Choices T) (buffer : ℕ) (pattern : MessagingPattern) (name : List ℕ) where
     -- Nothing is asked of the service in a run.
     abbrev pub AsksNothing : (asked : List (Command T)) (old : State T) (answers : List (Reply T)) (new : State T)
-        → Runs types IsDefault buffer asked old answers new → Type 0
+        → Runs types choices buffer asked old answers new → Type 0
     AsksNothing [] old answers new run = ⊤
     AsksNothing (one ∷ more) old answers new run =
         (asks pattern name one old ≡ false) × AsksNothing more run.1 run.2 new run.4
@@ -80,16 +81,16 @@ module _ {T : Type 0} where
     -- Beside a run a machine that knows of no other service goes on alone: what concerns the service is answered there as in the run. In
     -- the place of each other command the numbers that were given in the run are passed over, and nothing else happens.
     abbrev pub IsAlone : (asked : List (Command T)) (old : State T) (answers : List (Reply T)) (new : State T)
-        → Runs types IsDefault buffer asked old answers new → State T → Type 0
+        → Runs types choices buffer asked old answers new → State T → Type 0
     IsAlone [] old answers new run own = ⊤
     IsAlone (one ∷ more) old answers new run own =
         MatchBool (concerns pattern name one old)
-        ((mid : State T) × Step types IsDefault buffer one own run.0 mid × IsAlone more run.1 run.2 new run.4 mid)
+        ((mid : State T) × Step types choices buffer one own run.0 mid × IsAlone more run.1 run.2 new run.4 mid)
         (IsAlone more run.1 run.2 new run.4 (record own { made = run.1.made }))
 
     -- the commands of a run that concern the service
     abbrev pub commands_concerning : (asked : List (Command T)) (old : State T) (answers : List (Reply T)) (new : State T)
-        → Runs types IsDefault buffer asked old answers new → List (Command T)
+        → Runs types choices buffer asked old answers new → List (Command T)
     commands_concerning [] old answers new run = []
     commands_concerning (one ∷ more) old answers new run =
         if concerns pattern name one old then one ∷ commands_concerning more run.1 run.2 new run.4
@@ -97,28 +98,28 @@ module _ {T : Type 0} where
 
     -- what these are answered
     abbrev pub answers_concerning : (asked : List (Command T)) (old : State T) (answers : List (Reply T)) (new : State T)
-        → Runs types IsDefault buffer asked old answers new → List (Reply T)
+        → Runs types choices buffer asked old answers new → List (Reply T)
     answers_concerning [] old answers new run = []
     answers_concerning (one ∷ more) old answers new run =
         if concerns pattern name one old then run.0 ∷ answers_concerning more run.1 run.2 new run.4
         else answers_concerning more run.1 run.2 new run.4
 
-module _ {T : Type 0} (IsDefault : T → Type 0) where
+module _ {T : Type 0} (choices : Choices T) where
   -- As long as nothing is asked of a service in a run of a new machine all of it stays as it was, whatever is asked of others.
   abbrev pub OthersAreLeft : Type 0
   OthersAreLeft = (types : MessageTypeDetails) (buffer : ℕ) (before : List (Command T)) (told : List (Reply T)) (old : State T)
-      → Runs types IsDefault buffer before new_state told old
-      → (asked : List (Command T)) (answers : List (Reply T)) (new : State T) (run : Runs types IsDefault buffer asked old answers new)
+      → Runs types choices buffer before new_state told old
+      → (asked : List (Command T)) (answers : List (Reply T)) (new : State T) (run : Runs types choices buffer asked old answers new)
       → (pattern : MessagingPattern) (name : List ℕ)
-      → AsksNothing types IsDefault buffer pattern name asked old answers new run → IsLeft pattern name old new
+      → AsksNothing types choices buffer pattern name asked old answers new run → IsLeft pattern name old new
 
   -- In every run of a new machine, leave out the commands that ask nothing of a service, but for those that make nodes: the others are
   -- answered just so by a new machine that was asked nothing else.
   abbrev pub ServicesAreAsIfAlone : Type 0
   ServicesAreAsIfAlone = (types : MessageTypeDetails) (buffer : ℕ) (asked : List (Command T)) (answers : List (Reply T)) (new : State T)
-      (run : Runs types IsDefault buffer asked new_state answers new)
+      (run : Runs types choices buffer asked new_state answers new)
       → (pattern : MessagingPattern) (name : List ℕ)
-      → IsAlone types IsDefault buffer pattern name asked new_state answers new run new_state
+      → IsAlone types choices buffer pattern name asked new_state answers new run new_state
 
   -- In every run of a new machine, leave out the commands that ask nothing of a service, but for those that make nodes. The others, with
   -- what they name under its other number, are a run of a new machine by themselves: each is answered as it was, with the other number
@@ -126,10 +127,10 @@ module _ {T : Type 0} (IsDefault : T → Type 0) where
   -- has.
   abbrev pub NumbersAreCountedAnew : Type 0
   NumbersAreCountedAnew = (types : MessageTypeDetails) (buffer : ℕ) (asked : List (Command T)) (answers : List (Reply T)) (new : State T)
-      (run : Runs types IsDefault buffer asked new_state answers new)
+      (run : Runs types choices buffer asked new_state answers new)
       → (pattern : MessagingPattern) (name : List ℕ)
       → (by : Renaming) × (after : State T) × KeepsApart by
-      × Runs types IsDefault buffer
-      (map (renamed by) (commands_concerning types IsDefault buffer pattern name asked new_state answers new run)) new_state
-      (map (renamed_reply by) (answers_concerning types IsDefault buffer pattern name asked new_state answers new run)) after
+      × Runs types (renumbered_choices by choices) buffer
+      (map (renamed by) (commands_concerning types choices buffer pattern name asked new_state answers new run)) new_state
+      (map (renamed_reply by) (answers_concerning types choices buffer pattern name asked new_state answers new run)) after
       × HasAlone by pattern name new after

@@ -4,6 +4,7 @@ pub mod Message
 pub mod Mailbox
 pub mod PortList
 pub mod Service
+pub mod Choices
 pub mod Replies
 pub mod PublisherUpdate
 pub mod SubscriberUpdate

@@ -4,6 +4,7 @@ use Rattle.std.specs.Prelude.{Some, option_map, option_and_then, codes, if◌the
 use Rattle.std.specs.Global.{Vec}
 use Rattle.std.specs.List.{list_any}
 use Rattle.std.specs.Vec.{vec_items}
+use Rattle.iox_machine.specs.Choices.{Choices, as_named}
 use Rattle.iox_machine.specs.Laws.{number_types, plain_publisher, unnamed}
 use Rattle.iox_machine.specs.Message.{Message, sent_as}
 use Rattle.iox_machine.specs.PortList.{those}
@@ -78,66 +79,66 @@ module _ {T : Type 0} where
       × (first_in (λ other. at sample other.samples) new
       ≡ Some (record { publisher = publisher; subscriber = subscriber; message = message }))
 
-module _ {T : Type 0} (types : MessageTypeDetails) (IsDefault : T → Type 0) (buffer : ℕ) where
+module _ {T : Type 0} (types : MessageTypeDetails) (choices : Choices T) (buffer : ℕ) where
   -- the messages that a publisher sent in a run, in the order in which their sends began
   abbrev pub sent_by : ℕ → (asked : List (Command T)) (old : State T) (answers : List (Reply T)) (new : State T)
-      → Runs types IsDefault buffer asked old answers new → List (Message T)
+      → Runs types choices buffer asked old answers new → List (Message T)
   sent_by publisher [] old answers new run = []
   sent_by publisher (one ∷ more) old answers new run =
       with_one (begun_by publisher one old run.0) (sent_by publisher more run.1 run.2 new run.4)
 
   -- the messages of a publisher that a subscriber received in a run, in the order in which it did
   abbrev pub received_from : ℕ → ℕ → (asked : List (Command T)) (old : State T) (answers : List (Reply T)) (new : State T)
-      → Runs types IsDefault buffer asked old answers new → List (Message T)
+      → Runs types choices buffer asked old answers new → List (Message T)
   received_from publisher subscriber [] old answers new run = []
   received_from publisher subscriber (one ∷ more) old answers new run =
       with_one (received_by publisher subscriber one run.0 run.1) (received_from publisher subscriber more run.1 run.2 new run.4)
 
   -- All through a run a publisher is of such a service, so that one never ended between.
   abbrev pub StaysOfService : ℕ → List ℕ → StaticConfig → (asked : List (Command T)) (old : State T) (answers : List (Reply T))
-      (new : State T) → Runs types IsDefault buffer asked old answers new → Type 0
+      (new : State T) → Runs types choices buffer asked old answers new → Type 0
   StaysOfService publisher name settings [] old answers new run = IsOfService publisher name settings old
   StaysOfService publisher name settings (one ∷ more) old answers new run =
       IsOfService publisher name settings old × StaysOfService publisher name settings more run.1 run.2 new run.4
 
   -- In a run a publisher began the send of a message of these values, and was of such a service from then on.
   abbrev pub BeganIn : ℕ → List ℕ → StaticConfig → List T → (asked : List (Command T)) (old : State T) (answers : List (Reply T))
-      (new : State T) → Runs types IsDefault buffer asked old answers new → Type 0
+      (new : State T) → Runs types choices buffer asked old answers new → Type 0
   BeganIn publisher name settings values [] old answers new run = ⊥
   BeganIn publisher name settings values (one ∷ more) old answers new run =
       (BeginsToSend publisher values one old run.0 × StaysOfService publisher name settings (one ∷ more) old answers new run)
       ⊎ BeganIn publisher name settings values more run.1 run.2 new run.4
 
-module _ {T : Type 0} (IsDefault : T → Type 0) where
+module _ {T : Type 0} (choices : Choices T) where
   -- What a subscriber receives after a run of a new machine are the values of the message that it takes of a publisher. The send of that
   -- message began in the run. The publisher is of the subscriber's own service, and was so from that send on.
   abbrev pub ReceivedWasSent : Type 0
   ReceivedWasSent = (types : MessageTypeDetails) (buffer : ℕ) (asked : List (Command T)) (answers : List (Reply T)) (old : State T)
-      (run : Runs types IsDefault buffer asked new_state answers old)
+      (run : Runs types choices buffer asked new_state answers old)
       (subscriber sample : ℕ) (values : Vec T) (new : State T)
-      → Step types IsDefault buffer (command.Receive subscriber) old (reply.Received sample values) new
+      → Step types choices buffer (command.Receive subscriber) old (reply.Received sample values) new
       → (publisher : ℕ) × (service : Service T) × (message : Message T)
       × (find (λ other. is_some (subscriber_in subscriber other)) old.services ≡ Some service)
       × (find (λ other. is_some (at publisher other.publishers)) old.services ≡ Some service)
       × IsTaken publisher subscriber sample message service new × (vec_items values ≡ message.values)
-      × BeganIn types IsDefault buffer publisher service.name service.settings message.values asked new_state answers old run
+      × BeganIn types choices buffer publisher service.name service.settings message.values asked new_state answers old run
 
   -- What a subscriber received of a publisher in a run of a new machine is part of what that sent.
   abbrev pub ReceivedInOrder : Type 0
   ReceivedInOrder = (types : MessageTypeDetails) (buffer : ℕ) (asked : List (Command T)) (answers : List (Reply T)) (new : State T)
-      (run : Runs types IsDefault buffer asked new_state answers new) (publisher subscriber : ℕ)
-      → IsPartOf (received_from types IsDefault buffer publisher subscriber asked new_state answers new run)
-      (sent_by types IsDefault buffer publisher asked new_state answers new run)
+      (run : Runs types choices buffer asked new_state answers new) (publisher subscriber : ℕ)
+      → IsPartOf (received_from types choices buffer publisher subscriber asked new_state answers new run)
+      (sent_by types choices buffer publisher asked new_state answers new run)
 
   -- A sample that was received is read, with the values that were received, until its own release, whatever else was asked meanwhile.
   abbrev pub HeldIsRead : Type 0
   HeldIsRead = (types : MessageTypeDetails) (buffer : ℕ) (asked : List (Command T)) (answers : List (Reply T)) (old : State T)
-      → Runs types IsDefault buffer asked new_state answers old
+      → Runs types choices buffer asked new_state answers old
       → (subscriber sample : ℕ) (values : Vec T) (mid : State T)
-      → Step types IsDefault buffer (command.Receive subscriber) old (reply.Received sample values) mid
-      → (meanwhile : List (Command T)) (told : List (Reply T)) (later : State T) → Runs types IsDefault buffer meanwhile mid told later
+      → Step types choices buffer (command.Receive subscriber) old (reply.Received sample values) mid
+      → (meanwhile : List (Command T)) (told : List (Reply T)) (later : State T) → Runs types choices buffer meanwhile mid told later
       → list_any (is_release_of sample) meanwhile ≡ false
-      → (answer : Reply T) (new : State T) → Step types IsDefault buffer (command.Read sample) later answer new
+      → (answer : Reply T) (new : State T) → Step types choices buffer (command.Read sample) later answer new
       → (read : Vec T) × (answer ≡ reply.Values read) × (vec_items read ≡ vec_items values)
 
 -- A node, a service, both ports, and two messages of which the first is lent first and sent last.
@@ -160,7 +161,7 @@ swapped_commands =
 -- A new machine may answer so: of two messages that one is received first which was sent first, not which was lent first.
 abbrev pub OrderIsOfSends : Type 0
 OrderIsOfSends = (buffer : ℕ) (first second : Vec ℕ) → vec_items first ≡ 1 ∷ [] → vec_items second ≡ 2 ∷ []
-    → Answers number_types (λ value. value ≡ 0) buffer swapped_commands false
+    → Answers number_types (as_named (λ value. value ≡ 0)) buffer swapped_commands false
     (reply.NodeMade 1
     ∷ reply.FactoryMade 1
     ∷ reply.SubscriberMade 1

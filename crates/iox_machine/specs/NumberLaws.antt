@@ -1,6 +1,7 @@
 -- Laws of the numbers by which nodes, factories, ports, loans and samples go.
 use Rattle.std.specs.Prelude.{ℕ, ◌+◌, ◌≡◌, ⊤, true, ◌==◌, List, [], ◌∷◌, map, filter_map, flat_map, Option, None, Some}
 use Rattle.std.specs.List.{AllByRecursion, IsDistinct}
+use Rattle.iox_machine.specs.Choices.{Choices}
 use Rattle.iox_machine.specs.Run.{Runs}
 use Rattle.iox_machine.specs.State.{State, new_state}
 use Rattle.iox_machine.specs.Table.{contains}
@@ -54,12 +55,12 @@ abbrev pub AreToldOnce : List ℕ → List ℕ → Type 0
 AreToldOnce told numbers =
     IsDistinct (λ one other. one == other) numbers × AllByRecursion (λ number. contains told number ≡ true) numbers
 
-module _ {T : Type 0} (IsDefault : T → Type 0) where
+module _ {T : Type 0} (choices : Choices T) where
   -- In every run of a new machine the numbers that replies tell of one kind are 1, 2, 3 and so on, in this order: those of nodes, of
   -- factories, of publishers, of subscribers, of loans, and of samples. So none is told twice.
   abbrev pub NumbersGoUp : Type 0
   NumbersGoUp = (types : MessageTypeDetails) (buffer : ℕ) (asked : List (Command T)) (answers : List (Reply T)) (new : State T)
-      → Runs types IsDefault buffer asked new_state answers new
+      → Runs types choices buffer asked new_state answers new
       → GoOn 0 (filter_map node_told answers) × GoOn 0 (filter_map factory_told answers) × GoOn 0 (filter_map publisher_told answers)
       × GoOn 0 (filter_map subscriber_told answers) × GoOn 0 (filter_map loan_told answers) × GoOn 0 (filter_map sample_told answers)
 
@@ -67,7 +68,7 @@ module _ {T : Type 0} (IsDefault : T → Type 0) where
   -- services; and each number was told.
   abbrev pub NumbersNameOne : Type 0
   NumbersNameOne = (types : MessageTypeDetails) (buffer : ℕ) (asked : List (Command T)) (answers : List (Reply T)) (new : State T)
-      → Runs types IsDefault buffer asked new_state answers new
+      → Runs types choices buffer asked new_state answers new
       → AreToldOnce (filter_map factory_told answers) (numbers_in new.factories)
       × AreToldOnce (filter_map publisher_told answers) (flat_map (λ service. numbers_in service.publishers) new.services)
       × AreToldOnce (filter_map subscriber_told answers) (flat_map (λ service. numbers_in service.subscribers) new.services)

@@ -1,6 +1,7 @@
 -- Laws of what happens once: a loan is sent, and a message is sent and received.
 use Rattle.std.specs.Prelude.{ℕ, Bool, true, false, ◌==◌, List, map, filter_map, zip, Option, None, Some, if◌then◌else◌}
 use Rattle.std.specs.List.{IsDistinct}
+use Rattle.iox_machine.specs.Choices.{Choices}
 use Rattle.iox_machine.specs.Message.{Message}
 use Rattle.iox_machine.specs.MessageLaws.{sent_by, received_from}
 use Rattle.iox_machine.specs.NumberLaws.{AreToldOnce, loan_told}
@@ -32,16 +33,16 @@ module _ {T : Type 0} where
   abbrev pub AreDifferent : List (Message T) → Type 0
   AreDifferent messages = IsDistinct (λ one other. one == other) (map (λ message. message.number) messages)
 
-module _ {T : Type 0} (IsDefault : T → Type 0) where
+module _ {T : Type 0} (choices : Choices T) where
   -- In every run of a new machine each loan is sent or dropped once at most, and was lent in that run. Commands and replies alone tell it.
   abbrev pub LoansAreSpentOnce : Type 0
   LoansAreSpentOnce = (types : MessageTypeDetails) (buffer : ℕ) (asked : List (Command T)) (answers : List (Reply T)) (new : State T)
-      → Runs types IsDefault buffer asked new_state answers new → AreToldOnce (filter_map loan_told answers) (spent_in asked answers)
+      → Runs types choices buffer asked new_state answers new → AreToldOnce (filter_map loan_told answers) (spent_in asked answers)
 
   -- In every run of a new machine a publisher sends each of its messages once at most, from a loan or by a put, and a subscriber receives
   -- each once at most.
   abbrev pub MessagesGoOnce : Type 0
   MessagesGoOnce = (types : MessageTypeDetails) (buffer : ℕ) (asked : List (Command T)) (answers : List (Reply T)) (new : State T)
-      (run : Runs types IsDefault buffer asked new_state answers new) (publisher subscriber : ℕ)
-      → AreDifferent (sent_by types IsDefault buffer publisher asked new_state answers new run)
-      × AreDifferent (received_from types IsDefault buffer publisher subscriber asked new_state answers new run)
+      (run : Runs types choices buffer asked new_state answers new) (publisher subscriber : ℕ)
+      → AreDifferent (sent_by types choices buffer publisher asked new_state answers new run)
+      × AreDifferent (received_from types choices buffer publisher subscriber asked new_state answers new run)

@@ -1,5 +1,6 @@
 -- Laws of what is opened: it is as it was asked for, or the refusal names what isn't.
 use Rattle.std.specs.Prelude.{ℕ, ◌≡◌, ◌<◌, ◌⊎◌, ⊤, Some, Result, Ok, Err, List, [], ◌∷◌}
+use Rattle.iox_machine.specs.Choices.{Choices}
 use Rattle.iox_machine.specs.Agreement.{Agreement, event_verdict, publish_subscribe_verdict, request_response_verdict}
 use Rattle.iox_machine.specs.AgreementLaws.{agreed_in, life_of}
 use Rattle.iox_machine.specs.Asked.{settings_of}
@@ -79,13 +80,13 @@ module _ (types : MessageTypeDetails) where
       × (why ≡ refusal.RequestResponseOpenOrCreate (request_response.open_or_create_error failure))
       × EitherNamesUnmet (request_response_verdict types required named) failure phase
 
-module _ {T : Type 0} (IsDefault : T → Type 0) where
+module _ {T : Type 0} (choices : Choices T) where
   -- A service that is opened meets all that is asked. One that is refused for a clause is there, and that is the first clause that it
   -- doesn't meet.
   abbrev pub OpenedMeetsAsked : Type 0
   OpenedMeetsAsked = (types : MessageTypeDetails) (buffer node : ℕ) (name : List ℕ) (options : ServiceOptions) (required : Required)
       (steps : List StepBefore) (old : State T) (answer : Reply T) (new : State T)
-      → Step types IsDefault buffer (command.Open node name options required steps) old answer new
+      → Step types choices buffer (command.Open node name options required steps) old answer new
       → ((number : ℕ) → answer ≡ reply.FactoryMade number
       → IsAgreedOn (MeetsAsked types options required) (new.phases (pattern_of options) name))
       × ((why : Refusal) → answer ≡ reply.Refused why → TellsUnmet types options required why (new.phases (pattern_of options) name))
@@ -94,7 +95,7 @@ module _ {T : Type 0} (IsDefault : T → Type 0) where
   abbrev pub EitherMeetsAsked : Type 0
   EitherMeetsAsked = (types : MessageTypeDetails) (buffer node : ℕ) (name : List ℕ) (options : ServiceOptions) (required : Required)
       (steps : List StepBefore) (old : State T) (answer : Reply T) (new : State T)
-      → Step types IsDefault buffer (command.OpenOrCreate node name options required steps) old answer new
+      → Step types choices buffer (command.OpenOrCreate node name options required steps) old answer new
       → ((number : ℕ) → answer ≡ reply.FactoryMade number
       → IsAgreedOn (MeetsAsked types options required) (new.phases (pattern_of options) name)
       ⊎ IsNewWith (Own node) (record { settings = settings_of types options; attributes = required.pairs })

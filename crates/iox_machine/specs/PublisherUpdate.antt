@@ -1,7 +1,9 @@
 -- How a publisher brings its connections up to date.
-use Rattle.std.specs.Prelude.{ℕ, ◌≡◌, true, not, ◌&&◌, ◌==◌, List, [], map, filter, filter_map, fold, zip, slice_get, Option, None, Some, is_some, option_map, Result, Ok, Err, MatchBool, MatchResult, if◌then◌else◌}
+use Rattle.std.specs.Prelude.{ℕ, ◌≡◌, ◌⊎◌, true, not, ◌&&◌, ◌==◌, List, [], ◌∷◌, map, filter, fold, zip, Option, None, Some, is_some}
+use Rattle.std.specs.Prelude.{option_map, Result, Ok, Err, MatchBool, MatchOption, MatchResult, if◌then◌else◌}
 use Rattle.std.specs.List.{list_all}
 use Rattle.std.specs.Option.{option_map_or}
+use Rattle.iox_machine.specs.Choices.{Choices}
 use Rattle.iox_machine.specs.Message.{Message}
 use Rattle.iox_machine.specs.Mailbox.{Mailbox, newest}
 use Rattle.iox_machine.specs.PortList.{those, unless}
@@ -14,7 +16,7 @@ use Rattle.iox_command.specs.DomainValues.declared.connection_failure.ZeroCopyCr
 use Rattle.iox_command.specs.DomainValues.declared.connection_failure.ZeroCopyCreationError.TheVariants.{OutOfMemory}
 use Rattle.iox_command.specs.DomainValues.declared.connection_failure.ZeroCopyCreationError.TheVariants.{ExpiredConnectionBufferFull}
 use Rattle.iox_command.specs.DomainValues.declared.degradation.DegradationAction.{DegradationAction}
-use Rattle.iox_command.specs.DomainValues.declared.degradation.DegradationAction.TheVariants.{DegradeAndFail}
+use Rattle.iox_command.specs.DomainValues.declared.degradation.DegradationAction.TheVariants.{DegradeAndFail, Warn, Ignore}
 use Rattle.iox_command.specs.declared.refusal.Refusal.{Refusal}
 use Rattle.iox_command.specs.declared.reply.Reply.{Reply}
 
@@ -24,12 +26,14 @@ failure_at None connected = None
 failure_at (Some listed) None = Some OutOfMemory
 failure_at (Some listed) (Some other) = if other == listed then None else Some ExpiredConnectionBufferFull
 
--- what an update answers: the first failure, in place order, if the port is to fail then
-abbrev pub update_answer : DegradationAction → List (Option ℕ) → List (Option ℕ) → Result (Unit {0}) ConnectionFailure
-update_answer DegradeAndFail listed connected =
-    option_map_or (λ failure. Err (FailedToEstablishConnection failure))
-    (slice_get (filter_map (λ place. failure_at place.0 place.1) (zip listed connected)) 0) (Ok tt)
-update_answer action listed connected = Ok tt
+-- What an update may answer, where this may be done at a connection that failed: the first failure, in place order, at which the port is
+-- to fail.
+abbrev pub UpdateAnswers : (DegradationAction → Type 0) → List (Option ℕ × Option ℕ) → Result (Unit {0}) ConnectionFailure → Type 0
+UpdateAnswers May [] answer = answer ≡ Ok tt
+UpdateAnswers May (place ∷ more) answer =
+    MatchOption (failure_at place.0 place.1) (UpdateAnswers May more answer)
+    (λ failure. (May DegradeAndFail × (answer ≡ Err (FailedToEstablishConnection failure)))
+    ⊎ ((May Warn ⊎ May Ignore) × UpdateAnswers May more answer))
 
 module _ {T : Type 0} (number : ℕ) where
   -- of the connections to subscribers that left all that waits is lost; what is borrowed stays in use until it is released
@@ -57,14 +61,18 @@ module _ {T : Type 0} (number : ℕ) where
       × (new ≡ fold (welcome publisher.history) (with_publisher number after (ended old))
       (filter (λ subscriber. not (contains (those publisher.connected) subscriber)) (those after.connected)))
 
+module _ {T : Type 0} (choices : Choices T) (number : ℕ) where
   -- A publisher that does something first brings its connections up to date, if the list of subscribers changed; where that fails it
   -- doesn't.
-  abbrev pub UpdatesFirst : (ConnectionFailure → Refusal) → (Publisher T → Service T → Reply T → Service T → Type 0) → Publisher T
-      → Service T → Reply T → Service T → Type 0
+  abbrev pub UpdatesFirst : (ConnectionFailure → Refusal) → (Publisher T → Service T → Reply T → Service T → Type 0)
+      → Publisher T → Service T → Reply T → Service T → Type 0
   UpdatesFirst told Does publisher old answer new =
       MatchBool (publisher.seen == old.subscriber_list.changes)
       (Does publisher old answer new)
-      ((after : Publisher T) × (mid : Service T) × Follows publisher old after mid
-      × MatchResult (update_answer publisher.degradation old.subscriber_list.places after.connected)
+      ((after : Publisher T) × (mid : Service T) × Follows number publisher old after mid
+      × ((outcome : Result (Unit {0}) ConnectionFailure)
+      × UpdateAnswers (choices.publisher_acts number publisher.degradation)
+      (zip old.subscriber_list.places after.connected) outcome
+      × MatchResult outcome
       (λ done. Does after mid answer new)
-      (λ failure. IsRefused (told failure) mid answer new))
+      (λ failure. IsRefused (told failure) mid answer new)))

@@ -2,6 +2,7 @@
 use Rattle.std.specs.Prelude.{ℕ, zero, suc, ◌≡◌, ◌⊎◌, Bool, true, false, ◌&&◌, ◌==◌, nat_le, List, [], ◌∷◌, ◌++◌, length, take, map}
 use Rattle.std.specs.Prelude.{filter, fold, None, Some, find, option_map, unwrap_or, if◌then◌else◌}
 use Rattle.std.specs.Option.{option_map_or}
+use Rattle.iox_machine.specs.Choices.{Choices}
 use Rattle.iox_machine.specs.Mailbox.{Mailbox, newest, put}
 use Rattle.iox_machine.specs.Message.{Loan, Message, sent_as}
 use Rattle.iox_machine.specs.Named.{has_named}
@@ -131,11 +132,13 @@ module _ {T : Type 0} where
   abbrev pub offered_to : Message T → Mailbox T → Mailbox T
   offered_to message box = if nat_le box.limit (length box.waiting) then box else record box { waiting = box.waiting ++ message ∷ [] }
 
-  -- Of some subscribers one lacks a message: without safe overflow its mailbox is full, it stands and is connected, and the publisher is to
-  -- discard and fail then.
-  abbrev pub LacksOne : ℕ → Publisher T → List ℕ → Service T → Type 0
-  LacksOne number one left service =
-      (service.settings.enable_safe_overflow ≡ false) × (decision_of one.strategy one.handler ≡ DiscardDataAndFail)
+  -- Of some subscribers one lacks a message: without safe overflow its mailbox is full, it stands and is connected, and it may be decided
+  -- for the publisher to discard and fail then.
+  abbrev pub LacksOne : Choices T → ℕ → Publisher T → List ℕ → Service T → Type 0
+  LacksOne choices number one left service =
+      (service.settings.enable_safe_overflow ≡ false)
+      × ((retries : ℕ) × (elapsed : ℕ)
+      × choices.publisher_decides number retries elapsed (decision_of one.strategy one.handler) DiscardDataAndFail)
       × ((lacking : ℕ) × (contains left lacking ≡ true)
       × (nat_le (mailbox number lacking service).limit (length (mailbox number lacking service).waiting) ≡ true)
       × (option_map_or (λ it. it.stands && contains (those it.connected) number) (at lacking service.subscribers) false ≡ true))
@@ -143,9 +146,9 @@ module _ {T : Type 0} where
   -- A publisher sent a message to all that it is connected to, and couldn't deliver: without safe overflow it waits now where fewer waited
   -- than may, and nowhere else, and some subscriber lacks it. The message is the newest of its history, no send is blocked, and all else is
   -- as before.
-  abbrev pub IsUndelivered : ℕ → Publisher T → Message T → Service T → Service T → Type 0
-  IsUndelivered number one message old new =
-      LacksOne number one (those one.connected) old
+  abbrev pub IsUndelivered : Choices T → ℕ → Publisher T → Message T → Service T → Service T → Type 0
+  IsUndelivered choices number one message old new =
+      LacksOne choices number one (those one.connected) old
       × ((publisher subscriber : ℕ) → mailbox publisher subscriber new
       ≡ (if (publisher == number) && contains (those one.connected) subscriber then offered_to message (mailbox publisher subscriber old)
       else mailbox publisher subscriber old))
@@ -156,9 +159,9 @@ module _ {T : Type 0} where
 
   -- A send that was blocked went to those that were left, and couldn't deliver: each mailbox took its message that had room, one subscriber
   -- lacks it, now or from before, and no send is blocked.
-  abbrev pub IsRetried : ℕ → Publisher T → Send T → Service T → Service T → Type 0
-  IsRetried number one send old new =
-      ((send.fails ≡ true) ⊎ LacksOne number one send.left old)
+  abbrev pub IsRetried : Choices T → ℕ → Publisher T → Send T → Service T → Service T → Type 0
+  IsRetried choices number one send old new =
+      ((send.fails ≡ true) ⊎ LacksOne choices number one send.left old)
       × ((publisher subscriber : ℕ) → mailbox publisher subscriber new
       ≡ (if (publisher == number) && contains send.left subscriber
       then unwrap_or (put old.settings.enable_safe_overflow send.message (mailbox publisher subscriber old))
@@ -166,14 +169,14 @@ module _ {T : Type 0} where
       else mailbox publisher subscriber old))
       × (new ≡ record (with_publisher number (record one { blocked = None }) old) { mailboxes = new.mailboxes })
 
-module _ {T : Type 0} (IsDefault : T → Type 0) where
+module _ {T : Type 0} (choices : Choices T) where
   -- A send, a put, a receive, an update or a look for data that is refused leaves all but the service that has what it names: all others,
   -- agreements, nodes, factories and numbers. A send has spent its loan; other loans stay, and so do what `KeepsPorts` and `KeepsMessages`
   -- name. A send that couldn't deliver isn't meant: it did all else that a send does.
   abbrev pub RefusedPortsLeave : Type 0
   RefusedPortsLeave = (types : MessageTypeDetails) (buffer : ℕ) (asked : Command T) (old new : State T) (why : Refusal)
       → is_updating asked ≡ true → (why ≡ refusal.Send error.UnableToDeliver → ⊥)
-      → Step types IsDefault buffer asked old (reply.Refused why) new
+      → Step types choices buffer asked old (reply.Refused why) new
       → (service : Service T) × (after : Service T) × (find (has_named old.factories asked) old.services ≡ Some service)
       × (new ≡ record old { services = replaced (has_named old.factories asked) after old.services })
       × (after.loans ≡ loans_left asked service.loans) × KeepsPorts service after × KeepsMessages service after
@@ -182,43 +185,43 @@ module _ {T : Type 0} (IsDefault : T → Type 0) where
   -- update leaves them, and then sent its message to all who had room for it. The loan is spent, and all other services stay.
   abbrev pub UndeliveredLeaves : Type 0
   UndeliveredLeaves = (types : MessageTypeDetails) (buffer : ℕ) (before : List (Command T)) (told : List (Reply T)) (old : State T)
-      → Runs types IsDefault buffer before new_state told old
+      → Runs types choices buffer before new_state told old
       → (asked : Command T) (new : State T) → is_sending asked ≡ true
-      → Step types IsDefault buffer asked old (reply.Refused (refusal.Send error.UnableToDeliver)) new
+      → Step types choices buffer asked old (reply.Refused (refusal.Send error.UnableToDeliver)) new
       → (has : Service T → Bool) × (service : Service T) × (mid : Service T) × (after : Service T)
       × (number : ℕ) × (one : Publisher T) × (message : Message T)
       × (find has old.services ≡ Some service) × (new ≡ record old { services = replaced has after old.services })
       × IsSentBy asked service number message
       × (mid.loans ≡ loans_left asked service.loans) × KeepsPorts service mid × KeepsMessages service mid
       × (at number mid.publishers ≡ Some one) × (one.seen ≡ mid.subscriber_list.changes)
-      × IsUndelivered number one message mid after
+      × IsUndelivered choices number one message mid after
 
   -- In every run of a new machine: a retry that couldn't deliver sent the message of the blocked send to all that were left, and changed
   -- nothing else.
   abbrev pub RetriesLeave : Type 0
   RetriesLeave = (types : MessageTypeDetails) (buffer : ℕ) (before : List (Command T)) (told : List (Reply T)) (old : State T)
-      → Runs types IsDefault buffer before new_state told old
+      → Runs types choices buffer before new_state told old
       → (number nanoseconds : ℕ) (new : State T)
-      → Step types IsDefault buffer (command.Retry number nanoseconds) old (reply.Refused (refusal.Send error.UnableToDeliver)) new
+      → Step types choices buffer (command.Retry number nanoseconds) old (reply.Refused (refusal.Send error.UnableToDeliver)) new
       → (has : Service T → Bool) × (service : Service T) × (after : Service T) × (one : Publisher T) × (send : Send T)
       × (find has old.services ≡ Some service) × (new ≡ record old { services = replaced has after old.services })
-      × (at number service.publishers ≡ Some one) × (one.blocked ≡ Some send) × IsRetried number one send service after
+      × (at number service.publishers ≡ Some one) × (one.blocked ≡ Some send) × IsRetried choices number one send service after
 
   -- In every run of a new machine: a creation or an opening that is refused, while no node outside the hub does anything, leaves what is
   -- agreed on and the nodes that are in. Where nothing stood a life may have begun and ended.
   abbrev pub RefusedCallsLeaveNodes : Type 0
   RefusedCallsLeaveNodes = (types : MessageTypeDetails) (buffer : ℕ) (before : List (Command T)) (told : List (Reply T)) (old : State T)
-      → Runs types IsDefault buffer before new_state told old
+      → Runs types choices buffer before new_state told old
       → (pattern : MessagingPattern) (name : List ℕ) (asked : Command T) (new : State T) (why : Refusal) → IsQuietCallFor pattern name asked
-      → Step types IsDefault buffer asked old (reply.Refused why) new
+      → Step types choices buffer asked old (reply.Refused why) new
       → IsAsBefore (old.phases pattern name) (new.phases pattern name)
 
   -- In every run of a new machine: a creation or an opening that is refused leaves what nodes outside the hub made of its phase meanwhile,
   -- and does nothing to it itself. Where nothing stood a life may have begun and ended.
   abbrev pub RefusedCallsLeaveSteps : Type 0
   RefusedCallsLeaveSteps = (types : MessageTypeDetails) (buffer : ℕ) (before : List (Command T)) (told : List (Reply T)) (old : State T)
-      → Runs types IsDefault buffer before new_state told old
+      → Runs types choices buffer before new_state told old
       → (pattern : MessagingPattern) (name : List ℕ) (steps : List StepBefore) (asked : Command T) (new : State T) (why : Refusal)
       → IsCallWith pattern name steps asked
-      → Step types IsDefault buffer asked old (reply.Refused why) new
+      → Step types choices buffer asked old (reply.Refused why) new
       → IsLeftBySteps types pattern steps (old.phases pattern name) (new.phases pattern name)

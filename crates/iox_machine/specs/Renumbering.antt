@@ -1,5 +1,6 @@
 -- A service in which publishers, subscribers, loans and samples go by other numbers, and its factories too.
 use Rattle.std.specs.Prelude.{ℕ, ◌≡◌, ⊤, List, [], ◌∷◌, map, option_map}
+use Rattle.iox_machine.specs.Choices.{Choices}
 use Rattle.iox_machine.specs.Message.{Loan, Sample}
 use Rattle.iox_machine.specs.PortList.{PortList}
 use Rattle.iox_machine.specs.Renaming.{Renaming}
@@ -22,6 +23,18 @@ renumbered_subscriber by one = record one {
 }
 
 module _ {T : Type 0} where
+  -- what may be chosen for ports that go by their other numbers
+  abbrev pub renumbered_choices : Renaming → Choices T → Choices T
+  renumbered_choices by choices = record {
+    is_default = choices.is_default;
+    publisher_decides = λ other retries elapsed named decision. (publisher : ℕ) × (by.publishers publisher ≡ other)
+        × choices.publisher_decides publisher retries elapsed named decision;
+    publisher_acts = λ other named action. (publisher : ℕ) × (by.publishers publisher ≡ other)
+        × choices.publisher_acts publisher named action;
+    subscriber_acts = λ other named action. (subscriber : ℕ) × (by.subscribers subscriber ≡ other)
+        × choices.subscriber_acts subscriber named action;
+  }
+
   -- a send under way that names the subscribers that are left by their other numbers
   abbrev pub renumbered_send : Renaming → Send T → Send T
   renumbered_send by send = record send { left = map by.subscribers send.left }

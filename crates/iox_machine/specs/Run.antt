@@ -3,6 +3,7 @@ use Rattle.std.specs.Prelude.{ℕ, ◌+◌, ◌≡◌, ◌⊎◌, ◌&&◌, ◌=
 use Rattle.std.specs.Prelude.{MatchBool, MatchOption, if◌then◌else◌}
 use Rattle.std.specs.Global.{Vec}
 use Rattle.std.specs.Vec.{vec_items}
+use Rattle.iox_machine.specs.Choices.{Choices}
 use Rattle.iox_machine.specs.Arriving.{PublisherArrives, SubscriberArrives, new_publisher, new_subscriber}
 use Rattle.iox_machine.specs.Closing.{Closes}
 use Rattle.iox_machine.specs.Factories.{Acts, CreatesService, OpensService, OpensOrCreatesService}
@@ -34,21 +35,17 @@ abbrev pub factory_of : ℕ → List ℕ → ServiceOptions → Factory
 factory_of node name options = record { pattern = pattern_of options; name = name; node = node }
 
 module _ {T : Type 0} where
-  -- A command is answered with the values of a message, if it finds one: it receives, or reads.
-  abbrev pub TellsValues : Command T → Type 0
-  TellsValues (command.Receive subscriber) = Unit {0}
-  TellsValues (command.Read sample) = Unit {0}
-  TellsValues other = ⊥
-
   -- A run may stop where these commands are left and these answers were given: some command is left; and nothing was answered, or the next
-  -- command tells values.
+  -- command is one that is answered with the values of a message, if it finds one: it receives, or reads.
   abbrev pub MayStop : List (Command T) → List (Reply T) → Type 0
   MayStop [] answers = ⊥
-  MayStop (next ∷ rest) answers = (answers ≡ []) ⊎ TellsValues next
+  MayStop (command.Receive subscriber ∷ rest) answers = Unit {0}
+  MayStop (command.Read sample ∷ rest) answers = Unit {0}
+  MayStop (other ∷ rest) answers = answers ≡ []
 
--- A machine is made for messages of certain types, with what a default value is, and with how many connections of a subscriber may be
+-- A machine is made for messages of certain types, with what others may choose, and with how many connections of a subscriber may be
 -- expired at least.
-module _ {T : Type 0} (types : MessageTypeDetails) (IsDefault : T → Type 0) (buffer : ℕ) where
+module _ {T : Type 0} (types : MessageTypeDetails) (choices : Choices T) (buffer : ℕ) where
   -- What a command does at the publish-subscribe service of a factory; it is skipped where there is no such factory, or it is of another
   -- pattern.
   abbrev pub AtFactory : ℕ → (Service T → Reply T → Service T → Type 0) → State T → Reply T → State T → Type 0
@@ -76,7 +73,8 @@ module _ {T : Type 0} (types : MessageTypeDetails) (IsDefault : T → Type 0) (b
       AtFactory factory (λ service. SubscriberArrives buffer (old.made.subscribers + 1)
       (new_subscriber factory options service.settings) service) old answer new
   Step (command.Loan publisher length) old answer new =
-      (value : T) × IsDefault value × AtFree publisher (LendsLoan (old.made.loans + 1) publisher length (Some value)) old answer new
+      (value : T) × choices.is_default value
+      × AtFree publisher (LendsLoan (old.made.loans + 1) publisher length (Some value)) old answer new
   Step (command.LoanUninit publisher length) old answer new = AtFree publisher
       (LendsLoan (old.made.loans + 1) publisher length None) old answer new
   Step (command.Set loan place value) old answer new =
@@ -89,10 +87,10 @@ module _ {T : Type 0} (types : MessageTypeDetails) (IsDefault : T → Type 0) (b
       AtOne (λ service. at loan service.loans)
       (λ one service answered after. (answered ≡ reply.Done) ×
       (after ≡ record service { loans = removed loan service.loans })) old answer new
-  Step (command.Send loan) old answer new = AtOne (λ service. at loan service.loans) (SendsLoan loan) old answer new
-  Step (command.Put publisher values) old answer new = AtFree publisher (Puts publisher values) old answer new
+  Step (command.Send loan) old answer new = AtOne (λ service. at loan service.loans) (SendsLoan choices loan) old answer new
+  Step (command.Put publisher values) old answer new = AtFree publisher (Puts choices publisher values) old answer new
   Step (command.Retry publisher nanoseconds) old answer new =
-      AtBlocked publisher (λ one send. GoesOn publisher one
+      AtBlocked publisher (λ one send. GoesOn choices publisher one
       (record send { retries = send.retries + 1; elapsed = nanoseconds })) old answer new
   Step (command.GiveUp publisher) old answer new =
       AtBlocked publisher
@@ -100,7 +98,7 @@ module _ {T : Type 0} (types : MessageTypeDetails) (IsDefault : T → Type 0) (b
       (after ≡ with_publisher publisher (record one { blocked = None }) service)) old answer new
   Step (command.Receive subscriber) old answer new =
       AtOne (subscriber_in subscriber)
-      (subscribing.UpdatesFirst buffer subscriber (λ failure. refusal.Receive (ConnectionFailure failure))
+      (subscribing.UpdatesFirst choices buffer subscriber (λ failure. refusal.Receive (ConnectionFailure failure))
       (Receives subscriber (old.made.samples + 1))) old answer new
   Step (command.Read sample) old answer new =
       AtOne (λ service. at sample service.samples)
@@ -109,11 +107,11 @@ module _ {T : Type 0} (types : MessageTypeDetails) (IsDefault : T → Type 0) (b
   Step (command.Release sample) old answer new = AtOne (λ service. at sample service.samples) (Releases sample) old answer new
   Step (command.Update (port.Publisher number)) old answer new =
       AtFree number
-      (publishing.UpdatesFirst number refusal.Connection
+      (publishing.UpdatesFirst choices number refusal.Connection
       (λ one service answered after. (answered ≡ reply.Done) × (after ≡ service))) old answer new
   Step (command.Update (port.Subscriber number)) old answer new =
       AtOne (subscriber_in number)
-      (subscribing.UpdatesFirst buffer number refusal.Connection
+      (subscribing.UpdatesFirst choices buffer number refusal.Connection
       (λ one service answered after. (answered ≡ reply.Done) × (after ≡ service))) old answer new
   Step (command.Leave (port.Publisher number)) old answer new =
       AtFree number
@@ -127,7 +125,7 @@ module _ {T : Type 0} (types : MessageTypeDetails) (IsDefault : T → Type 0) (b
       (record service { subscriber_list = left number service.subscriber_list }))) old answer new
   Step (command.Has subscriber) old answer new =
       AtOne (subscriber_in subscriber)
-      (subscribing.UpdatesFirst buffer subscriber refusal.Connection
+      (subscribing.UpdatesFirst choices buffer subscriber refusal.Connection
       (λ one service answered after. (answered ≡ reply.Has (has_samples subscriber one service)) × (after ≡ service))) old answer new
 
   -- Commands one after the other, each with its answer.

@@ -3,6 +3,7 @@ use Rattle.std.specs.Prelude.{ℕ, ◌≡◌, ◌≤◌, ◌⊎◌, Bool, true, 
 use Rattle.std.specs.Global.{Vec}
 use Rattle.std.specs.List.{AllByRecursion}
 use Rattle.std.specs.Vec.{vec_items}
+use Rattle.iox_machine.specs.Choices.{Choices}
 use Rattle.iox_machine.specs.Mailbox.{Mailbox}
 use Rattle.iox_machine.specs.Message.{Message, Loan, is_written, sent_as}
 use Rattle.iox_machine.specs.Phase.{Phase}
@@ -77,51 +78,51 @@ IsCallFor pattern name (command.OpenOrCreate node other options required steps) 
 IsCallFor pattern name (command.Foreign one other steps) = (one ≡ pattern) × (other ≡ name)
 IsCallFor pattern name other = ⊥
 
-module _ {T : Type 0} (types : MessageTypeDetails) (IsDefault : T → Type 0) (buffer : ℕ) where
+module _ {T : Type 0} (types : MessageTypeDetails) (choices : Choices T) (buffer : ℕ) where
   -- In a run the send of a message of these values began, by a publisher.
   abbrev pub Began : ℕ → List T → (asked : List (Command T)) (old : State T) (answers : List (Reply T)) (new : State T)
-      → Runs types IsDefault buffer asked old answers new → Type 0
+      → Runs types choices buffer asked old answers new → Type 0
   Began publisher values [] old answers new run = ⊥
   Began publisher values (one ∷ more) old answers new run =
       BeginsToSend publisher values one old run.0 ⊎ Began publisher values more run.1 run.2 new run.4
 
-module _ {T : Type 0} (IsDefault : T → Type 0) where
+module _ {T : Type 0} (choices : Choices T) where
   -- A command that is skipped changes nothing.
   abbrev pub SkippedChangesNothing : Type 0
   SkippedChangesNothing = (types : MessageTypeDetails) (buffer : ℕ) (asked : Command T) (old new : State T)
-      → Step types IsDefault buffer asked old reply.Skipped new → new ≡ old
+      → Step types choices buffer asked old reply.Skipped new → new ≡ old
 
   -- A command that is refused as a whole changes nothing.
   abbrev pub RefusedChangesNothing : Type 0
   RefusedChangesNothing = (types : MessageTypeDetails) (buffer : ℕ) (asked : Command T) (old new : State T) (why : Refusal)
-      → is_refused_whole asked ≡ true → Step types IsDefault buffer asked old (reply.Refused why) new → new ≡ old
+      → is_refused_whole asked ≡ true → Step types choices buffer asked old (reply.Refused why) new → new ≡ old
 
   -- A call that is refused changes nothing but the phase of its pattern and name: all factories, services and numbers stay.
   abbrev pub RefusedCallsLeaveServices : Type 0
   RefusedCallsLeaveServices = (types : MessageTypeDetails) (buffer : ℕ) (pattern : MessagingPattern) (name : List ℕ) (asked : Command T)
       (old new : State T) (why : Refusal)
-      → IsCallFor pattern name asked → Step types IsDefault buffer asked old (reply.Refused why) new
+      → IsCallFor pattern name asked → Step types choices buffer asked old (reply.Refused why) new
       → (new ≡ old) ⊎ ((phase : Phase) × (new ≡ with_phase pattern name phase old))
 
   -- In every run of a new machine, what is in use of each service is within the sizes that its settings name.
   abbrev pub SizesAreAgreed : Type 0
   SizesAreAgreed = (types : MessageTypeDetails) (buffer : ℕ) (asked : List (Command T)) (answers : List (Reply T)) (new : State T)
-      → Runs types IsDefault buffer asked new_state answers new → AllByRecursion IsWithinSizes new.services
+      → Runs types choices buffer asked new_state answers new → AllByRecursion IsWithinSizes new.services
 
   -- In every run of a new machine, each message that is anywhere has the values with which its publisher began to send it.
   abbrev pub MessagesWereSent : Type 0
   MessagesWereSent = (types : MessageTypeDetails) (buffer : ℕ) (asked : List (Command T)) (answers : List (Reply T)) (new : State T)
-      (run : Runs types IsDefault buffer asked new_state answers new)
+      (run : Runs types choices buffer asked new_state answers new)
       → AllByRecursion
-      (AllMessages (λ publisher message. Began types IsDefault buffer publisher message.values asked new_state answers new run))
+      (AllMessages (λ publisher message. Began types choices buffer publisher message.values asked new_state answers new run))
       new.services
 
   -- A sample reads as it was received, whatever was asked meanwhile.
   abbrev pub SamplesReadTheSame : Type 0
   SamplesReadTheSame = (types : MessageTypeDetails) (buffer : ℕ) (asked : List (Command T)) (answers : List (Reply T)) (old : State T)
-      → Runs types IsDefault buffer asked new_state answers old
+      → Runs types choices buffer asked new_state answers old
       → (subscriber sample : ℕ) (values : Vec T) (mid : State T)
-      → Step types IsDefault buffer (command.Receive subscriber) old (reply.Received sample values) mid
-      → (meanwhile : List (Command T)) (told : List (Reply T)) (later : State T) → Runs types IsDefault buffer meanwhile mid told later
-      → (read : Vec T) (new : State T) → Step types IsDefault buffer (command.Read sample) later (reply.Values read) new
+      → Step types choices buffer (command.Receive subscriber) old (reply.Received sample values) mid
+      → (meanwhile : List (Command T)) (told : List (Reply T)) (later : State T) → Runs types choices buffer meanwhile mid told later
+      → (read : Vec T) (new : State T) → Step types choices buffer (command.Read sample) later (reply.Values read) new
       → vec_items read ≡ vec_items values

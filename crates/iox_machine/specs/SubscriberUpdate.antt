@@ -1,11 +1,12 @@
 -- How a subscriber brings its connections up to date.
 use Rattle.std.specs.Prelude.{ℕ, ◌≡◌, Bool, true, false, not, ◌&&◌, ◌==◌, nat_lt, max, List, [], ◌∷◌, ◌++◌, length, map, filter}
-use Rattle.std.specs.Prelude.{filter_map, fold, zip, slice_get, Option, None, Some, is_some, MatchBool, MatchResult, if◌then◌else◌}
+use Rattle.std.specs.Prelude.{filter_map, fold, zip, slice_get, Option, None, Some, is_some, Result, MatchBool, MatchResult, if◌then◌else◌}
 use Rattle.std.specs.List.{list_all, list_any}
 use Rattle.std.specs.Option.{option_map_or}
+use Rattle.iox_machine.specs.Choices.{Choices}
 use Rattle.iox_machine.specs.Mailbox.{is_idle}
 use Rattle.iox_machine.specs.PortList.{those, unless}
-use Rattle.iox_machine.specs.PublisherUpdate.{update_answer}
+use Rattle.iox_machine.specs.PublisherUpdate.{UpdateAnswers}
 use Rattle.iox_machine.specs.Service.{Service, Subscriber, with_subscriber, mailbox, connect}
 use Rattle.iox_machine.specs.Table.{contains}
 use Rattle.iox_machine.specs.Replies.{IsRefused}
@@ -72,14 +73,18 @@ module _ {T : Type 0} (buffer number : ℕ) where
       × (new ≡ fold (λ service publisher. connect subscriber.buffer_size publisher number service) (with_subscriber number after old)
       (those connected))
 
+module _ {T : Type 0} (choices : Choices T) (buffer number : ℕ) where
   -- A subscriber that does something first brings its connections up to date, if the list of publishers changed or it is to update again;
   -- where that fails it doesn't.
-  abbrev pub UpdatesFirst : (ConnectionFailure → Refusal) → (Subscriber → Service T → Reply T → Service T → Type 0) → Subscriber
-      → Service T → Reply T → Service T → Type 0
+  abbrev pub UpdatesFirst : (ConnectionFailure → Refusal) → (Subscriber → Service T → Reply T → Service T → Type 0)
+      → Subscriber → Service T → Reply T → Service T → Type 0
   UpdatesFirst told Does subscriber old answer new =
       MatchBool ((subscriber.seen == old.publisher_list.changes) && not subscriber.again)
       (Does subscriber old answer new)
-      ((after : Subscriber) × (mid : Service T) × Follows subscriber old after mid
-      × MatchResult (update_answer subscriber.degradation old.publisher_list.places after.connected)
+      ((after : Subscriber) × (mid : Service T) × Follows buffer number subscriber old after mid
+      × ((outcome : Result (Unit {0}) ConnectionFailure)
+      × UpdateAnswers (choices.subscriber_acts number subscriber.degradation)
+      (zip old.publisher_list.places after.connected) outcome
+      × MatchResult outcome
       (λ done. Does after mid answer new)
-      (λ failure. IsRefused (told failure) mid answer new))
+      (λ failure. IsRefused (told failure) mid answer new)))

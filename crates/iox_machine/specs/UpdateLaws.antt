@@ -3,11 +3,12 @@ use Rattle.std.specs.Prelude.{ℕ, ◌≡◌, ◌⊎◌, ◌==◌, Bool, true, f
 use Rattle.std.specs.Prelude.{Ok, length, if◌then◌else◌}
 use Rattle.std.specs.List.{AllByRecursion}
 use Rattle.std.specs.Option.{option_map_or}
+use Rattle.iox_machine.specs.Choices.{Choices}
 use Rattle.iox_machine.specs.Mailbox.{Mailbox, newest}
 use Rattle.iox_machine.specs.Message.{Message}
 use Rattle.iox_machine.specs.PortList.{those}
 use Rattle.iox_machine.specs.Ports.{publisher_in, subscriber_in}
-use Rattle.iox_machine.specs.PublisherUpdate.{update_answer}
+use Rattle.iox_machine.specs.PublisherUpdate.{UpdateAnswers}
 use Rattle.iox_machine.specs.RefusalLaws.{KeepsPorts}
 use Rattle.iox_machine.specs.Run.{Step}
 use Rattle.iox_machine.specs.Service.{Service, Publisher, Subscriber}
@@ -58,13 +59,13 @@ module _ {T : Type 0} where
       (find has old.services ≡ Some service) × (new ≡ record old { services = replaced has after old.services })
       × (after.loans ≡ service.loans) × KeepsPorts service after
 
-module _ {T : Type 0} (IsDefault : T → Type 0) where
+module _ {T : Type 0} (choices : Choices T) where
   -- After an update of a publisher that went well: it has seen all changes of the list of subscribers, and if there were new ones each
   -- that is listed is connected, or its connection failed; none did where the publisher is to fail then. If there were none nothing
   -- changes.
   abbrev pub PublisherIsUpdated : Type 0
   PublisherIsUpdated = (types : MessageTypeDetails) (buffer number : ℕ) (old new : State T)
-      → Step types IsDefault buffer (command.Update (port.Publisher number)) old reply.Done new
+      → Step types choices buffer (command.Update (port.Publisher number)) old reply.Done new
       → (service : Service T) × (one : Publisher T)
       × (find (λ other. is_some (publisher_in number other)) new.services ≡ Some service) × (publisher_in number service ≡ Some one)
       × (one.seen ≡ service.subscriber_list.changes)
@@ -72,12 +73,12 @@ module _ {T : Type 0} (IsDefault : T → Type 0) where
       ⊎ ((length one.connected ≡ length service.subscriber_list.places)
       × AllByRecursion (IsFollowed (λ subscriber. is_some (service.mailboxes number subscriber)))
       (zip service.subscriber_list.places one.connected)
-      × (update_answer one.degradation service.subscriber_list.places one.connected ≡ Ok tt)))
+      × UpdateAnswers (choices.publisher_acts number one.degradation) (zip service.subscriber_list.places one.connected) (Ok tt)))
 
   -- So it is of a subscriber, and the list of publishers.
   abbrev pub SubscriberIsUpdated : Type 0
   SubscriberIsUpdated = (types : MessageTypeDetails) (buffer number : ℕ) (old new : State T)
-      → Step types IsDefault buffer (command.Update (port.Subscriber number)) old reply.Done new
+      → Step types choices buffer (command.Update (port.Subscriber number)) old reply.Done new
       → (service : Service T) × (one : Subscriber)
       × (find (λ other. is_some (subscriber_in number other)) new.services ≡ Some service) × (subscriber_in number service ≡ Some one)
       × (one.seen ≡ service.publisher_list.changes)
@@ -85,14 +86,14 @@ module _ {T : Type 0} (IsDefault : T → Type 0) where
       ⊎ (AllByRecursion (IsFollowedOrStays (λ publisher. is_some (service.mailboxes publisher number))
       (is_unborrowed buffer number service))
       (zip service.publisher_list.places one.connected)
-      × (update_answer one.degradation service.publisher_list.places one.connected ≡ Ok tt)))
+      × UpdateAnswers (choices.subscriber_acts number one.degradation) (zip service.publisher_list.places one.connected) (Ok tt)))
 
   -- After an update of a publisher that went well each mailbox that was there is there still, with all that is borrowed. What waits in one
   -- of the publisher itself is what waited, if it was connected to the subscriber and that is listed still. A mailbox that wasn't there is
   -- one of the publisher and a subscriber that is listed, and begins with the history. All else stays.
   abbrev pub PublisherKeepsMailboxes : Type 0
   PublisherKeepsMailboxes = (types : MessageTypeDetails) (buffer number : ℕ) (old new : State T)
-      → Step types IsDefault buffer (command.Update (port.Publisher number)) old reply.Done new
+      → Step types choices buffer (command.Update (port.Publisher number)) old reply.Done new
       → (new ≡ old)
       ⊎ ((service : Service T) × (after : Service T) × (was : Publisher T)
       × UpdateLeaves (λ other. is_some (publisher_in number other)) old new service after
@@ -109,7 +110,7 @@ module _ {T : Type 0} (IsDefault : T → Type 0) where
   -- subscriber, for as many messages as it allows, and nothing waits there. All else stays.
   abbrev pub SubscriberKeepsMailboxes : Type 0
   SubscriberKeepsMailboxes = (types : MessageTypeDetails) (buffer number : ℕ) (old new : State T)
-      → Step types IsDefault buffer (command.Update (port.Subscriber number)) old reply.Done new
+      → Step types choices buffer (command.Update (port.Subscriber number)) old reply.Done new
       → (new ≡ old)
       ⊎ ((service : Service T) × (after : Service T) × (was : Subscriber)
       × UpdateLeaves (λ other. is_some (subscriber_in number other)) old new service after

@@ -1,6 +1,7 @@
 -- Laws of what keeps a factory from being closed.
 use Rattle.std.specs.Prelude.{ℕ, ◌≡◌, true, ◌&&◌, List, Some}
 use Rattle.std.specs.List.{AllByRecursion}
+use Rattle.iox_machine.specs.Choices.{Choices}
 use Rattle.iox_machine.specs.Message.{Loan, Sample}
 use Rattle.iox_machine.specs.Phase.{same_pattern}
 use Rattle.iox_machine.specs.Run.{Runs}
@@ -31,8 +32,8 @@ module _ {T : Type 0} (factories : List (ℕ × Factory)) where
     pub samples : (number : ℕ) (held : Sample T) → at number service.samples ≡ Some held
         → (one : Subscriber) × (at held.subscriber service.subscribers ≡ Some one) × IsOpen factories service.name one.factory
 
-module _ {T : Type 0} (IsDefault : T → Type 0) where
+module _ {T : Type 0} (choices : Choices T) where
   -- In every run of a new machine all that keeps a factory from being closed is of an open one: ports that stand, loans and samples.
   abbrev pub UseIsOwned : Type 0
   UseIsOwned = (types : MessageTypeDetails) (buffer : ℕ) (asked : List (Command T)) (answers : List (Reply T)) (new : State T)
-      → Runs types IsDefault buffer asked new_state answers new → AllByRecursion (IsOfOpenFactories new.factories) new.services
+      → Runs types choices buffer asked new_state answers new → AllByRecursion (IsOfOpenFactories new.factories) new.services

@@ -11,6 +11,7 @@ use Rattle.iox_command.specs.NegotiateBase.DescribeBase.declared.hash.ServiceHas
 use Rattle.iox_command.specs.NegotiateBase.DescribeBase.declared.message_type.MessageTypeDetails.{MessageTypeDetails}
 use Rattle.iox_command.specs.NegotiateBase.DescribeBase.declared.pattern.MessagingPattern.{MessagingPattern}
 use Rattle.iox_command.specs.declared.step.ForeignStep.{ForeignStep}
+use Rattle.iox_machine.specs.Choices.{Choices}
 use Rattle.iox_machine.specs.Phase.{Phase, Absent, BeingMade, Published, Emptied, acted, same_pattern}
 use Rattle.iox_machine.specs.State.{State, same_name, with_phase}
 use Rattle.iox_negotiate.proofs.Changes.{Change, Same, LockOf, Without, PublishOf, NewSegment, OfSegment, WithoutSegment, ServiceOf}
@@ -274,8 +275,8 @@ module _ (T : Type 0) where
         (all.1.1, all.1.2, all-stand names own pattern name asked taken old new state stands all.0 all.1.0 _ all.1.3),
       )
 
-  pub command-matches : (IsDefault : T → Type 0) → ForeignMatches T IsDefault
-  command-matches IsDefault names types buffer pattern name steps taken old new (Ok happened) state own asked form room stands h =
+  pub command-matches : (choices : Choices T) → ForeignMatches T choices
+  command-matches choices names types buffer pattern name steps taken old new (Ok happened) state own asked form room stands h =
       let done = steps-match names types pattern name steps taken old new (Ok happened) state own asked form room stands h in (
         done.0,
         done.1,
@@ -283,7 +284,7 @@ module _ (T : Type 0) where
         inl (refl, refl),
         done.2,
       )
-  command-matches IsDefault names types buffer pattern name steps taken old new (Err lacking) state own asked form room stands h =
+  command-matches choices names types buffer pattern name steps taken old new (Err lacking) state own asked form room stands h =
       let done = steps-match names types pattern name steps taken old new (Err lacking) state own asked form room stands h in (
         done.0,
         done.1,

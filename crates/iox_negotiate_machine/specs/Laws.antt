@@ -15,6 +15,7 @@ use Rattle.iox_command.specs.declared.reply.Reply.TheVariants as reply
 use Rattle.iox_command.specs.declared.service.ServiceOptions.{ServiceOptions}
 use Rattle.iox_command.specs.declared.step.ForeignStep.{ForeignStep}
 use Rattle.iox_command.specs.declared.step.ForeignStep.TheVariants as step
+use Rattle.iox_machine.specs.Choices.{Choices}
 use Rattle.iox_machine.specs.Agreement.{Agreement}
 use Rattle.iox_machine.specs.Asked.{settings_of}
 use Rattle.iox_machine.specs.Phase.{acted}
@@ -82,13 +83,13 @@ module _ (T : Type 0) where
       (with_phase pattern name (fold (acted types pattern) (state.phases pattern name) (take done steps)) state))
 
   -- So the command that has them do these steps is answered as the machine may answer it, and the table stands for its state then.
-  abbrev pub ForeignMatches : (T → Type 0) → Type 0
-  ForeignMatches IsDefault = (names : List (List ℕ)) (types : MessageTypeDetails) (buffer : ℕ) (pattern : MessagingPattern)
+  abbrev pub ForeignMatches : Choices T → Type 0
+  ForeignMatches choices = (names : List (List ℕ)) (types : MessageTypeDetails) (buffer : ℕ) (pattern : MessagingPattern)
       (name : List ℕ) (steps : List ForeignStep) (taken : MessagingPattern → List ℕ → List ℕ) (old new : Contents)
       (result : Result (Unit {0}) AllocError) (state : State T)
       → HaveOwnHashes names → IsAmong names name → AllByRecursion (HasStepForm types name) steps → old.next + length steps < 2 ^ 64
       → TableStands names taken old state
       → ActsAll (service_hash_of pattern name) (map (table_step_of types name) steps) old result new
       → (later : MessagingPattern → List ℕ → List ℕ) × GoOn taken later
-      × (after : State T) × Step types IsDefault buffer (command.Foreign pattern name steps) state (steps_reply result) after
+      × (after : State T) × Step types choices buffer (command.Foreign pattern name steps) state (steps_reply result) after
       × TableStands names later new after

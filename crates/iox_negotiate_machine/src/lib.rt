@@ -10,11 +10,14 @@
 //! ```
 #![tactic(auto)]
 
+ghost use Rattle.iox_machine.specs.Choices.{Handed, chosen_by};
 ghost use Rattle.iox_negotiate_machine.specs.CallLaws.{CreateMatches, OpenMatches, OpenOrCreateMatches};
 ghost use Rattle.iox_negotiate_machine.specs.CloseLaws.{CloseMatches};
 ghost use Rattle.iox_negotiate_machine.specs.FactoryLaws.{OpenIsPublished, FewAreOpen};
 ghost use Rattle.iox_negotiate_machine.specs.Laws.{NewTableStands, ForeignStepsMatch, ForeignMatches};
 ghost use Rattle.iox_negotiate_machine.specs.LookLaws.{LookMatches};
+
+use iox_domain_values::{Decides, Degrades};
 
 /// A table in which nothing lies stands for the phases of a new machine, whatever names are asked for.
 pub fn new_table_stands<T>()
@@ -29,8 +32,9 @@ pub fn foreign_steps_match<T>()
 {}
 
 /// So a command that has nodes outside the hub do such steps is answered by its table as the machine may answer it.
-pub fn foreign_command_matches<T: Default>()
-    ensures { ForeignMatches T T.is_default }
+pub fn foreign_command_matches<T: Default, B: Decides + Degrades, D: Degrades>()
+    ensures { (handed : Handed B D) → ForeignMatches T (chosen_by T.is_default (λ who. B.decides who) (λ who. B.degrades who)
+        (λ who. D.degrades who) handed) }
 {}
 
 /// A look under a pattern and name shows the phase that the machine has there: nothing; a service that is being made; or what is agreed on,

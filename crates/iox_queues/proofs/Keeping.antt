@@ -1,6 +1,6 @@
 -- Each step is recorded and is of one call, and places change by acts alone: after one more step.
 use Rattle.std.proofs.Common.{◌≡◌, ℕ, ◌<◌, Bool, true, false, ◌&&◌, not, nat_lt, List, [], ◌∷◌, ◌++◌, length, drop, replicate}
-use Rattle.std.proofs.Common.{refl, sym, ◌∙◌, ap, subst, append-nil}
+use Rattle.std.proofs.Common.{None, Some, inl, if◌then◌else◌, refl, sym, ◌∙◌, ap, subst, append-nil}
 use Rattle.std.proofs.Math.Seq.{drop-append_seam}
 use Rattle.std.proofs.lemmas.Bool.{and_parts, ltb-true}
 use Rattle.std.proofs.lemmas.List.{length-replicate}
@@ -10,8 +10,8 @@ use Rattle.iox_queues.specs.Steps.{call_begun, call_is_idle, call_next, call_tak
 use Rattle.iox_queues.specs.Told.{own}
 use Rattle.iox_queues.specs.Recorded.{Answered}
 use Rattle.iox_queues.specs.Machine.{SetState, begun, call_ended, fits, is_within, seat_at, stage_at, start, start_words, went}
-use Rattle.iox_queues.specs.Asked.{AreAsked, ChangesByActs, EachChanges, IsAskedSoFar, IsRecorded, StepsAreOfCalls, bound_in_hand, bounds}
-use Rattle.iox_queues.specs.Asked.{call_in_hand, local_numbers, span_in_hand, spans}
+use Rattle.iox_queues.specs.Asked.{AreAsked, ChangesByActs, EachChanges, IsAskedSoFar, IsRecorded, StepsAreOfCalls, begun_at}
+use Rattle.iox_queues.specs.Asked.{call_in_hand, spans_ended}
 use Rattle.iox_queues.specs.Kept.{IsKept}
 use Rattle.iox_queues.specs.declared.bits.call.Call.{Call}
 use Rattle.iox_queues.specs.declared.bits.machine.Event.{Event}
@@ -24,9 +24,10 @@ use Rattle.iox_queues.proofs.Asked.{ended_among, ended_asked_on}
 use Rattle.iox_queues.proofs.Balance.{same_length}
 use Rattle.iox_queues.proofs.OwnSteps.{own_more, own_more_since}
 use Rattle.iox_queues.proofs.Recorded.{answered_on}
-use Rattle.iox_queues.proofs.Seats.{all_idle, each_party}
-use Rattle.iox_queues.proofs.Spans.{begins_bound, begins_span, none_of, numbers_of_its, numbers_of_other, steps_of_its, steps_of_other}
-use Rattle.iox_queues.proofs.Spans.{under_way, went_bound, went_span}
+use Rattle.iox_queues.proofs.Seats.{all_idle, seat_else, seat_here}
+use Rattle.iox_queues.proofs.OfCalls.{ended_more, under_way, went_one}
+use Rattle.iox_queues.proofs.Spans.{IsOneOf, of_calls_on}
+use Rattle.iox_queues.specs.Spans.{AreOfCalls, Span, bound_in_hand, span_in_hand}
 
 not_true : (b : Bool) → not b ≡ true → b ≡ false
 not_true true e = absurd (cc)
@@ -76,25 +77,14 @@ module _ (m : SetState) (party : ℕ) (fit : fits m (GoOn party) ≡ true) (k : 
   }
 
   pub went_counted : StepsAreOfCalls (went m party)
-  went_counted = record {
-    steps = each_party
-        (λ (q : ℕ) (s : Seat). own q (went m party).events
-        ≡ spans q (went m party).events (went m party).finished ++ span_in_hand q (went m party).events s)
-        m.seats party seat within
-        (λ q differs. steps_of_other q m.events event m.finished ended (seat_at m.seats q) differs (k.began q) k.recorded.among
-        (none_of party q (seat_at m.seats party).first (length m.events) (went m party).events (stage_at m.seats party) differs).0
-        (k.counted.steps q))
-        (steps_of_its party m.events event m.finished ended (seat_at m.seats party) seat refl k.recorded.among (k.counted.steps party)
-        (went_span party (seat_at m.seats party).first m.events answer (stage_at m.seats party) (k.began party) in_call));
-    locals = each_party
-        (λ (q : ℕ) (s : Seat). local_numbers q 0 (went m party).events ≡ bounds q (went m party).finished ++ bound_in_hand s)
-        m.seats party seat within
-        (λ q differs. numbers_of_other q m.events event m.finished ended (seat_at m.seats q) differs
-        (none_of party q (seat_at m.seats party).first (length m.events) (went m party).events (stage_at m.seats party) differs).1
-        (k.counted.locals q))
-        (numbers_of_its party m.events event m.finished ended (seat_at m.seats party) seat refl (k.counted.locals party)
-        (went_bound party (seat_at m.seats party).first m.events answer (stage_at m.seats party) in_call));
-  }
+  went_counted = subst (λ (ss : List Span). AreOfCalls (went m party).events ss (λ (q : ℕ). begun_at (seat_at (went m party).seats q)))
+      (sym (ended_more m.finished ended))
+      (of_calls_on m.events event (spans_ended m.finished) (spans_ended ended) (λ (q : ℕ). begun_at (seat_at m.seats q))
+      (λ (q : ℕ). begun_at (seat_at (went m party).seats q)) k.counted
+      (subst (λ (s : Seat). IsOneOf event (length m.events) (begun_at (seat_at m.seats party)) (begun_at s) (spans_ended ended))
+      (sym (seat_here m.seats party seat within))
+      (went_one party (seat_at m.seats party).first (length m.events) answer (stage_at m.seats party) in_call))
+      (λ q differs. ap begun_at (seat_else m.seats party q seat (λ same. differs (sym same)))))
 
   pub went_acts : ChangesByActs (went m party)
   went_acts = subst (λ (n : ℕ). EachChanges n (start_words n) (went m party).events) (sym size)
@@ -135,31 +125,18 @@ module _ (m : SetState) (party : ℕ) (c : Call) (fit : fits m (Begin party c) �
   }
 
   pub begun_counted : StepsAreOfCalls (begun m party c)
-  begun_counted = record {
-    steps = each_party
-        (λ (q : ℕ) (s : Seat). own q (begun m party c).events
-        ≡ spans q (begun m party c).events m.finished ++ span_in_hand q (begun m party c).events s)
-        m.seats party begun_seat there
-        (λ q differs. subst (λ (fs : List Finished). own q (begun m party c).events
-        ≡ spans q (begun m party c).events fs ++ span_in_hand q (begun m party c).events (seat_at m.seats q)) (append-nil m.finished)
-        (steps_of_other q m.events begin m.finished [] (seat_at m.seats q) differs (k.began q) k.recorded.among refl
-        (k.counted.steps q)))
-        (subst (λ (fs : List Finished). own party (begun m party c).events
-        ≡ spans party (begun m party c).events fs ++ span_in_hand party (begun m party c).events begun_seat) (append-nil m.finished)
-        (steps_of_its party m.events begin m.finished [] (seat_at m.seats party) begun_seat refl k.recorded.among
-        (k.counted.steps party)
-        (begins_span party m.events _ _ idle called (seat_at m.seats party).first first_own)));
-    locals = each_party
-        (λ (q : ℕ) (s : Seat). local_numbers q 0 (begun m party c).events ≡ bounds q m.finished ++ bound_in_hand s)
-        m.seats party begun_seat there
-        (λ q differs. subst (λ (fs : List Finished). local_numbers q 0 (begun m party c).events
-        ≡ bounds q fs ++ bound_in_hand (seat_at m.seats q)) (append-nil m.finished)
-        (numbers_of_other q m.events begin m.finished [] (seat_at m.seats q) differs refl (k.counted.locals q)))
-        (subst (λ (fs : List Finished). local_numbers party 0 (begun m party c).events
-        ≡ bounds party fs ++ bound_in_hand begun_seat) (append-nil m.finished)
-        (numbers_of_its party m.events begin m.finished [] (seat_at m.seats party) begun_seat refl (k.counted.locals party)
-        (begins_bound party m.events _ _ idle called (seat_at m.seats party).first)));
-  }
+  begun_counted = subst (λ (ss : List Span). AreOfCalls (begun m party c).events ss
+      (λ (q : ℕ). begun_at (seat_at (begun m party c).seats q))) (append-nil (spans_ended m.finished))
+      (of_calls_on m.events begin (spans_ended m.finished) [] (λ (q : ℕ). begun_at (seat_at m.seats q))
+      (λ (q : ℕ). begun_at (seat_at (begun m party c).seats q)) k.counted
+      (inl (
+        ap (λ (b : Bool). if b then None else Some (seat_at m.seats party).first) idle,
+        refl,
+        ap begun_at (seat_here m.seats party begun_seat there)
+            ∙ ap (λ (b : Bool). if b then None else Some (length m.events)) called,
+        refl,
+      ))
+      (λ q differs. ap begun_at (seat_else m.seats party q begun_seat (λ same. differs (sym same)))))
 
   pub begun_acts : ChangesByActs (begun m party c)
   begun_acts = each_on (length m.words.cells) (start_words (length m.words.cells)) m.words m.events begin k.recorded.answered
@@ -178,6 +155,8 @@ module _ (max capacity parties : ℕ) where
 
   pub start_counted : StepsAreOfCalls (start max capacity parties)
   start_counted = record {
-    steps = λ q. subst (λ (s : Seat). [] ≡ [] ++ span_in_hand q [] s) (sym (all_idle parties q)) refl;
-    locals = λ q. subst (λ (s : Seat). [] ≡ [] ++ bound_in_hand s) (sym (all_idle parties q)) refl;
+    steps = λ q. subst (λ (s : Seat). [] ≡ [] ++ span_in_hand q [] (begun_at s)) (sym (all_idle parties q)) refl;
+    locals = λ q. subst (λ (s : Seat). [] ≡ [] ++ bound_in_hand (begun_at s)) (sym (all_idle parties q)) refl;
+    within = tt;
+    begun = λ q first is. absurd (let none : None ≡ Some first = sym (ap begun_at (all_idle parties q)) ∙ is in cc);
   }

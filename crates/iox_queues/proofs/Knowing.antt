@@ -192,6 +192,21 @@ eqb_differs n m false e h = refl
 own_place : (place n : ℕ) → place < n → (place % n == place) ≡ true
 own_place place n within = eqb_same (place % n) place (place % n == place) refl (mod-eq_of_lt within)
 
+-- where nothing was taken out, nothing was cleared
+none_cleared : (n i : ℕ) (events : List Event) → taken_out n i events ≡ 0 → cleared n i events ≡ 0
+none_cleared n i [] none = refl
+none_cleared n i (x ∷ events) none = of (taken_by n i x.access x.answer) (nat_lt 0 (taken_by n i x.access x.answer)) refl
+    (omega (arith, none)) (none_cleared n i events (omega (arith, none)))
+  where
+    of : (k : ℕ) (b : Bool) → nat_lt 0 k ≡ b → k ≡ 0 → cleared n i events ≡ 0 → (if b then 1 else 0) + cleared n i events ≡ 0
+    of k true e zero rest = let some : 0 < k = ltb-true 0 k e in absurd (omega arith)
+    of k false e zero rest = omega arith
+
+-- what takes something out clears once
+clears : (k : ℕ) (b : Bool) → nat_lt 0 k ≡ b → 0 < k → ◌≡◌ {A = ℕ} (if b then 1 else 0) 1
+clears k true e h = refl
+clears k false e h = let ge : k ≤ 0 = ltb-false 0 k e in absurd (omega arith)
+
 -- the place was taken out
 took : (max n : ℕ) (events : List Event) (e : Event) (place left capacity : ℕ) (all : Bool) (count : ℕ) → n < 2 ^ 64
     → Sweeps n events place left capacity all → 0 < count
@@ -210,7 +225,13 @@ took max n events e place left capacity false count few s some adds here away = 
   adds_on n events e s.adds adds,
   s.there,
   (omega (arith, more_taken n place events e, s.takes refl place, here)),
-  λ i differs. omega (arith, more_taken n i events e, s.takes refl i, away i differs),
+  (λ i differs. omega (arith, more_taken n i events e, s.takes refl i, away i differs)),
+  omega (
+    arith,
+    more_cleared n place events e,
+    none_cleared n place events (s.takes refl place),
+    clears (taken_by n place e.access e.answer) (nat_lt 0 (taken_by n place e.access e.answer)) refl (omega (arith, here, some)),
+  ),
 )
 
 -- the place was looked at, to count it once more
@@ -331,7 +352,8 @@ knows_on max n events (Found place after) party answer small few k =
       adds_on n events e k.0 (λ i. refl),
       k.1,
       (omega (arith, more_taken n place events e, k.2)),
-      λ i differs. omega (arith, more_taken n i events e, k.3 i differs),
+      (λ i differs. omega (arith, more_taken n i events e, k.3 i differs)),
+      omega (arith, more_cleared n place events e, k.4),
     )
 knows_on max n events (Done c answered) party answer small few k = tt
 

@@ -1,45 +1,39 @@
--- Each step is one of one call, after one more step.
-use Rattle.std.proofs.Common.{◌≡◌, ℕ, suc, ◌+◌, ◌≤◌, Bool, true, false, if◌then◌else◌, ◌==◌, ◌&&◌, Some, List, [], ◌∷◌, ◌++◌, length, take}
-use Rattle.std.proofs.Common.{drop, refl, sym, ◌∙◌, ap, arith, append_assoc, append-nil, length-append, take_all}
+-- Each step is one of one call, after one more step, for calls of any kind.
+use Rattle.std.proofs.Common.{◌≡◌, ℕ, suc, ◌+◌, ◌<◌, ◌⊎◌, inl, inr, ⊎_elim, Bool, true, false, if◌then◌else◌, ◌==◌, ◌&&◌}
+use Rattle.std.proofs.Common.{Option, Some, None, List, [], ◌∷◌, ◌++◌, length, take, drop, refl, sym, ◌∙◌, ap, subst, arith}
+use Rattle.std.proofs.Common.{append_assoc, append-nil, length-append, take_all}
+use Rattle.std.proofs.Math.Seq.{drop-append_seam}
+use Rattle.std.proofs.lemmas.Bool.{cases_eq}
 use Rattle.std.proofs.lemmas.List.{take-append-le}
-use Rattle.iox_queues_steps.specs.declared.access.Access.TheVariants.{Local}
-use Rattle.iox_queues.specs.Steps.{call_is_idle, call_next, call_take}
 use Rattle.iox_queues.specs.Told.{own}
-use Rattle.iox_queues.specs.Machine.{call_ended}
-use Rattle.iox_queues.specs.Asked.{LieWithin, bound_in_hand, bounds, bounds_of, call_in_hand, is_local, local_number, local_numbers}
-use Rattle.iox_queues.specs.Asked.{span_in_hand, span_of, spans}
-use Rattle.iox_queues.specs.declared.bits.call.Call.{Call}
-use Rattle.iox_queues.specs.declared.bits.call.SetCall.{SetCall}
-use Rattle.iox_queues.specs.declared.bits.call.SetCall.TheVariants.{Idle, Add, Adding, Next, Sweep, Taking, Found, Done}
+use Rattle.iox_queues.specs.Spans.{AreOfCalls, AreWithin, Span, bound_in_hand, bounds, bounds_of, is_local, local_number, local_numbers}
+use Rattle.iox_queues.specs.Spans.{span_in_hand, span_of, spans}
 use Rattle.iox_queues.specs.declared.bits.machine.Event.{Event}
-use Rattle.iox_queues.specs.declared.bits.machine.Finished.{Finished}
-use Rattle.iox_queues.specs.declared.bits.state.Seat.{Seat}
-use Rattle.iox_queues.proofs.Asked.{same_call}
 use Rattle.iox_queues.proofs.Knowing.{eqb_differs, eqb_same}
 use Rattle.iox_queues.proofs.OwnSteps.{own_else, own_else_since, own_more, own_more_since}
 
 -- the calls that ended keep their steps, and others come behind them
-spans_on : (p : ℕ) (events : List Event) (e : Event) (finished : List Finished) → LieWithin events finished
-    → spans p (events ++ e ∷ []) finished ≡ spans p events finished
+spans_on : (p : ℕ) (events : List Event) (e : Event) (ended : List Span) → AreWithin events ended
+    → spans p (events ++ e ∷ []) ended ≡ spans p events ended
 spans_on p events e [] h = refl
-spans_on p events e (f ∷ finished) h =
-    ap (λ (es : List Event). (if f.party == p then own p (drop f.first es) else []) ++ spans p (events ++ e ∷ []) finished)
-    (take-append-le (f.last + 1) events (e ∷ []) (omega (arith, h.0.ended)))
-    ∙ ap (λ (es : List Event). span_of p events f ++ es) (spans_on p events e finished h.1)
+spans_on p events e (s ∷ ended) h =
+    ap (λ (es : List Event). (if s.party == p then own p (drop s.first es) else []) ++ spans p (events ++ e ∷ []) ended)
+    (take-append-le (s.last + 1) events (e ∷ []) (omega (arith, h.0.ended)))
+    ∙ ap (λ (es : List Event). span_of p events s ++ es) (spans_on p events e ended h.1)
 
-spans_append : (p : ℕ) (events : List Event) (xs ys : List Finished) → spans p events (xs ++ ys) ≡ spans p events xs ++ spans p events ys
+spans_append : (p : ℕ) (events : List Event) (xs ys : List Span) → spans p events (xs ++ ys) ≡ spans p events xs ++ spans p events ys
 spans_append p events [] ys = refl
 spans_append p events (x ∷ xs) ys =
     ap (λ (es : List Event). span_of p events x ++ es) (spans_append p events xs ys)
     ∙ sym (append_assoc (span_of p events x) (spans p events xs) (spans p events ys))
 
-spans_more : (p : ℕ) (events : List Event) (e : Event) (finished ended : List Finished) → LieWithin events finished
-    → spans p (events ++ e ∷ []) (finished ++ ended) ≡ spans p events finished ++ spans p (events ++ e ∷ []) ended
-spans_more p events e finished ended among =
-    spans_append p (events ++ e ∷ []) finished ended
-    ∙ ap (λ (es : List Event). es ++ spans p (events ++ e ∷ []) ended) (spans_on p events e finished among)
+spans_more : (p : ℕ) (events : List Event) (e : Event) (ended added : List Span) → AreWithin events ended
+    → spans p (events ++ e ∷ []) (ended ++ added) ≡ spans p events ended ++ spans p (events ++ e ∷ []) added
+spans_more p events e ended added among =
+    spans_append p (events ++ e ∷ []) ended added
+    ∙ ap (λ (es : List Event). es ++ spans p (events ++ e ∷ []) added) (spans_on p events e ended among)
 
-bounds_append : (p : ℕ) (xs ys : List Finished) → bounds p (xs ++ ys) ≡ bounds p xs ++ bounds p ys
+bounds_append : (p : ℕ) (xs ys : List Span) → bounds p (xs ++ ys) ≡ bounds p xs ++ bounds p ys
 bounds_append p [] ys = refl
 bounds_append p (x ∷ xs) ys =
     ap (λ (ns : List ℕ). bounds_of p x ++ ns) (bounds_append p xs ys) ∙ sym (append_assoc (bounds_of p x) (bounds p xs) (bounds p ys))
@@ -58,172 +52,179 @@ numbers_more p from (x ∷ xs) e =
     on : (from n : ℕ) → from + 1 + n ≡ from + (suc n)
     on from n = omega arith
 
--- a step of another party
-pub none_of : (p q first last : ℕ) (events : List Event) (stage : SetCall) → (p ≡ q → ⊥)
-    → (spans q events (call_ended p first last stage) ≡ []) × (bounds q (call_ended p first last stage) ≡ [])
-none_of p q first last events Idle differs = (refl, refl)
-none_of p q first last events (Add place top) differs = (refl, refl)
-none_of p q first last events (Adding place top count) differs = (refl, refl)
-none_of p q first last events (Next capacity) differs = (refl, refl)
-none_of p q first last events (Sweep place left capacity all) differs = (refl, refl)
-none_of p q first last events (Taking place left capacity all count) differs = (refl, refl)
-none_of p q first last events (Found place after) differs = (refl, refl)
-none_of p q first last events (Done c answer) differs =
-    let other : (p == q) ≡ false = eqb_differs p q (p == q) refl differs in (
-      ap (λ (b : Bool). (if b then own q (drop first (take (last + 1) events)) else []) ++ []) other,
-      ap (λ (b : Bool). (if b then first ∷ last ∷ [] else []) ++ []) other,
-    )
+within_on : (events : List Event) (e : Event) (ended : List Span) → AreWithin events ended → AreWithin (events ++ e ∷ []) ended
+within_on events e [] h = tt
+within_on events e (s ∷ ended) h = (
+  record { begun = h.0.begun; ended = omega (arith, h.0.ended, length-append events (e ∷ [])) },
+  within_on events e ended h.1,
+)
 
-module _ (q : ℕ) (events : List Event) (e : Event) (finished ended : List Finished) (seat : Seat) (differs : e.party ≡ q → ⊥) where
-  pub steps_of_other : seat.first ≤ length events → LieWithin events finished → spans q (events ++ e ∷ []) ended ≡ []
-      → own q events ≡ spans q events finished ++ span_in_hand q events seat
-      → own q (events ++ e ∷ []) ≡ spans q (events ++ e ∷ []) (finished ++ ended) ++ span_in_hand q (events ++ e ∷ []) seat
-  steps_of_other began among none h =
-      own_else q events e differs ∙ h
-      ∙ ap (λ (es : List Event). es ++ span_in_hand q events seat)
-      (sym (spans_more q events e finished ended among ∙ ap (λ (es : List Event). spans q events finished ++ es) none
-      ∙ append-nil (spans q events finished)))
-      ∙ ap (λ (es : List Event). spans q (events ++ e ∷ []) (finished ++ ended) ++ (if call_is_idle seat.stage then [] else es))
-      (sym (own_else_since q seat.first events e began differs))
-
-  pub numbers_of_other : bounds q ended ≡ [] → local_numbers q 0 events ≡ bounds q finished ++ bound_in_hand seat
-      → local_numbers q 0 (events ++ e ∷ []) ≡ bounds q (finished ++ ended) ++ bound_in_hand seat
-  numbers_of_other none h =
-      numbers_more q 0 events e
-      ∙ ap (λ (b : Bool). local_numbers q 0 events ++ (if b && is_local e.access then (0 + length events) ∷ [] else []))
-      (eqb_differs e.party q (e.party == q) refl differs)
-      ∙ append-nil (local_numbers q 0 events) ∙ h
-      ∙ ap (λ (ns : List ℕ). ns ++ bound_in_hand seat)
-      (sym (bounds_append q finished ended ∙ ap (λ (ns : List ℕ). bounds q finished ++ ns) none ∙ append-nil (bounds q finished)))
-
--- a step of this party: the call in hand has one more, or ended with it
-module _ (party : ℕ) (events : List Event) (e : Event) (finished ended : List Finished) (seat seat' : Seat) (its : e.party ≡ party) where
-  pub steps_of_its : LieWithin events finished → own party events ≡ spans party events finished ++ span_in_hand party events seat
-      → span_in_hand party events seat ++ e ∷ [] ≡ spans party (events ++ e ∷ []) ended ++ span_in_hand party (events ++ e ∷ []) seat'
-      → own party (events ++ e ∷ [])
-      ≡ spans party (events ++ e ∷ []) (finished ++ ended) ++ span_in_hand party (events ++ e ∷ []) seat'
-  steps_of_its among h grows =
-      own_more party events e its ∙ ap (λ (es : List Event). es ++ e ∷ []) h
-      ∙ append_assoc (spans party events finished) (span_in_hand party events seat) (e ∷ [])
-      ∙ ap (λ (es : List Event). spans party events finished ++ es) grows
-      ∙ sym (append_assoc (spans party events finished) (spans party (events ++ e ∷ []) ended)
-      (span_in_hand party (events ++ e ∷ []) seat'))
-      ∙ ap (λ (es : List Event). es ++ span_in_hand party (events ++ e ∷ []) seat') (sym (spans_more party events e finished ended among))
-
-  pub numbers_of_its : local_numbers party 0 events ≡ bounds party finished ++ bound_in_hand seat
-      → bound_in_hand seat ++ local_number party (0 + length events) e ≡ bounds party ended ++ bound_in_hand seat'
-      → local_numbers party 0 (events ++ e ∷ []) ≡ bounds party (finished ++ ended) ++ bound_in_hand seat'
-  numbers_of_its h grows =
-      numbers_more party 0 events e ∙ ap (λ (ns : List ℕ). ns ++ local_number party (0 + length events) e) h
-      ∙ append_assoc (bounds party finished) (bound_in_hand seat) (local_number party (0 + length events) e)
-      ∙ ap (λ (ns : List ℕ). bounds party finished ++ ns) grows
-      ∙ sym (append_assoc (bounds party finished) (bounds party ended) (bound_in_hand seat'))
-      ∙ ap (λ (ns : List ℕ). ns ++ bound_in_hand seat') (sym (bounds_append party finished ended))
+within_append : (events : List Event) (xs ys : List Span) → AreWithin events xs → AreWithin events ys → AreWithin events (xs ++ ys)
+within_append events [] ys h g = g
+within_append events (x ∷ xs) ys h g = (h.0, within_append events xs ys h.1 g)
 
 itself : (p : ℕ) → (p == p) ≡ true
 itself p = eqb_same p p (p == p) refl refl
 
--- the call that begins has its first step
-module _ (party : ℕ) (events : List Event) (before after : Bool) (idle : before ≡ true) (in_call : after ≡ false) where
-  abbrev begin : Event
-  begin = record { party = party; access = Local; answer = 0 }
+-- what a step is to the calls of its party: it begins one, goes on inside one, or ends one
+abbrev pub IsOneOf : Event → ℕ → Option ℕ → Option ℕ → List Span → Type 0
+IsOneOf e number before after added =
+    ((before ≡ None) × (is_local e.access ≡ true) × (after ≡ Some number) × (added ≡ []))
+    ⊎ (((first : ℕ) × (before ≡ Some first) × (is_local e.access ≡ false) × (after ≡ Some first) × (added ≡ []))
+    ⊎ ((first : ℕ) × (before ≡ Some first) × (is_local e.access ≡ true) × (after ≡ None)
+    × (added ≡ record { party = e.party; first = first; last = number } ∷ [])))
 
-  pub begins_span : (first : ℕ) → own party (drop (length events) (events ++ begin ∷ [])) ≡ begin ∷ []
-      → (if before then [] else own party (drop first events)) ++ begin ∷ []
-      ≡ [] ++ (if after then [] else own party (drop (length events) (events ++ begin ∷ [])))
-  begins_span first alone =
-      ap (λ (b : Bool). (if b then [] else own party (drop first events)) ++ begin ∷ []) idle ∙ sym alone
-      ∙ ap (λ (b : Bool). if b then [] else own party (drop (length events) (events ++ begin ∷ []))) (sym in_call)
+module _ (events : List Event) (e : Event) where
+  abbrev more : List Event
+  more = events ++ e ∷ []
 
-  pub begins_bound : (first : ℕ) → (if before then [] else first ∷ []) ++ local_number party (0 + length events) begin
-      ≡ [] ++ (if after then [] else length events ∷ [])
-  begins_bound first =
-      ap (λ (b : Bool). (if b then [] else first ∷ []) ++ local_number party (0 + length events) begin) idle
-      ∙ ap (λ (b : Bool). if b && true then (0 + length events) ∷ [] else []) (itself party)
-      ∙ ap (λ (n : ℕ). n ∷ []) zero_more
-      ∙ ap (λ (b : Bool). if b then [] else length events ∷ []) (sym in_call)
+  length_more : length more ≡ length events + 1
+  length_more = length-append events (e ∷ [])
+
+  span_grows : (before after : Option ℕ) (added : List Span) → ((first : ℕ) → before ≡ Some first → first < length events)
+      → IsOneOf e (length events) before after added
+      → span_in_hand e.party events before ++ e ∷ [] ≡ spans e.party more added ++ span_in_hand e.party more after
+  span_grows before after added began (inl h) =
+      ap (λ (o : Option ℕ). span_in_hand e.party events o ++ e ∷ []) h.0
+      ∙ sym (ap (own e.party) (drop-append_seam events (e ∷ [])) ∙ own_more e.party [] e refl)
+      ∙ ap (λ (o : Option ℕ). span_in_hand e.party more o) (sym h.2)
+      ∙ ap (λ (s : List Span). spans e.party more s ++ span_in_hand e.party more after) (sym h.3)
+  span_grows before after added began (inr (inl h)) =
+      ap (λ (o : Option ℕ). span_in_hand e.party events o ++ e ∷ []) h.1
+      ∙ sym (own_more_since e.party h.0 events e (omega (arith, began h.0 h.1)) refl)
+      ∙ ap (λ (o : Option ℕ). span_in_hand e.party more o) (sym h.3)
+      ∙ ap (λ (s : List Span). spans e.party more s ++ span_in_hand e.party more after) (sym h.4)
+  span_grows before after added began (inr (inr h)) =
+      ap (λ (o : Option ℕ). span_in_hand e.party events o ++ e ∷ []) h.1
+      ∙ sym (own_more_since e.party h.0 events e (omega (arith, began h.0 h.1)) refl)
+      ∙ ap (λ (es : List Event). own e.party (drop h.0 es)) (sym (take_all (length events + 1) more (omega (arith, length_more))))
+      ∙ ap (λ (b : Bool). if b then own e.party (drop h.0 (take (length events + 1) more)) else []) (sym (itself e.party))
+      ∙ sym (append-nil (span_of e.party more (record { party = e.party; first = h.0; last = length events })))
+      ∙ sym (append-nil (span_of e.party more (record { party = e.party; first = h.0; last = length events }) ++ []))
+      ∙ ap (λ (o : Option ℕ). spans e.party more (record { party = e.party; first = h.0; last = length events } ∷ [])
+      ++ span_in_hand e.party more o) (sym h.3)
+      ∙ ap (λ (s : List Span). spans e.party more s ++ span_in_hand e.party more after) (sym h.4)
+
+  here : (first : List ℕ) (is : Bool) → is_local e.access ≡ is
+      → first ++ local_number e.party (0 + length events) e ≡ first ++ (if is then length events ∷ [] else [])
+  here first is same =
+      ap (λ (b : Bool). first ++ (if b && is_local e.access then (0 + length events) ∷ [] else [])) (itself e.party)
+      ∙ ap (λ (b : Bool). first ++ (if b then (0 + length events) ∷ [] else [])) same
+      ∙ ap (λ (n : ℕ). first ++ (if is then n ∷ [] else [])) zero_more
     where
       zero_more : 0 + length events ≡ length events
       zero_more = omega arith
 
-pub under_way : (stage : SetCall) (c : Call) → call_in_hand stage ≡ Some c → call_is_idle stage ≡ false
-under_way Idle c h = absurd (cc)
-under_way (Add place top) c h = refl
-under_way (Adding place top count) c h = refl
-under_way (Next capacity) c h = refl
-under_way (Sweep place left capacity all) c h = refl
-under_way (Taking place left capacity all count) c h = refl
-under_way (Found place after) c h = refl
-under_way (Done c' answer) c h = refl
+  bound_grows : (before after : Option ℕ) (added : List Span) → IsOneOf e (length events) before after added
+      → bound_in_hand before ++ local_number e.party (0 + length events) e ≡ bounds e.party added ++ bound_in_hand after
+  bound_grows before after added (inl h) =
+      here (bound_in_hand before) true h.1
+      ∙ ap (λ (o : Option ℕ). bound_in_hand o ++ length events ∷ []) h.0
+      ∙ ap (λ (o : Option ℕ). bound_in_hand o) (sym h.2)
+      ∙ ap (λ (s : List Span). bounds e.party s ++ bound_in_hand after) (sym h.3)
+  bound_grows before after added (inr (inl h)) =
+      here (bound_in_hand before) false h.2
+      ∙ append-nil (bound_in_hand before)
+      ∙ ap (λ (o : Option ℕ). bound_in_hand o) (h.1 ∙ sym h.3)
+      ∙ ap (λ (s : List Span). bounds e.party s ++ bound_in_hand after) (sym h.4)
+  bound_grows before after added (inr (inr h)) =
+      here (bound_in_hand before) true h.2
+      ∙ ap (λ (o : Option ℕ). bound_in_hand o ++ length events ∷ []) h.1
+      ∙ ap (λ (b : Bool). if b then h.0 ∷ length events ∷ [] else []) (sym (itself e.party))
+      ∙ sym (append-nil (bounds_of e.party (record { party = e.party; first = h.0; last = length events })))
+      ∙ sym (append-nil (bounds_of e.party (record { party = e.party; first = h.0; last = length events }) ++ []))
+      ∙ ap (λ (o : Option ℕ). bounds e.party (record { party = e.party; first = h.0; last = length events } ∷ []) ++ bound_in_hand o)
+      (sym h.3)
+      ∙ ap (λ (s : List Span). bounds e.party s ++ bound_in_hand after) (sym h.4)
 
--- the call in hand has one step more, or ends with it
-module _ (party first : ℕ) (events : List Event) (answer : ℕ) where
-  abbrev step : SetCall → Event
-  step stage = record { party = party; access = call_next stage; answer = answer }
+  -- what ended with it is of its party
+  not_of : (q : ℕ) (before after : Option ℕ) (added : List Span) → (e.party ≡ q → ⊥) → IsOneOf e (length events) before after added
+      → (spans q more added ≡ []) × (bounds q added ≡ [])
+  not_of q before after added differs (inl h) =
+      (ap (λ (s : List Span). spans q more s) h.3, ap (λ (s : List Span). bounds q s) h.3)
+  not_of q before after added differs (inr (inl h)) =
+      (ap (λ (s : List Span). spans q more s) h.4, ap (λ (s : List Span). bounds q s) h.4)
+  not_of q before after added differs (inr (inr h)) =
+      let other : (e.party == q) ≡ false = eqb_differs e.party q (e.party == q) refl differs in (
+        ap (λ (s : List Span). spans q more s) h.4
+            ∙ ap (λ (b : Bool). (if b then own q (drop h.0 (take (length events + 1) more)) else []) ++ []) other,
+        ap (λ (s : List Span). bounds q s) h.4 ∙ ap (λ (b : Bool). (if b then h.0 ∷ length events ∷ [] else []) ++ []) other,
+      )
 
-  goes_span : (stage : SetCall) (after : Bool) → first ≤ length events → after ≡ false
-      → own party (drop first events) ++ step stage ∷ []
-      ≡ [] ++ (if after then [] else own party (drop first (events ++ step stage ∷ [])))
-  goes_span stage after began in_call =
-      sym (own_more_since party first events (step stage) began refl)
-      ∙ ap (λ (b : Bool). if b then [] else own party (drop first (events ++ step stage ∷ []))) (sym in_call)
+  added_within : (before after : Option ℕ) (added : List Span) → ((first : ℕ) → before ≡ Some first → first < length events)
+      → IsOneOf e (length events) before after added → AreWithin more added
+  added_within before after added began (inl h) = subst (AreWithin more) (sym h.3) tt
+  added_within before after added began (inr (inl h)) = subst (AreWithin more) (sym h.4) tt
+  added_within before after added began (inr (inr h)) = subst (AreWithin more) (sym h.4) (
+    record { begun = omega (arith, began h.0 h.1); ended = omega (arith, length_more) },
+    tt,
+  )
 
-  pub went_span : (stage : SetCall) → first ≤ length events → call_is_idle stage ≡ false
-      → (if call_is_idle stage then [] else own party (drop first events)) ++ step stage ∷ []
-      ≡ spans party (events ++ step stage ∷ []) (call_ended party first (length events) stage)
-      ++ (if call_is_idle (call_take stage answer) then [] else own party (drop first (events ++ step stage ∷ [])))
-  went_span Idle began in_call = absurd (cc)
-  went_span (Add place top) began in_call
-      = goes_span (Add place top) _ began (under_way (call_take (Add place top) answer) _ (same_call (Add place top) answer refl))
-  went_span (Adding place top count) began in_call = goes_span (Adding place top count) _ began
-      (under_way (call_take (Adding place top count) answer) _ (same_call (Adding place top count) answer refl))
-  went_span (Next capacity) began in_call
-      = goes_span (Next capacity) _ began (under_way (call_take (Next capacity) answer) _ (same_call (Next capacity) answer refl))
-  went_span (Sweep place left capacity all) began in_call = goes_span (Sweep place left capacity all) _ began
-      (under_way (call_take (Sweep place left capacity all) answer) _ (same_call (Sweep place left capacity all) answer refl))
-  went_span (Taking place left capacity all count) began in_call = goes_span (Taking place left capacity all count) _ began
-      (under_way (call_take (Taking place left capacity all count) answer) _ (same_call (Taking place left capacity all count) answer refl))
-  went_span (Found place after) began in_call = goes_span (Found place after) _ began refl
-  went_span (Done c answered) began in_call =
-      let e : Event = step (Done c answered) in
-      sym (own_more_since party first events e began refl)
-      ∙ ap (λ (es : List Event). own party (drop first es))
-      (sym (take_all (length events + 1) (events ++ e ∷ []) (omega (arith, length-append events (e ∷ [])))))
-      ∙ ap (λ (b : Bool). if b then own party (drop first (take (length events + 1) (events ++ e ∷ []))) else []) (sym (itself party))
-      ∙ sym (append-nil (span_of party (events ++ e ∷ [])
-      (record { party = party; call = c; answer = answered; first = first; last = length events })))
-      ∙ sym (append-nil _)
+  begun_on : (before after : Option ℕ) (added : List Span) → ((first : ℕ) → before ≡ Some first → first < length events)
+      → IsOneOf e (length events) before after added → (first : ℕ) → after ≡ Some first → first < length more
+  begun_on before after added began (inl h) first is =
+      let same : Some (length events) ≡ Some first = sym h.2 ∙ is in
+      let number : length events ≡ first = cc in omega (arith, length_more, number)
+  begun_on before after added began (inr (inl h)) first is = omega (arith, began first (h.1 ∙ sym h.3 ∙ is), length_more)
+  begun_on before after added began (inr (inr h)) first is = absurd (let none : None ≡ Some first = sym h.3 ∙ is in cc)
 
-  no_local : (b : Bool) → (if b && false then (0 + length events) ∷ [] else []) ≡ []
-  no_local true = refl
-  no_local false = refl
-
-  goes_bound : (after : Bool) → after ≡ false
-      → (first ∷ []) ++ (if (party == party) && false then (0 + length events) ∷ [] else []) ≡ [] ++ (if after then [] else first ∷ [])
-  goes_bound after in_call =
-      ap (λ (ns : List ℕ). first ∷ ns) (no_local (party == party)) ∙ ap (λ (b : Bool). if b then [] else first ∷ []) (sym in_call)
-
-  pub went_bound : (stage : SetCall) → call_is_idle stage ≡ false
-      → (if call_is_idle stage then [] else first ∷ []) ++ local_number party (0 + length events) (step stage)
-      ≡ bounds party (call_ended party first (length events) stage) ++ (if call_is_idle (call_take stage answer) then [] else first ∷ [])
-  went_bound Idle in_call = absurd (cc)
-  went_bound (Add place top) in_call
-      = goes_bound _ (under_way (call_take (Add place top) answer) _ (same_call (Add place top) answer refl))
-  went_bound (Adding place top count) in_call
-      = goes_bound _ (under_way (call_take (Adding place top count) answer) _ (same_call (Adding place top count) answer refl))
-  went_bound (Next capacity) in_call
-      = goes_bound _ (under_way (call_take (Next capacity) answer) _ (same_call (Next capacity) answer refl))
-  went_bound (Sweep place left capacity all) in_call = goes_bound _
-      (under_way (call_take (Sweep place left capacity all) answer) _ (same_call (Sweep place left capacity all) answer refl))
-  went_bound (Taking place left capacity all count) in_call = goes_bound _
-      (under_way (call_take (Taking place left capacity all count) answer) _ (same_call (Taking place left capacity all count) answer refl))
-  went_bound (Found place after) in_call = goes_bound _ refl
-  went_bound (Done c answered) in_call =
-      ap (λ (b : Bool). first ∷ (if b && true then (0 + length events) ∷ [] else [])) (itself party)
-      ∙ ap (λ (n : ℕ). first ∷ n ∷ []) zero_more
-      ∙ ap (λ (b : Bool). if b then first ∷ length events ∷ [] else []) (sym (itself party))
-      ∙ sym (append-nil (bounds_of party (record { party = party; call = c; answer = answered; first = first; last = length events })))
-      ∙ sym (append-nil _)
+  -- one more step is of one call
+  pub of_calls_on : (ended added : List Span) (going going' : ℕ → Option ℕ) → AreOfCalls events ended going
+      → IsOneOf e (length events) (going e.party) (going' e.party) added
+      → ((q : ℕ) → (e.party ≡ q → ⊥) → going' q ≡ going q)
+      → AreOfCalls more (ended ++ added) going'
+  of_calls_on ended added going going' k one others = record {
+    steps = λ q. ⊎_elim (λ same. subst (λ (q : ℕ). own q more ≡ spans q more (ended ++ added) ++ span_in_hand q more (going' q)) same its)
+        (else_steps q) (cases_eq e.party q);
+    locals = λ q. ⊎_elim (λ same. subst (λ (q : ℕ). local_numbers q 0 more ≡ bounds q (ended ++ added) ++ bound_in_hand (going' q)) same
+        its_locals) (else_locals q) (cases_eq e.party q);
+    within = within_append more ended added (within_on events e ended k.within)
+        (added_within (going e.party) (going' e.party) added (k.begun e.party) one);
+    begun = λ q first is. ⊎_elim
+        (λ (same : e.party ≡ q). begun_on (going e.party) (going' e.party) added (k.begun e.party) one first (ap going' same ∙ is))
+        (λ (differs : e.party ≡ q → ⊥). omega (arith, k.begun q first (sym (others q differs) ∙ is), length_more)) (cases_eq e.party q);
+  }
     where
-      zero_more : 0 + length events ≡ length events
-      zero_more = omega arith
+      its : own e.party more ≡ spans e.party more (ended ++ added) ++ span_in_hand e.party more (going' e.party)
+      its =
+          own_more e.party events e refl ∙ ap (λ (es : List Event). es ++ e ∷ []) (k.steps e.party)
+          ∙ append_assoc (spans e.party events ended) (span_in_hand e.party events (going e.party)) (e ∷ [])
+          ∙ ap (λ (es : List Event). spans e.party events ended ++ es)
+          (span_grows (going e.party) (going' e.party) added (k.begun e.party) one)
+          ∙ sym (append_assoc (spans e.party events ended) (spans e.party more added) (span_in_hand e.party more (going' e.party)))
+          ∙ ap (λ (es : List Event). es ++ span_in_hand e.party more (going' e.party))
+          (sym (spans_more e.party events e ended added k.within))
+
+      its_locals : local_numbers e.party 0 more ≡ bounds e.party (ended ++ added) ++ bound_in_hand (going' e.party)
+      its_locals =
+          numbers_more e.party 0 events e
+          ∙ ap (λ (ns : List ℕ). ns ++ local_number e.party (0 + length events) e) (k.locals e.party)
+          ∙ append_assoc (bounds e.party ended) (bound_in_hand (going e.party)) (local_number e.party (0 + length events) e)
+          ∙ ap (λ (ns : List ℕ). bounds e.party ended ++ ns) (bound_grows (going e.party) (going' e.party) added one)
+          ∙ sym (append_assoc (bounds e.party ended) (bounds e.party added) (bound_in_hand (going' e.party)))
+          ∙ ap (λ (ns : List ℕ). ns ++ bound_in_hand (going' e.party)) (sym (bounds_append e.party ended added))
+
+      kept_hand : (q : ℕ) (o : Option ℕ) → (e.party ≡ q → ⊥) → ((first : ℕ) → o ≡ Some first → first < length events)
+          → span_in_hand q more o ≡ span_in_hand q events o
+      kept_hand q None differs began = refl
+      kept_hand q (Some first) differs began = own_else_since q first events e (omega (arith, began first refl)) differs
+
+      else_steps : (q : ℕ) → (e.party ≡ q → ⊥) → own q more ≡ spans q more (ended ++ added) ++ span_in_hand q more (going' q)
+      else_steps q differs =
+          own_else q events e differs ∙ k.steps q
+          ∙ ap (λ (es : List Event). es ++ span_in_hand q events (going q))
+          (sym (spans_more q events e ended added k.within ∙ ap (λ (es : List Event). spans q events ended ++ es)
+          (not_of q (going e.party) (going' e.party) added differs one).0 ∙ append-nil (spans q events ended)))
+          ∙ ap (λ (es : List Event). spans q more (ended ++ added) ++ es) (sym (kept_hand q (going q) differs (k.begun q)))
+          ∙ ap (λ (o : Option ℕ). spans q more (ended ++ added) ++ span_in_hand q more o) (sym (others q differs))
+
+      else_locals : (q : ℕ) → (e.party ≡ q → ⊥) → local_numbers q 0 more ≡ bounds q (ended ++ added) ++ bound_in_hand (going' q)
+      else_locals q differs =
+          numbers_more q 0 events e
+          ∙ ap (λ (b : Bool). local_numbers q 0 events ++ (if b && is_local e.access then (0 + length events) ∷ [] else []))
+          (eqb_differs e.party q (e.party == q) refl differs)
+          ∙ append-nil (local_numbers q 0 events) ∙ k.locals q
+          ∙ ap (λ (ns : List ℕ). ns ++ bound_in_hand (going q))
+          (sym (bounds_append q ended added ∙ ap (λ (ns : List ℕ). bounds q ended ++ ns)
+          (not_of q (going e.party) (going' e.party) added differs one).1 ∙ append-nil (bounds q ended)))
+          ∙ ap (λ (o : Option ℕ). bounds q (ended ++ added) ++ bound_in_hand o) (sym (others q differs))

@@ -1,15 +1,14 @@
 -- What the steps that were made say of the calls on a set, and of the places of the set.
-use Rattle.std.specs.Prelude.{ℕ, ◌≡◌, ◌+◌, ◌<◌, Bool, true, false, if◌then◌else◌, ◌==◌, ◌&&◌, Option, Some, None, List, [], ◌∷◌}
-use Rattle.std.specs.Prelude.{◌++◌, length, slice_index, take, drop}
+use Rattle.std.specs.Prelude.{ℕ, ◌≡◌, ◌+◌, ◌<◌, Bool, true, false, if◌then◌else◌, Option, Some, None, List, [], ◌∷◌}
+use Rattle.std.specs.Prelude.{length, slice_index, take, drop}
 use Rattle.iox_queues_steps.specs.Access.{RingWords, after_access}
-use Rattle.iox_queues_steps.specs.declared.access.Access.{Access}
-use Rattle.iox_queues_steps.specs.declared.access.Access.TheVariants.{Load, Store, Exchange, Local}
 use Rattle.iox_queues_steps.specs.declared.schedule.Stepped.{Stepped}
 use Rattle.iox_queues_steps.specs.declared.schedule.Stepped.TheVariants as stepped
 use Rattle.iox_queues.specs.Steps.{call_begun, call_is_idle, call_next, call_take}
 use Rattle.iox_queues.specs.Sums.{raised_by, taken_by}
 use Rattle.iox_queues.specs.Told.{own}
 use Rattle.iox_queues.specs.Recorded.{Answered, IsAskedFrom, LiesWithin}
+use Rattle.iox_queues.specs.Spans.{AddsOne, AreOfCalls, Span}
 use Rattle.iox_queues.specs.Machine.{SetState, seat_at, stage_at, start_words}
 use Rattle.iox_queues.specs.declared.bits.call.Call.{Call}
 use Rattle.iox_queues.specs.declared.bits.call.Call.TheVariants as call
@@ -67,53 +66,22 @@ pub record IsRecorded (m : SetState) : Type 0 where
   pub going : (party : ℕ) → IsAskedSoFar m.max (length m.words.cells) party (call_in_hand (stage_at m.seats party))
       (stage_at m.seats party) (own party (drop (seat_at m.seats party).first m.events))
 
--- the steps of a call that ended, from its first to its last one, if it is of this party
-abbrev pub span_of : ℕ → List Event → Finished → List Event
-span_of party events f = if f.party == party then own party (drop f.first (take (f.last + 1) events)) else []
+-- the first and the last step of a call that ended
+abbrev pub span_ended : Finished → Span
+span_ended f = record { party = f.party; first = f.first; last = f.last }
 
--- the steps of a party's calls that ended, one call after the other
-abbrev pub spans : ℕ → List Event → List Finished → List Event
-spans party events [] = []
-spans party events (f ∷ finished) = span_of party events f ++ spans party events finished
+-- so of each of these calls
+abbrev pub spans_ended : List Finished → List Span
+spans_ended [] = []
+spans_ended (f ∷ finished) = span_ended f ∷ spans_ended finished
 
--- the steps of the call that a party is in, from its first step on
-abbrev pub span_in_hand : ℕ → List Event → Seat → List Event
-span_in_hand party events seat = if call_is_idle seat.stage then [] else own party (drop seat.first events)
+-- the number of the first step of the call that a party is in, if it is in one
+abbrev pub begun_at : Seat → Option ℕ
+begun_at seat = if call_is_idle seat.stage then None else Some seat.first
 
--- the access touches no word
-abbrev pub is_local : Access → Bool
-is_local (Load word) = false
-is_local (Store word value) = false
-is_local (Exchange word old new) = false
-is_local Local = true
-
--- the number of a step, if it is a local one of this party
-abbrev pub local_number : ℕ → ℕ → Event → List ℕ
-local_number party number event = if (event.party == party) && is_local event.access then number ∷ [] else []
-
--- the numbers of a party's local steps, where the first of all these steps has number `from`
-abbrev pub local_numbers : ℕ → ℕ → List Event → List ℕ
-local_numbers party from [] = []
-local_numbers party from (event ∷ events) = local_number party from event ++ local_numbers party (from + 1) events
-
--- the numbers of the first and the last step of a call that ended, if it is of this party
-abbrev pub bounds_of : ℕ → Finished → List ℕ
-bounds_of party f = if f.party == party then f.first ∷ f.last ∷ [] else []
-
--- the numbers of the first and the last step of each of a party's calls that ended, one call after the other
-abbrev pub bounds : ℕ → List Finished → List ℕ
-bounds party [] = []
-bounds party (f ∷ finished) = bounds_of party f ++ bounds party finished
-
--- the number of the first step of the call that a party is in
-abbrev pub bound_in_hand : Seat → List ℕ
-bound_in_hand seat = if call_is_idle seat.stage then [] else seat.first ∷ []
-
--- each step is one of one call: the steps of a party are those of its calls, one call after the other, and its local steps
--- are the first and the last one of each call. So two of them count a call that ended, and one counts the call in hand
-pub record StepsAreOfCalls (m : SetState) : Type 0 where
-  pub steps : (party : ℕ) → own party m.events ≡ spans party m.events m.finished ++ span_in_hand party m.events (seat_at m.seats party)
-  pub locals : (party : ℕ) → local_numbers party 0 m.events ≡ bounds party m.finished ++ bound_in_hand (seat_at m.seats party)
+-- each step is one of one call
+abbrev pub StepsAreOfCalls : SetState → Type 0
+StepsAreOfCalls m = AreOfCalls m.events (spans_ended m.finished) (λ (party : ℕ). begun_at (seat_at m.seats party))
 
 -- the count of a place before a step and after it, where the step counts the place once more, takes so much out of it, or
 -- does neither: it is one more then; or all of it was taken out and nothing is left; or it is the same
@@ -143,21 +111,16 @@ abbrev pub party_of : Move → ℕ
 party_of (Begin party c) = party
 party_of (GoOn party) = party
 
--- a begin leaves its party at the first stage of the call that was asked for
+-- a begin leaves its party in the call that was asked for
 abbrev pub LeavesBegun : Move → SetState → Type 0
-LeavesBegun (Begin party c) n = stage_at n.seats party ≡ call_begun n.max (length n.words.cells) c
+LeavesBegun (Begin party c) n = call_in_hand (stage_at n.seats party) ≡ Some c
 LeavesBegun (GoOn party) n = Unit {0}
 
--- one more event behind the others, of the party that was asked
-pub record IsStepMade (m : SetState) (step : Move) (n : SetState) : Type 0 where
-  pub event : Event
-  pub added : n.events ≡ m.events ++ event ∷ []
-  pub party : event.party ≡ party_of step
-  pub asked : LeavesBegun step n
-
--- a step that was made is one event; the last one of a call is that of one more call that ended
+-- a step that was made is one event of the party that was asked; the last one of a call is that of one more call that ended
 abbrev pub TellsStep : SetState → Move → Stepped → SetState → Type 0
-TellsStep m step stepped.Went n = IsStepMade m step n × (length n.finished ≡ length m.finished)
-TellsStep m step stepped.Finished n = IsStepMade m step n × (length n.finished ≡ length m.finished + 1)
+TellsStep m step stepped.Went n =
+    AddsOne m.events n.events (party_of step) × LeavesBegun step n × (length n.finished ≡ length m.finished)
+TellsStep m step stepped.Finished n =
+    AddsOne m.events n.events (party_of step) × LeavesBegun step n × (length n.finished ≡ length m.finished + 1)
 TellsStep m step stepped.Skipped n = n ≡ m
 TellsStep m step stepped.NoMemory n = n ≡ m

@@ -3,7 +3,7 @@ use Rattle.std.specs.Prelude.{ℕ, ◌≡◌, ◌+◌, ◌<◌, ◌≤◌, ◌^�
 use Rattle.std.specs.List.{list_any}
 use Rattle.iox_queues.specs.Machine.{SetState, IsBalanced, IsTold, seat_at, stage_at}
 use Rattle.iox_queues.specs.Asked.{ChangesByActs, StepsAreOfCalls, IsRecorded}
-use Rattle.iox_queues.specs.Sums.{taken_out}
+use Rattle.iox_queues.specs.Sums.{cleared, taken_out}
 use Rattle.iox_queues.specs.Told.{AddNone, TakeNone, Tells, finds_none, own}
 use Rattle.iox_queues.specs.declared.bits.call.SetCall.{SetCall}
 use Rattle.iox_queues.specs.declared.bits.call.SetCall.TheVariants.{Idle, Add, Adding, Next, Sweep, Taking, Found, Done}
@@ -34,6 +34,7 @@ Knows max n events (Sweep place left capacity all) = Sweeps n events place left 
 Knows max n events (Taking place left capacity all count) = Sweeps n events place left capacity all × (0 < count)
 Knows max n events (Found place after) =
     AddNone n events × (place < n) × (0 < taken_out n place events) × ((i : ℕ) → (place ≡ i → ⊥) → taken_out n i events ≡ 0)
+    × (cleared n place events ≡ 1)
 Knows max n events (Done c answer) = Tells max n c answer events
 
 -- the words balance, each call that ended did what it answered, each call in hand knows its steps, each step is recorded and

@@ -5,7 +5,7 @@ use Rattle.std.specs.List.{list_any}
 use Rattle.iox_queues_steps.specs.declared.access.Word.TheVariants.{Write, Read, Cell}
 use Rattle.iox_queues_steps.specs.declared.access.Access.{Access}
 use Rattle.iox_queues_steps.specs.declared.access.Access.TheVariants.{Load, Store, Exchange, Local}
-use Rattle.iox_queues.specs.Sums.{increments, taken_out, taken_by}
+use Rattle.iox_queues.specs.Sums.{cleared, increments, taken_out, taken_by}
 use Rattle.iox_queues.specs.declared.bits.call.Call.{Call}
 use Rattle.iox_queues.specs.declared.bits.call.Call.TheVariants as call
 use Rattle.iox_queues.specs.declared.bits.call.Answer.{Answer}
@@ -51,7 +51,7 @@ FindEachNone n events = (i : ℕ) → i < n → list_any (finds_none n i) events
 
 -- what a call's answer says of its steps, in a set of n places whose largest count is max: a set
 -- counted its place, one of the n, once and nothing else, or found it full; a reset of the next place took that
--- one place out, or found each place at 0; a reset of all left no place out; none does more
+-- one place out, once, or found each place at 0; a reset of all left no place out; none does more
 abbrev pub Tells : ℕ → ℕ → Call → Answer → List Event → Type 0
 Tells max n (call.Set place) (Added true) events =
     (place < n) × ((i : ℕ) → increments n i events ≡ (if place == i then 1 else 0)) × TakeNone n events
@@ -61,6 +61,7 @@ Tells max n (call.Set place) (Taken got) events = ⊥
 Tells max n (call.Set place) Swept events = ⊥
 Tells max n call.ResetNext (Taken (Some place)) events =
     AddNone n events × (place < n) × (0 < taken_out n place events) × ((i : ℕ) → (place ≡ i → ⊥) → taken_out n i events ≡ 0)
+    × (cleared n place events ≡ 1)
 Tells max n call.ResetNext (Taken None) events = AddNone n events × TakeNone n events × FindEachNone n events
 Tells max n call.ResetNext (Added added) events = ⊥
 Tells max n call.ResetNext Swept events = ⊥

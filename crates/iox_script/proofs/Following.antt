@@ -24,7 +24,7 @@ use Rattle.iox_line.specs.ReplyText.{reply_text}
 use Rattle.iox_line.specs.declared.error.LineError.{LineError}
 use Rattle.iox_script.proofs.Breaking.{due-longer, whole-at_end, whole-by}
 use Rattle.iox_script.proofs.Counted.{asked-heard, asked-whole}
-use Rattle.iox_script.specs.Answered.{AnswersAsNewMachine, AreReadAs, BeginsAsNewMachine, GoesOnAsNewMachine, NamesHaveOwnHashes}
+use Rattle.iox_script.specs.Answered.{AnswersAsNewMachine, AreReadAs, BeginsAsNewMachine, GoesOnAsNewMachine}
 use Rattle.iox_script.specs.Answered.{NewMachineMayReply, commands_among, reply_lines, script_types}
 use Rattle.iox_script.specs.Conversation.{AnswersLine, AnswersRead, IsNewScript, ScriptHub, ScriptStep}
 use Rattle.iox_script.specs.declared.script.Script.{Script}
@@ -95,9 +95,9 @@ never_stops same = absurd (differ same)
 replies_as_new_machine : ScriptRunsAnswer → (config : HubConfig) (old new : ScriptHub) (lines : List (List ℕ))
     (reads : List (Result (Command ℕ) LineError)) (replies : List (Reply ℕ)) → IsNew config old → AreReadAs lines reads
     → Runs ScriptStep (commands_among reads) old replies new
-    → all_asked (commands_among reads) < 2 ^ 56 → NamesHaveOwnHashes reads
+    → all_asked (commands_among reads) < 2 ^ 56
     → NewMachineMayReply config.expired_connection_buffer reads replies
-replies_as_new_machine law config old new lines reads replies is are run few own =
+replies_as_new_machine law config old new lines reads replies is are run few = λ own.
     law config (commands_among reads) old new replies false run (λ room grown stopped. never_stops stopped)
     (record {
       failed = λ strategy handler named answered info is. is;

@@ -11,16 +11,17 @@ use Rattle.iox_conversation.specs.declared.error.ServeError.{ServeError}
 use Rattle.iox_conversation.specs.declared.error.ServeError.TheVariants.{ReadFault, WriteFault, OutOfMemory}
 use Rattle.iox_hub_machine.specs.RunLaws.{names_in}
 use Rattle.iox_line.specs.LineFault.{fault_text}
-use Rattle.iox_line.specs.Outcome as line
+use Rattle.iox_line.specs.Outcome.{IsReadAs}
 use Rattle.iox_line.specs.ReplyText.{reply_text}
 use Rattle.iox_line.specs.declared.error.LineError.{LineError}
+use Rattle.iox_machine.specs.Choices.{as_named}
 use Rattle.iox_machine.specs.Run as machine
 use Rattle.iox_negotiate_machine.specs.Laws.{HaveOwnHashes}
 
 -- Each line is read as the command that it spells, or as the fault for which it spells none.
 abbrev pub AreReadAs : List (List ℕ) → List (Result (Command ℕ) LineError) → Type 0
 AreReadAs [] [] = Unit {0}
-AreReadAs (heard ∷ lines) (read ∷ reads) = line.Answers heard (Ok read) × AreReadAs lines reads
+AreReadAs (heard ∷ lines) (read ∷ reads) = IsReadAs heard read × AreReadAs lines reads
 AreReadAs lines reads = ⊥
 
 -- the commands among what was read, in order
@@ -43,21 +44,20 @@ script_types = record {
   payload = detail Dynamic (codes "u64") 8 8;
 }
 
--- No two services of the names that the commands among what was read ask for share a hash, of whatever patterns they are.
-abbrev pub NamesHaveOwnHashes : List (Result (Command ℕ) LineError) → Type 0
-NamesHaveOwnHashes reads = HaveOwnHashes (names_in (commands_among reads))
-
 -- The replies are such as a new machine may give to all commands among what was read, with messages of these types, of which a default
--- value is 0, and with so many expired connections that are kept.
+-- value is 0, and with so many expired connections that are kept, where no two services of the names asked for share a hash, of whatever
+-- patterns they are. For each port it is chosen what was named.
 abbrev pub NewMachineMayReply : ℕ → List (Result (Command ℕ) LineError) → List (Reply ℕ) → Type 0
-NewMachineMayReply buffer reads replies = machine.Answers script_types (λ value. value ≡ 0) buffer (commands_among reads) false replies
+NewMachineMayReply buffer reads replies =
+    HaveOwnHashes (names_in (commands_among reads))
+    → machine.Answers script_types (as_named (λ value. value ≡ 0)) buffer (commands_among reads) false replies
 
 -- Where no two services of the names asked for share a hash, a text is what a new machine may answer to lines: these are read as commands
 -- and faults, the text has a line for each, with one reply to each command, and these replies are the machine's.
 abbrev pub AnswersAsNewMachine : ℕ → List (List ℕ) → List ℕ → Type 0
 AnswersAsNewMachine buffer lines text =
     (reads : List (Result (Command ℕ) LineError)) × (replies : List (Reply ℕ)) × AreReadAs lines reads × (text ≡ reply_lines reads replies)
-    × (length replies ≡ length (commands_among reads)) × (NamesHaveOwnHashes reads → NewMachineMayReply buffer reads replies)
+    × (length replies ≡ length (commands_among reads)) × NewMachineMayReply buffer reads replies
 
 -- Where no two services of the names asked for share a hash, a text is what a new machine may answer to lines, and one more is what it may
 -- go on to answer to the lines behind them.
@@ -67,7 +67,7 @@ GoesOnAsNewMachine buffer lines text behind more =
     × AreReadAs lines reads × AreReadAs behind later × (text ≡ reply_lines reads replies)
     × (text ++ more ≡ reply_lines (reads ++ later) replies)
     × (length replies ≡ length (commands_among (reads ++ later)))
-    × (NamesHaveOwnHashes (reads ++ later) → NewMachineMayReply buffer (reads ++ later) replies)
+    × NewMachineMayReply buffer (reads ++ later) replies
 
 -- Where no two services of the names asked for share a hash, this much of what a new machine may answer is written where a conversation
 -- breaks off. All that was read before a last piece, of at most 65,536 bytes, is answered: each line that ended before that piece has its

@@ -107,7 +107,7 @@ pub fn serve<R: Read, W: Write>(
         (text : List ℕ) × (script : Script) × IsNewScript config script
         × Appends (W.contents output.old.writer) (W.contents output.new.writer) text
         × IsConversation AnswersLine script bytes text)) }
-    // The same in the machine's words, where no two services of the names asked for share a hash (`NamesHaveOwnHashes`).
+    // The same in the machine's words, where no two services of the names asked for share a hash (`NewMachineMayReply`).
     ensures answered { OnOk result (IfSome (R.remaining input.old.reader) (λ bytes.
         (text : List ℕ) × Appends (W.contents output.old.writer) (W.contents output.new.writer) text
         × AnswersAsNewMachine config.expired_connection_buffer (heard bytes) text)) }

@@ -13,14 +13,18 @@
 //! answers that follow it, whatever lies there: `create ps Absent Taken Made Published`. It is told what the call came to and
 //! in how many accesses, after `close` also what a close did; and `amiss` what answers were of no access, or lacking.
 //!
+//! A block whose second line begins with `lanes` has lines about lanes of those sizes in place of a script.
+//!
 //! Standard output is typed by hand from the formats, and standard input is its lines without their replies.
 #![tactic(auto)]
 
 mod faults;
+mod lanes;
 mod storages;
 
 use faults::left_by_faults;
 use iox_script::{HubConfig, Input, Output, serve};
+use lanes::answer_lanes;
 use std::alloc::{AllocError, Global};
 use std::io;
 use std::str::Lines;
@@ -36,6 +40,8 @@ fn main(rt: HostRuntime) -> io::Result<()> {
         println!(rt; "{title}")?;
         if title.starts_with("storage") {
             answer_builders(&rt, lines)?;
+        } else if lines.starts_with("lanes ") {
+            answer_lanes(&rt, rt.alloc(), lines)?;
         } else {
             answer(&rt, expired(title), lines)?;
         }

@@ -1,5 +1,7 @@
+use Rattle.iox_machine.specs.Choices.{chosen_by}
 use Rattle.iox_domain_machine.proofs.ComesConnected.{publisher_comes_matches}
 use Rattle.iox_domain_machine.proofs.coming_of_a_publisher_matches.Goals as goal
 
 pub returns : goal.returns
-returns g c = publisher_comes_matches _ _ (λ value. g.T.Default.is_default value) _ _
+returns g c = λ handed. publisher_comes_matches _ _ (chosen_by (λ value. g.T.Default.is_default value) (λ who. g.B.Decides.decides who)
+    (λ who. g.B.Degrades.degrades who) (λ who. g.D.Degrades.degrades who) handed) _ _

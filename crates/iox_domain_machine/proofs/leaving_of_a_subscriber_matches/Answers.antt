@@ -1,5 +1,7 @@
+use Rattle.iox_machine.specs.Choices.{chosen_by}
 use Rattle.iox_domain_machine.proofs.LeavingReader.{subscriber_leave_matches}
 use Rattle.iox_domain_machine.proofs.leaving_of_a_subscriber_matches.Goals as goal
 
 pub returns : goal.returns
-returns g c = subscriber_leave_matches _ _ (λ value. g.T.Default.is_default value)
+returns g c = λ handed. subscriber_leave_matches _ _ (chosen_by (λ value. g.T.Default.is_default value) (λ who. g.B.Decides.decides who)
+    (λ who. g.B.Degrades.degrades who) (λ who. g.D.Degrades.degrades who) handed)

@@ -1,5 +1,7 @@
+use Rattle.iox_machine.specs.Choices.{chosen_by}
 use Rattle.iox_domain_machine.proofs.Lending.{lend_uninit_matches}
 use Rattle.iox_domain_machine.proofs.lending_uninit_matches.Goals as goal
 
 pub returns : goal.returns
-returns g c = lend_uninit_matches _ _ (λ value. g.T.Default.is_default value)
+returns g c = λ handed. lend_uninit_matches _ _ (chosen_by (λ value. g.T.Default.is_default value) (λ who. g.B.Decides.decides who)
+    (λ who. g.B.Degrades.degrades who) (λ who. g.D.Degrades.degrades who) handed)

@@ -1,5 +1,7 @@
+use Rattle.iox_machine.specs.Choices.{chosen_by}
 use Rattle.iox_domain_machine.proofs.Releasing.{release_matches}
 use Rattle.iox_domain_machine.proofs.releasing_a_sample_matches.Goals as goal
 
 pub returns : goal.returns
-returns g c = release_matches _ _ (λ value. g.T.Default.is_default value)
+returns g c = λ handed. release_matches _ _ (chosen_by (λ value. g.T.Default.is_default value) (λ who. g.B.Decides.decides who)
+    (λ who. g.B.Degrades.degrades who) (λ who. g.D.Degrades.degrades who) handed)

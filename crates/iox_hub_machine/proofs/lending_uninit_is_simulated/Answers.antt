@@ -1,6 +1,9 @@
+use Rattle.iox_machine.specs.Choices.{chosen_by}
 use Rattle.iox_hub_machine.proofs.Lent.{lend_uninit_simulated}
 use Rattle.iox_hub_machine.proofs.lending_uninit_is_simulated.Goals as goal
 
 pub returns : goal.returns
-returns g c = lend_uninit_simulated (λ value. g.T.Default.is_default value) (λ header. g.U.Default.is_default header)
+returns g c = λ handed. lend_uninit_simulated (chosen_by (λ value. g.T.Default.is_default value) (λ handlers. g.B.Decides.decides handlers)
+    (λ handlers. g.B.Degrades.degrades handlers) (λ handler. g.D.Degrades.degrades handler) handed)
+    (λ header. g.U.Default.is_default header)
     (λ handlers. g.B.Degrades.degrades handlers) (λ handlers. g.B.Decides.decides handlers) (λ handler. g.D.Degrades.degrades handler)

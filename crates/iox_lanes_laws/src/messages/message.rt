@@ -1,16 +1,25 @@
 //! A message that was sent on lanes.
-ghost use Rattle.std.specs.Prelude.{◌≡◌, ◌<◌, ◌≤◌, ◌++◌, IfOk, length};
+ghost use Rattle.std.specs.Prelude.{◌≡◌, ◌+◌, ◌<◌, ◌≤◌, ◌++◌, IfOk, IfSome, None, Some, length};
+ghost use Rattle.iox_lanes_machine.specs.LanesBase.Numbers.{words_of};
+ghost use Rattle.iox_lanes_machine.specs.LanesBase.Subscribing.{word_at};
+ghost use Rattle.iox_lanes_machine.specs.LanesParties.Values.{AreValues};
+ghost use Rattle.iox_lanes_machine.specs.Held.{slot_held};
 ghost use Rattle.iox_lanes_laws.specs.Messages.{payload_held};
+ghost use Rattle.iox_lanes_laws.specs.Numbered.{was_sent_by};
 
+use iox_lanes_base::calls::subscriber::SlotExtent;
 use iox_lanes_base::words::{SharedWord, SlotWord, WordTable};
+use iox_lanes_parties::values_in;
+use iox_queues_base::Words;
 use std::alloc::{AllocError, Global};
 use std::marker::Model;
 
-/// A message as it was when its send began. This port's own.
+/// A message as it was when its send began, or when it was found. This port's own.
 #[derive(Drop)]
 pub struct Message {
     publisher: usize,
     slot: u64,
+    moment: u64,
     words: Vec<u64>,
 }
 
@@ -19,13 +28,15 @@ impl Model for Message {
 
     ghost Value = { MessageState };
 
-    ghost view = { λ m. record { publisher = m.publisher; slot = m.slot; words = m.words.items } };
+    ghost view = { λ m. record { publisher = m.publisher; slot = m.slot; moment = m.moment; words = m.words.items } };
 }
 
 impl Message {
-    /// The message in a slot: this header with its user header, and the payload that the slot holds. Fails only where an allocation fails.
+    /// The message in a slot at a moment: this header with its user header, and the payload that the slot holds. Fails only where an
+    /// allocation fails.
     pub(crate) fn new(
         alloc: Global,
+        moment: u64,
         publisher: usize,
         slot: u64,
         head: &[u64],
@@ -33,14 +44,37 @@ impl Message {
     ) -> Result<Message, AllocError>
         requires { slot < table.now.sizes.slots }
         ensures { IfOk result (λ made. made
-            ≡ record { publisher = publisher; slot = slot; words = head.now ++ payload_held table.now slot }) }
+            ≡ record { publisher = publisher; slot = slot; moment = moment; words = head.now ++ payload_held table.now slot }) }
     {
         let mut words = Vec::from_slice(alloc, head)?;
         words.extend_from_slice(&payload(alloc, slot, table)?)?;
         Ok(Message {
             publisher,
             slot,
+            moment,
             words,
+        })
+    }
+
+    /// The message that a slot has at a moment: header, user header and payload as the slot holds them. Fails only where an allocation
+    /// fails.
+    pub(crate) fn found(
+        alloc: Global,
+        moment: u64,
+        publisher: usize,
+        slot: u64,
+        table: &WordTable,
+    ) -> Result<Message, AllocError>
+        requires slot { slot < table.now.sizes.slots }
+        requires full { length table.now.words ≡ words_of table.now.sizes }
+        ensures { IfOk result (λ made. made
+            ≡ record { publisher = publisher; slot = slot; moment = moment; words = slot_held table.now slot }) }
+    {
+        Ok(Message {
+            publisher,
+            slot,
+            moment,
+            words: held(alloc, slot, table)?,
         })
     }
 
@@ -58,12 +92,69 @@ impl Message {
         self.slot
     }
 
+    /// The moment at which its send began, or at which it was found.
+    pub fn moment(&self) -> u64
+        ensures { result ≡ self.now.moment }
+    {
+        self.moment
+    }
+
+    // Whether it is of a slot and was sent by a moment.
+    pub(crate) fn was_sent_by(&self, slot: u64, moment: u64) -> bool
+        ensures { result ≡ was_sent_by slot moment (Some self.now) }
+    {
+        self.slot == slot && self.moment <= moment
+    }
+
+    /// Its user header and its value. None where it hasn't just as many words.
+    pub fn values<T: Words, U: Words>(&self) -> Option<(U, T)>
+        ensures some { IfSome result (AreValues T.of_parts U.of_parts T.WORDS U.WORDS self.now.words) }
+        ensures none { result ≡ None → length self.now.words ≡ 3 + U.WORDS + T.WORDS → ⊥ }
+    {
+        values_in::<T, U>(&self.words)
+    }
+
     /// The words of its header (three: the node, the publisher, the number of elements), of its user header and of its payload,
     /// one behind the other, as a read of it gives them.
     pub fn words(&self) -> &[u64]
         ensures { result.now ≡ self.now.words }
     {
         &self.words
+    }
+}
+
+// All words that a slot holds: header, user header and payload.
+#[tactic(auto, using(crate::proofs::Founds::slot_fits))]
+fn held(alloc: Global, slot: u64, table: &WordTable) -> Result<Vec<u64>, AllocError>
+    requires slot { slot < table.now.sizes.slots }
+    requires full { length table.now.words ≡ words_of table.now.sizes }
+    ensures { IfOk result (λ words. words.items ≡ slot_held table.now slot) }
+{
+    // The words of a slot lie within the table, which has fewer than 2^64 words.
+    let _words = table.words().len();
+    let sizes = table.sizes();
+    let extent = SlotExtent {
+        user_header_words: sizes.user_header_words,
+        payload_words: sizes.payload_words,
+    };
+    let mut words = Vec::new(alloc);
+    for word in 0..3 + sizes.user_header_words + sizes.payload_words {
+        let own = word_at(extent, word);
+        words.push(table.word(SharedWord::Slot { slot, word: own }))?;
+    }
+    Ok(words)
+}
+
+// A word of header, user header and payload, which lie one behind the other.
+fn word_at(extent: SlotExtent, word: u64) -> SlotWord
+    ensures { result ≡ word_at extent word }
+{
+    if word < 3 {
+        SlotWord::Header(word)
+    } else if word - 3 < extent.user_header_words {
+        SlotWord::UserHeader(word - 3)
+    } else {
+        SlotWord::Payload(word - 3 - extent.user_header_words)
     }
 }
 

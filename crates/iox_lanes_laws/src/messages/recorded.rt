@@ -1,16 +1,21 @@
 //! Lanes that keep the messages which are sent on them.
 ghost use Rattle.std.specs.Prelude.{◌≡◌, ◌<◌, ◌==◌, [], ◌∷◌, Some, slice_get, option_copied, option_to_list, IfOk, OnErr, true, length};
-ghost use Rattle.std.specs.Prelude.{if◌then◌else◌};
+ghost use Rattle.std.specs.Prelude.{if◌then◌else◌, ◌++◌, ◌+◌, ◌≤◌, IfErr, IfSome, OnOk, drop, get_or, take};
+ghost use Rattle.iox_lanes_machine.specs.LanesParties.Values.{AreValues};
+ghost use Rattle.iox_lanes_machine.specs.LanesBase.Numbers.{words_of};
+ghost use Rattle.iox_lanes_laws.specs.Recorded.{AreAsHeld, AreEarly};
+ghost use Rattle.iox_lanes_laws.specs.Numbered.{acted_slot, found_first, found_in, found_messages, found_of, last_number, number_of_placed};
 
 use crate::messages::message::Message;
 use iox_lanes_machine::Lanes;
-use iox_lanes_parties::{Call, Entry, Move, Party, PublisherLane};
-use iox_queues_steps::Stepped;
+use iox_lanes_parties::{Call, Entry, Move, Party, PublisherLane, values_in};
+use iox_queues_base::Words;
+use iox_queues_steps::{Act, PopAnswer, Stepped};
 use std::alloc::{AllocError, Global};
 use std::marker::Model;
 
-/// Lanes with the messages that were sent on them since they were handed in: each has the next number, from 0 on, as its send
-/// begins. This port's own.
+/// Lanes with the messages that were sent on them since they were handed in: each has the next number as its send begins, from 0 on,
+/// behind those that were found. This port's own.
 #[derive(Drop)]
 pub struct RecordedLanes {
     alloc: Global,
@@ -70,6 +75,24 @@ impl RecordedLanes {
         made
     }
 
+    /// These lanes, with the messages that are found on them: what each slot holds that has a use, publisher by publisher and slot by
+    /// slot, is a message and has the next number. Of lanes of which no loan is out, these are those that wait, are borrowed, or that a
+    /// history has. Only where an allocation fails the lanes come back as they were.
+    pub fn with_found(alloc: Global, lanes: Lanes) -> Result<RecordedLanes, Lanes>
+        ensures made { IfOk result (λ made. made ≡ record { lanes = lanes; messages = found_messages lanes }) }
+        ensures held { IfOk result (λ made. AreAsHeld made.lanes made.messages × AreEarly made.lanes made.messages) }
+        ensures same { IfErr result (λ same. same ≡ lanes) }
+    {
+        match found(alloc, &lanes) {
+            Ok(messages) => Ok(RecordedLanes {
+                alloc,
+                lanes,
+                messages,
+            }),
+            Err(AllocError) => Err(lanes),
+        }
+    }
+
     // Makes a step that begins a send of this message.
     fn send(&mut self, party: Party, step: &Move, message: Message) -> Stepped
         requires fits { fits self.old.lanes party step.now ≡ true }
@@ -116,7 +139,7 @@ impl RecordedLanes {
     ) -> Result<Message, AllocError>
         requires lane { slice_get self.now.lanes.publishers place ≡ Some lane.now }
         requires out { is_out (loan_of loan lane.now.port.book) ≡ true }
-        ensures { IfOk result (λ made. made ≡ message_of self.now.lanes.table place loan lane.now) }
+        ensures { IfOk result (λ made. made ≡ message_of self.now.lanes.table self.now.lanes.moments place loan lane.now) }
     {
         self.lanes.are_of_one_service();
         let index = loan.saturating_sub(lane.first_slot()) as usize;
@@ -124,7 +147,14 @@ impl RecordedLanes {
             Some(head) => head.words(),
             None => &[],
         };
-        Message::new(self.alloc, place, loan, head, self.lanes.table())
+        Message::new(
+            self.alloc,
+            self.lanes.moments(),
+            place,
+            loan,
+            head,
+            self.lanes.table(),
+        )
     }
 
     /// How many messages are kept.
@@ -141,11 +171,35 @@ impl RecordedLanes {
         self.messages.is_empty()
     }
 
-    /// The message of a number, if so many sends began.
+    /// The message of a number, if so many were found or sent.
     pub fn message(&self, number: usize) -> Option<&Message>
         ensures { option_copied result ≡ slice_get self.now.messages number }
     {
         self.messages.get(number)
+    }
+
+    /// The number of the message that an entry of a connection's order puts or takes: the last one that was sent in its slot by its
+    /// moment. None for a look, for a take that found nothing, and for an entry from before the lanes were handed in.
+    pub fn number(&self, connection: u64, at: usize) -> Option<usize>
+        ensures { result ≡ number_of_placed self.now.messages (slice_get (get_or self.now.lanes.orders connection []) at) }
+    {
+        let placed = self.lanes.order(connection).get(at)?;
+        let slot = acted_slot(placed.act)?;
+        last_number(&self.messages, slot, placed.moment)
+    }
+
+    /// The user header and the value that a read gave whose words begin there among those that were read. None where no read gave so
+    /// many.
+    pub fn values<T: Words, U: Words>(&self, from: usize) -> Option<(U, T)>
+        ensures some { IfSome result (AreValues T.of_parts U.of_parts T.WORDS U.WORDS
+            (take (3 + U.WORDS + T.WORDS) (drop from self.now.lanes.read))) }
+    {
+        let rest = self.lanes.words_read().get(from..)?;
+        let header = rest.len().checked_sub(U::WORDS)?.checked_sub(T::WORDS)?;
+        if header < 3 {
+            return None;
+        }
+        values_in::<T, U>(rest.get(..3 + U::WORDS + T::WORDS)?)
     }
 
     /// The lanes.
@@ -155,6 +209,29 @@ impl RecordedLanes {
         &self.lanes
     }
 
+    /// The lanes, and the messages that were kept.
+    pub fn into_parts(self) -> (Lanes, Vec<Message>)
+        ensures { (result.0 ≡ self.lanes) × (result.1.items ≡ self.messages) }
+    {
+        let RecordedLanes {
+            lanes,
+            messages,
+            ..
+        } = self;
+        (lanes, messages)
+    }
+
+    /// These lanes with these messages. It takes no memory.
+    pub fn of_parts(alloc: Global, lanes: Lanes, messages: Vec<Message>) -> RecordedLanes
+        ensures { result ≡ record { lanes = lanes; messages = messages.items } }
+    {
+        RecordedLanes {
+            alloc,
+            lanes,
+            messages,
+        }
+    }
+
     /// The lanes alone; the messages are gone.
     pub fn into_lanes(self) -> Lanes
         ensures { result ≡ self.lanes }
@@ -162,4 +239,120 @@ impl RecordedLanes {
         let RecordedLanes { lanes, .. } = self;
         lanes
     }
+}
+
+// What is found on lanes.
+fn found(alloc: Global, lanes: &Lanes) -> Result<Vec<Message>, AllocError>
+    ensures { IfOk result (λ messages. messages.items ≡ found_messages lanes.now) }
+{
+    let mut messages = Vec::new(alloc);
+    for publisher in 0..lanes.publishers().len() {
+        find_publisher(alloc, lanes, publisher, &mut messages)?;
+    }
+    Ok(messages)
+}
+
+// And in the slots of the publisher at a place, if there is one.
+fn find_publisher(
+    alloc: Global,
+    lanes: &Lanes,
+    publisher: usize,
+    messages: &mut Vec<Message>,
+) -> Result<(), AllocError>
+    ensures { OnOk result (messages.new.items ≡ messages.old.items ++ found_of lanes.now publisher
+        (slice_get lanes.now.publishers publisher)) }
+{
+    lanes.are_of_one_service();
+    match lane_at(lanes, publisher) {
+        Some(lane) => find_slots(alloc, lanes, publisher, lane, messages),
+        None => Ok(()),
+    }
+}
+
+// The publisher at a place, if there is one.
+fn lane_at(lanes: &Lanes, publisher: usize) -> Option<&PublisherLane>
+    ensures { option_copied result ≡ slice_get lanes.now.publishers publisher }
+{
+    lanes.publishers().get(publisher)
+}
+
+// And in all slots of this one.
+fn find_slots(
+    alloc: Global,
+    lanes: &Lanes,
+    publisher: usize,
+    lane: &PublisherLane,
+    messages: &mut Vec<Message>,
+) -> Result<(), AllocError>
+    requires slots { lane.now.port.book.first + length lane.now.port.book.loans ≤ lanes.now.table.sizes.slots }
+    requires full { length lanes.now.table.words ≡ words_of lanes.now.table.sizes }
+    ensures { OnOk result (messages.new.items ≡ messages.old.items
+        ++ found_first lanes.now publisher lane.now (length lane.now.port.book.loans)) }
+{
+    // No number of a slot is beyond the words that there are.
+    let _slots = lanes.table().sizes().slots;
+    for at in 0..lane.slots() {
+        let slot = lane.first_slot() + at as u64;
+        find_slot(alloc, lanes, publisher, slot, uses_at(lane, at), messages)?;
+    }
+    Ok(())
+}
+
+// How many uses the slot of a publisher at a place has.
+fn uses_at(lane: &PublisherLane, at: usize) -> u64
+    ensures { result ≡ get_or lane.now.port.book.uses at 0 }
+{
+    match lane.uses().get(at) {
+        Some(uses) => *uses,
+        None => 0,
+    }
+}
+
+// And in one slot, which has so many uses.
+fn find_slot(
+    alloc: Global,
+    lanes: &Lanes,
+    publisher: usize,
+    slot: u64,
+    uses: u64,
+    messages: &mut Vec<Message>,
+) -> Result<(), AllocError>
+    requires slot { slot < lanes.now.table.sizes.slots }
+    requires full { length lanes.now.table.words ≡ words_of lanes.now.table.sizes }
+    ensures { OnOk result (messages.new.items ≡ messages.old.items ++ found_in lanes.now publisher slot uses) }
+{
+    if uses == 0 {
+        return Ok(());
+    }
+    let message = Message::found(alloc, lanes.moments(), publisher, slot, lanes.table())?;
+    messages.push(message)?;
+    Ok(())
+}
+
+// The slot that an act puts or takes, if it does.
+fn acted_slot(act: Act) -> Option<u64>
+    ensures { result ≡ acted_slot act }
+{
+    match act {
+        Act::Put { value, .. } => Some(value),
+        Act::Take {
+            answer: PopAnswer::Got(got),
+        } => got,
+        Act::Take {
+            answer: PopAnswer::Saw(_),
+        } => None,
+    }
+}
+
+// The number of the last message that was sent in a slot by a moment.
+fn last_number(messages: &[Message], slot: u64, moment: u64) -> Option<usize>
+    ensures { result ≡ last_number messages.now slot moment (length messages.now) }
+{
+    let mut last = None;
+    for number in 0..messages.len() {
+        if messages[number].was_sent_by(slot, moment) {
+            last = Some(number);
+        }
+    }
+    last
 }

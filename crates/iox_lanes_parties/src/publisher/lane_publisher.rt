@@ -105,6 +105,13 @@ impl LanePublisher {
         self.book.history()
     }
 
+    /// How many uses each of its slots has.
+    pub fn uses(&self) -> &[u64]
+        ensures { result.now ≡ self.now.book.uses }
+    {
+        self.book.uses()
+    }
+
     /// Its connections, in place order.
     pub fn routes(&self) -> &[Route]
         ensures { result.now ≡ self.now.routes }

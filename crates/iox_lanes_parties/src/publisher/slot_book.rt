@@ -142,6 +142,13 @@ impl SlotBook {
         self.history.as_slice()
     }
 
+    /// How many uses each of its slots has: one as a loan, one in the history, one at each connection that has it.
+    pub fn uses(&self) -> &[u64]
+        ensures { result.now ≡ self.now.uses }
+    {
+        self.uses.as_slice()
+    }
+
     /// Whether a slot of the service is lent by this publisher.
     pub fn loan(&self, slot: u64) -> LoanMark
         ensures { result ≡ loan_of slot self.now }

@@ -1,5 +1,7 @@
+use Rattle.iox_machine.specs.Choices.{chosen_by}
 use Rattle.iox_machine.proofs.Anew.{lives-start-anew}
 use Rattle.iox_machine.proofs.a_life_starts_anew.Goals as goal
 
 pub returns : goal.returns
-returns g c = lives-start-anew (λ value. g.T.Default.is_default value)
+returns g c = λ handed. lives-start-anew (chosen_by (λ value. g.T.Default.is_default value) (λ who. g.B.Decides.decides who)
+    (λ who. g.B.Degrades.degrades who) (λ who. g.D.Degrades.degrades who) handed)

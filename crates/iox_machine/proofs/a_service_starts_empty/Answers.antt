@@ -1,5 +1,7 @@
+use Rattle.iox_machine.specs.Choices.{chosen_by}
 use Rattle.iox_machine.proofs.Beginning.{services-start-empty}
 use Rattle.iox_machine.proofs.a_service_starts_empty.Goals as goal
 
 pub returns : goal.returns
-returns g c = services-start-empty (λ value. g.T.Default.is_default value)
+returns g c = λ handed. services-start-empty (chosen_by (λ value. g.T.Default.is_default value) (λ who. g.B.Decides.decides who)
+    (λ who. g.B.Degrades.degrades who) (λ who. g.D.Degrades.degrades who) handed)

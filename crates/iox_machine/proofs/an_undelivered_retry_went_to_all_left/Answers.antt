@@ -1,5 +1,7 @@
+use Rattle.iox_machine.specs.Choices.{chosen_by}
 use Rattle.iox_machine.proofs.Undelivered.{retries-leave}
 use Rattle.iox_machine.proofs.an_undelivered_retry_went_to_all_left.Goals as goal
 
 pub returns : goal.returns
-returns g c = retries-leave (λ value. g.T.Default.is_default value)
+returns g c = λ handed. retries-leave (chosen_by (λ value. g.T.Default.is_default value) (λ who. g.B.Decides.decides who)
+    (λ who. g.B.Degrades.degrades who) (λ who. g.D.Degrades.degrades who) handed)

@@ -1,5 +1,7 @@
+use Rattle.iox_machine.specs.Choices.{chosen_by}
 use Rattle.iox_machine.proofs.Updated.{publisher-is-updated}
 use Rattle.iox_machine.proofs.an_update_connects_a_publisher.Goals as goal
 
 pub returns : goal.returns
-returns g c = publisher-is-updated (λ value. g.T.Default.is_default value)
+returns g c = λ handed. publisher-is-updated (chosen_by (λ value. g.T.Default.is_default value) (λ who. g.B.Decides.decides who)
+    (λ who. g.B.Degrades.degrades who) (λ who. g.D.Degrades.degrades who) handed)

@@ -1,5 +1,7 @@
+use Rattle.iox_machine.specs.Choices.{chosen_by}
 use Rattle.iox_machine.proofs.Once.{messages-go-once}
 use Rattle.iox_machine.proofs.messages_go_once.Goals as goal
 
 pub returns : goal.returns
-returns g c = messages-go-once (λ value. g.T.Default.is_default value)
+returns g c = λ handed. messages-go-once (chosen_by (λ value. g.T.Default.is_default value) (λ who. g.B.Decides.decides who)
+    (λ who. g.B.Degrades.degrades who) (λ who. g.D.Degrades.degrades who) handed)

@@ -1,5 +1,7 @@
+use Rattle.iox_machine.specs.Choices.{chosen_by}
 use Rattle.iox_machine.proofs.Runs.{messages-sent}
 use Rattle.iox_machine.proofs.messages_were_sent.Goals as goal
 
 pub returns : goal.returns
-returns g c = messages-sent (λ value. g.T.Default.is_default value)
+returns g c = λ handed. messages-sent (chosen_by (λ value. g.T.Default.is_default value) (λ who. g.B.Decides.decides who)
+    (λ who. g.B.Degrades.degrades who) (λ who. g.D.Degrades.degrades who) handed)

@@ -1,5 +1,7 @@
+use Rattle.iox_machine.specs.Choices.{chosen_by}
 use Rattle.iox_machine.proofs.Counted.{numbers-name-one}
 use Rattle.iox_machine.proofs.numbers_name_one.Goals as goal
 
 pub returns : goal.returns
-returns g c = numbers-name-one (λ value. g.T.Default.is_default value)
+returns g c = λ handed. numbers-name-one (chosen_by (λ value. g.T.Default.is_default value) (λ who. g.B.Decides.decides who)
+    (λ who. g.B.Degrades.degrades who) (λ who. g.D.Degrades.degrades who) handed)

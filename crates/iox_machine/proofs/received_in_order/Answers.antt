@@ -1,5 +1,7 @@
+use Rattle.iox_machine.specs.Choices.{chosen_by}
 use Rattle.iox_machine.proofs.OrderLaws.{received-in-order}
 use Rattle.iox_machine.proofs.received_in_order.Goals as goal
 
 pub returns : goal.returns
-returns g c = received-in-order (λ value. g.T.Default.is_default value)
+returns g c = λ handed. received-in-order (chosen_by (λ value. g.T.Default.is_default value) (λ who. g.B.Decides.decides who)
+    (λ who. g.B.Degrades.degrades who) (λ who. g.D.Degrades.degrades who) handed)

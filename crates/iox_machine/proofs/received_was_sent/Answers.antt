@@ -1,5 +1,7 @@
+use Rattle.iox_machine.specs.Choices.{chosen_by}
 use Rattle.iox_machine.proofs.Taken.{received-was-sent}
 use Rattle.iox_machine.proofs.received_was_sent.Goals as goal
 
 pub returns : goal.returns
-returns g c = received-was-sent (λ value. g.T.Default.is_default value)
+returns g c = λ handed. received-was-sent (chosen_by (λ value. g.T.Default.is_default value) (λ who. g.B.Decides.decides who)
+    (λ who. g.B.Degrades.degrades who) (λ who. g.D.Degrades.degrades who) handed)

@@ -1,5 +1,7 @@
+use Rattle.iox_machine.specs.Choices.{chosen_by}
 use Rattle.iox_machine.proofs.RefusedCalls.{refused-calls-leave-services}
 use Rattle.iox_machine.proofs.refused_calls_leave_services.Goals as goal
 
 pub returns : goal.returns
-returns g c = refused-calls-leave-services (λ value. g.T.Default.is_default value)
+returns g c = λ handed. refused-calls-leave-services (chosen_by (λ value. g.T.Default.is_default value) (λ who. g.B.Decides.decides who)
+    (λ who. g.B.Degrades.degrades who) (λ who. g.D.Degrades.degrades who) handed)

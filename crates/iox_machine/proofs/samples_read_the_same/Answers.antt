@@ -1,5 +1,7 @@
+use Rattle.iox_machine.specs.Choices.{chosen_by}
 use Rattle.iox_machine.proofs.Runs.{samples-read}
 use Rattle.iox_machine.proofs.samples_read_the_same.Goals as goal
 
 pub returns : goal.returns
-returns g c = samples-read (λ value. g.T.Default.is_default value)
+returns g c = λ handed. samples-read (chosen_by (λ value. g.T.Default.is_default value) (λ who. g.B.Decides.decides who)
+    (λ who. g.B.Degrades.degrades who) (λ who. g.D.Degrades.degrades who) handed)

@@ -1,5 +1,7 @@
+use Rattle.iox_machine.specs.Choices.{chosen_by}
 use Rattle.iox_machine.proofs.Listed.{standing-are-listed}
 use Rattle.iox_machine.proofs.who_stands_is_listed.Goals as goal
 
 pub returns : goal.returns
-returns g c = standing-are-listed (λ value. g.T.Default.is_default value)
+returns g c = λ handed. standing-are-listed (chosen_by (λ value. g.T.Default.is_default value) (λ who. g.B.Decides.decides who)
+    (λ who. g.B.Degrades.degrades who) (λ who. g.D.Degrades.degrades who) handed)

@@ -5,5 +5,5 @@ pub compare_exchange-requires : goal.compare_exchange-requires
 compare_exchange-requires g c =
     let t = exchange_granted c.args.words.now.table_id.slots c.args.seat.now.id c.args.words.now.table_id.words c.args.sizes.now
     g.M.Doing.port g.M.Doing.after c.args.seat.now.me c.number.result c.args.word c.requires.seat.0 c.requires.seat.1
-    c.number.ensures c.requires.table.1 c.args.old c.args.new c.requires.may in
+    c.number.ensures c.requires.table.1 c.args.old c.args.new c.requires.may c.requires.next in
     (c.requires.table.0, t.0, t.1)

@@ -29,6 +29,8 @@ loop-step-preserved c =
       omega (arith, c.loop-step.invariant.1),
       c.step-stepped.ensures.told,
       c.step-stepped.ensures.recorded,
+      c.step-stepped.ensures.counted,
+      c.step-stepped.ensures.moves,
     )
 
 pub returns-clause-runs : goal.returns-clause-runs

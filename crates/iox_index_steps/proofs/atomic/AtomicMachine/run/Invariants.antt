@@ -1,5 +1,5 @@
 use Rattle.std.proofs.Common.{ℕ, ◌+◌, ◌≤◌, length}
-use Rattle.iox_index_steps.specs.AtomicMachine.{AtomicState, HasFewStores, IsRecorded, IsTold, RunsTo}
+use Rattle.iox_index_steps.specs.AtomicMachine.{AtomicState, HasFewStores, IsRecorded, IsTold, MovesOnce, RunsTo, StepsAreOfCalls}
 use Rattle.iox_index_steps.proofs.atomic.AtomicMachine.run.Given as goal
 
 abbrev pub invariant-loop-step : goal.invariant-loop-step
@@ -8,6 +8,8 @@ invariant-loop-step l =
     × (l.made + length l.rest ≤ length l.fn.schedule)
     × (HasFewStores l.self → IsTold l.self)
     × IsRecorded l.self
+    × StepsAreOfCalls l.self
+    × MovesOnce l.self
 
 abbrev pub decreases-loop-step : goal.decreases-loop-step
 decreases-loop-step l = length l.rest

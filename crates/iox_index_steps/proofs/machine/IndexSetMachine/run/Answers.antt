@@ -47,6 +47,7 @@ loop-step-preserved c =
       goes_on c.args.self.now c.loop-step.self c.step-stepped.new.self c.loop-step.invariant.3
           (λ few. (c.step-stepped.ensures.few few, c.step-stepped.ensures.locked few)),
       c.step-stepped.ensures.recorded,
+      c.step-stepped.ensures.counted,
     )
 
 pub returns-clause-runs : goal.returns-clause-runs

@@ -1,5 +1,6 @@
 use Rattle.std.proofs.Common.{ℕ, ◌+◌, ◌≤◌, length}
 use Rattle.iox_index_steps.specs.Machine.{HasFewChanges, IndexSetState, IsOrderly, IsRecorded, RunsTo}
+use Rattle.iox_index_steps.specs.OfCalls.{StepsAreOfCalls}
 use Rattle.iox_index_steps.proofs.Runs.{PassesTo}
 use Rattle.iox_index_steps.proofs.machine.IndexSetMachine.run.Given as goal
 
@@ -10,6 +11,7 @@ invariant-loop-step l =
     × (HasFewChanges l.self → IsOrderly l.self)
     × PassesTo l.fn.self l.self
     × IsRecorded l.self
+    × StepsAreOfCalls l.self
 
 abbrev pub decreases-loop-step : goal.decreases-loop-step
 decreases-loop-step l = length l.rest

@@ -1,9 +1,11 @@
 use Rattle.std.proofs.Common.{◌∙◌, sym, subst, length}
 use Rattle.iox_index_steps.specs.Machine.{HasFewChanges, IndexSetState, StaysLocked, stage_at}
 use Rattle.iox_index_steps.specs.Kept.{IsKept}
+use Rattle.iox_index_steps.specs.OfCalls.{TellsStep}
 use Rattle.iox_index_steps.specs.State.{machine_of}
 use Rattle.iox_index_steps.proofs.Brief.{short_few}
 use Rattle.iox_index_steps.proofs.Ending.{some_cells}
+use Rattle.iox_index_steps.proofs.OfCalls.{steps_tell}
 use Rattle.iox_index_steps.proofs.Runs.{orderly, steps_go, steps_keep, steps_length}
 use Rattle.iox_index_steps.proofs.machine.IndexSetMachine.step.Goals as goal
 
@@ -49,3 +51,14 @@ returns-clause-recorded c =
 
 pub returns-clause-short : goal.returns-clause-short
 returns-clause-short c = short_few (machine_of c.step.new.self)
+
+pub returns-clause-counted : goal.returns-clause-counted
+returns-clause-counted c =
+    let kept : IsKept (machine_of c.step.new.self)
+    = steps_keep (machine_of c.self.inside.state) c.args.step c.step.result (machine_of c.step.new.self) c.step.ensures.steps
+    c.self.invariant.0 in
+    kept.counted
+
+pub returns-clause-tells : goal.returns-clause-tells
+returns-clause-tells c = subst (λ (m : IndexSetState). TellsStep m c.args.step c.step.result (machine_of c.step.new.self)) c.self.view_is
+    (steps_tell (machine_of c.self.inside.state) c.args.step c.step.result (machine_of c.step.new.self) c.step.ensures.steps)

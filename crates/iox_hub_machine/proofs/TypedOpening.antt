@@ -1,0 +1,197 @@
+-- Each typed call that creates a service, opens one, or does either is a step of the machine, and so is each by which nodes outside the hub
+-- act on one.
+use Rattle.std.proofs.Common.{◌≡◌, ℕ, Bool, List, Option, None, Some, Result, Ok, Err, refl, sym, ap, subst, ◌∙◌, inl, inr}
+use Rattle.std.specs.List.{AllByRecursion}
+use Rattle.std.specs.Result.{result_map_both}
+use Rattle.iox_command.specs.DomainValues.declared.backpressure.BackpressureAction.{BackpressureAction}
+use Rattle.iox_command.specs.DomainValues.declared.backpressure.BackpressureDecision.{BackpressureDecision}
+use Rattle.iox_command.specs.DomainValues.declared.backpressure.BackpressureInfo.{BackpressureInfo}
+use Rattle.iox_command.specs.DomainValues.declared.backpressure_strategy.BackpressureStrategy.{BackpressureStrategy}
+use Rattle.iox_command.specs.DomainValues.declared.degradation.DegradationAction.{DegradationAction}
+use Rattle.iox_command.specs.DomainValues.declared.degradation.DegradationCause.{DegradationCause}
+use Rattle.iox_command.specs.DomainValues.declared.degradation.DegradationInfo.{DegradationInfo}
+use Rattle.iox_command.specs.NegotiateBase.DescribeBase.Detail.{Detail}
+use Rattle.iox_command.specs.NegotiateBase.DescribeBase.declared.message_type.MessageTypeDetails.{MessageTypeDetails}
+use Rattle.iox_command.specs.NegotiateBase.DescribeBase.declared.type_detail.TypeVariant.{TypeVariant}
+use Rattle.iox_command.specs.NegotiateBase.DescribeBase.declared.attribute.Attribute.{Attribute}
+use Rattle.iox_command.specs.NegotiateBase.DescribeBase.declared.hash.ServiceHash.{ServiceHash}
+use Rattle.iox_command.specs.NegotiateBase.DescribeBase.declared.pattern.MessagingPattern.{MessagingPattern}
+use Rattle.iox_command.specs.NegotiateBase.DescribeBase.declared.pattern.MessagingPattern.TheVariants as pattern
+use Rattle.iox_command.specs.NegotiateBase.EventErrors as event
+use Rattle.iox_command.specs.NegotiateBase.PublishSubscribeErrors as publish_subscribe
+use Rattle.iox_command.specs.NegotiateBase.RequestResponseErrors as request_response
+use Rattle.iox_command.specs.NegotiateBase.declared.failure.CreateFailure.{CreateFailure}
+use Rattle.iox_command.specs.NegotiateBase.declared.failure.CreateFailure.TheVariants.{OutOfMemory}
+use Rattle.iox_command.specs.declared.command.Command.TheVariants as command
+use Rattle.iox_command.specs.declared.refusal.Refusal.{Refusal}
+use Rattle.iox_command.specs.declared.refusal.Refusal.TheVariants as refusal
+use Rattle.iox_command.specs.declared.service.ServiceOptions.{ServiceOptions}
+use Rattle.iox_command.specs.declared.service.ServiceOptions.TheVariants as options
+use Rattle.iox_command.specs.declared.step.StepBefore.{StepBefore}
+use Rattle.iox_domain.specs.Fitting.{asked_types}
+use Rattle.iox_hub_base.specs.DescribeSettings.Agreement.{Agreement}
+use Rattle.iox_hub_base.specs.Opening.{Made as Opened, Settles}
+use Rattle.iox_hub_base.specs.declared.hub.Hub.{Hub}
+use Rattle.iox_hub_commands.specs.Asking.{agreed_of, hash_of}
+use Rattle.iox_hub_commands.specs.Creating.{CreatesAgreed, CreatesAs, CreatesNumbered, CreatesUnlessRefused}
+use Rattle.iox_hub_commands.specs.Described.{settings_of}
+use Rattle.iox_hub_commands.specs.Either.{EitherNumbered}
+use Rattle.iox_hub_commands.specs.Opening.{OpensNumbered}
+use Rattle.iox_hub_commands.specs.Refusing.{IsUncreated, create_refused}
+use Rattle.iox_hub_commands.specs.Replies.{factory_reply, foreign_reply}
+use Rattle.iox_hub_commands.specs.ServicesNumbering.{GetsNumber, Numbers, Prepares}
+use Rattle.iox_hub_commands.specs.ServicesTables.{FactoryTable}
+use Rattle.iox_hub_commands.specs.Steps.{PublishesInForm, lists_of}
+use Rattle.iox_hub_commands.specs.declared.numbered_hub.NumberedHub.{NumberedHub}
+use Rattle.iox_hub_machine.proofs.TypedSteps.{by_step}
+use Rattle.iox_hub_machine.specs.TypedOpening.{CreateIsStep, ForeignIsStep, OpenIsStep, OpenOrCreateIsStep, opened_then}
+use Rattle.iox_hub_machine.specs.TypedSteps.{hub_after_call}
+use Rattle.iox_negotiate.specs.Factory.{membership}
+use Rattle.iox_negotiate.specs.declared.factory.Membership.{Membership}
+use Rattle.iox_negotiate_table.specs.NegotiateBase.Creating.{CreatesIf}
+use Rattle.iox_negotiate_table.specs.NegotiateBase.Runs.{Went}
+use Rattle.iox_negotiate_table.specs.Stepped.{Steps, SteppedSight}
+use Rattle.iox_negotiate_table.specs.declared.step.ForeignStep.{ForeignStep}
+
+-- there are the lists that are named, and nothing more is done for a number
+prepared_so : (name : List ℕ) (types : MessageTypeDetails) (steps : List StepBefore) (table : FactoryTable)
+    → AllByRecursion (AllByRecursion PublishesInForm) (lists_of name types steps)
+    → Prepares name types steps table (Ok (lists_of name types steps)) table
+prepared_so name types steps table formed = ((refl, refl), refl, inr refl, formed)
+
+module _ {T U B D E : Type 0} (payload user_header : Detail) (kind : MessagingPattern) (told : E → Refusal) (error : CreateFailure → E)
+    (hash : ServiceHash) (node : ℕ) (agreed : Agreement) (lists : List (List ForeignStep)) (table after : FactoryTable)
+    (old new : Hub T U B D) (answer : Result ℕ Refusal) where
+  abbrev Gets : Type 0
+  Gets = GetsNumber kind told (CreatesAgreed payload user_header error hash node agreed lists) table old answer after new
+
+  -- settings that can't be are refused, and nothing happens
+  refused_so : (failure : CreateFailure) (gets : Gets) → gets.1.negotiated.refusal ≡ Some failure
+      → (answer ≡ Err (told (error failure))) × (after ≡ table) × (new ≡ old)
+  refused_so failure (opened, opens, numbers) is =
+      let negotiated = opens.negotiated.negotiated in
+      let (none, fails) = subst (λ (it : Option CreateFailure). CreatesIf hash node agreed it negotiated.done.made negotiated.answer) is
+      negotiated.done.told in
+      let same : opens.mid ≡ record { table = old.table; lists = lists } =
+      subst (λ made. Went SteppedSight (record { table = old.table; lists = lists }) made opens.mid) none negotiated.done.went in
+      let failed : opens.answer ≡ Err (error failure)
+      = negotiated.told ∙ ap (λ came. result_map_both (membership old.table.id node) error came) fails in
+      let (unopened, still) = subst (λ (it : Result Membership E). Settles payload user_header (λ was_new. error OutOfMemory) it
+      (record old { table = opens.mid.table }) opened new) failed opens.settled in
+      let (refused, kept) = subst (λ (it : Result Opened E). Numbers kind told it table answer after) unopened numbers in
+      (refused, kept, still ∙ ap (λ (it : Steps). record old { table = it.table }) same)
+
+module _ {T U B D : Type 0} (payload user_header : Detail) (variant : TypeVariant) (is_default : T → Type 0)
+    (is_default_header : U → Type 0) (fixed : BackpressureStrategy → Option BackpressureAction → DegradationAction → B)
+    (degrades : B → DegradationCause → DegradationInfo → DegradationAction → Type 0)
+    (decides : B → BackpressureInfo → BackpressureDecision → Type 0) (fixed_reader : DegradationAction → D)
+    (reader_degrades : D → DegradationCause → DegradationInfo → DegradationAction → Type 0) where
+  -- the types of the messages: values, or slices of them
+  abbrev types : MessageTypeDetails
+  types = asked_types variant payload user_header
+
+  module _ (node : ℕ) (name : List ℕ) (steps : List StepBefore) (old : NumberedHub T U B D) (hub : Hub T U B D)
+      (answer : Result ℕ Refusal) (table : FactoryTable)
+      (formed : AllByRecursion (AllByRecursion PublishesInForm) (lists_of name types steps)) where
+    -- ---- creation
+
+    abbrev Unless : ServiceOptions → List Attribute → Option CreateFailure → Type 0
+    Unless named attributes refused = CreatesUnlessRefused refused payload user_header types
+        (record { node = node; name = name; options = named }) attributes steps old.factories.made old.hub (Some answer) table hub
+
+    module _ (named : ServiceOptions) (attributes : List Attribute)
+        (creates : CreatesAs named payload user_header types node name attributes (lists_of name types steps) old.factories.made old.hub
+        answer table hub) {E : Type 0} (kind : MessagingPattern) (told : E → Refusal) (error : CreateFailure → E)
+        (tells : (failure : CreateFailure) → told (error failure) ≡ create_refused named failure)
+        (gets : Gets payload user_header kind told error (hash_of name named) node (agreed_of name named types attributes)
+        (lists_of name types steps) old.factories.made table old.hub hub answer) where
+      unless_by : (refused : Option CreateFailure) → gets.1.negotiated.refusal ≡ refused → Unless named attributes refused
+      unless_by None is = (
+        Ok (lists_of name types steps),
+        old.factories.made,
+        answer,
+        prepared_so name types steps old.factories.made formed,
+        creates,
+        refl,
+      )
+      unless_by (Some failure) is =
+          let (refused, kept, still) = refused_so payload user_header kind told error (hash_of name named) node
+          (agreed_of name named types attributes) (lists_of name types steps) old.factories.made table old.hub hub answer failure gets
+          is in
+          (ap (λ (it : Result ℕ Refusal). Some it) (refused ∙ ap (λ (why : Refusal). Err why) (tells failure)), kept, still)
+
+      numbered_by : (refused : Option CreateFailure) × IsUncreated (settings_of named types) refused × Unless named attributes refused
+      numbered_by = (gets.1.negotiated.refusal, gets.1.negotiated.refused, unless_by gets.1.negotiated.refusal refl)
+
+    creates_by : (named : ServiceOptions) (attributes : List Attribute)
+        → CreatesAs named payload user_header types node name attributes (lists_of name types steps) old.factories.made old.hub answer table
+        hub
+        → (refused : Option CreateFailure) × IsUncreated (settings_of named types) refused × Unless named attributes refused
+    creates_by (options.PublishSubscribe one) attributes creates =
+        numbered_by (options.PublishSubscribe one) attributes creates pattern.PublishSubscribe refusal.PublishSubscribeCreate
+        publish_subscribe.create_error (λ failure. refl) creates
+    creates_by (options.Event one) attributes creates =
+        numbered_by (options.Event one) attributes creates pattern.Event refusal.EventCreate event.create_error (λ failure. refl) creates
+    creates_by (options.RequestResponse one) attributes creates =
+        numbered_by (options.RequestResponse one) attributes creates pattern.RequestResponse refusal.RequestResponseCreate
+        request_response.create_error (λ failure. refl) creates
+
+  pub create_is_step : CreateIsStep payload user_header types is_default is_default_header fixed degrades decides fixed_reader
+      reader_degrades
+  create_is_step node name named attributes steps old hub answer table there formed creates =
+      by_step payload user_header variant is_default is_default_header fixed degrades decides fixed_reader reader_degrades
+      (command.Create node name named attributes steps) old (opened_then old table hub) (factory_reply (Some answer))
+      (λ names most state it. (
+        Some answer,
+        subst (λ (b : Bool). CreatesNumbered b payload user_header types (record { node = node; name = name; options = named }) attributes
+            steps old.factories.made old.hub (Some answer) table hub) (sym there)
+            (creates_by node name steps old hub answer table formed named attributes creates),
+        refl,
+        refl,
+      ))
+
+  pub open_is_step : OpenIsStep payload user_header types is_default is_default_header fixed degrades decides fixed_reader reader_degrades
+  open_is_step node name named required steps old hub answer table there formed opens =
+      by_step payload user_header variant is_default is_default_header fixed degrades decides fixed_reader reader_degrades
+      (command.Open node name named required steps) old (opened_then old table hub) (factory_reply (Some answer))
+      (λ names most state it. (
+        Some answer,
+        subst (λ (b : Bool). OpensNumbered b payload user_header types (record { node = node; name = name; options = named }) required
+            steps old.factories.made old.hub (Some answer) table hub) (sym there) (
+              Ok (lists_of name types steps),
+              old.factories.made,
+              answer,
+              prepared_so name types steps old.factories.made formed,
+              opens,
+              refl,
+            ),
+        refl,
+        refl,
+      ))
+
+  pub open_or_create_is_step : OpenOrCreateIsStep payload user_header types is_default is_default_header fixed degrades decides
+      fixed_reader reader_degrades
+  open_or_create_is_step node name named required steps old hub answer table there formed does =
+      by_step payload user_header variant is_default is_default_header fixed degrades decides fixed_reader reader_degrades
+      (command.OpenOrCreate node name named required steps) old (opened_then old table hub) (factory_reply (Some answer))
+      (λ names most state it. (
+        Some answer,
+        subst (λ (b : Bool). EitherNumbered b payload user_header types (record { node = node; name = name; options = named }) required
+            steps old.factories.made old.hub (Some answer) table hub) (sym there) (
+              Ok (lists_of name types steps),
+              old.factories.made,
+              answer,
+              prepared_so name types steps old.factories.made formed,
+              does,
+              refl,
+            ),
+        refl,
+        refl,
+      ))
+
+  pub foreign_is_step : ForeignIsStep payload user_header types is_default is_default_header fixed degrades decides fixed_reader
+      reader_degrades
+  foreign_is_step kind name steps old hub answer formed acts =
+      by_step payload user_header variant is_default is_default_header fixed degrades decides fixed_reader reader_degrades
+      (command.Foreign kind name steps) old (hub_after_call old old.made hub) (foreign_reply answer)
+      (λ names most state it. (answer, inl (acts, formed), refl, refl))

@@ -1,0 +1,18 @@
+use Rattle.iox_hub_base.specs.DescribeBase.Detail.{detail}
+use Rattle.iox_hub_base.specs.DescribeBase.declared.type_detail.TypeVariant.TheVariants.{FixedSize}
+use Rattle.iox_hub_machine.proofs.TypedPublishing.{drop_is_step, send_is_step}
+use Rattle.iox_hub_machine.proofs.typed.typed_loans_end_by_steps.Goals as goal
+
+pub returns-clause-sends : goal.returns-clause-sends
+returns-clause-sends g c variant = send_is_step (detail FixedSize g.T.ZeroCopySend.name g.T.ZeroCopySend.size g.T.ZeroCopySend.alignment)
+    (detail FixedSize g.U.ZeroCopySend.name g.U.ZeroCopySend.size g.U.ZeroCopySend.alignment) variant
+    (λ value. g.T.Default.is_default value) (λ header. g.U.Default.is_default header) g.B.PublisherHandlers.fixed
+    (λ handlers. g.B.Degrades.degrades handlers) (λ handlers. g.B.Decides.decides handlers) g.D.SubscriberHandler.fixed
+    (λ handler. g.D.Degrades.degrades handler) g.row.K.Denot
+
+pub returns-clause-drops : goal.returns-clause-drops
+returns-clause-drops g c variant = drop_is_step (detail FixedSize g.T.ZeroCopySend.name g.T.ZeroCopySend.size g.T.ZeroCopySend.alignment)
+    (detail FixedSize g.U.ZeroCopySend.name g.U.ZeroCopySend.size g.U.ZeroCopySend.alignment) variant
+    (λ value. g.T.Default.is_default value) (λ header. g.U.Default.is_default header) g.B.PublisherHandlers.fixed
+    (λ handlers. g.B.Degrades.degrades handlers) (λ handlers. g.B.Decides.decides handlers) g.D.SubscriberHandler.fixed
+    (λ handler. g.D.Degrades.degrades handler) g.row.K.Denot

@@ -1,0 +1,27 @@
+use Rattle.iox_hub_base.specs.DescribeBase.Detail.{detail}
+use Rattle.iox_hub_base.specs.DescribeBase.declared.type_detail.TypeVariant.TheVariants.{FixedSize}
+use Rattle.iox_hub_machine.proofs.TypedOpening.{create_is_step, open_is_step, open_or_create_is_step}
+use Rattle.iox_hub_machine.proofs.typed.typed_openings_are_steps.Goals as goal
+
+pub returns-clause-creates : goal.returns-clause-creates
+returns-clause-creates g c variant
+    = create_is_step (detail FixedSize g.T.ZeroCopySend.name g.T.ZeroCopySend.size g.T.ZeroCopySend.alignment)
+    (detail FixedSize g.U.ZeroCopySend.name g.U.ZeroCopySend.size g.U.ZeroCopySend.alignment) variant
+    (λ value. g.T.Default.is_default value) (λ header. g.U.Default.is_default header) g.B.PublisherHandlers.fixed
+    (λ handlers. g.B.Degrades.degrades handlers) (λ handlers. g.B.Decides.decides handlers) g.D.SubscriberHandler.fixed
+    (λ handler. g.D.Degrades.degrades handler)
+
+pub returns-clause-opens : goal.returns-clause-opens
+returns-clause-opens g c variant = open_is_step (detail FixedSize g.T.ZeroCopySend.name g.T.ZeroCopySend.size g.T.ZeroCopySend.alignment)
+    (detail FixedSize g.U.ZeroCopySend.name g.U.ZeroCopySend.size g.U.ZeroCopySend.alignment) variant
+    (λ value. g.T.Default.is_default value) (λ header. g.U.Default.is_default header) g.B.PublisherHandlers.fixed
+    (λ handlers. g.B.Degrades.degrades handlers) (λ handlers. g.B.Decides.decides handlers) g.D.SubscriberHandler.fixed
+    (λ handler. g.D.Degrades.degrades handler)
+
+pub returns-clause-either : goal.returns-clause-either
+returns-clause-either g c variant
+    = open_or_create_is_step (detail FixedSize g.T.ZeroCopySend.name g.T.ZeroCopySend.size g.T.ZeroCopySend.alignment)
+    (detail FixedSize g.U.ZeroCopySend.name g.U.ZeroCopySend.size g.U.ZeroCopySend.alignment) variant
+    (λ value. g.T.Default.is_default value) (λ header. g.U.Default.is_default header) g.B.PublisherHandlers.fixed
+    (λ handlers. g.B.Degrades.degrades handlers) (λ handlers. g.B.Decides.decides handlers) g.D.SubscriberHandler.fixed
+    (λ handler. g.D.Degrades.degrades handler)

@@ -1,0 +1,90 @@
+-- What a typed call is in the machine that creates a service, opens one, or does either, and by which nodes outside the hub act on one.
+use Rattle.std.specs.Prelude.{ℕ, ◌≡◌, true, List, Option, Some, Result}
+use Rattle.std.specs.List.{AllByRecursion}
+use Rattle.iox_command.specs.DomainValues.declared.backpressure.BackpressureAction.{BackpressureAction}
+use Rattle.iox_command.specs.DomainValues.declared.backpressure.BackpressureDecision.{BackpressureDecision}
+use Rattle.iox_command.specs.DomainValues.declared.backpressure.BackpressureInfo.{BackpressureInfo}
+use Rattle.iox_command.specs.DomainValues.declared.backpressure_strategy.BackpressureStrategy.{BackpressureStrategy}
+use Rattle.iox_command.specs.DomainValues.declared.degradation.DegradationAction.{DegradationAction}
+use Rattle.iox_command.specs.DomainValues.declared.degradation.DegradationCause.{DegradationCause}
+use Rattle.iox_command.specs.DomainValues.declared.degradation.DegradationInfo.{DegradationInfo}
+use Rattle.iox_command.specs.NegotiateBase.DescribeBase.Detail.{Detail}
+use Rattle.iox_command.specs.NegotiateBase.DescribeBase.declared.message_type.MessageTypeDetails.{MessageTypeDetails}
+use Rattle.iox_command.specs.NegotiateBase.DescribeBase.Attributes.{Required}
+use Rattle.iox_command.specs.NegotiateBase.DescribeBase.declared.attribute.Attribute.{Attribute}
+use Rattle.iox_command.specs.NegotiateBase.DescribeBase.declared.pattern.MessagingPattern.{MessagingPattern}
+use Rattle.iox_command.specs.declared.command.Command.TheVariants as command
+use Rattle.iox_command.specs.declared.refusal.HubError.{HubError}
+use Rattle.iox_command.specs.declared.refusal.Refusal.{Refusal}
+use Rattle.iox_command.specs.declared.service.ServiceOptions.{ServiceOptions}
+use Rattle.iox_command.specs.declared.step.ForeignStep.{ForeignStep as Named}
+use Rattle.iox_command.specs.declared.step.StepBefore.{StepBefore}
+use Rattle.iox_hub_base.specs.DescribeBase.Hash.{service_hash_of}
+use Rattle.iox_hub_base.specs.Foreign.{ActsOn}
+use Rattle.iox_hub_base.specs.Hubs.{is_node}
+use Rattle.iox_hub_base.specs.declared.hub.Hub.{Hub}
+use Rattle.iox_hub_commands.specs.Creating.{CreatesAs}
+use Rattle.iox_hub_commands.specs.Either.{EitherAs}
+use Rattle.iox_hub_commands.specs.Opening.{OpensAs}
+use Rattle.iox_hub_commands.specs.Replies.{factory_reply, foreign_reply}
+use Rattle.iox_hub_commands.specs.ServicesTables.{FactoryTable}
+use Rattle.iox_hub_commands.specs.Steps.{PublishesInForm, list_of, lists_of}
+use Rattle.iox_hub_commands.specs.declared.numbered_hub.NumberedHub.{NumberedHub}
+use Rattle.iox_hub_machine.specs.TypedSteps.{IsStepBy, hub_after_call}
+
+module _ {T U B D : Type 0} where
+  -- a hub that a call left, and the factories that its program holds then; all else that it holds is as it was
+  abbrev pub opened_then : NumberedHub T U B D → FactoryTable → Hub T U B D → NumberedHub T U B D
+  opened_then old table hub = record old { hub = hub; factories = record { made = table } }
+
+-- A node of a hub asks for a service, as options ask, with lists of steps of nodes outside it before the accesses: those that the command
+-- names, of which what is published has the form of a description. A factory that was made goes by the next number. The two details are
+-- those of values and user headers, the types those of the messages; then what is a default value, and a default user header; who decides
+-- by fixed actions, and what anybody who decides may answer.
+module _ {T U B D : Type 0} (payload user_header : Detail) (types : MessageTypeDetails) (is_default : T → Type 0)
+    (is_default_header : U → Type 0)
+    (fixed : BackpressureStrategy → Option BackpressureAction → DegradationAction → B)
+    (degrades : B → DegradationCause → DegradationInfo → DegradationAction → Type 0)
+    (decides : B → BackpressureInfo → BackpressureDecision → Type 0)
+    (fixed_reader : DegradationAction → D)
+    (reader_degrades : D → DegradationCause → DegradationInfo → DegradationAction → Type 0) where
+  -- The service is created, with these attributes.
+  abbrev pub CreateIsStep : Type 0
+  CreateIsStep = (node : ℕ) (name : List ℕ) (named : ServiceOptions) (attributes : List Attribute) (steps : List StepBefore)
+      (old : NumberedHub T U B D) (hub : Hub T U B D) (answer : Result ℕ Refusal) (table : FactoryTable)
+      → is_node node old.hub.nodes ≡ true
+      → AllByRecursion (AllByRecursion PublishesInForm) (lists_of name types steps)
+      → CreatesAs named payload user_header types node name attributes (lists_of name types steps) old.factories.made old.hub answer table
+      hub
+      → IsStepBy payload user_header types is_default is_default_header fixed degrades decides fixed_reader reader_degrades
+      (command.Create node name named attributes steps) old (factory_reply (Some answer)) (opened_then old table hub)
+
+  -- The service is opened, if it has what is required of attributes.
+  abbrev pub OpenIsStep : Type 0
+  OpenIsStep = (node : ℕ) (name : List ℕ) (named : ServiceOptions) (required : Required) (steps : List StepBefore)
+      (old : NumberedHub T U B D) (hub : Hub T U B D) (answer : Result ℕ Refusal) (table : FactoryTable)
+      → is_node node old.hub.nodes ≡ true
+      → AllByRecursion (AllByRecursion PublishesInForm) (lists_of name types steps)
+      → OpensAs named payload user_header types node name required (lists_of name types steps) old.factories.made old.hub answer table hub
+      → IsStepBy payload user_header types is_default is_default_header fixed degrades decides fixed_reader reader_degrades
+      (command.Open node name named required steps) old (factory_reply (Some answer)) (opened_then old table hub)
+
+  -- The service is opened, or created with the required pairs where none stands.
+  abbrev pub OpenOrCreateIsStep : Type 0
+  OpenOrCreateIsStep = (node : ℕ) (name : List ℕ) (named : ServiceOptions) (required : Required) (steps : List StepBefore)
+      (old : NumberedHub T U B D) (hub : Hub T U B D) (answer : Result ℕ Refusal) (table : FactoryTable)
+      → is_node node old.hub.nodes ≡ true
+      → AllByRecursion (AllByRecursion PublishesInForm) (lists_of name types steps)
+      → EitherAs named payload user_header types node name required (lists_of name types steps) old.factories.made old.hub answer table hub
+      → IsStepBy payload user_header types is_default is_default_header fixed degrades decides fixed_reader reader_degrades
+      (command.OpenOrCreate node name named required steps) old (factory_reply (Some answer)) (opened_then old table hub)
+
+  -- Nodes outside the hub do steps on the service of a pattern and name: those that the command names, of which what is published has the
+  -- form of a description.
+  abbrev pub ForeignIsStep : Type 0
+  ForeignIsStep = (kind : MessagingPattern) (name : List ℕ) (steps : List Named) (old : NumberedHub T U B D) (hub : Hub T U B D)
+      (answer : Result (Unit {0}) HubError)
+      → AllByRecursion PublishesInForm (list_of name types steps)
+      → ActsOn (service_hash_of kind name) (list_of name types steps) old.hub answer hub
+      → IsStepBy payload user_header types is_default is_default_header fixed degrades decides fixed_reader reader_degrades
+      (command.Foreign kind name steps) old (foreign_reply answer) (hub_after_call old old.made hub)

@@ -1,0 +1,92 @@
+//! A program's own values as the words of a call: what is written, and what was read.
+//!
+//! ```
+//! let write = Call::write(alloc, loan, &value, &user_header)?;
+//! let values = values_in::<u64, u8>(lane.words_read());
+//! ```
+ghost use Rattle.std.specs.Prelude.{◌≡◌, ◌+◌, ℕ, take, drop, length, true, false, IfOk, IfSome, None};
+ghost use Rattle.iox_lanes_parties.specs.Values.{AreValues, HasWidths, IsWriteOf};
+
+use crate::call::Call;
+use iox_queues_base::Words;
+use std::alloc::{AllocError, Global};
+
+impl Call {
+    /// The write of a value and a user header into a loan. Fails only where an allocation fails.
+    pub fn write<T: Words, U: Words>(
+        alloc: Global,
+        loan: u64,
+        value: &T,
+        user_header: &U,
+    ) -> Result<Call, AllocError>
+        ensures { IfOk result (λ made. IsWriteOf loan (T.parts value.now) (U.parts user_header.now) made) }
+    {
+        Ok(Call::Write {
+            loan,
+            payload: words_of(alloc, value)?,
+            user_header: words_of(alloc, user_header)?,
+        })
+    }
+
+    /// From now on it is the write of this value and this user header into a loan, if it is a write of as many words; else it is as it
+    /// was, and this answers false. It takes no memory.
+    pub fn write_anew<T: Words, U: Words>(&mut self, loan: u64, value: &T, user_header: &U) -> bool
+        ensures writes { result ≡ true → IsWriteOf loan (T.parts value.now) (U.parts user_header.now) self.new }
+        ensures widths { (payload_count header_count : ℕ) → HasWidths payload_count header_count self.old
+            → HasWidths payload_count header_count self.new
+            × (result ≡ false → T.WORDS ≡ payload_count → U.WORDS ≡ header_count → ⊥) }
+    {
+        match self {
+            Call::Write {
+                loan: slot,
+                payload,
+                user_header: header,
+            } => {
+                if payload.len() != T::WORDS || header.len() != U::WORDS {
+                    return false;
+                }
+                *slot = loan;
+                put_words(payload, value);
+                put_words(header, user_header);
+                true
+            }
+            _ => false,
+        }
+    }
+}
+
+// The words of a value.
+fn words_of<T: Words>(alloc: Global, value: &T) -> Result<Vec<u64>, AllocError>
+    ensures { IfOk result (λ words. words.items ≡ T.parts value.now) }
+{
+    let mut words = Vec::new(alloc);
+    for at in 0..T::WORDS {
+        words.push(value.word(at))?;
+    }
+    Ok(words)
+}
+
+// The words of a value in place of as many.
+fn put_words<T: Words>(list: &mut Vec<u64>, value: &T)
+    requires { length list.old.items ≡ T.WORDS }
+    ensures { list.new.items ≡ T.parts value.now }
+{
+    for at in 0..T::WORDS {
+        list[at] = value.word(at);
+    }
+}
+
+/// The user header and the value whose words these are, behind the three of a header, as a read or a message has them. None where they
+/// are not just as many.
+pub fn values_in<T: Words, U: Words>(words: &[u64]) -> Option<(U, T)>
+    ensures some { IfSome result (AreValues T.of_parts U.of_parts T.WORDS U.WORDS words.now) }
+    ensures none { result ≡ None → length words.now ≡ 3 + U.WORDS + T.WORDS → ⊥ }
+{
+    let behind = words.get(3..)?;
+    let user_header = behind.get(..U::WORDS)?;
+    let payload = behind.get(U::WORDS..)?;
+    if payload.len() != T::WORDS {
+        return None;
+    }
+    Some((U::of_words(user_header), T::of_words(payload)))
+}

@@ -1,0 +1,119 @@
+//! What lanes leave in the domain that they become again.
+use crate::driving::Step;
+use crate::lanes::Lane;
+use crate::openings::{FULL, KEPT, OVERFLOWING, PORTS, REFUSING, REMEMBERING};
+use crate::ways::{Case, Way, go_all};
+use iox_domain_ports::Sent;
+use iox_lanes::IntoDomainError;
+use iox_lanes_parties::Party;
+use iox_lanes_parties::publisher::LoanAnswer;
+use std::alloc::AllocError;
+
+const AS_BEFORE: [Step; 8] = [
+    Step::Take(1, 43),
+    Step::Take(1, 51),
+    Step::Take(2, 42),
+    Step::Take(2, 43),
+    Step::Take(2, 51),
+    Step::Take(3, 41),
+    Step::Put(4, 44, Sent::Delivered(3)),
+    Step::Take(1, 44),
+];
+
+// One message is taken, and one is sent to all.
+const SOME_STEPS: [Lane; 2] = [Lane::Gets(0, 4, 43), Lane::Sends(1, 52, 3, 0)];
+
+// For the first subscriber one message may wait at a connection, for the second two.
+const WHAT_WAITS: [Step; 11] = [
+    Step::Take(1, 52),
+    Step::Take(2, 42),
+    Step::Take(2, 43),
+    Step::Take(2, 51),
+    Step::Take(2, 52),
+    Step::Take(3, 41),
+    Step::Take(3, 42),
+    Step::Take(3, 43),
+    Step::Put(4, 44, Sent::Delivered(3)),
+    Step::Take(1, 44),
+    Step::Take(3, 44),
+];
+
+const ONE_MORE: [Lane; 1] = [Lane::Sends(0, 14, 1, 0)];
+
+// The history is of the last two messages, and one comes later who gets both.
+const REMEMBERED: [Step; 6] = [
+    Step::Take(2, 14),
+    Step::Subscribe(3, Some(2)),
+    Step::Update(1),
+    Step::Follow(3),
+    Step::Take(3, 13),
+    Step::Take(3, 14),
+];
+
+const A_LOAN: [Lane; 1] = [Lane::Lends(0, 1, LoanAnswer::ExceedsMaxLoans)];
+
+const BEGUN: [Lane; 1] = [Lane::Begins(Party::Subscriber(0))];
+
+const GOES_ON: [Lane; 1] = [Lane::Lends(0, 0, LoanAnswer::ExceedsMaxLoans)];
+
+const CASES: [Case; 5] = [
+    Case {
+        name: "no step between",
+        service: &OVERFLOWING,
+        ways: &[
+            Way::Calls(&PORTS),
+            Way::Opens(Ok(())),
+            Way::Returns(Ok(())),
+            Way::Calls(&AS_BEFORE),
+        ],
+    },
+    Case {
+        name: "what waits comes back",
+        service: &OVERFLOWING,
+        ways: &[
+            Way::Calls(&PORTS),
+            Way::Opens(Ok(())),
+            Way::Lanes(&SOME_STEPS),
+            Way::Returns(Ok(())),
+            Way::Calls(&WHAT_WAITS),
+        ],
+    },
+    Case {
+        name: "the history comes back",
+        service: &REMEMBERING,
+        ways: &[
+            Way::Calls(&KEPT),
+            Way::Opens(Ok(())),
+            Way::Lanes(&ONE_MORE),
+            Way::Returns(Ok(())),
+            Way::Calls(&REMEMBERED),
+        ],
+    },
+    Case {
+        name: "a loan that is out",
+        service: &REFUSING,
+        ways: &[
+            Way::Calls(&FULL),
+            Way::Opens(Ok(())),
+            Way::Lanes(&A_LOAN),
+            Way::Returns(Err(IntoDomainError::SamplesOut)),
+            Way::Lanes(&GOES_ON),
+        ],
+    },
+    Case {
+        name: "a party in a call",
+        service: &REFUSING,
+        ways: &[
+            Way::Calls(&FULL),
+            Way::Opens(Ok(())),
+            Way::Lanes(&BEGUN),
+            Way::Returns(Err(IntoDomainError::PartyInCall)),
+            Way::Lanes(&A_LOAN),
+        ],
+    },
+];
+
+#[test]
+fn a_domain_has_what_its_lanes_left(rt: HostRuntime) -> Result<(), AllocError> {
+    go_all(&rt, rt.alloc(), &CASES)
+}

@@ -1,0 +1,5 @@
+use Rattle.iox_lanes_threads_ports.proofs.Counts as lemmas
+use Rattle.iox_lanes_threads_ports.proofs.laws.subscribers_count.Goals as goal
+
+pub returns : goal.returns
+returns c = lemmas.subscribers_count

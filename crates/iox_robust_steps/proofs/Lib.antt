@@ -1,0 +1,12 @@
+pub mod Counts
+pub mod Seats
+pub mod Whole
+pub mod Knowing
+pub mod Going
+pub mod Asked
+pub mod OfCalls
+pub mod Holders
+pub mod Ending
+pub mod Freeing
+pub mod Runs
+pub mod Starts

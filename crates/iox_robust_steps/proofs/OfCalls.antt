@@ -1,0 +1,199 @@
+-- What a step of the machine of a set that knows its holders is to the calls of its party, and what it adds.
+use Rattle.std.proofs.Common.{◌≡◌, ℕ, ◌+◌, inl, inr, Bool, true, false, if◌then◌else◌, nat_lt, not, Option, Some, None, List, []}
+use Rattle.std.proofs.Common.{◌∷◌, ◌++◌, length, replicate, refl, sym, ◌∙◌, ap, subst, arith, append-nil, length-append}
+use Rattle.std.specs.Global.{Vec}
+use Rattle.std.proofs.lemmas.Bool.{and_parts, ltb-true}
+use Rattle.iox_queues_steps.specs.Access.{answer_of}
+use Rattle.iox_queues_steps.specs.declared.access.Access.TheVariants.{Local}
+use Rattle.iox_queues_steps.specs.declared.schedule.Stepped.{Stepped}
+use Rattle.iox_queues_steps.specs.declared.schedule.Stepped.TheVariants as stepped
+use Rattle.iox_queues.specs.Spans.{AddsOne, AreOfCalls, Span, bound_in_hand, span_in_hand}
+use Rattle.iox_queues.specs.declared.bits.machine.Event.{Event}
+use Rattle.iox_robust_steps.specs.Steps.{call_begun, call_in_hand, call_is_idle, call_is_over, call_next, call_take}
+use Rattle.iox_robust_steps.specs.Machine.{RobustSetState, StepsTo, begun, call_ended, ends, fits, happens, idle_seat, seat_at, stage_at}
+use Rattle.iox_robust_steps.specs.Machine.{start, went}
+use Rattle.iox_robust_steps.specs.OfCalls.{LeavesBegun, StepsAreOfCalls, TellsStep, begun_at, party_of, spans_ended}
+use Rattle.iox_robust_steps.specs.declared.call.Call.{Call}
+use Rattle.iox_robust_steps.specs.declared.call.Call.TheVariants as call
+use Rattle.iox_robust_steps.specs.declared.call.RobustCall.{RobustCall}
+use Rattle.iox_robust_steps.specs.declared.call.RobustCall.TheVariants as stage
+use Rattle.iox_robust_steps.specs.declared.machine.Finished.{Finished}
+use Rattle.iox_robust_steps.specs.declared.machine.Move.{Move}
+use Rattle.iox_robust_steps.specs.declared.machine.Move.TheVariants.{Begin, GoOn}
+use Rattle.iox_robust_steps.specs.declared.state.Seat.{Seat}
+use Rattle.iox_queues.proofs.Spans.{IsOneOf, of_calls_on}
+use Rattle.iox_robust_steps.proofs.Asked.{looks_call, same_call}
+use Rattle.iox_robust_steps.proofs.Seats.{all_idle, seat_else, seat_here}
+
+ended_more : (xs ys : List Finished) → spans_ended (xs ++ ys) ≡ spans_ended xs ++ spans_ended ys
+ended_more [] ys = refl
+ended_more (x ∷ xs) ys = ap (λ (ss : List Span). record { party = x.party; first = x.first; last = x.last } ∷ ss) (ended_more xs ys)
+
+-- a call in hand is under way
+busy : (s : RobustCall) (c : Call) → call_in_hand s ≡ Some c → call_is_idle s ≡ false
+busy stage.Idle c h = absurd (cc)
+busy (stage.Acquire owner) c h = refl
+busy (stage.Claim owner place count) c h = refl
+busy (stage.Count owner place count) c h = refl
+busy (stage.Confirm owner place) c h = refl
+busy (stage.Undo owner place) c h = refl
+busy (stage.Free owner index mode) c h = refl
+busy (stage.Look owner number mode place) c h = refl
+busy (stage.Clear owner number mode place seen) c h = refl
+busy (stage.Settle d) c h = refl
+busy (stage.Scan d place count) c h = refl
+busy (stage.Lock d count) c h = refl
+busy (stage.Done d answer) c h = refl
+
+module _ (n : ℕ) (decisions : List (Vec Bool)) (party first number answer : ℕ) where
+  abbrev step : RobustCall → Event
+  step s = record { party = party; access = call_next s; answer = answer }
+
+  stays : (s : RobustCall) (c : Call) → call_in_hand s ≡ Some c → call_is_over s ≡ false
+      → begun_at (record { stage = call_take n decisions s answer; first = first }) ≡ Some first
+  stays s c h over = ap (λ (b : Bool). if b then None else Some first)
+      (busy (call_take n decisions s answer) c (same_call n decisions s answer c h over))
+
+  went_one : (s : RobustCall) → call_is_idle s ≡ false
+      → IsOneOf (step s) number (begun_at (record { stage = s; first = first }))
+      (begun_at (record { stage = call_take n decisions s answer; first = first })) (spans_ended (call_ended party first number s))
+  went_one stage.Idle in_call = absurd (cc)
+  went_one (stage.Acquire owner) in_call = inr (inl (first, refl, refl, stays (stage.Acquire owner) _ refl refl, refl))
+  went_one (stage.Claim owner place count) in_call
+      = inr (inl (first, refl, refl, stays (stage.Claim owner place count) _ refl refl, refl))
+  went_one (stage.Count owner place count) in_call
+      = inr (inl (first, refl, refl, stays (stage.Count owner place count) _ refl refl, refl))
+  went_one (stage.Confirm owner place) in_call = inr (inl (first, refl, refl, refl, refl))
+  went_one (stage.Undo owner place) in_call = inr (inl (first, refl, refl, refl, refl))
+  went_one (stage.Free owner index mode) in_call
+      = inr (inl (first, refl, refl, stays (stage.Free owner index mode) _ refl refl, refl))
+  went_one (stage.Look owner value mode place) in_call
+      = inr (inl (first, refl, refl, stays (stage.Look owner value mode place) _ refl refl, refl))
+  went_one (stage.Clear owner value mode place seen) in_call
+      = inr (inl (first, refl, refl, stays (stage.Clear owner value mode place seen) _ refl refl, refl))
+  went_one (stage.Settle c) in_call = inr (inl (first, refl, refl, stays (stage.Settle c) c refl refl, refl))
+  went_one (stage.Scan c place count) in_call = inr (inl (first, refl, refl, stays (stage.Scan c place count) c refl refl, refl))
+  went_one (stage.Lock c count) in_call = inr (inl (first, refl, refl, stays (stage.Lock c count) c refl refl, refl))
+  went_one (stage.Done c answered) in_call = inr (inr (first, refl, refl, refl, refl))
+
+-- a call that begins is in hand
+pub begun_call : (n : ℕ) (c : Call) → call_in_hand (call_begun n c) ≡ Some c
+begun_call n (call.Acquire owner) = refl
+begun_call n (call.Release owner index mode) = refl
+begun_call n (call.Recover owner number mode) = looks_call n owner number mode 0
+
+not_true : (b : Bool) → not b ≡ true → b ≡ false
+not_true true h = absurd (cc)
+not_true false h = refl
+
+pub went_counted : (m : RobustSetState) (party : ℕ) → fits m (GoOn party) ≡ true → StepsAreOfCalls m → StepsAreOfCalls (went m party)
+went_counted m party fit k =
+    let parts : (nat_lt party (length m.seats) ≡ true) × (_ ≡ true)
+    = and_parts (nat_lt party (length m.seats)) _ fit in
+    let answer : ℕ = answer_of m.words (call_next (stage_at m.seats party)) in
+    let seat : Seat = record
+    { stage = call_take m.capacity m.decisions (stage_at m.seats party) answer; first = (seat_at m.seats party).first } in
+    let event : Event = record { party = party; access = call_next (stage_at m.seats party); answer = answer } in
+    let ended : List Finished = call_ended party (seat_at m.seats party).first (length m.events) (stage_at m.seats party) in
+    subst (λ (ss : List Span). AreOfCalls (went m party).events ss (λ (q : ℕ). begun_at (seat_at (went m party).seats q)))
+    (sym (ended_more m.finished ended))
+    (of_calls_on m.events event (spans_ended m.finished) (spans_ended ended) (λ (q : ℕ). begun_at (seat_at m.seats q))
+    (λ (q : ℕ). begun_at (seat_at (went m party).seats q)) k
+    (subst (λ (s : Seat). IsOneOf event (length m.events) (begun_at (seat_at m.seats party)) (begun_at s) (spans_ended ended))
+    (sym (seat_here m.seats party seat (ltb-true party (length m.seats) parts.0)))
+    (went_one m.capacity m.decisions party (seat_at m.seats party).first (length m.events) answer (stage_at m.seats party)
+    (not_true (call_is_idle (stage_at m.seats party)) (and_parts (not (call_is_idle (stage_at m.seats party))) _ parts.1).0)))
+    (λ q differs. ap begun_at (seat_else m.seats party q seat (λ same. differs (sym same)))))
+
+pub begun_counted : (m : RobustSetState) (party : ℕ) (c : Call) → fits m (Begin party c) ≡ true → StepsAreOfCalls m
+    → StepsAreOfCalls (begun m party c)
+begun_counted m party c fit k =
+    let parts : (nat_lt party (length m.seats) ≡ true) × (_ ≡ true) = and_parts (nat_lt party (length m.seats)) _ fit in
+    let seat : Seat = record { stage = call_begun m.capacity c; first = length m.events } in
+    let begin : Event = record { party = party; access = Local; answer = 0 } in
+    subst (λ (ss : List Span). AreOfCalls (begun m party c).events ss (λ (q : ℕ). begun_at (seat_at (begun m party c).seats q)))
+    (append-nil (spans_ended m.finished))
+    (of_calls_on m.events begin (spans_ended m.finished) [] (λ (q : ℕ). begun_at (seat_at m.seats q))
+    (λ (q : ℕ). begun_at (seat_at (begun m party c).seats q)) k
+    (inl (
+      ap (λ (b : Bool). if b then None else Some (seat_at m.seats party).first)
+          (and_parts (call_is_idle (stage_at m.seats party)) _ parts.1).0,
+      refl,
+      ap begun_at (seat_here m.seats party seat (ltb-true party (length m.seats) parts.0))
+          ∙ ap (λ (b : Bool). if b then None else Some (length m.events)) (busy (call_begun m.capacity c) c (begun_call m.capacity c)),
+      refl,
+    ))
+    (λ q differs. ap begun_at (seat_else m.seats party q seat (λ same. differs (sym same)))))
+
+pub start_counted : (capacity parties : ℕ) (decisions : List (Vec Bool)) → StepsAreOfCalls (start capacity parties decisions)
+start_counted capacity parties decisions = record {
+  steps = λ q. subst (λ (o : Option ℕ). [] ≡ [] ++ span_in_hand q [] o) (sym (nobody q)) refl;
+  locals = λ q. subst (λ (o : Option ℕ). [] ≡ [] ++ bound_in_hand o) (sym (nobody q)) refl;
+  within = tt;
+  begun = λ q first is. absurd (let none : None ≡ Some first = sym (nobody q) ∙ is in cc);
+}
+  where
+    nobody : (q : ℕ) → begun_at (seat_at (replicate parties idle_seat) q) ≡ None
+    nobody q = ap begun_at (all_idle parties q)
+
+-- one step
+made_step : (m : RobustSetState) (step : Move) → AddsOne m.events (happens m step).events (party_of step)
+made_step m (Begin party c) = record {
+  event = record { party = party; access = Local; answer = 0 };
+  added = refl;
+  its = refl;
+}
+made_step m (GoOn party) = record {
+  event = record {
+    party = party;
+    access = call_next (stage_at m.seats party);
+    answer = answer_of m.words (call_next (stage_at m.seats party));
+  };
+  added = refl;
+  its = refl;
+}
+
+leaves_begun : (m : RobustSetState) (step : Move) → fits m step ≡ true → LeavesBegun step (happens m step)
+leaves_begun m (Begin party c) fit = ap (λ (s : Seat). call_in_hand s.stage)
+    (seat_here m.seats party _ (ltb-true party (length m.seats) (and_parts (nat_lt party (length m.seats)) _ fit).0))
+    ∙ begun_call m.capacity c
+leaves_begun m (GoOn party) fit = tt
+
+how_many : (party first last : ℕ) (s : RobustCall) → length (call_ended party first last s) ≡ (if call_is_over s then 1 else 0)
+how_many party first last stage.Idle = refl
+how_many party first last (stage.Acquire owner) = refl
+how_many party first last (stage.Claim owner place count) = refl
+how_many party first last (stage.Count owner place count) = refl
+how_many party first last (stage.Confirm owner place) = refl
+how_many party first last (stage.Undo owner place) = refl
+how_many party first last (stage.Free owner index mode) = refl
+how_many party first last (stage.Look owner number mode place) = refl
+how_many party first last (stage.Clear owner number mode place seen) = refl
+how_many party first last (stage.Settle c) = refl
+how_many party first last (stage.Scan c place count) = refl
+how_many party first last (stage.Lock c count) = refl
+how_many party first last (stage.Done c answer) = refl
+
+ended_count : (m : RobustSetState) (step : Move) → length (happens m step).finished ≡ length m.finished + (if ends m step then 1 else 0)
+ended_count m (Begin party c) = omega arith
+ended_count m (GoOn party) =
+    let ended : List Finished = call_ended party (seat_at m.seats party).first (length m.events) (stage_at m.seats party) in
+    omega (
+      arith,
+      length-append m.finished ended,
+      how_many party (seat_at m.seats party).first (length m.events) (stage_at m.seats party),
+    )
+
+ends_none : (m : RobustSetState) (step : Move) → ends m step ≡ false → length (happens m step).finished ≡ length m.finished
+ends_none m step going = ended_count m step ∙ ap (λ (b : Bool). length m.finished + (if b then 1 else 0)) going ∙ omega arith
+
+ends_one : (m : RobustSetState) (step : Move) → ends m step ≡ true → length (happens m step).finished ≡ length m.finished + 1
+ends_one m step over = ended_count m step ∙ ap (λ (b : Bool). length m.finished + (if b then 1 else 0)) over
+
+pub steps_tell : (m : RobustSetState) (step : Move) (r : Stepped) (n : RobustSetState) → StepsTo m step r n → TellsStep m step r n
+steps_tell m step stepped.Went n h = subst (TellsStep m step stepped.Went) (sym h.2)
+    (made_step m step, leaves_begun m step h.0, ends_none m step h.1)
+steps_tell m step stepped.Finished n h = subst (TellsStep m step stepped.Finished) (sym h.2)
+    (made_step m step, leaves_begun m step h.0, ends_one m step h.1)
+steps_tell m step stepped.Skipped n h = h.1
+steps_tell m step stepped.NoMemory n h = h.1

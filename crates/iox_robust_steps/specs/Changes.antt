@@ -1,0 +1,51 @@
+-- What steps do to the cells of a set: which indices they take, and which they give back.
+use Rattle.std.specs.Prelude.{ℕ, ◌+◌, ◌^◌, Bool, false, not, if◌then◌else◌, ◌==◌, ◌&&◌, nat_lt, List, [], ◌∷◌}
+use Rattle.iox_queues_steps.specs.declared.access.Word.TheVariants.{Write, Read, Cell}
+use Rattle.iox_queues_steps.specs.declared.access.Access.{Access}
+use Rattle.iox_queues_steps.specs.declared.access.Access.TheVariants.{Load, Store, Exchange, Local}
+use Rattle.iox_queues.specs.declared.bits.machine.Event.{Event}
+
+-- the number may name an owner
+abbrev pub is_owner : ℕ → Bool
+is_owner owner = nat_lt 0 owner && nat_lt owner (2 ^ 63)
+
+-- 1 if the step took index i: it stored an owner in the cell
+abbrev pub took_by : ℕ → Access → ℕ
+took_by i (Load word) = 0
+took_by i (Store Write value) = 0
+took_by i (Store Read value) = 0
+took_by i (Store (Cell place) value) = if (place == i) && nat_lt 0 value then 1 else 0
+took_by i (Exchange word old new) = 0
+took_by i Local = 0
+
+-- 1 if the step gave index i back: its exchange found an owner in the cell, as it wanted
+abbrev pub gave_by : ℕ → Access → ℕ → ℕ
+gave_by i (Load word) answer = 0
+gave_by i (Store word value) answer = 0
+gave_by i (Exchange Write old new) answer = 0
+gave_by i (Exchange Read old new) answer = 0
+gave_by i (Exchange (Cell place) old new) answer = if (place == i) && ((answer == old) && is_owner old) then 1 else 0
+gave_by i Local answer = 0
+
+-- how often some steps took index i
+abbrev pub times_taken : ℕ → List Event → ℕ
+times_taken i [] = 0
+times_taken i (event ∷ events) = took_by i event.access + times_taken i events
+
+-- how often some steps gave index i back
+abbrev pub times_given : ℕ → List Event → ℕ
+times_given i [] = 0
+times_given i (event ∷ events) = gave_by i event.access event.answer + times_given i events
+
+-- the step wanted the cell of index i empty, and found it filled
+abbrev pub wanted_empty : ℕ → Access → ℕ → Bool
+wanted_empty i (Load word) answer = false
+wanted_empty i (Store word value) answer = false
+wanted_empty i (Exchange Write old new) answer = false
+wanted_empty i (Exchange Read old new) answer = false
+wanted_empty i (Exchange (Cell place) old new) answer = (place == i) && ((old == 0) && not (answer == 0))
+wanted_empty i Local answer = false
+
+-- so of an event
+abbrev pub saw_filled : ℕ → Event → Bool
+saw_filled i event = wanted_empty i event.access event.answer

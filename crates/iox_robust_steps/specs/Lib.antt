@@ -1,0 +1,8 @@
+-- The definitions that contracts about sets that know their holders, by steps, cite.
+pub mod Steps
+pub mod Changes
+pub mod Told
+pub mod Machine
+pub mod OfCalls
+pub mod Kept
+pub mod State

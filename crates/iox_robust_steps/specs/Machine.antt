@@ -1,0 +1,253 @@
+-- A set that knows its holders, as a machine: its steps, and what every list of them keeps.
+use Rattle.std.specs.Prelude.{ℕ, ◌≡◌, ◌+◌, ◌-◌, ◌^◌, ◌<◌, ◌⊎◌, Bool, true, false, not, if◌then◌else◌, ◌==◌, ◌&&◌, nat_lt, Option}
+use Rattle.std.specs.Prelude.{Some, None, List, [], ◌∷◌, ◌++◌, length, set, slice_get, slice_index_or, take, drop, replicate}
+use Rattle.std.specs.List.{list_any}
+use Rattle.std.specs.Global.{Vec}
+use Rattle.iox_queues_steps.specs.Access.{RingWords, answer_of, after_access, word_of}
+use Rattle.iox_queues_steps.specs.declared.access.Word.TheVariants.{Cell}
+use Rattle.iox_queues_steps.specs.declared.access.Access.TheVariants.{Local}
+use Rattle.iox_queues_steps.specs.declared.schedule.Stepped.{Stepped}
+use Rattle.iox_queues_steps.specs.declared.schedule.Stepped.TheVariants as stepped
+use Rattle.iox_queues.specs.Recorded.{Answered}
+use Rattle.iox_queues.specs.Told.{own}
+use Rattle.iox_queues.specs.declared.bits.machine.Event.{Event}
+use Rattle.iox_robust_steps.specs.Steps.{call_begun, call_in_hand, call_is_idle, call_is_over, call_next, call_take, lock_mark}
+use Rattle.iox_robust_steps.specs.Changes.{is_owner, times_given, times_taken}
+use Rattle.iox_robust_steps.specs.Told.{AreAsked, AreFreed, AreTold, Holds, IsAskedSoFar, LieWithin, TakesTurns}
+use Rattle.iox_robust_steps.specs.Told.{is_locking, some_has_locked}
+use Rattle.iox_robust_steps.specs.declared.call.Call.{Call}
+use Rattle.iox_robust_steps.specs.declared.call.Call.TheVariants as call
+use Rattle.iox_robust_steps.specs.declared.call.RobustCall.{RobustCall}
+use Rattle.iox_robust_steps.specs.declared.call.RobustCall.TheVariants as stage
+use Rattle.iox_robust_steps.specs.declared.machine.Finished.{Finished}
+use Rattle.iox_robust_steps.specs.declared.machine.Move.{Move}
+use Rattle.iox_robust_steps.specs.declared.machine.Move.TheVariants.{Begin, GoOn}
+use Rattle.iox_robust_steps.specs.declared.state.Place.{Place}
+use Rattle.iox_robust_steps.specs.declared.state.Place.TheVariants as place
+use Rattle.iox_robust_steps.specs.declared.state.Seat.{Seat}
+
+-- how many indices there are, the decisions of recoveries, the words, where each party stands, how far each index is taken and by
+-- which party, the owners whose recovery began, the steps made, and the calls that ended. The count lies in the read position; the
+-- cell of an index names its owner; behind them is a spare cell
+pub record RobustSetState : Type 0 where
+  pub capacity : ℕ
+  pub decisions : List (Vec Bool)
+  pub words : RingWords
+  pub seats : List Seat
+  pub places : List Place
+  pub lost : List ℕ
+  pub events : List Event
+  pub finished : List Finished
+
+-- a party between calls
+abbrev pub idle_seat : Seat
+idle_seat = record { stage = stage.Idle; first = 0 }
+
+-- the seat of a party; where there is none, an idle one
+abbrev pub seat_of : Option Seat → Seat
+seat_of None = idle_seat
+seat_of (Some seat) = seat
+
+-- where a party stands; one that is not there is idle
+abbrev pub seat_at : List Seat → ℕ → Seat
+seat_at seats party = seat_of (slice_get seats party)
+
+-- the stage of a party's call
+abbrev pub stage_at : List Seat → ℕ → RobustCall
+stage_at seats party = (seat_at seats party).stage
+
+-- how far an index is taken, and by which party
+abbrev pub place_of : List Place → ℕ → Place
+place_of places index = slice_index_or places index place.Empty
+
+-- the index is taken, by this party
+abbrev pub is_holder : ℕ → Place → Bool
+is_holder party place.Empty = false
+is_holder party (place.Claimed p) = false
+is_holder party (place.Counted p) = false
+is_holder party (place.Held p) = p == party
+
+-- 1 for an index that is taken
+abbrev pub one_if_held : Place → ℕ
+one_if_held place.Empty = 0
+one_if_held (place.Claimed p) = 0
+one_if_held (place.Counted p) = 0
+one_if_held (place.Held p) = 1
+
+-- the recovery of this owner began
+abbrev pub is_lost : ℕ → List ℕ → Bool
+is_lost owner lost = list_any (λ (other : ℕ). other == owner) lost
+
+-- the call acts for an owner whose recovery began
+abbrev pub is_halted : List ℕ → RobustCall → Bool
+is_halted lost stage.Idle = false
+is_halted lost (stage.Acquire owner) = is_lost owner lost
+is_halted lost (stage.Claim owner place count) = is_lost owner lost
+is_halted lost (stage.Count owner place count) = is_lost owner lost
+is_halted lost (stage.Confirm owner place) = is_lost owner lost
+is_halted lost (stage.Undo owner place) = is_lost owner lost
+is_halted lost (stage.Free owner index mode) = is_lost owner lost
+is_halted lost (stage.Look owner number mode place) = false
+is_halted lost (stage.Clear owner number mode place seen) = false
+is_halted lost (stage.Settle c) = false
+is_halted lost (stage.Scan c place count) = false
+is_halted lost (stage.Lock c count) = false
+is_halted lost (stage.Done c answer) = false
+
+-- a party acts for an owner whose recovery did not begin, and gives back what it holds, once; a recovery may begin at any time
+abbrev pub may_begin : RobustSetState → ℕ → Call → Bool
+may_begin m party (call.Acquire owner) = is_owner owner && not (is_lost owner m.lost)
+may_begin m party (call.Release owner index mode) =
+    (is_owner owner && not (is_lost owner m.lost))
+    && (nat_lt index m.capacity && (is_holder party (place_of m.places index) && (word_of m.words (Cell index) == owner)))
+may_begin m party (call.Recover owner number mode) = is_owner owner
+
+-- a begin fits a party that is there and between calls, a go on one inside a call that isn't halted
+abbrev pub fits : RobustSetState → Move → Bool
+fits m (Begin party c) = nat_lt party (length m.seats) && (call_is_idle (stage_at m.seats party) && may_begin m party c)
+fits m (GoOn party) =
+    nat_lt party (length m.seats) && (not (call_is_idle (stage_at m.seats party)) && not (is_halted m.lost (stage_at m.seats party)))
+
+-- the step is the last of its call
+abbrev pub ends : RobustSetState → Move → Bool
+ends m (Begin party c) = false
+ends m (GoOn party) = call_is_over (stage_at m.seats party)
+
+-- the owners whose recovery began, after a begin of this call
+abbrev pub lost_begun : List ℕ → Call → List ℕ
+lost_begun lost (call.Acquire owner) = lost
+lost_begun lost (call.Release owner index mode) = lost
+lost_begun lost (call.Recover owner number mode) = lost ++ owner ∷ []
+
+-- the machine after a begin
+abbrev pub begun : RobustSetState → ℕ → Call → RobustSetState
+begun m party c = record m {
+  seats = set m.seats party (record { stage = call_begun m.capacity c; first = length m.events });
+  lost = lost_begun m.lost c;
+  events = m.events ++ record { party = party; access = Local; answer = 0 } ∷ [];
+}
+
+-- how far each index is taken, after an access of a party
+abbrev pub places_after : List Place → ℕ → RobustCall → ℕ → List Place
+places_after places party stage.Idle answer = places
+places_after places party (stage.Acquire owner) answer = places
+places_after places party (stage.Claim owner i count) answer = if answer == 0 then set places i (place.Claimed party) else places
+places_after places party (stage.Count owner i count) answer = if answer == count then set places i (place.Counted party) else places
+places_after places party (stage.Confirm owner i) answer = set places i (place.Held party)
+places_after places party (stage.Undo owner i) answer = set places i place.Empty
+places_after places party (stage.Free owner i mode) answer = if answer == owner then set places i place.Empty else places
+places_after places party (stage.Look owner number mode i) answer = places
+places_after places party (stage.Clear owner number mode i seen) answer = if answer == seen then set places i place.Empty else places
+places_after places party (stage.Settle c) answer = places
+places_after places party (stage.Scan c i count) answer = places
+places_after places party (stage.Lock c count) answer = places
+places_after places party (stage.Done c answered) answer = places
+
+-- the call of a party, if its next step is its last
+abbrev pub call_ended : ℕ → ℕ → ℕ → RobustCall → List Finished
+call_ended party first last stage.Idle = []
+call_ended party first last (stage.Acquire owner) = []
+call_ended party first last (stage.Claim owner i count) = []
+call_ended party first last (stage.Count owner i count) = []
+call_ended party first last (stage.Confirm owner i) = []
+call_ended party first last (stage.Undo owner i) = []
+call_ended party first last (stage.Free owner i mode) = []
+call_ended party first last (stage.Look owner number mode i) = []
+call_ended party first last (stage.Clear owner number mode i seen) = []
+call_ended party first last (stage.Settle c) = []
+call_ended party first last (stage.Scan c i count) = []
+call_ended party first last (stage.Lock c count) = []
+call_ended party first last (stage.Done c answer) =
+    record { party = party; call = c; answer = answer; first = first; last = last } ∷ []
+
+-- the machine after one access of a party
+abbrev pub went : RobustSetState → ℕ → RobustSetState
+went m party = record m {
+  words = after_access m.words (call_next (stage_at m.seats party));
+  seats = set m.seats party (record {
+    stage = call_take m.capacity m.decisions (stage_at m.seats party) (answer_of m.words (call_next (stage_at m.seats party)));
+    first = (seat_at m.seats party).first;
+  });
+  places = places_after m.places party (stage_at m.seats party) (answer_of m.words (call_next (stage_at m.seats party)));
+  events = m.events ++ record {
+    party = party;
+    access = call_next (stage_at m.seats party);
+    answer = answer_of m.words (call_next (stage_at m.seats party));
+  } ∷ [];
+  finished = m.finished ++ call_ended party (seat_at m.seats party).first (length m.events) (stage_at m.seats party);
+}
+
+-- the machine after a step that fits
+abbrev pub happens : RobustSetState → Move → RobustSetState
+happens m (Begin party c) = begun m party c
+happens m (GoOn party) = went m party
+
+-- what a step answers, and what it leaves
+abbrev pub StepsTo : RobustSetState → Move → Stepped → RobustSetState → Type 0
+StepsTo m step stepped.Went n = (fits m step ≡ true) × (ends m step ≡ false) × (n ≡ happens m step)
+StepsTo m step stepped.Finished n = (fits m step ≡ true) × (ends m step ≡ true) × (n ≡ happens m step)
+StepsTo m step stepped.Skipped n = (fits m step ≡ false) × (n ≡ m)
+StepsTo m step stepped.NoMemory n = (fits m step ≡ true) × (n ≡ m)
+
+-- a list of steps, of which `made` were made; it may stop where a step that fits finds no memory
+abbrev pub RunsTo : RobustSetState → List Move → ℕ → RobustSetState → Type 0
+RunsTo m [] made n = (made ≡ 0) × (n ≡ m)
+RunsTo m (step ∷ steps) made n =
+    ((fits m step ≡ false) × RunsTo m steps made n)
+    ⊎ (((fits m step ≡ true) × ((fewer : ℕ) × (made ≡ fewer + 1) × RunsTo (happens m step) steps fewer n))
+    ⊎ ((fits m step ≡ true) × (made ≡ 0) × (n ≡ m)))
+
+-- the set is locked
+abbrev pub is_locked : RobustSetState → Bool
+is_locked m = m.words.read == lock_mark
+
+-- the premise of the laws: the count doesn't come to its end, since fewer steps were made
+abbrev pub HasFewSteps : RobustSetState → Type 0
+HasFewSteps m = length m.events < 2 ^ 64 - 1
+
+-- a call that was to lock the set did: one that ended, or one in hand that has its answer
+abbrev pub IsLockedByRelease : RobustSetState → Type 0
+IsLockedByRelease m =
+    (some_has_locked m.finished ≡ true) ⊎ ((party : ℕ) × (is_locking (stage_at m.seats party) ≡ true))
+
+-- what every list of steps keeps: no index has two holders; an index is taken and given back by turns, so that between two takings
+-- lies its release or recovery; of a locked set none is taken, and only a call that was to lock it locked it; each call that ended
+-- did what it answered, and a recovery left its owner no index that it was to free, for good
+pub record IsOrderly (m : RobustSetState) : Type 0 where
+  pub one_holder : (i p q : ℕ) → Holds p i m.events → Holds q i m.events → p ≡ q
+  pub turns : (i k : ℕ) → TakesTurns i (take k m.events)
+  pub holds : (i : ℕ) → times_taken i m.events ≡ times_given i m.events + one_if_held (place_of m.places i)
+  pub locked_by : is_locked m ≡ true → IsLockedByRelease m
+  pub none_out : is_locked m ≡ true → (i : ℕ) → times_taken i m.events ≡ times_given i m.events
+  pub told : AreTold m.capacity (is_locked m) m.events m.finished
+  pub freed : AreFreed m.decisions m.lost m.words.cells m.capacity m.finished
+
+-- a locked set stays locked
+abbrev pub StaysLocked : RobustSetState → RobustSetState → Type 0
+StaysLocked m n = is_locked m ≡ true → is_locked n ≡ true
+
+-- the words of a set of which no index is taken
+abbrev pub start_words : ℕ → RingWords
+start_words capacity = record { cells = replicate (capacity + 1) 0; write = 0; read = 0 }
+
+-- a set of which no index is taken, with the decisions of recoveries
+abbrev pub start : ℕ → ℕ → List (Vec Bool) → RobustSetState
+start capacity parties decisions = record {
+  capacity = capacity;
+  decisions = decisions;
+  words = start_words capacity;
+  seats = replicate parties idle_seat;
+  places = replicate capacity place.Empty;
+  lost = [];
+  events = [];
+  finished = [];
+}
+
+-- what the steps that were made say, however many: each got what its word held, and they left the words as they are; each call that
+-- ended lies among them; the steps of each call, ended or in hand, are those that its value asked for
+pub record IsRecorded (m : RobustSetState) : Type 0 where
+  pub answered : Answered (start_words m.capacity) m.events m.words
+  pub among : LieWithin m.events m.finished
+  pub ended : AreAsked m.capacity m.decisions m.events m.finished
+  pub going : (party : ℕ) → IsAskedSoFar m.capacity m.decisions party (call_in_hand (stage_at m.seats party))
+      (stage_at m.seats party) (own party (drop (seat_at m.seats party).first m.events))

@@ -1,0 +1,47 @@
+-- Which steps of a machine of a set that knows its holders are of which calls, and what one more step adds.
+use Rattle.std.specs.Prelude.{ℕ, ◌≡◌, ◌+◌, if◌then◌else◌, Option, Some, None, List, [], ◌∷◌, length}
+use Rattle.iox_queues_steps.specs.declared.schedule.Stepped.{Stepped}
+use Rattle.iox_queues_steps.specs.declared.schedule.Stepped.TheVariants as stepped
+use Rattle.iox_queues.specs.Spans.{AddsOne, AreOfCalls, Span}
+use Rattle.iox_robust_steps.specs.Steps.{call_in_hand, call_is_idle}
+use Rattle.iox_robust_steps.specs.Machine.{RobustSetState, seat_at, stage_at}
+use Rattle.iox_robust_steps.specs.declared.machine.Finished.{Finished}
+use Rattle.iox_robust_steps.specs.declared.machine.Move.{Move}
+use Rattle.iox_robust_steps.specs.declared.machine.Move.TheVariants.{Begin, GoOn}
+use Rattle.iox_robust_steps.specs.declared.state.Seat.{Seat}
+
+-- the first and the last step of a call that ended
+abbrev pub span_ended : Finished → Span
+span_ended f = record { party = f.party; first = f.first; last = f.last }
+
+-- so of each of these calls
+abbrev pub spans_ended : List Finished → List Span
+spans_ended [] = []
+spans_ended (f ∷ finished) = span_ended f ∷ spans_ended finished
+
+-- the number of the first step of the call that a party is in, if it is in one
+abbrev pub begun_at : Seat → Option ℕ
+begun_at seat = if call_is_idle seat.stage then None else Some seat.first
+
+-- each step is one of one call
+abbrev pub StepsAreOfCalls : RobustSetState → Type 0
+StepsAreOfCalls m = AreOfCalls m.events (spans_ended m.finished) (λ (party : ℕ). begun_at (seat_at m.seats party))
+
+-- the party that a step asks
+abbrev pub party_of : Move → ℕ
+party_of (Begin party c) = party
+party_of (GoOn party) = party
+
+-- a begin leaves its party in the call that was asked for
+abbrev pub LeavesBegun : Move → RobustSetState → Type 0
+LeavesBegun (Begin party c) n = call_in_hand (stage_at n.seats party) ≡ Some c
+LeavesBegun (GoOn party) n = Unit {0}
+
+-- a step that was made is one event of the party that was asked; the last one of a call is that of one more call that ended
+abbrev pub TellsStep : RobustSetState → Move → Stepped → RobustSetState → Type 0
+TellsStep m step stepped.Went n =
+    AddsOne m.events n.events (party_of step) × LeavesBegun step n × (length n.finished ≡ length m.finished)
+TellsStep m step stepped.Finished n =
+    AddsOne m.events n.events (party_of step) × LeavesBegun step n × (length n.finished ≡ length m.finished + 1)
+TellsStep m step stepped.Skipped n = n ≡ m
+TellsStep m step stepped.NoMemory n = n ≡ m

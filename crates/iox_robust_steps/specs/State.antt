@@ -1,0 +1,15 @@
+-- The fields of a machine, as lists and numbers.
+use Rattle.iox_robust_steps.specs.Machine.{RobustSetState}
+use Rattle.iox_robust_steps.specs.declared.state.State.{State}
+
+abbrev pub machine_of : State → RobustSetState
+machine_of s = record {
+  capacity = s.capacity;
+  decisions = s.decisions.items;
+  words = s.ring;
+  seats = s.seats.items;
+  places = s.places.items;
+  lost = s.lost.items;
+  events = s.events.items;
+  finished = s.finished.items;
+}

@@ -1,0 +1,35 @@
+//! Sets of indices that know their holders, one word at a time.
+//!
+//! Each index has a cell, which is 0, or names the owner of the index, or the owner that is about to take it. A further word is
+//! counted up before an index is taken, and locks the set for good at its largest number. Any number of parties acquire, release and
+//! recover, each access by access.
+//!
+//! - [`call`]: what each party does next, free of any set.
+//! - [`machine`]: a set with its parties, which go in any order.
+//!
+//! A first call:
+//!
+//! ```
+//! /// `iox_robust_steps`: a new set of eight indices on which the parties made these steps; recoveries free what they find. Where
+//! /// fewer than 2^64 - 1 steps were made, no index has two holders, and each call that ended did what it answered.
+//! fn ran(
+//!     alloc: Global,
+//!     parties: usize,
+//!     schedule: &[Move],
+//! ) -> Result<(usize, RobustSetMachine), AllocError>
+//!     ensures orderly { IfOk result (λ ran. HasFewSteps ran.1 → IsOrderly ran.1) }
+//! {
+//!     let decisions = vec![in alloc; vec![in alloc; true; 8]?]?;
+//!     let mut set = RobustSetMachine::new(alloc, 8, parties, decisions)?;
+//!     let made = set.run(schedule);
+//!     Ok((made, set))
+//! }
+//! ```
+#![tactic(auto)]
+
+pub mod call;
+pub mod machine;
+mod state;
+
+pub use call::{Answer, Call, RobustCall};
+pub use machine::{Finished, Move, RobustSetMachine};

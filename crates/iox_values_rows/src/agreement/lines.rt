@@ -1,0 +1,211 @@
+//! The one line of a service, and texts that are nearly one. The lines come from functions, since a constant's text stands in the proof of
+//! each function that names it.
+use crate::answers::{have_size, hold};
+use iox_describe::{DescriptionError, MessagingPattern, ServiceName, decode, encode, service_hash};
+use std::alloc::{AllocError, Global};
+
+/// Service `23` over slices of `u64` with a `u64` user header, at default settings.
+pub(crate) fn publish_subscribe_line() -> &'static str {
+    "{\"attributes\":[],\"name\":\"23\",\"pattern\":\"publish_subscribe\",\"service_hash\":\"40bd001563085fc35165329ea1ff5c5ecbdbbeef\",\"settings\":{\"enable_safe_overflow\":true,\"history_size\":0,\"max_nodes\":20,\"max_publishers\":2,\"max_subscribers\":8,\"subscriber_max_borrowed_samples\":2,\"subscriber_max_buffer_size\":2,\"types\":{\"header\":{\"alignment\":8,\"name\":\"Header\",\"size\":24,\"variant\":\"FixedSize\"},\"payload\":{\"alignment\":8,\"name\":\"u64\",\"size\":8,\"variant\":\"Dynamic\"},\"user_header\":{\"alignment\":8,\"name\":\"u64\",\"size\":8,\"variant\":\"FixedSize\"}}},\"version\":1}"
+}
+
+/// Event service `23` at default settings.
+pub(crate) fn event_line() -> &'static str {
+    "{\"attributes\":[],\"name\":\"23\",\"pattern\":\"event\",\"service_hash\":\"af06318c33c8e41c70083ee23dbe19426f1f9c5b\",\"settings\":{\"deadline\":null,\"event_id_max_value\":4294967295,\"max_listeners\":16,\"max_nodes\":36,\"max_notifiers\":16,\"notifier_created_event\":null,\"notifier_dead_event\":null,\"notifier_dropped_event\":null},\"version\":1}"
+}
+
+/// Request-response service `23` over slices of `u64` with `u64` user headers, at default settings.
+pub(crate) fn request_response_line() -> &'static str {
+    "{\"attributes\":[],\"name\":\"23\",\"pattern\":\"request_response\",\"service_hash\":\"1bb85661d74e2a15ba3b959218f3c3f93c7ddb88\",\"settings\":{\"enable_fire_and_forget_requests\":true,\"enable_safe_overflow_for_requests\":true,\"enable_safe_overflow_for_responses\":true,\"max_active_requests_per_client\":4,\"max_borrowed_responses_per_pending_response\":2,\"max_clients\":8,\"max_loaned_requests\":2,\"max_nodes\":20,\"max_response_buffer_size\":2,\"max_servers\":2,\"request_types\":{\"header\":{\"alignment\":8,\"name\":\"Header\",\"size\":24,\"variant\":\"FixedSize\"},\"payload\":{\"alignment\":8,\"name\":\"u64\",\"size\":8,\"variant\":\"Dynamic\"},\"user_header\":{\"alignment\":8,\"name\":\"u64\",\"size\":8,\"variant\":\"FixedSize\"}},\"response_types\":{\"header\":{\"alignment\":8,\"name\":\"Header\",\"size\":24,\"variant\":\"FixedSize\"},\"payload\":{\"alignment\":8,\"name\":\"u64\",\"size\":8,\"variant\":\"Dynamic\"},\"user_header\":{\"alignment\":8,\"name\":\"u64\",\"size\":8,\"variant\":\"FixedSize\"}}},\"version\":1}"
+}
+
+/// An event service with a deadline, three nodes, one notifier, and an event for dead notifiers.
+pub(crate) fn named_event_line() -> &'static str {
+    "{\"attributes\":[],\"name\":\"E\",\"pattern\":\"event\",\"service_hash\":\"7151c7f46996d49977f91fc77e07abbc2c588465\",\"settings\":{\"deadline\":7,\"event_id_max_value\":4294967295,\"max_listeners\":16,\"max_nodes\":3,\"max_notifiers\":1,\"notifier_created_event\":null,\"notifier_dead_event\":9,\"notifier_dropped_event\":null},\"version\":1}"
+}
+
+/// A request-response service with two attributes of one key, over three `u32` as one value and slices of `i64`.
+pub(crate) fn named_request_response_line() -> &'static str {
+    "{\"attributes\":[[\"k\",\"v\"],[\"k\",\"\"]],\"name\":\"R\",\"pattern\":\"request_response\",\"service_hash\":\"41dc32c132eeadb87457313fbdd46352c02196d1\",\"settings\":{\"enable_fire_and_forget_requests\":true,\"enable_safe_overflow_for_requests\":true,\"enable_safe_overflow_for_responses\":true,\"max_active_requests_per_client\":4,\"max_borrowed_responses_per_pending_response\":2,\"max_clients\":8,\"max_loaned_requests\":2,\"max_nodes\":20,\"max_response_buffer_size\":2,\"max_servers\":2,\"request_types\":{\"header\":{\"alignment\":8,\"name\":\"Header\",\"size\":24,\"variant\":\"FixedSize\"},\"payload\":{\"alignment\":4,\"name\":\"[u32; 3]\",\"size\":12,\"variant\":\"FixedSize\"},\"user_header\":{\"alignment\":4,\"name\":\"u32\",\"size\":4,\"variant\":\"FixedSize\"}},\"response_types\":{\"header\":{\"alignment\":8,\"name\":\"Header\",\"size\":24,\"variant\":\"FixedSize\"},\"payload\":{\"alignment\":32,\"name\":\"i64\",\"size\":8,\"variant\":\"Dynamic\"},\"user_header\":{\"alignment\":1,\"name\":\"()\",\"size\":0,\"variant\":\"FixedSize\"}}},\"version\":1}"
+}
+
+/// Whether the bytes are read as a description that is spelled so.
+pub(crate) fn is_read(alloc: Global, bytes: &[u8]) -> Result<bool, AllocError> {
+    match decode(alloc, bytes) {
+        Ok(description) => {
+            let line = encode(alloc, &description)?;
+            Ok(line.as_slice() == bytes)
+        }
+        Err(DescriptionError::Invalid) => Ok(false),
+        Err(DescriptionError::OutOfMemory) => Err(AllocError),
+    }
+}
+
+/// How many beginnings of a line are read, the whole line among them.
+fn beginnings_read(alloc: Global, line: &str) -> Result<usize, AllocError> {
+    let mut count = 0usize;
+    for length in 0..=line.len() {
+        let front = line.as_bytes().get(..length).unwrap_or_default();
+        count = count.saturating_add(usize::from(is_read(alloc, front)?));
+    }
+    Ok(count)
+}
+
+/// Whether the line is read, and no beginning of it.
+fn is_read_whole(alloc: Global, line: &str) -> Result<bool, AllocError> {
+    Ok(beginnings_read(alloc, line)? == 1)
+}
+
+#[test]
+fn each_line_is_read_and_no_beginning_of_it(rt: HostRuntime) -> Result<(), AllocError> {
+    let alloc: Global = rt.alloc();
+    let answers = [
+        is_read_whole(alloc, publish_subscribe_line()),
+        is_read_whole(alloc, event_line()),
+        is_read_whole(alloc, request_response_line()),
+        is_read_whole(alloc, named_event_line()),
+        is_read_whole(alloc, named_request_response_line()),
+    ];
+    hold(&rt, &answers)
+}
+
+/// Whether the line is read with this byte at a place.
+fn is_read_with(alloc: Global, place: usize, strange: u8) -> Result<bool, AllocError> {
+    let mut bytes = Vec::from_slice(alloc, publish_subscribe_line().as_bytes())?;
+    if let Some(byte) = bytes.get_mut(place) {
+        *byte = strange;
+    }
+    is_read(alloc, bytes.as_slice())
+}
+
+/// At how many places of the line this byte may stand.
+fn places_of(alloc: Global, strange: u8) -> Result<usize, AllocError> {
+    let mut count = 0usize;
+    for place in 0..publish_subscribe_line().len() {
+        count = count.saturating_add(usize::from(is_read_with(alloc, place, strange)?));
+    }
+    Ok(count)
+}
+
+// 127 may stand in a name: the four names of the line have 2, 6, 3 and 3 bytes.
+#[test]
+fn no_byte_of_a_line_can_be_another_that_stands_in_no_line(
+    rt: HostRuntime,
+) -> Result<(), AllocError> {
+    let alloc: Global = rt.alloc();
+    have_size(&rt, 14, &[places_of(alloc, 127)])?;
+    have_size(
+        &rt,
+        0,
+        &[
+            places_of(alloc, 1),
+            places_of(alloc, 128),
+            places_of(alloc, 255),
+        ],
+    )
+}
+
+/// What stands in the line of publish-subscribe, and what is put in its place and refused.
+const REFUSED: [&str; 32] = [
+    // white space, and other forms of a number
+    "{ => { ",
+    "\"version\":1} => \"version\":1}\n",
+    "\"version\":1 => \"version\":1.0",
+    "\"max_nodes\":20 => \"max_nodes\":020",
+    "\"max_nodes\":20 => \"max_nodes\":2e1",
+    "\"history_size\":0 => \"history_size\":-0",
+    "\"history_size\":0 => \"history_size\":",
+    "\"history_size\":0 => \"history_size\":null",
+    // numbers at their ends, and past them
+    "\"max_nodes\":20 => \"max_nodes\":16777216",
+    "\"max_nodes\":20 => \"max_nodes\":0",
+    "\"history_size\":0 => \"history_size\":4294967296",
+    "\"size\":24 => \"size\":18446744073709551616",
+    "\"alignment\":8 => \"alignment\":0",
+    // escaped letters, other digits, other letters
+    "\"name\":\"23\" => \"name\":\"2\\u0033\"",
+    "\"name\":\"23\" => \"name\":\"\\u001F\"",
+    "\"name\":\"23\" => \"name\":\"\\u0000\"",
+    "\"name\":\"23\" => \"name\":\"\\/\"",
+    "\"name\":\"23\" => \"name\":\"\t\"",
+    "\"name\":\"23\" => \"name\":\"\u{80}\"",
+    "\"name\":\"23\" => \"name\":\"\"",
+    "40bd => 40BD",
+    "40bd => 40bd0",
+    "true => 1",
+    "\"FixedSize\" => \"fixedsize\"",
+    // keys that are repeated, missing, strange or in another order
+    "\"name\":\"23\", => \"name\":\"23\",\"name\":\"23\",",
+    "\"max_nodes\":20, => ",
+    "\"version\":1 => \"version\":2",
+    "\"version\":1 => \"version\":1,\"x\":1",
+    "\"history_size\":0,\"max_nodes\":20 => \"max_nodes\":20,\"history_size\":0",
+    "\"publish_subscribe\" => \"event\"",
+    // attributes that are none
+    "\"attributes\":[] => \"attributes\":[[]]",
+    "\"attributes\":[] => \"attributes\":{}",
+];
+
+/// What may stand there.
+const READ: [&str; 4] = [
+    "\"max_nodes\":20 => \"max_nodes\":16777215",
+    "\"history_size\":0 => \"history_size\":4294967295",
+    "\"size\":24 => \"size\":18446744073709551615",
+    "\"name\":\"23\" => \"name\":\"\\u0001\\u001f\\b\\t\\n\\f\\r\\\"\\\\/\"",
+];
+
+/// Whether the line is read with a text in the place of the first such text. Nothing is asked of a row that isn't one.
+fn is_spelled(alloc: Global, row: &str) -> Result<bool, AllocError> {
+    let Some((from, to)) = row.split_once(" => ") else {
+        return Err(AllocError);
+    };
+    let Some((before, after)) = publish_subscribe_line().split_once(from) else {
+        return Err(AllocError);
+    };
+    is_read(alloc, format!(in alloc; "{before}{to}{after}")?.as_bytes())
+}
+
+/// The first row that is read though it should not be, or the other way round.
+fn wrong_row(alloc: Global, rows: &[&str], read: bool) -> Result<Option<usize>, AllocError> {
+    for (place, row) in rows.iter().enumerate() {
+        if is_spelled(alloc, *row)? != read {
+            return Ok(Some(place));
+        }
+    }
+    Ok(None)
+}
+
+#[test]
+fn other_spellings_are_refused(rt: HostRuntime) -> Result<(), AllocError> {
+    let wrong = wrong_row(rt.alloc(), &REFUSED, false)?;
+    assert!(rt; wrong == None, "{wrong:?}");
+    Ok(())
+}
+
+#[test]
+fn numbers_at_their_ends_and_escaped_letters_are_read(rt: HostRuntime) -> Result<(), AllocError> {
+    let wrong = wrong_row(rt.alloc(), &READ, true)?;
+    assert!(rt; wrong == None, "{wrong:?}");
+    Ok(())
+}
+
+/// Whether the hash of publish-subscribe has these digits.
+fn has_digits(name: &str, digits: &str) -> bool {
+    match ServiceName::new(name.as_bytes()) {
+        Ok(name) => service_hash(MessagingPattern::PublishSubscribe, &name)
+            .text()
+            .as_slice()
+            == digits.as_bytes(),
+        Err(_) => false,
+    }
+}
+
+#[test]
+fn hashes_are_those_of_sha1(rt: HostRuntime) {
+    let answers = [
+        has_digits("23", "40bd001563085fc35165329ea1ff5c5ecbdbbeef"),
+        has_digits("234", "7110eda4d09e062aa5e4a390b0a572ac0d2c0220"),
+        has_digits("23456", "7c4a8d09ca3762af61e59520943dc26494f8941b"),
+    ];
+    assert!(rt; answers == [true; 3], "{answers:?}");
+}

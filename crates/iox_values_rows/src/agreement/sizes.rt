@@ -1,0 +1,146 @@
+//! Descriptions, attributes and their copies of all sizes, with ample memory.
+use crate::agreement::lines::is_read;
+use iox_describe::{
+    AttributeError, AttributeSpecifier, AttributeVerifier, Description, Header, LimitError,
+    MessageTypeDetails, ServiceName, Settings, TypeVariant, decode, encode, publish_subscribe,
+};
+use std::alloc::{AllocError, Global};
+use std::test::Fail;
+
+// The key of each attribute.
+const KEY: [u8; 64] = [b'k'; 64];
+
+// The longest value of an attribute: each byte stands in a line as six.
+const VALUE: [u8; 256] = [1; 256];
+
+/// So many attributes, each with a key of 64 bytes and a value of so many, each of which a line has as six.
+pub(crate) fn attributes(
+    alloc: Global,
+    count: usize,
+    value: usize,
+) -> Result<AttributeSpecifier, AttributeError> {
+    let mut attributes = AttributeSpecifier::new();
+    for _ in 0..count {
+        attributes.define(alloc, &KEY, &VALUE[..value.min(256)])?;
+    }
+    Ok(attributes)
+}
+
+/// So many required pairs and keys, which those attributes have.
+pub(crate) fn requirements(
+    alloc: Global,
+    count: usize,
+    value: usize,
+) -> Result<AttributeVerifier, AttributeError> {
+    let mut verifier = AttributeVerifier::new();
+    for _ in 0..count {
+        verifier.require(alloc, &KEY, &VALUE[..value.min(256)])?;
+        verifier.require_key(alloc, &KEY)?;
+    }
+    Ok(verifier)
+}
+
+/// How many bytes the name has, how many attributes there are, how many bytes each value has, and how many the line.
+type Row = (usize, usize, usize, usize);
+
+// A line without attributes has 531 bytes beside its name; each attribute has 71 beside its value, and a comma but for the last.
+const ROWS: [Row; 14] = [
+    (1, 0, 0, 532),
+    (2, 0, 0, 533),
+    (7, 1, 0, 538 + 71),
+    (64, 1, 1, 595 + 77),
+    (255, 1, 256, 786 + 71 + 1_536),
+    (1, 2, 0, 532 + 143),
+    (1, 2, 2, 532 + 143 + 24),
+    (1, 7, 7, 532 + 503 + 294),
+    (255, 7, 256, 786 + 503 + 10_752),
+    (1, 8, 0, 532 + 575),
+    (1, 8, 64, 532 + 575 + 3_072),
+    (255, 8, 256, 786 + 575 + 12_288),
+    (255, 8, 256, 786 + 575 + 12_288),
+    (255, 8, 256, 786 + 575 + 12_288),
+];
+
+/// The description of a row.
+fn described(alloc: Global, (name, count, value, _): Row) -> Result<Description, Fail> {
+    let name = "x".repeat(alloc, name)?;
+    let attributes = attributes(alloc, count, value)?;
+    let types = MessageTypeDetails::from::<Header, u64, u64>(TypeVariant::Dynamic);
+    let settings = Settings::PublishSubscribe(publish_subscribe::StaticConfig::new(types));
+    Ok(Description::new(ServiceName::new(name.as_bytes())?, settings, attributes))
+}
+
+/// How long the line of the description is, from which it is read, and a copy of it.
+fn length_read_back(alloc: Global, description: &Description) -> Result<usize, Fail> {
+    let line = encode(alloc, description)?;
+    let read = decode(alloc, line.as_slice())?;
+    let copy = read.try_clone(alloc)?;
+    Ok(if copy == *description { line.len() } else { 0 })
+}
+
+/// The same of a row.
+fn length_of(alloc: Global, row: Row) -> Result<usize, Fail> {
+    length_read_back(alloc, &described(alloc, row)?)
+}
+
+#[test]
+fn descriptions_of_all_sizes_are_read_back(rt: HostRuntime) -> Result<(), Fail> {
+    for row in &ROWS {
+        let length = length_of(rt.alloc(), *row)?;
+        assert!(rt; length == row.3, "{row:?} {length}");
+    }
+    Ok(())
+}
+
+/// Whether so many spaces are read.
+fn are_spaces_read(alloc: Global, length: usize) -> Result<bool, AllocError> {
+    let bytes = vec![in alloc; b' '; length]?;
+    is_read(alloc, bytes.as_slice())
+}
+
+#[test]
+fn texts_of_no_description_are_refused(rt: HostRuntime) -> Result<(), Fail> {
+    for length in &[0, 1, 2, 7, 64, 1_000, 12_000, 32_768, 32_769, 100_000] {
+        assert!(rt; !are_spaces_read(rt.alloc(), *length)?, "{length}");
+    }
+    Ok(())
+}
+
+/// How many attributes a copy has.
+fn attributes_copied(alloc: Global, attributes: &AttributeSpecifier) -> Result<usize, Fail> {
+    Ok(attributes.try_clone(alloc)?.as_slice().len())
+}
+
+/// How many pairs and keys a copy has.
+fn requirements_copied(alloc: Global, verifier: &AttributeVerifier) -> Result<[usize; 2], Fail> {
+    let copy = verifier.try_clone(alloc)?;
+    Ok([copy.attributes().as_slice().len(), copy.keys().len()])
+}
+
+/// Whether copies of so many attributes, pairs and keys have as many.
+fn are_copied(alloc: Global, count: usize) -> Result<bool, Fail> {
+    let attributes = attributes_copied(alloc, &attributes(alloc, count, 256)?)?;
+    let required = requirements_copied(alloc, &requirements(alloc, count, 256)?)?;
+    Ok(attributes == count && required == [count; 2])
+}
+
+/// Whether a ninth of each is outside the limits.
+fn are_ninths_refused(alloc: Global) -> Result<bool, Fail> {
+    let mut attributes = attributes(alloc, 8, 256)?;
+    let mut verifier = requirements(alloc, 8, 256)?;
+    let ninths = [
+        attributes.define(alloc, b"color", b"red"),
+        verifier.require(alloc, b"color", b"red"),
+        verifier.require_key(alloc, b"color"),
+    ];
+    Ok(ninths == [Err(AttributeError::LimitError(LimitError::OutsideLimits)); 3])
+}
+
+#[test]
+fn up_to_eight_attributes_are_copied(rt: HostRuntime) -> Result<(), Fail> {
+    for count in &[0, 1, 2, 7, 8] {
+        assert!(rt; are_copied(rt.alloc(), *count)?, "{count}");
+    }
+    assert!(rt; are_ninths_refused(rt.alloc())?);
+    Ok(())
+}

@@ -1,0 +1,152 @@
+//! What values are displayed and debugged as.
+use crate::answers::{hold, is_shown};
+use iox_container::byte_cells::{ByteAnswer, ByteStep};
+use iox_container::semantic_strings::SemanticStringError;
+use iox_container::string::{PolymorphicString, StaticString, String, StringModificationError};
+use iox_container::vector::Vector;
+use iox_container::{
+    FixedSizeFlatMap, FixedSizeQueue, FixedSizeSlotMap, FlatMapError, PolymorphicVec, SlotMapKey,
+    StaticVec, VectorModificationError,
+};
+use std::alloc::{AllocError, Global};
+use std::fmt::{Debug, Display};
+
+const OF_STRINGS: [(StringModificationError, &str); 2] = [
+    (
+        StringModificationError::InsertWouldExceedCapacity,
+        "StringModificationError::InsertWouldExceedCapacity InsertWouldExceedCapacity",
+    ),
+    (
+        StringModificationError::InvalidCharacter,
+        "StringModificationError::InvalidCharacter InvalidCharacter",
+    ),
+];
+
+const OF_VECTORS: [(VectorModificationError, &str); 3] = [
+    (
+        VectorModificationError::InsertWouldExceedCapacity,
+        "VectorModificationError::InsertWouldExceedCapacity InsertWouldExceedCapacity",
+    ),
+    (
+        VectorModificationError::OutOfBounds,
+        "VectorModificationError::OutOfBounds OutOfBounds",
+    ),
+    (
+        VectorModificationError::OutOfMemory,
+        "VectorModificationError::OutOfMemory OutOfMemory",
+    ),
+];
+
+const OF_SEMANTIC_STRINGS: [(SemanticStringError, &str); 2] = [
+    (
+        SemanticStringError::InvalidContent,
+        "SemanticStringError::InvalidContent InvalidContent",
+    ),
+    (
+        SemanticStringError::ExceedsMaximumLength,
+        "SemanticStringError::ExceedsMaximumLength ExceedsMaximumLength",
+    ),
+];
+
+const OF_FLAT_MAPS: [(FlatMapError, &str); 2] = [
+    (
+        FlatMapError::KeyAlreadyExists,
+        "FlatMapError::KeyAlreadyExists KeyAlreadyExists",
+    ),
+    (FlatMapError::IsFull, "FlatMapError::IsFull IsFull"),
+];
+
+/// Whether each error is displayed and debugged so: its type and its variant, then the variant alone.
+fn are_told<E: Display + Debug>(alloc: Global, rows: &[(E, &str)]) -> Result<bool, AllocError> {
+    for row in rows {
+        if format!(in alloc; "{} {:?}", row.0, row.0)?.as_str() != row.1 {
+            return Ok(false);
+        }
+    }
+    Ok(true)
+}
+
+#[test]
+fn a_refusal_reads_as_its_name(rt: HostRuntime) -> Result<(), AllocError> {
+    let alloc: Global = rt.alloc();
+    let answers = [
+        are_told(alloc, &OF_STRINGS),
+        are_told(alloc, &OF_VECTORS),
+        are_told(alloc, &OF_SEMANTIC_STRINGS),
+        are_told(alloc, &OF_FLAT_MAPS),
+    ];
+    hold(&rt, &answers)
+}
+
+/// Whether a string of `a"`, a newline and a byte 127 is printed so: as it is, as a literal, and in six places.
+fn is_printed<S: String + Display + Debug>(
+    alloc: Global,
+    text: &mut S,
+) -> Result<bool, AllocError> {
+    let filled = text.push_bytes(b"a\"\n\x7f").is_ok();
+    let printed = format!(in alloc; "{text} {text:?} [{text:>6}] [{text:<6}]")?;
+    Ok(filled && printed.as_str() == "a\"\n\x7f \"a\\\"\\n\\u{7f}\" [  a\"\n\x7f] [a\"\n\x7f  ]")
+}
+
+fn string(alloc: Global) -> Result<bool, AllocError> {
+    is_printed(alloc, &mut PolymorphicString::new(alloc, 9)?)
+}
+
+/// Whether an empty vector of two places is debugged as its items, once they are there.
+fn is_listed<V: Vector<u8> + Debug>(alloc: Global, vec: &mut V) -> Result<bool, AllocError> {
+    let _ = (vec.push(5), vec.push(7));
+    is_shown(alloc, vec, "[5, 7]")
+}
+
+fn static_vector(alloc: Global) -> Result<bool, AllocError> {
+    is_listed(alloc, &mut StaticVec::<u8, 2>::new(alloc)?)
+}
+
+fn vector(alloc: Global) -> Result<bool, AllocError> {
+    is_listed(alloc, &mut PolymorphicVec::new(alloc, 2)?)
+}
+
+fn queue(alloc: Global) -> Result<bool, AllocError> {
+    let mut queue = FixedSizeQueue::<u8, 2>::new(alloc)?;
+    let _ = (queue.push(5), queue.push(7));
+    is_shown(alloc, &queue, "[5, 7]")
+}
+
+fn slot_map(alloc: Global) -> Result<bool, AllocError> {
+    let mut map = FixedSizeSlotMap::<u8, 4>::new(alloc)?;
+    let _ = map.insert_at(SlotMapKey::new(2), 7);
+    let _ = map.insert(9);
+    is_shown(alloc, &map, "{0: 9, 2: 7}")
+}
+
+fn flat_map(alloc: Global) -> Result<bool, AllocError> {
+    let mut map = FixedSizeFlatMap::<u8, u8, 4>::new(alloc)?;
+    let _ = (map.insert(9, 90), map.insert(8, 80));
+    is_shown(alloc, &map, "{9: 90, 8: 80}")
+}
+
+const STEPS: [ByteStep; 2] = [ByteStep::Load(1), ByteStep::Store(1, 5)];
+
+const ANSWERS: [ByteAnswer; 3] = [
+    ByteAnswer::Stored,
+    ByteAnswer::Loaded(5),
+    ByteAnswer::Skipped,
+];
+
+#[test]
+fn a_value_prints_as_what_it_holds(rt: HostRuntime) -> Result<(), AllocError> {
+    let alloc: Global = rt.alloc();
+    let answers = [
+        is_printed(alloc, &mut StaticString::<9>::new()),
+        string(alloc),
+        static_vector(alloc),
+        vector(alloc),
+        queue(alloc),
+        slot_map(alloc),
+        flat_map(alloc),
+        is_shown(alloc, &SlotMapKey::new(3), "SlotMapKey { value: 3 }"),
+        is_shown(alloc, &STEPS, "[Load(1), Store(1, 5)]"),
+        is_shown(alloc, &ANSWERS, "[Stored, Loaded(5), Skipped]"),
+    ];
+    hold(&rt, &answers)
+}

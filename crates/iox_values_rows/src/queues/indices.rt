@@ -1,0 +1,211 @@
+//! Sets of indices that threads share: each answer that they give, and guards in two threads.
+use crate::answers::hold;
+use iox_index::{
+    HeadDetails, ReleaseMode, SharedIndexSet, UniqueIndex, UniqueIndexSet,
+    UniqueIndexSetAcquireFailure,
+};
+use std::alloc::{AllocError, Global};
+use std::sync::atomic::{AtomicBool, AtomicUsize, Ordering};
+use std::thread;
+use std::thread::Threads;
+
+const NONE_LEFT: UniqueIndexSetAcquireFailure = UniqueIndexSetAcquireFailure::OutOfIndices;
+
+/// A set of so many indices, shared, of which the first ones are held.
+fn shared(alloc: Global, capacity: usize, held: usize) -> Result<SharedIndexSet, AllocError> {
+    let mut set = UniqueIndexSet::new(alloc, capacity)?;
+    for _ in 0..held {
+        let _ = set.acquire_raw_index();
+    }
+    set.share(alloc).map_err(|_| AllocError)
+}
+
+/// The number of an index that is taken and given back at once.
+fn next(set: &SharedIndexSet) -> Result<usize, UniqueIndexSetAcquireFailure> {
+    match set.acquire() {
+        Ok(index) => Ok(index.value() as usize),
+        Err(failure) => Err(failure),
+    }
+}
+
+/// Whether a set hands out the index behind those that are held, if there is one, twice over.
+fn hands_out(alloc: Global, capacity: usize, held: usize) -> Result<bool, AllocError> {
+    let set = shared(alloc, capacity, held)?;
+    let wanted = if held < capacity {
+        Ok(held)
+    } else {
+        Err(NONE_LEFT)
+    };
+    Ok([next(&set), next(&set)] == [wanted; 2] && set.borrowed_indices() == held)
+}
+
+/// Whether sets of a size do of which none, half and all are held.
+fn all_hand_out(alloc: Global, size: usize) -> [Result<bool, AllocError>; 3] {
+    [
+        hands_out(alloc, size, 0),
+        hands_out(alloc, size, size / 2),
+        hands_out(alloc, size, size),
+    ]
+}
+
+#[test]
+fn a_shared_set_goes_on_where_the_plain_one_was(rt: HostRuntime) -> Result<(), AllocError> {
+    for size in &[0usize, 1, 2, 7, 64, 1_000] {
+        hold(&rt, &all_hand_out(rt.alloc(), *size))?;
+    }
+    Ok(())
+}
+
+/// Whether so many indices are held, after so many changes, and this one comes next.
+fn is_at(set: &SharedIndexSet, borrowed_indices: u32, aba: u16, head: u32) -> bool {
+    set.head()
+        == HeadDetails {
+            head,
+            aba,
+            borrowed_indices,
+        }
+}
+
+/// The word behind the last index that is free.
+const END: u32 = (1 << 24) - 1;
+
+/// Whether index 2 comes next each time, until the number of changes has gone round.
+fn goes_round(set: &SharedIndexSet) -> bool {
+    for _ in 0..1 << 15 {
+        if next(set) != Ok(2) {
+            return false;
+        }
+    }
+    true
+}
+
+/// Whether a set of three, of which index 0 is held and 1, then 2 were released, counts each change, and no refusal; and hands out the
+/// last index released.
+fn counts_its_changes(set: &SharedIndexSet) -> Result<bool, UniqueIndexSetAcquireFailure> {
+    let before = is_at(set, 1, 0, 2);
+    let first = set.acquire()?;
+    let second = set.acquire()?;
+    let acquired = first.value() == 2 && second.value() == 1 && is_at(set, 3, 2, END);
+    let refused = next(set) == Err(NONE_LEFT) && is_at(set, 3, 2, END);
+    drop(first);
+    let released = is_at(set, 2, 3, 2) && goes_round(set) && is_at(set, 2, 3, 2);
+    drop(second);
+    Ok(before && acquired && refused && released && is_at(set, 1, 4, 1))
+}
+
+fn release(set: &mut UniqueIndexSet, index: usize) {
+    if set.is_held(index) {
+        let _ = set.release_raw_index(index, ReleaseMode::Default);
+    }
+}
+
+fn changes(alloc: Global) -> Result<bool, AllocError> {
+    let mut set = UniqueIndexSet::new(alloc, 3)?;
+    for _ in 0..3 {
+        let _ = set.acquire_raw_index();
+    }
+    release(&mut set, 1);
+    release(&mut set, 2);
+    match set.share(alloc) {
+        Ok(shared) => Ok(counts_its_changes(&shared) == Ok(true)),
+        Err(_) => Err(AllocError),
+    }
+}
+
+#[test]
+fn a_shared_set_gives_each_answer(rt: HostRuntime) -> Result<(), AllocError> {
+    hold(&rt, &[changes(rt.alloc())])
+}
+
+/// How often a thread takes two indices.
+const ROUNDS: usize = 1_000;
+
+/// How often a thread looks whether the other one is as far, before it gives up.
+const LOOKS: u32 = 1 << 30;
+
+/// Which of four indices are held.
+type Marks = [AtomicBool; 4];
+
+/// An index that nobody held, which is marked as held from now on.
+fn take<'a>(set: &'a SharedIndexSet, held: &Marks) -> Option<UniqueIndex<'a>> {
+    let Ok(index) = set.acquire() else {
+        return None;
+    };
+    let mark = held.get(index.value() as usize)?;
+    if mark.swap(true, Ordering::SeqCst) {
+        return None;
+    }
+    Some(index)
+}
+
+/// Gives an index back, which isn't marked any longer.
+fn give(index: UniqueIndex<'_>, held: &Marks) {
+    if let Some(mark) = held.get(index.value() as usize) {
+        mark.store(false, Ordering::SeqCst);
+    }
+    drop(index);
+}
+
+/// Waits until the other thread holds its two indices of this round; it gives up after many looks.
+fn meets(other: &AtomicUsize, round: usize) -> bool {
+    for _ in 0..LOOKS {
+        if other.load(Ordering::SeqCst) >= round {
+            return true;
+        }
+    }
+    false
+}
+
+/// Takes two of four indices again and again, and holds them until the other thread holds its two as well; whether none came that is
+/// held, or that the set doesn't have.
+fn holds_two(set: &SharedIndexSet, held: &Marks, mine: &AtomicUsize, others: &AtomicUsize) -> bool {
+    for round in 1..ROUNDS + 1 {
+        let (Some(first), Some(second)) = (take(set, held), take(set, held)) else {
+            return false;
+        };
+        mine.store(round, Ordering::SeqCst);
+        if !meets(others, round) {
+            return false;
+        }
+        give(first, held);
+        give(second, held);
+    }
+    true
+}
+
+/// Whether two threads hold two indices each at one time, all of them different, and give back what they take.
+fn all_come_back(rt: &impl Threads, set: &SharedIndexSet) -> bool {
+    let held = [
+        AtomicBool::new(false),
+        AtomicBool::new(false),
+        AtomicBool::new(false),
+        AtomicBool::new(false),
+    ];
+    let rounds = [AtomicUsize::new(0), AtomicUsize::new(0)];
+    let (here, there) = thread::join(
+        rt,
+        || holds_two(set, &held, &rounds[0], &rounds[1]),
+        || holds_two(set, &held, &rounds[1], &rounds[0]),
+    );
+    here && there && set.borrowed_indices() == 0
+}
+
+fn come_back(rt: &impl Threads, alloc: Global) -> Result<bool, AllocError> {
+    Ok(all_come_back(rt, &shared(alloc, 4, 0)?))
+}
+
+#[test]
+fn guards_in_two_threads_hold_each_index_alone(rt: HostRuntime) -> Result<(), AllocError> {
+    hold(&rt, &[come_back(&rt, rt.alloc())])
+}
+
+const HEAD: HeadDetails = HeadDetails {
+    head: 12345,
+    aba: 6789,
+    borrowed_indices: 54321,
+};
+
+#[test]
+fn a_head_comes_back_from_its_word(rt: HostRuntime) {
+    assert!(rt; HeadDetails::from(HEAD.value()) == HEAD);
+}

@@ -1,0 +1,332 @@
+//! Each shared call by one thread through each answer that it can give, at each size; and who may hold an end.
+ghost use Rattle.std.specs.Prelude.{◌<◌, ◌^◌, [], ◌∷◌, slice_index, refl};
+
+use crate::answers::hold;
+use crate::queues::ends::{Numbers, ends, shared};
+use iox_queues::shared::Shareable;
+use iox_queues::{
+    Consumer, FixedSizeIndexQueue, FixedSizeSafelyOverflowingIndexQueue, IndexQueue, Producer,
+    Queue, SafelyOverflowingIndexQueue, Share, Shared, UnrestrictedAtomic, Words,
+};
+use std::alloc::{AllocError, Global};
+use std::sync::atomic::AtomicU64;
+
+/// What a queue with room for so many numbers, all rising from 0, doesn't keep as it is given one more.
+fn left_by<Q: Numbers>(value: u64, room: u64) -> Option<u64> {
+    if value < room {
+        None
+    } else if Q::OVERFLOWS {
+        Some(value.saturating_sub(room))
+    } else {
+        Some(value)
+    }
+}
+
+/// Whether numbers from the first on are put in up to three beyond its room, each answered as it must be.
+fn is_overfilled<Q: Numbers>(producer: &mut Producer<'_, Q>, first: u64, room: u64) -> bool {
+    for value in first..room.saturating_add(3) {
+        if Q::put(producer, value) != left_by::<Q>(value, room) {
+            return false;
+        }
+    }
+    true
+}
+
+/// Whether the numbers that stayed come out in their order, and then none.
+fn is_emptied<Q: Numbers>(consumer: &mut Consumer<'_, Q>, room: u64) -> bool {
+    let first = if Q::OVERFLOWS { 3 } else { 0 };
+    for value in first..room.saturating_add(first) {
+        if Q::take_next(consumer) != Some(value) {
+            return false;
+        }
+    }
+    Q::take_next(consumer) == None
+}
+
+/// The same three times, so that its positions go round, where the numbers below the first wait at the beginning.
+fn goes_round<Q: Numbers>(shared: &Shared<Q>, waiting: u64, room: u64) -> bool {
+    let Some((mut producer, mut consumer)) = ends(shared) else {
+        return false;
+    };
+    for first in &[waiting, 0, 0] {
+        if !is_overfilled(&mut producer, *first, room) || !is_emptied(&mut consumer, room) {
+            return false;
+        }
+    }
+    shared.capacity() == room
+}
+
+/// Whether a queue of this room does, with so many numbers that wait when it is shared.
+fn goes<Q: Numbers>(
+    alloc: Global,
+    queue: Result<Q, AllocError>,
+    waiting: usize,
+    room: usize,
+) -> Result<bool, AllocError> {
+    let shared = shared(alloc, queue, waiting as u64)?;
+    Ok(goes_round(&shared, waiting as u64, room as u64))
+}
+
+/// Whether queues whose capacity is chosen do, empty and full.
+fn chosen(alloc: Global, room: usize) -> [Result<bool, AllocError>; 4] {
+    [
+        goes(alloc, IndexQueue::new(alloc, room), 0, room),
+        goes(alloc, IndexQueue::new(alloc, room), room, room),
+        goes(
+            alloc,
+            SafelyOverflowingIndexQueue::new(alloc, room),
+            0,
+            room,
+        ),
+        goes(
+            alloc,
+            SafelyOverflowingIndexQueue::new(alloc, room),
+            room,
+            room,
+        ),
+    ]
+}
+
+const SIZES: [usize; 7] = [0, 1, 2, 7, 64, 1_000, 4_096];
+
+#[test]
+fn queues_of_each_capacity_give_each_answer(rt: HostRuntime) -> Result<(), AllocError> {
+    for size in &SIZES {
+        hold(&rt, &chosen(rt.alloc(), *size))?;
+    }
+    Ok(())
+}
+
+/// Whether queues of fixed size do, with so many numbers that wait.
+fn fixed<const ROOM: usize>(alloc: Global, waiting: usize) -> [Result<bool, AllocError>; 3] {
+    let refusing = FixedSizeIndexQueue::<ROOM>::new(alloc);
+    let overflowing = FixedSizeSafelyOverflowingIndexQueue::<ROOM>::new(alloc);
+    [
+        goes(alloc, refusing, waiting, ROOM),
+        goes(alloc, overflowing, waiting, ROOM),
+        goes(alloc, Queue::<u128, ROOM>::new(alloc), waiting, ROOM),
+    ]
+}
+
+fn all_fixed(alloc: Global) -> [[Result<bool, AllocError>; 3]; 8] {
+    [
+        fixed::<0>(alloc, 0),
+        fixed::<1>(alloc, 1),
+        fixed::<2>(alloc, 0),
+        fixed::<2>(alloc, 2),
+        fixed::<7>(alloc, 7),
+        fixed::<64>(alloc, 64),
+        fixed::<1_000>(alloc, 7),
+        fixed::<1_000>(alloc, 1_000),
+    ]
+}
+
+#[test]
+fn queues_of_fixed_size_give_each_answer(rt: HostRuntime) -> Result<(), AllocError> {
+    for answers in &all_fixed(rt.alloc()) {
+        hold(&rt, answers)?;
+    }
+    Ok(())
+}
+
+/// Whether a queue of two values without words takes two and gives two.
+fn is_counted(shared: &Shared<Queue<(), 2>>) -> bool {
+    let Some((mut producer, mut consumer)) = ends(shared) else {
+        return false;
+    };
+    let pushed = [producer.push(&()), producer.push(&()), producer.push(&())];
+    let popped = [consumer.pop(), consumer.pop(), consumer.pop()];
+    pushed == [true, true, false] && popped == [Some(()), Some(()), None]
+}
+
+fn counts(alloc: Global) -> Result<bool, AllocError> {
+    match Queue::<(), 2>::new(alloc)?.share(alloc) {
+        Ok(shared) => Ok(is_counted(&shared)),
+        Err(_) => Err(AllocError),
+    }
+}
+
+/// Whether a shared value is the one that it was, and then each one that is stored.
+fn is_last_stored(shared: &Shared<UnrestrictedAtomic<u128>>) -> bool {
+    let Some(mut producer) = shared.acquire_producer() else {
+        return false;
+    };
+    let first = shared.load() == Some(7 << 64);
+    for value in &[0u128, 1 << 64, 2 << 64, 3] {
+        producer.store(*value);
+        if shared.load() != Some(*value) {
+            return false;
+        }
+    }
+    first
+}
+
+fn stores(alloc: Global) -> Result<bool, AllocError> {
+    match UnrestrictedAtomic::new(7u128 << 64).share(alloc) {
+        Ok(shared) => Ok(is_last_stored(&shared)),
+        Err(_) => Err(AllocError),
+    }
+}
+
+/// Whether a value without words is loaded.
+fn loads(alloc: Global) -> Result<bool, AllocError> {
+    match UnrestrictedAtomic::new(()).share(alloc) {
+        Ok(shared) => Ok(shared.load().is_some()),
+        Err(_) => Err(AllocError),
+    }
+}
+
+/// A number that is the last of three words.
+#[derive(Clone, Copy)]
+struct Third {
+    number: u64,
+}
+
+impl Words for Third {
+    ghost parts = { λ x. 0 ∷ 0 ∷ x.number ∷ [] };
+
+    ghost of_parts = { λ ws. record { number = slice_index ws 2 } };
+
+    ghost is_value = { λ x. x.number < 2 ^ 64 };
+
+    const WORDS: usize = 3;
+
+    ghost WORDS = { 3 };
+
+    fn word(&self, i: usize) -> u64 {
+        let number = self.number;
+        match i {
+            0 => 0,
+            1 => 0,
+            2 => number,
+            _ => 0,
+        }
+    }
+
+    fn of_words(words: &[u64]) -> Third {
+        Third { number: words[2] }
+    }
+
+    fn shows(&self) {
+        let _number = self.number;
+    }
+
+    ghost as_many = { λ x. refl };
+
+    ghost given_back = { λ x h. refl };
+}
+
+/// Whether a value of three words is loaded with the last of them.
+fn loads_all_words(alloc: Global) -> Result<bool, AllocError> {
+    match UnrestrictedAtomic::new(Third { number: 7 }).share(alloc) {
+        Ok(shared) => Ok(matches!(shared.load(), Some(Third { number: 7 }))),
+        Err(_) => Err(AllocError),
+    }
+}
+
+/// A form whose values have more words than can be shared.
+#[derive(Drop)]
+struct TooWide;
+
+impl Shareable for TooWide {
+    ghost room = { λ _. 1 };
+
+    fn width(&self) -> Option<usize> {
+        None
+    }
+
+    fn cells(&self) -> usize {
+        1
+    }
+
+    fn limit(&self) -> u64 {
+        1
+    }
+
+    fn pour(&mut self, _cell: &[AtomicU64]) -> bool {
+        true
+    }
+}
+
+/// Whether it is refused.
+fn is_too_wide(alloc: Global) -> Result<bool, AllocError> {
+    match TooWide.share(alloc) {
+        Ok(_) => Ok(false),
+        Err(_) => Ok(true),
+    }
+}
+
+/// Whether a value has just these words, and they give it back.
+fn are_words_of<T: Words + PartialEq>(words: &[u64], value: &T) -> bool {
+    if words.len() != T::WORDS {
+        return false;
+    }
+    for (i, word) in words.iter().enumerate() {
+        if value.word(i) != *word {
+            return false;
+        }
+    }
+    T::of_words(words) == *value
+}
+
+/// Whether numbers, characters and arrays have the words that they have.
+fn have_their_words() -> bool {
+    let all = u64::MAX;
+    [
+        are_words_of(&[254], &-2i8),
+        are_words_of(&[65_534], &-2i16),
+        are_words_of(&[0xffff_ffff], &-1i32),
+        are_words_of(&[all], &-1i64),
+        are_words_of(&[all - 2], &-3isize),
+        are_words_of(&[all - 1, all], &-2i128),
+        are_words_of(&[0x3f80_0000], &1.0f32),
+        are_words_of(&[0xc004_0000_0000_0000], &-2.5f64),
+        are_words_of(&[0x20ac], &'€'),
+        are_words_of(&[0x3ff0_0000_0000_0000, 1 << 63], &[1.0f64, -0.0]),
+        are_words_of(&[1, 0, 1], &[true, false, true]),
+    ] == [true; 11]
+}
+
+#[test]
+fn a_shared_value_is_the_last_one_stored(rt: HostRuntime) -> Result<(), AllocError> {
+    let alloc: Global = rt.alloc();
+    let answers = [
+        stores(alloc),
+        loads(alloc),
+        loads_all_words(alloc),
+        is_too_wide(alloc),
+        counts(alloc),
+        Ok(have_their_words()),
+    ];
+    hold(&rt, &answers)
+}
+
+/// Whether the producer is handed out once at a time, also when a consumer was let go.
+fn producer_is_taken_once(shared: &Shared<IndexQueue>) -> bool {
+    let first = shared.acquire_producer();
+    drop(shared.acquire_consumer());
+    let once = first.is_some() && shared.acquire_producer().is_none();
+    drop(first);
+    let second = shared.acquire_producer();
+    once && second.is_some() && shared.acquire_producer().is_none()
+}
+
+/// Whether the consumer is, beside a producer and when one was let go.
+fn consumer_is_taken_once(shared: &Shared<IndexQueue>) -> bool {
+    let first = shared.acquire_consumer();
+    let beside = shared.acquire_producer().is_some();
+    let once = first.is_some() && shared.acquire_consumer().is_none();
+    drop(first);
+    let second = shared.acquire_consumer();
+    once && beside && second.is_some() && shared.acquire_consumer().is_none()
+}
+
+fn roles(alloc: Global) -> Result<bool, AllocError> {
+    let shared = shared(alloc, IndexQueue::new(alloc, 2), 0)?;
+    Ok(producer_is_taken_once(&shared) && consumer_is_taken_once(&shared))
+}
+
+#[test]
+fn a_role_is_taken_once_at_a_time(rt: HostRuntime) -> Result<(), AllocError> {
+    hold(&rt, &[roles(rt.alloc())])
+}

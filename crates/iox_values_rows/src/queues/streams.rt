@@ -1,0 +1,167 @@
+//! 100,000 numbers through two threads.
+use crate::answers::hold;
+use crate::queues::ends::{Numbers, ends, shared};
+use iox_queues::{
+    Consumer, FixedSizeIndexQueue, FixedSizeSafelyOverflowingIndexQueue, IndexQueue, Producer,
+    Queue, SafelyOverflowingIndexQueue, Share, Shared, UnrestrictedAtomic,
+};
+use std::alloc::{AllocError, Global};
+use std::thread;
+use std::thread::Threads;
+
+const COUNT: u64 = 100_000;
+
+// Numbers that rise: how many, and their sum.
+#[derive(Clone, Copy)]
+struct Rising {
+    rises: bool,
+    next: u64,
+    count: u64,
+    sum: u64,
+}
+
+impl Rising {
+    fn new() -> Rising {
+        Rising {
+            rises: true,
+            next: 0,
+            count: 0,
+            sum: 0,
+        }
+    }
+
+    fn note(&mut self, value: u64) {
+        self.rises = self.rises && self.next <= value;
+        self.next = value.saturating_add(1);
+        self.count = self.count.saturating_add(1);
+        self.sum = self.sum.saturating_add(value);
+    }
+
+    // This one and the other saw all numbers together: each list rises, so none came twice in one.
+    fn is_all_with(&self, other: &Rising) -> bool {
+        self.rises
+            && other.rises
+            && self.count.saturating_add(other.count) == COUNT
+            && self.sum.saturating_add(other.sum) == COUNT * (COUNT - 1) / 2
+    }
+}
+
+// Puts all numbers in, each again and again until it isn't refused. The answer is what was handed out for them.
+fn put_all<Q: Numbers>(producer: &mut Producer<'_, Q>) -> Rising {
+    let mut out = Rising::new();
+    let mut next = 0u64;
+    for _ in 0..1_000_000_000u64 {
+        if next == COUNT {
+            break;
+        }
+        match Q::put(producer, next) {
+            None => next = next.saturating_add(1),
+            Some(left) if left == next => thread::yield_now(),
+            Some(oldest) => {
+                out.note(oldest);
+                next = next.saturating_add(1);
+            }
+        }
+    }
+    out
+}
+
+// Takes numbers until the last one came, which is never handed out.
+fn take_all<Q: Numbers>(consumer: &mut Consumer<'_, Q>) -> Rising {
+    let mut got = Rising::new();
+    for _ in 0..1_000_000_000u64 {
+        if got.next == COUNT {
+            break;
+        }
+        match Q::take_next(consumer) {
+            Some(value) => got.note(value),
+            None => thread::yield_now(),
+        }
+    }
+    got
+}
+
+// Whether each number came out at one of both ends, where it was taken in order.
+fn none_is_lost<Q: Numbers + Send>(rt: &impl Threads, shared: &Shared<Q>) -> bool {
+    let Some((mut producer, mut consumer)) = ends(shared) else {
+        return false;
+    };
+    let (out, got) = thread::join(rt, || put_all(&mut producer), || take_all(&mut consumer));
+    got.is_all_with(&out) && (Q::OVERFLOWS || out.count == 0)
+}
+
+fn goes<Q: Numbers + Send>(
+    rt: &impl Threads,
+    alloc: Global,
+    queue: Result<Q, AllocError>,
+) -> Result<bool, AllocError> {
+    Ok(none_is_lost(rt, &shared(alloc, queue, 0)?))
+}
+
+#[test]
+fn queues_lose_no_number_and_keep_their_order(rt: HostRuntime) -> Result<(), AllocError> {
+    let alloc: Global = rt.alloc();
+    let answers = [
+        goes(&rt, alloc, IndexQueue::new(alloc, 64)),
+        goes(&rt, alloc, FixedSizeIndexQueue::<64>::new(alloc)),
+        goes(&rt, alloc, Queue::<u128, 64>::new(alloc)),
+        goes(&rt, alloc, SafelyOverflowingIndexQueue::new(alloc, 8)),
+        goes(
+            &rt,
+            alloc,
+            FixedSizeSafelyOverflowingIndexQueue::<8>::new(alloc),
+        ),
+    ];
+    hold(&rt, &answers)
+}
+
+// Stores 0, 1, 2, .. with the same number in both words.
+fn store_all(producer: &mut Producer<'_, UnrestrictedAtomic<u128>>) -> bool {
+    for value in 0..COUNT {
+        producer.store(twice(value));
+    }
+    true
+}
+
+fn twice(value: u64) -> u128 {
+    (u128::from(value) << 64) | u128::from(value)
+}
+
+// Each load is whole and never older than the one before, up to the last.
+fn load_all(shared: &Shared<UnrestrictedAtomic<u128>>) -> bool {
+    let mut seen = 0u64;
+    for _ in 0..1_000_000_000u64 {
+        if let Some(value) = shared.load() {
+            let low = (value % (1 << 64)) as u64;
+            if value != twice(low) || low < seen {
+                return false;
+            }
+            seen = low;
+            if seen == COUNT - 1 {
+                return true;
+            }
+        }
+    }
+    false
+}
+
+// Whether all were stored, and each load was whole.
+fn is_loaded_whole(rt: &impl Threads, shared: &Shared<UnrestrictedAtomic<u128>>) -> bool {
+    let Some(mut producer) = shared.acquire_producer() else {
+        return false;
+    };
+    let (stored, loaded) = thread::join(rt, || store_all(&mut producer), || load_all(shared));
+    stored && loaded
+}
+
+fn loads_whole(rt: &impl Threads, alloc: Global) -> Result<bool, AllocError> {
+    match UnrestrictedAtomic::new(0u128).share(alloc) {
+        Ok(shared) => Ok(is_loaded_whole(rt, &shared)),
+        Err(_) => Err(AllocError),
+    }
+}
+
+#[test]
+fn a_shared_value_is_loaded_whole(rt: HostRuntime) -> Result<(), AllocError> {
+    hold(&rt, &[loads_whole(&rt, rt.alloc())])
+}
