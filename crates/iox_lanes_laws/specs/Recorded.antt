@@ -81,7 +81,8 @@ ReadsGiveMessages = (r : RecordState) (entries : List Entry) (made : ℕ) (n : R
 
 -- Whatever is run from before the first step on: the order of each connection answers as a mailbox does with the numbers of its messages in
 -- place of their slots; at first the numbers of what was found wait there. So a take gives the number of the oldest message that waits,
--- under which it was put, and no other. So it is as long as at most 2^63 steps were made.
+-- under which it was put. A slot without a message counts as 0, so found ones differ only if `with_found` kept them. So it is as long as
+-- at most 2^63 steps were made.
 abbrev pub OrdersFollowNumbers : Type 0
 OrdersFollowNumbers = (r : RecordState) (entries : List Entry) (made : ℕ) (n : RecordState) → CameTo r.lanes → r.lanes.moments ≡ 0
     → AreEarly r.lanes r.messages → RecordsRun r entries made n → n.lanes.moments ≤ 2 ^ 63

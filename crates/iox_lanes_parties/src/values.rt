@@ -28,8 +28,8 @@ impl Call {
         })
     }
 
-    /// From now on it is the write of this value and this user header into a loan, if it is a write of as many words; else it is as it
-    /// was, and this answers false. It takes no memory.
+    /// From now on it is the write of this value and this user header into a loan, if it is a write of as many words; else it keeps its
+    /// widths, and this answers false. It takes no memory.
     pub fn write_anew<T: Words, U: Words>(&mut self, loan: u64, value: &T, user_header: &U) -> bool
         ensures writes { result ≡ true → IsWriteOf loan (T.parts value.now) (U.parts user_header.now) self.new }
         ensures widths { (payload_count header_count : ℕ) → HasWidths payload_count header_count self.old

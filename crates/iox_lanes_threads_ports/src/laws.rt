@@ -13,7 +13,7 @@ pub fn subscribers_go_on()
 {}
 
 /// A publisher's port counts the accesses to shared words that it makes. Behind any steps of its calls it has made just as many more as
-/// these steps name: none is made twice, and none is left out.
+/// these steps name, by `load`, `store` and `exchange`.
 pub fn publishers_count()
     ensures { PublishersCount }
 {}

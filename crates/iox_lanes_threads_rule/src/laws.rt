@@ -21,21 +21,21 @@ pub fn exchanges_keep_the_rule()
 {}
 
 /// Lanes stand behind words and ports after each access that a port may make and makes next, as long as no write position comes to
-/// 3 * 2^62. So all that lanes keep holds on threads between any two accesses: both rings of each connection hold what their ends
-/// know, and each connection has what its publisher's record says.
+/// 3 * 2^62. So what `HoldTogether` says of lanes holds on threads between any two accesses: both rings of each connection hold what
+/// their ends know, and each connection has what its publisher's record says. Of calls that ended, and their answers, it says nothing.
 pub fn accesses_leave_lanes()
     ensures loads { LoadsLeaveLanes }
     ensures stores { StoresLeaveLanes }
     ensures exchanges { ExchangesLeaveLanes }
 {}
 
-/// No word of a slot is stored while a port's view has that slot as a sample, as long as no write position comes to 3 * 2^62: a
-/// publisher stores words of a loan of its own, which none of its connections has.
+/// No access that a port makes next stores a word of a slot while a port's view has that slot as a sample, as long as no write
+/// position comes to 3 * 2^62: a publisher stores words of a loan of its own, which none of its connections has.
 pub fn slot_stores_are_of_loans()
     ensures { SlotStoresAreOfLoans }
 {}
 
-/// What a subscriber has read of a sample that it has is what the words of its slot hold and what its publisher's view has, as long
+/// What a subscriber's view lists as loaded (`seen`) of a sample that it has is what the words of its slot hold and what its publisher's view has, as long
 /// as no write position comes to 3 * 2^62. So two reads of one sample find the same.
 pub fn seen_words_stand()
     ensures { SeenWordsStand }

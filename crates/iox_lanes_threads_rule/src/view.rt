@@ -23,7 +23,7 @@ pub struct Port {
     /// What it knows of each word, by the words' numbers: of one that it alone stores what it holds, of any other position how
     /// far it has come at least, of all else what it saw last.
     pub known: LinkedList<u64>,
-    /// How many accesses to shared words it made since it was opened.
+    /// How many accesses to shared words it made by `act` since it was opened.
     pub accesses: u64,
     /// The port itself, as its last step on a shared word left it.
     pub party: PortParty,

@@ -76,8 +76,8 @@ impl RecordedLanes {
     }
 
     /// These lanes, with the messages that are found on them: what each slot holds that has a use, publisher by publisher and slot by
-    /// slot, is a message and has the next number. Of lanes of which no loan is out, these are those that wait, are borrowed, or that a
-    /// history has. Only where an allocation fails the lanes come back as they were.
+    /// slot, is a message and has the next number. Of lanes of which no loan is out, these are those that wait, lie aside, are borrowed,
+    /// were given back and not taken back, or that a history has. A slot that is lent is listed, too. Only where an allocation fails the lanes come back as they were.
     pub fn with_found(alloc: Global, lanes: Lanes) -> Result<RecordedLanes, Lanes>
         ensures made { IfOk result (λ made. made ≡ record { lanes = lanes; messages = found_messages lanes }) }
         ensures held { IfOk result (λ made. AreAsHeld made.lanes made.messages × AreEarly made.lanes made.messages) }
@@ -179,7 +179,8 @@ impl RecordedLanes {
     }
 
     /// The number of the message that an entry of a connection's order puts or takes: the last one that was sent in its slot by its
-    /// moment. None for a look, for a take that found nothing, and for an entry from before the lanes were handed in.
+    /// moment. None for a look, for a take that found nothing, for a message that isn't kept, and for an entry from before the lanes
+    /// were handed in.
     pub fn number(&self, connection: u64, at: usize) -> Option<usize>
         ensures { result ≡ number_of_placed self.now.messages (slice_get (get_or self.now.lanes.orders connection []) at) }
     {
@@ -188,8 +189,8 @@ impl RecordedLanes {
         last_number(&self.messages, slot, placed.moment)
     }
 
-    /// The user header and the value that a read gave whose words begin there among those that were read. None where no read gave so
-    /// many.
+    /// The user header and the value that a read gave whose words begin there among those that were read. None where fewer words were
+    /// read from there on.
     pub fn values<T: Words, U: Words>(&self, from: usize) -> Option<(U, T)>
         ensures some { IfSome result (AreValues T.of_parts U.of_parts T.WORDS U.WORDS
             (take (3 + U.WORDS + T.WORDS) (drop from self.now.lanes.read))) }
@@ -221,7 +222,8 @@ impl RecordedLanes {
         (lanes, messages)
     }
 
-    /// These lanes with these messages. It takes no memory.
+    /// These lanes with these messages. It takes no memory. The laws ask that the messages are as their slots hold them, and not later
+    /// than the lanes.
     pub fn of_parts(alloc: Global, lanes: Lanes, messages: Vec<Message>) -> RecordedLanes
         ensures { result ≡ record { lanes = lanes; messages = messages.items } }
     {
